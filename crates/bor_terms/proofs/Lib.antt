@@ -1,0 +1,9 @@
+pub mod AnyPoint
+pub mod Held
+pub mod Civil
+pub mod Shown
+pub mod Years
+pub mod Digits
+pub mod Texts
+pub mod Examples
+pub mod Spelling

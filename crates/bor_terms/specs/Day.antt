@@ -1,0 +1,57 @@
+-- The day that a text names (BODS 0.4, statementDate: a civil date of ISO 8601, with or without a time).
+use Rattle.std.specs.Prelude.{◌≡◌, ℕ, ◌+◌, ◌-◌, ◌*◌, List, length, slice_index, Bool, ◌&&◌, ◌||◌, ◌==◌, nat_le, if◌then◌else◌, Option, Some, None, option_and_then, ℤ, pos, neg_ℤ}
+use Rattle.jiff_core.specs.Calendar.{days_from_civil, days_in_month, IsBetween}
+
+-- the next step, where there is a value
+infixl 10 ◌>>=◌
+abbrev pub ◌>>=◌ : {A B : Type 0} → Option A → (A → Option B) → Option B
+o >>= f = option_and_then f o
+
+-- what an ASCII digit stands for
+abbrev pub digit : ℕ → Option ℕ
+digit b = if nat_le 48 b && nat_le b 57 then Some (b - 48) else None
+
+-- the number that two digits spell
+unfoldable pub pair_at : List ℕ → ℕ → Option ℕ
+pair_at bytes i = do
+  tens ← digit (slice_index bytes i)
+  ones ← digit (slice_index bytes (i + 1))
+  Some (10 * tens + ones)
+
+-- the calendar has this day
+abbrev pub is_civil : ℕ → ℕ → ℕ → Bool
+is_civil year month day =
+    nat_le year 9999 && (nat_le 1 month && nat_le month 12)
+    && (nat_le 1 day && nat_le day (days_in_month (pos year) month))
+
+-- the number of a day that the calendar has: the days since 1 January 1970
+unfoldable pub number_of : ℕ → ℕ → ℕ → Option ℤ
+number_of year month day =
+    if is_civil year month day then Some (days_from_civil (pos year) month day) else None
+
+-- ten bytes with a hyphen after the year and after the month, and nothing behind them or a T
+unfoldable pub has_marks : List ℕ → Bool
+has_marks bytes =
+    nat_le 10 (length bytes) && (slice_index bytes 4 == 45) && (slice_index bytes 7 == 45)
+    && ((length bytes == 10) || (slice_index bytes 10 == 84))
+
+-- the day number that the digits of YYYY-MM-DD spell
+unfoldable pub digits_day : List ℕ → Option ℤ
+digits_day bytes = do
+  century ← pair_at bytes 0
+  year ← pair_at bytes 2
+  month ← pair_at bytes 5
+  day ← pair_at bytes 8
+  number_of (100 * century + year) month day
+
+-- the day number of a text: YYYY-MM-DD, and then nothing or a T and anything
+unfoldable pub day_of : List ℕ → Option ℤ
+day_of bytes = if has_marks bytes then digits_day bytes else None
+
+-- a day number from 0000-01-01 to 9999-12-31
+abbrev pub IsDay : ℤ → Type 0
+IsDay z = IsBetween (neg_ℤ (pos 719_528)) (pos 2_932_896) z
+
+-- the spelling of a day: ten bytes that name it
+abbrev pub IsSpelling : ℤ → List ℕ → Type 0
+IsSpelling z bytes = (length bytes ≡ 10) × (day_of bytes ≡ Some z)

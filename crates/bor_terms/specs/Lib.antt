@@ -1,0 +1,5 @@
+pub mod Texts
+pub mod Day
+pub mod Points
+pub mod Span
+pub mod Shown
