@@ -1,0 +1,33 @@
+-- A statement whose members were read one by one.
+use Rattle.std.proofs.Common.{◌≡◌, ℕ, ℤ, List, [], Option, Ok, pos, refl}
+use Rattle.serde_json.specs.Data.{Data, null}
+use Rattle.bods_read.specs.declared.fault.Field.TheVariants as fields
+use Rattle.bods_read.specs.declared.statement.RecordType.{RecordType}
+use Rattle.bods_read.specs.declared.statement.RecordType.TheVariants as types
+use Rattle.bods_read.specs.declared.statement.Status.{Status}
+use Rattle.bods_read.specs.declared.details.Details.{Details}
+use Rattle.bods_read.specs.Outcome.{outcome}
+use Rattle.bods_read.specs.Member.{required, required_value, optional, optional_value, ident_in, day_in, type_in, status_in, object_in}
+use Rattle.bods_read.specs.Details.{details_lines, details_of}
+use Rattle.bods_read.specs.Statement.{object_lines, statement_of, further_lines}
+use Rattle.bods_read.proofs.Tables.{ok_lines, ok_is, required_is}
+
+pub statement_read : (d : Data) (id : List ℕ) (day : ℤ) (declaration : List ℕ) (rec : List ℕ) (kind : RecordType) (status : Option Status) (inner : Data) (details : Details)
+    → outcome (required fields.StatementId ident_in d) (required_value fields.StatementId ident_in [] d) ≡ Ok id
+    → outcome (required fields.StatementDate day_in d) (required_value fields.StatementDate day_in (pos 0) d) ≡ Ok day
+    → outcome (required fields.DeclarationSubject ident_in d) (required_value fields.DeclarationSubject ident_in [] d) ≡ Ok declaration
+    → outcome (required fields.RecordId ident_in d) (required_value fields.RecordId ident_in [] d) ≡ Ok rec
+    → outcome (required fields.RecordType type_in d) (required_value fields.RecordType type_in types.Entity d) ≡ Ok kind
+    → outcome (optional fields.RecordStatus status_in d) (optional_value fields.RecordStatus status_in d) ≡ Ok status
+    → outcome (required fields.RecordDetails object_in d) (required_value fields.RecordDetails object_in null d) ≡ Ok inner
+    → outcome (details_lines kind inner) (details_of kind inner) ≡ Ok details
+    → outcome (object_lines d) (statement_of d) ≡ Ok (record { id = id; day = day; declaration = declaration; rec = rec; status = status; details = details })
+unfolding object_lines statement_of
+statement_read d id day declaration rec kind status inner details i t s r k u o h =
+    let kind_is = required_is fields.RecordType type_in types.Entity d kind k in
+    let inner_is = required_is fields.RecordDetails object_in null d inner o in
+    let further : outcome (further_lines (optional_value fields.RecordType type_in d) (optional_value fields.RecordDetails object_in d)) (details_of kind inner) ≡ Ok details =
+    rw (kind_is, inner_is) h in
+    ok_lines _ _ _ _ _ _ i (ok_lines _ _ _ _ _ _ t (ok_lines _ _ _ _ _ _ s (ok_lines _ _ _ _ _ _ r
+    (ok_lines _ _ _ _ _ _ k (ok_lines _ _ _ _ _ _ u (ok_lines _ _ _ _ _ _ o (ok_lines _ _ _ _ _ _ further
+    (rw (ok_is _ _ _ i, ok_is _ _ _ t, ok_is _ _ _ s, ok_is _ _ _ r, ok_is _ _ _ k, ok_is _ _ _ u, ok_is _ _ _ o, ok_is _ _ _ h) refl))))))))

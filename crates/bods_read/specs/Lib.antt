@@ -1,0 +1,9 @@
+pub mod Words
+pub mod Faults
+pub mod Outcome
+pub mod Member
+pub mod Share
+pub mod Interests
+pub mod Details
+pub mod Statement
+pub mod File

@@ -1,0 +1,35 @@
+-- What reading comes to: the value where no line of the table of faults fails, and otherwise the first
+-- line that does.
+use Rattle.std.specs.Prelude.{◌≡◌, ◌+◌, ℕ, List, [], ◌∷◌, ◌++◌, Result, Ok, Err, Bool, if◌then◌else◌}
+use Rattle.bods_read.specs.declared.fault.Fault.{Fault}
+use Rattle.bods_read.specs.declared.trouble.Trouble.{Trouble}
+use Rattle.bods_read.specs.declared.trouble.Trouble.TheVariants as troubles
+
+-- the first of the faults, or the value where there is none
+abbrev pub outcome : {F X : Type 0} → List F → X → Result X F
+outcome [] x = Ok x
+outcome (fault ∷ more) x = Err fault
+
+-- a line of the table: it fails with this fault unless the test holds
+abbrev pub line : Bool → Fault → List Fault
+line holds fault = if holds then [] else fault ∷ []
+
+-- the failing lines of a table, one line after the other, each looked at whatever the others say
+abbrev pub table : {F : Type 0} → List (List F) → List F
+table [] = []
+table (lines ∷ more) = lines ++ table more
+
+-- the lines about each item, with its place, from this place on
+abbrev pub lines_from : {F D : Type 0} → (ℕ → D → List F) → ℕ → List D → List F
+lines_from lines place [] = []
+lines_from lines place (d ∷ ds) = lines place d ++ lines_from lines (place + 1) ds
+
+-- a fault that a part of the reader returned is the outcome; of want of memory nothing is said
+abbrev pub Fails : {Y : Type 0} → Trouble → Result Y Fault → Type 0
+Fails troubles.Memory read = Unit {0}
+Fails (troubles.Fault fault) read = read ≡ Err fault
+
+-- what a part of the reader returned, seen by view, is the outcome
+abbrev pub Gives : {X Y : Type 0} → (X → Y) → Result X Trouble → Result Y Fault → Type 0
+Gives view (Ok x) read = read ≡ Ok (view x)
+Gives view (Err trouble) read = Fails trouble read

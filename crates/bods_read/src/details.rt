@@ -1,0 +1,139 @@
+//! What a statement says of its record (BODS 0.4, `recordDetails`).
+
+ghost use Rattle.std.specs.Prelude.{◌≡◌, IfOk};
+
+use crate::free_text::FreeText;
+use crate::interest::Interest;
+use bor_terms::{Ident, Listed};
+use std::alloc::{AllocError, Global};
+
+/// What kind of entity it is (BODS 0.4, `entityType.type`).
+#[derive(Clone, Copy, Debug, PartialEq, Eq)]
+pub enum EntityKind {
+    RegisteredEntity,
+    LegalEntity,
+    Arrangement,
+    AnonymousEntity,
+    UnknownEntity,
+    State,
+    StateBody,
+    /// Any other kind, or none.
+    Other,
+}
+
+/// What kind of person it is (BODS 0.4, `personType`).
+#[derive(Clone, Copy, Debug, PartialEq, Eq)]
+pub enum PersonKind {
+    KnownPerson,
+    AnonymousPerson,
+    UnknownPerson,
+    /// Any other kind, or none.
+    Other,
+}
+
+/// An identifier of an entity under a scheme, as a company number under `GB-COH`.
+#[derive(Debug, Drop)]
+pub struct Identifier {
+    pub scheme: FreeText,
+    pub id: FreeText,
+}
+
+/// What a statement says of its record.
+#[derive(Debug, Drop)]
+pub enum Details {
+    Entity {
+        kind: EntityKind,
+        /// The name that is shown.
+        name: Option<FreeText>,
+        /// The identifiers that have both a scheme and an id, in order.
+        identifiers: Listed<Identifier>,
+    },
+    Person {
+        kind: PersonKind,
+        /// The name that is shown: the first of the person's full names.
+        name: Option<FreeText>,
+    },
+    Relationship {
+        /// The record of the entity that the interests are in; none where the file names no record.
+        subject: Option<Ident>,
+        /// The record of the holder; none where the file names no record.
+        party: Option<Ident>,
+        /// The interests, in order.
+        interests: Listed<Interest>,
+    },
+}
+
+fn copy_text(alloc: Global, text: &Option<FreeText>) -> Result<Option<FreeText>, AllocError>
+    ensures { IfOk result (λ copied. copied ≡ text.now) }
+{
+    match text {
+        Some(text) => Ok(Some(text.copy(alloc)?)),
+        None => Ok(None),
+    }
+}
+
+fn copy_ident(alloc: Global, ident: &Option<Ident>) -> Result<Option<Ident>, AllocError>
+    ensures { IfOk result (λ copied. copied ≡ ident.now) }
+{
+    match ident {
+        Some(ident) => Ok(Some(ident.copy(alloc)?)),
+        None => Ok(None),
+    }
+}
+
+impl Identifier {
+    /// Another copy of the identifier.
+    pub fn copy(&self, alloc: Global) -> Result<Identifier, AllocError>
+        ensures { IfOk result (λ copied. copied ≡ self.now) }
+    {
+        Ok(Identifier {
+            scheme: self.scheme.copy(alloc)?,
+            id: self.id.copy(alloc)?,
+        })
+    }
+}
+
+fn copy_identifiers(
+    alloc: Global,
+    identifiers: &[Identifier],
+) -> Result<Vec<Identifier>, AllocError>
+    ensures { IfOk result (λ copied. copied.items ≡ identifiers.now) }
+{
+    let mut copied = Vec::new(alloc);
+    for identifier in identifiers {
+        copied.push(identifier.copy(alloc)?)?;
+    }
+    Ok(copied)
+}
+
+impl Details {
+    /// Another copy of the details.
+    pub fn copy(&self, alloc: Global) -> Result<Details, AllocError>
+        ensures { IfOk result (λ copied. copied ≡ self.now) }
+    {
+        match self {
+            Details::Entity {
+                kind,
+                name,
+                identifiers,
+            } => Ok(Details::Entity {
+                kind: *kind,
+                name: copy_text(alloc, name)?,
+                identifiers: Listed::new(copy_identifiers(alloc, identifiers.as_slice())?),
+            }),
+            Details::Person { kind, name } => Ok(Details::Person {
+                kind: *kind,
+                name: copy_text(alloc, name)?,
+            }),
+            Details::Relationship {
+                subject,
+                party,
+                interests,
+            } => Ok(Details::Relationship {
+                subject: copy_ident(alloc, subject)?,
+                party: copy_ident(alloc, party)?,
+                interests: interests.copy(alloc)?,
+            }),
+        }
+    }
+}

@@ -1,0 +1,119 @@
+//! The interests of a relationship, from an array.
+
+ghost use Rattle.std.specs.Prelude.{◌≡◌, Some, None, map, option_map};
+ghost use Rattle.serde_json.specs.View.{view};
+ghost use Rattle.bods_read.specs.Outcome.{Gives, outcome};
+ghost use Rattle.bods_read.specs.Words.{interest_worded, directness_worded};
+ghost use Rattle.bods_read.specs.Interests.{is_named, share_lines, share_of, object_lines, interest_lines, interest_of, each_lines, interests_lines, interests_of};
+
+use crate::fault::{Fault, Field};
+use crate::interest::{Directness, Interest, InterestKind};
+use crate::member::{array, member, text_at};
+use crate::share::range;
+use crate::trouble::Trouble;
+use bor_terms::{Listed, Span};
+use serde_json::Value;
+use std::alloc::Global;
+
+#[tactic(auto, unfolding(crate::specs::Words::interest_worded, crate::specs::Words::interest_word))]
+fn kind_worded(text: Option<&str>) -> InterestKind
+    ensures { result ≡ interest_worded (option_map (λ s. s.now) text.entry) }
+{
+    match text {
+        Some("shareholding") => InterestKind::Shareholding,
+        Some("votingRights") => InterestKind::VotingRights,
+        Some("appointmentOfBoard") => InterestKind::AppointmentOfBoard,
+        _ => InterestKind::Other,
+    }
+}
+
+#[tactic(auto, unfolding(crate::specs::Words::directness_worded, crate::specs::Words::directness_word))]
+fn directness_worded(text: Option<&str>) -> Directness
+    ensures { result ≡ directness_worded (option_map (λ s. s.now) text.entry) }
+{
+    match text {
+        Some("direct") => Directness::Direct,
+        Some("indirect") => Directness::Indirect,
+        _ => Directness::Unknown,
+    }
+}
+
+// Whether shares of interests of the kind are read.
+fn is_named(kind: InterestKind) -> bool
+    ensures { result ≡ is_named kind }
+{
+    !matches!(kind, InterestKind::Other)
+}
+
+// The share of an interest of the kind, where it has one that is read.
+#[tactic(auto, unfolding(crate::specs::Interests::share_lines, crate::specs::Interests::share_of, crate::specs::Member::object_in))]
+fn share(kind: InterestKind, interest: &Value) -> Result<Option<Span>, Trouble>
+    ensures { Gives (λ o. o) result (outcome (share_lines kind (view interest.now)) (share_of kind (view interest.now))) }
+{
+    if !is_named(kind) {
+        return Ok(None);
+    }
+    match member(interest, Field::Share.as_str()) {
+        None => Ok(None),
+        Some(value) => {
+            if !value.is_object() {
+                return Err(Trouble::Fault(Fault::Bad(Field::Share)));
+            }
+            Ok(Some(range(value)?))
+        }
+    }
+}
+
+#[tactic(auto, using(crate::proofs::InterestRead::interest_rules))]
+fn of_object(value: &Value) -> Result<Interest, Trouble>
+    ensures { Gives (λ i. i) result (outcome (object_lines (view value.now)) (interest_of (view value.now))) }
+{
+    let kind = kind_worded(text_at(value, "type"));
+    let directness = directness_worded(text_at(value, "directOrIndirect"));
+    let share = share(kind, value)?;
+    Ok(Interest {
+        kind,
+        directness,
+        share,
+    })
+}
+
+#[tactic(auto, unfolding(crate::specs::Interests::interest_lines, crate::specs::Member::object_in))]
+fn interest(value: &Value) -> Result<Interest, Trouble>
+    ensures { Gives (λ i. i) result (outcome (interest_lines (view value.now)) (interest_of (view value.now))) }
+{
+    if !value.is_object() {
+        return Err(Trouble::Fault(Fault::Bad(Field::Interests)));
+    }
+    of_object(value)
+}
+
+fn each(alloc: Global, values: &[Value]) -> Result<Vec<Interest>, Trouble>
+    ensures { Gives (λ v. v.items) result (outcome (each_lines (map view values.now))
+        (map interest_of (map view values.now))) }
+{
+    let mut interests = Vec::new(alloc);
+    for value in values {
+        let Interest {
+            kind,
+            directness,
+            share,
+        } = interest(value)?;
+        interests.push(Interest {
+            kind,
+            directness,
+            share,
+        })?;
+    }
+    Ok(interests)
+}
+
+// The interests of a relationship, in order.
+#[tactic(auto, using(crate::proofs::Tables::table_rules), unfolding(crate::specs::Interests::interests_lines, crate::specs::Interests::interests_of))]
+pub(crate) fn interests(alloc: Global, details: &Value) -> Result<Listed<Interest>, Trouble>
+    ensures { Gives (λ i. i) result (outcome (interests_lines (view details.now)) (interests_of (view details.now))) }
+{
+    let values = array(details, Field::Interests)?;
+    let interests = each(alloc, values)?;
+    Ok(Listed::new(interests))
+}

@@ -1,0 +1,42 @@
+//! The details of a person.
+
+ghost use Rattle.std.specs.Prelude.{◌≡◌, IfOk, option_map};
+ghost use Rattle.serde_json.specs.View.{view};
+ghost use Rattle.bods_read.specs.Words.{person_worded};
+ghost use Rattle.bods_read.specs.Details.{person_kind, first_name, person_of};
+
+use crate::details::{Details, PersonKind};
+use crate::member::{free_text_at, items_in, member, text_at};
+use serde_json::Value;
+use std::alloc::{AllocError, Global};
+
+#[tactic(auto, unfolding(crate::specs::Words::person_worded, crate::specs::Words::person_word))]
+fn worded(text: Option<&str>) -> PersonKind
+    ensures { result ≡ person_worded (option_map (λ s. s.now) text.entry) }
+{
+    match text {
+        Some("knownPerson") => PersonKind::KnownPerson,
+        Some("anonymousPerson") => PersonKind::AnonymousPerson,
+        Some("unknownPerson") => PersonKind::UnknownPerson,
+        _ => PersonKind::Other,
+    }
+}
+
+// The first item of the names.
+fn first_name(details: &Value) -> Option<&Value>
+    ensures { option_map (λ v. view v.now) result ≡ first_name (view details.now) }
+{
+    items_in(member(details, "names")?)?.first()
+}
+
+#[tactic(auto, unfolding(crate::specs::Details::person_of))]
+pub(crate) fn person(alloc: Global, details: &Value) -> Result<Details, AllocError>
+    ensures { IfOk result (λ d. d ≡ person_of (view details.now)) }
+{
+    let kind = worded(text_at(details, "personType"));
+    let name = match first_name(details) {
+        Some(name) => free_text_at(alloc, name, "fullName")?,
+        None => None,
+    };
+    Ok(Details::Person { kind, name })
+}

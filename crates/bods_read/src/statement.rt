@@ -1,0 +1,122 @@
+//! Statements of BODS 0.4, in this register's profile.
+
+ghost use Rattle.std.specs.Prelude.{◌≡◌, IfOk, codes};
+ghost use Rattle.bods_read.specs.Words.{type_word, type_worded, status_word, status_worded, type_of};
+
+use crate::details::Details;
+use bor_terms::{Day, Ident};
+use std::alloc::{AllocError, Global};
+
+/// What a record is of (BODS 0.4, `recordType`).
+#[derive(Clone, Copy, Debug, PartialEq, Eq)]
+pub enum RecordType {
+    Entity,
+    Person,
+    Relationship,
+}
+
+impl RecordType {
+    /// The word of the standard for it.
+    #[tactic(auto, unfolding(crate::specs::Words::type_word))]
+    pub fn as_str(self) -> &'static str
+        ensures { result.now ≡ type_word self }
+    {
+        match self {
+            RecordType::Entity => "entity",
+            RecordType::Person => "person",
+            RecordType::Relationship => "relationship",
+        }
+    }
+
+    // The type whose word a text is.
+    #[tactic(auto, unfolding(crate::specs::Words::type_worded, crate::specs::Words::type_word))]
+    pub(crate) fn worded(text: &str) -> Option<RecordType>
+        ensures { result ≡ type_worded text.now }
+    {
+        match text {
+            "entity" => Some(RecordType::Entity),
+            "person" => Some(RecordType::Person),
+            "relationship" => Some(RecordType::Relationship),
+            _ => None,
+        }
+    }
+}
+
+/// What a statement does to its record (BODS 0.4, `recordStatus`).
+#[derive(Clone, Copy, Debug, PartialEq, Eq)]
+pub enum Status {
+    New,
+    Updated,
+    Closed,
+}
+
+impl Status {
+    /// The word of the standard for it.
+    #[tactic(auto, unfolding(crate::specs::Words::status_word))]
+    pub fn as_str(self) -> &'static str
+        ensures { result.now ≡ status_word self }
+    {
+        match self {
+            Status::New => "new",
+            Status::Updated => "updated",
+            Status::Closed => "closed",
+        }
+    }
+
+    // The status whose word a text is.
+    #[tactic(auto, unfolding(crate::specs::Words::status_worded, crate::specs::Words::status_word))]
+    pub(crate) fn worded(text: &str) -> Option<Status>
+        ensures { result ≡ status_worded text.now }
+    {
+        match text {
+            "new" => Some(Status::New),
+            "updated" => Some(Status::Updated),
+            "closed" => Some(Status::Closed),
+            _ => None,
+        }
+    }
+}
+
+/// A statement of a file, member by member (BODS 0.4).
+#[derive(Debug, Drop)]
+pub struct Statement {
+    /// `statementId`
+    pub id: Ident,
+    /// `statementDate`
+    pub day: Day,
+    /// `declarationSubject`
+    pub declaration: Ident,
+    /// `recordId`
+    pub rec: Ident,
+    /// `recordStatus`; none where the file leaves it out.
+    pub status: Option<Status>,
+    /// `recordDetails`
+    pub details: Details,
+}
+
+impl Statement {
+    /// What the statement's record is of (`recordType`).
+    pub fn record_type(&self) -> RecordType
+        ensures { result ≡ type_of self.now.details }
+    {
+        match self.details {
+            Details::Entity { .. } => RecordType::Entity,
+            Details::Person { .. } => RecordType::Person,
+            Details::Relationship { .. } => RecordType::Relationship,
+        }
+    }
+
+    /// Another copy of the statement.
+    pub fn copy(&self, alloc: Global) -> Result<Statement, AllocError>
+        ensures { IfOk result (λ copied. copied ≡ self.now) }
+    {
+        Ok(Statement {
+            id: self.id.copy(alloc)?,
+            day: self.day,
+            declaration: self.declaration.copy(alloc)?,
+            rec: self.rec.copy(alloc)?,
+            status: self.status,
+            details: self.details.copy(alloc)?,
+        })
+    }
+}
