@@ -1,0 +1,5 @@
+pub mod Examples
+pub mod Rows
+pub mod Identifiers
+pub mod OpenRecords
+pub mod Settled

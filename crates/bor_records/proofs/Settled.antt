@@ -1,0 +1,108 @@
+-- A file's statements one by one: the laws that a loop over them needs.
+use Rattle.std.proofs.Common.{◌≡◌, ℕ, ◌+◌, ℤ, Bool, true, false, List, [], ◌∷◌, ◌++◌, map, Option, Some, None, option_map, Result, Ok, Err, refl, sym, ap, ◌∙◌, append_assoc, if◌then◌else◌}
+use Rattle.std.specs.List.{filter, last_or}
+use Rattle.std.specs.Prelude.{◌||◌}
+use Rattle.std.specs.Option.{option_or}
+use Rattle.std.proofs.lemmas.List.{append-nil, map-append}
+use Rattle.std.proofs.lemmas.List.Elements.{filter-append}
+use Rattle.std.proofs.lemmas.List.Folds.{list_any-append}
+use Rattle.bods_read.specs.declared.statement.Statement.{Statement}
+use Rattle.bods_read.specs.declared.statement.Status.{Status}
+use Rattle.bor_records.specs.declared.fault.RecordFault.{RecordFault}
+use Rattle.bor_records.specs.Admission.{Live, is_of, known_of, last_of, admitted, refusals, settled_status, unless_refused}
+use Rattle.bor_records.specs.Settling.{Refusal, statement_twice, by_record, PlacedRefusal, has_id, verdict, as_settled, as_live, ahead, settled_then, settled_from, settled}
+
+-- ---- one live statement more
+
+last_or-append : {X : Type 0} (o : Option X) (xs ys : List X) → last_or o (xs ++ ys) ≡ option_or (last_or None ys) (last_or o xs)
+last_or-append o [] [] = refl
+last_or-append o [] (y ∷ ys) = started ys y o
+  where
+    started : {X : Type 0} (zs : List X) (x : X) (p : Option X) → last_or (Some x) zs ≡ option_or (last_or (Some x) zs) p
+    started [] x p = refl
+    started (z ∷ zs) x p = started zs z p
+last_or-append o (x ∷ xs) ys = last_or-append (Some x) xs ys
+
+-- the last of a record is among the later statements, if one of them is of the record
+pub last_of-append : (declaration rec : List ℕ) (earlier later : List Live) → last_of declaration rec (earlier ++ later) ≡ option_or (last_of declaration rec later) (last_of declaration rec earlier)
+last_of-append declaration rec earlier later =
+    ap (λ ls. option_map known_of (last_or None ls)) (filter-append of earlier later)
+    ∙ ap (option_map known_of) (last_or-append None (filter of earlier) (filter of later))
+    ∙ mapped (last_or None (filter of later)) (last_or None (filter of earlier))
+  where
+    of : Live → Bool
+    of l = is_of declaration rec l.statement
+
+    mapped : (o p : Option Live) → option_map known_of (option_or o p) ≡ option_or (option_map known_of o) (option_map known_of p)
+    mapped None p = refl
+    mapped (Some l) p = refl
+
+pub has_id-append : (id : List ℕ) (earlier later : List Live) → has_id id (earlier ++ later) ≡ (has_id id earlier || has_id id later)
+has_id-append id earlier later = list_any-append _ earlier later
+
+-- ---- the verdict on one statement
+
+-- the verdict of the record rules
+abbrev pub of_rules : Result Status RecordFault → Result Status Refusal
+of_rules (Ok status) = Ok status
+of_rules (Err fault) = Err (by_record fault)
+
+pub verdict_is : (live : List Live) (s : Statement) (due : ℤ) → verdict live s due ≡ if has_id s.id live then Err statement_twice else of_rules (admitted live s due)
+verdict_is live s due = at (has_id s.id live) (refusals (last_of s.declaration s.rec live) s due)
+  where
+    status : Status
+    status = settled_status (last_of s.declaration s.rec live) s.status
+
+    at : (b : Bool) (faults : List RecordFault) → unless_refused ((if b then statement_twice ∷ [] else []) ++ map by_record faults) status ≡ if b then Err statement_twice else of_rules (unless_refused faults status)
+    at true faults = refl
+    at false [] = refl
+    at false (fault ∷ faults) = refl
+
+-- ---- a loop over a file
+
+-- the outcome behind what was settled
+abbrev pub behind : List Statement → Result (List Statement) PlacedRefusal → Result (List Statement) PlacedRefusal
+behind done (Ok statements) = Ok (done ++ statements)
+behind done (Err refusal) = Err refusal
+
+-- what is live once these are settled
+abbrev pub and_settled : List Live → ℤ → List Statement → List Live
+and_settled live due done = live ++ map (as_live due) done
+
+pub settled_start : (live : List Live) (due : ℤ) (statements : List Statement) → behind [] (settled_from 1 (and_settled live due []) due statements) ≡ settled live due statements
+settled_start live due statements = ap (λ ls. behind [] (settled_from 1 ls due statements)) (append-nil live) ∙ at (settled_from 1 live due statements)
+  where
+    at : (r : Result (List Statement) PlacedRefusal) → behind [] r ≡ r
+    at (Ok ss) = refl
+    at (Err refusal) = refl
+
+-- one statement more is settled
+pub settled_more : (place : ℕ) (live : List Live) (due : ℤ) (done : List Statement) (s : Statement) (statements : List Statement) (status : Status)
+    → verdict (and_settled live due done) s due ≡ Ok status
+    → behind done (settled_from place (and_settled live due done) due (s ∷ statements))
+    ≡ behind (done ++ as_settled status s ∷ []) (settled_from (place + 1) (and_settled live due (done ++ as_settled status s ∷ [])) due statements)
+settled_more place live due done s statements status e =
+    ap (λ v. behind done (settled_then place s v rest)) e
+    ∙ at (rest (as_settled status s))
+    ∙ ap (λ ls. behind (done ++ as_settled status s ∷ []) (settled_from (place + 1) ls due statements)) grown
+  where
+    rest : Statement → Result (List Statement) PlacedRefusal
+    rest t = settled_from (place + 1) (and_settled live due done ++ as_live due t ∷ []) due statements
+
+    at : (r : Result (List Statement) PlacedRefusal) → behind done (ahead (as_settled status s) r) ≡ behind (done ++ as_settled status s ∷ []) r
+    at (Ok ss) = ap Ok (sym (append_assoc done (as_settled status s ∷ []) ss))
+    at (Err refusal) = refl
+
+    grown : and_settled live due done ++ as_live due (as_settled status s) ∷ [] ≡ and_settled live due (done ++ as_settled status s ∷ [])
+    grown = append_assoc live (map (as_live due) done) (as_live due (as_settled status s) ∷ []) ∙ ap (λ ls. live ++ ls) (sym (map-append (as_live due) done (as_settled status s ∷ [])))
+
+-- one statement more is refused
+pub settled_refused : (place : ℕ) (live : List Live) (due : ℤ) (done : List Statement) (s : Statement) (statements : List Statement) (why : Refusal)
+    → verdict (and_settled live due done) s due ≡ Err why
+    → behind done (settled_from place (and_settled live due done) due (s ∷ statements)) ≡ Err (record { place = place; why = why })
+settled_refused place live due done s statements why e =
+    ap (λ v. behind done (settled_then place s v (λ t. settled_from (place + 1) (and_settled live due done ++ as_live due t ∷ []) due statements))) e
+
+-- all are settled
+pub settled_end : (place : ℕ) (live : List Live) (due : ℤ) (done : List Statement) → behind done (settled_from place (and_settled live due done) due []) ≡ Ok done
+settled_end place live due done = ap Ok (append-nil done)

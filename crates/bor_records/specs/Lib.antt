@@ -1,0 +1,5 @@
+pub mod Words
+pub mod Admission
+pub mod Settling
+pub mod Snapshot
+pub mod Found

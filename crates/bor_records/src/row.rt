@@ -1,0 +1,24 @@
+//! Statements as the register keeps them.
+
+use bods_read::{Statement, Status};
+use bor_terms::AgentName;
+
+/// A live statement with the agent and the filing that it stands in.
+#[derive(Debug, Drop)]
+pub struct Row {
+    pub agent: AgentName,
+    /// The filing's number, which counts from 1 for each agent.
+    pub filing: u32,
+    /// The statement's place in its file, from 1.
+    pub place: usize,
+    /// The settled status.
+    pub status: Status,
+    pub statement: Statement,
+}
+
+/// What a snapshot shows of a record: its latest statement, with its settled status.
+#[derive(Debug, Drop)]
+pub struct Entry {
+    pub status: Status,
+    pub statement: Statement,
+}
