@@ -1,0 +1,14 @@
+pub mod Wholes
+pub mod Growing
+pub mod SameNode
+pub mod Reach
+pub mod Following
+pub mod Telling
+pub mod Walking
+pub mod Found
+pub mod Lists
+pub mod Series
+pub mod Joining
+pub mod OneAnswer
+pub mod Examples
+pub mod EveryStake

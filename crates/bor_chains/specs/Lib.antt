@@ -1,0 +1,13 @@
+pub mod Nodes
+pub mod Stakes
+pub mod Series
+pub mod Shown
+pub mod Chains
+pub mod Rows
+pub mod Promises
+pub mod Laws
+pub mod Marks
+pub mod Walk
+pub mod Sorting
+pub mod Orders
+pub mod Listing
