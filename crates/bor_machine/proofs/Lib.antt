@@ -1,0 +1,10 @@
+pub mod Members
+pub mod Names
+pub mod Places
+pub mod LiveStatements
+pub mod Lodgings
+pub mod Journals
+pub mod Legality
+pub mod SeenRows
+pub mod KeptLaws
+pub mod Examples

@@ -1,0 +1,162 @@
+-- What a lodging is refused for, and what a refused one leaves.
+use Rattle.std.proofs.Common.{◌≡◌, ℕ, zero, suc, ℤ, ◌+◌, ◌<◌, ◌≤◌, subst, List, [], ◌∷◌, ◌++◌, length, take, drop, get_or, set, map, true, false, None, Result, Ok, Err, refl, ◌∙◌, sym, ap, append_assoc, arith}
+use Rattle.std.specs.Prelude.{◌≢◌, ◌%◌, ◌^◌, pos}
+use Rattle.std.proofs.lemmas.List.{take_more_set, drop_more, drop-set-lt, append-nil, map-append, take_all}
+use Rattle.bods_read.specs.declared.statement.Statement.{Statement}
+use Rattle.bods_read.specs.declared.statement.Status.{Status}
+use Rattle.bods_read.specs.declared.fault.ReadFault.{ReadFault}
+use Rattle.bods_read.specs.File.{reading}
+use Rattle.bor_records.specs.declared.fault.RecordFault.{RecordFault}
+use Rattle.bor_records.specs.Admission.{Live, last_of, refusals, settled_status, unless_refused, admission}
+use Rattle.bor_records.specs.Settling.{Refusal, by_record, PlacedRefusal, has_id, verdict, as_settled, as_live, ahead, settled_then, settled_from, settled}
+use Rattle.bor_machine.specs.declared.fault.LodgeFault.{LodgeFault}
+use Rattle.bor_machine.specs.declared.fault.LodgeFault.TheVariants.{Read, StatementTwice, Record, Store}
+use Rattle.bor_machine.specs.Register.{Register, filings_of, with_filings}
+use Rattle.bods_read.specs.declared.details.Details.TheVariants.{Person}
+use Rattle.bods_read.specs.declared.details.PersonKind.TheVariants.{KnownPerson}
+use Rattle.bor_machine.specs.declared.filing.State.{State}
+use Rattle.bor_machine.specs.Publication.{state_of_live}
+use Rattle.bor_machine.specs.Lodging.{accepted, fault_at, told_verdict, told_settled, live_of, settled_reading, as_read, lodge_step}
+use Rattle.bor_machine.specs.Outcomes.{IsRefusal, Refuses}
+use Rattle.bor_machine.proofs.Members.{with_filings_same}
+
+-- a count that goes up by one, modulo 2^64, is another
+pub moved : (n : ℕ) → (n + 1) % 2 ^ 64 ≢ n
+moved n = λ e. omega arith
+
+-- ---- one statement
+
+pub verdict-taken : (place : ℕ) (live : List Live) (s : Statement) (due : ℤ) → has_id s.id live ≡ true → told_verdict place (verdict live s due) ≡ Err (StatementTwice place)
+verdict-taken place live s due taken = rw taken refl
+
+by_rules-ok : (rs : List RecordFault) (x st : Status) (place : ℕ) → unless_refused rs x ≡ Ok st → told_verdict place (unless_refused (map by_record rs) x) ≡ Ok st
+by_rules-ok [] x st place h = ap (λ (y : Status). Ok y) cc
+by_rules-ok (r ∷ rs) x st place h = absurd cc
+
+by_rules-err : (rs : List RecordFault) (x : Status) (f : RecordFault) (place : ℕ) → unless_refused rs x ≡ Err f → told_verdict place (unless_refused (map by_record rs) x) ≡ Err (Record place f)
+by_rules-err [] x f place h = absurd cc
+by_rules-err (r ∷ rs) x f place h = ap (λ (y : RecordFault). Err (Record place y)) cc
+
+pub verdict-ok : (place : ℕ) (live : List Live) (s : Statement) (due : ℤ) (st : Status) → has_id s.id live ≡ false → admission (last_of s.declaration s.rec live) s due ≡ Ok st → told_verdict place (verdict live s due) ≡ Ok st
+verdict-ok place live s due st free h = rw free (by_rules-ok (refusals (last_of s.declaration s.rec live) s due) (settled_status (last_of s.declaration s.rec live) s.status) st place h)
+
+pub verdict-err : (place : ℕ) (live : List Live) (s : Statement) (due : ℤ) (f : RecordFault) → has_id s.id live ≡ false → admission (last_of s.declaration s.rec live) s due ≡ Err f → told_verdict place (verdict live s due) ≡ Err (Record place f)
+verdict-err place live s due f free h = rw free (by_rules-err (refusals (last_of s.declaration s.rec live) s due) (settled_status (last_of s.declaration s.rec live) s.status) f place h)
+
+pub ruleset verdict_rules = (verdict-taken, verdict-ok, verdict-err)
+
+-- ---- a file's statements, one after the other
+
+-- what is made of statements, behind those that are settled
+abbrev pub behind : List Statement → Result (List Statement) PlacedRefusal → Result (List Statement) PlacedRefusal
+behind front (Ok ss) = Ok (front ++ ss)
+behind front (Err refusal) = Err refusal
+
+-- the first i statements are settled, and the others are as they were read
+abbrev pub so_far : List Live → ℤ → List Statement → ℕ → Result (List Statement) PlacedRefusal
+so_far live due ss i = behind (take i ss) (settled_from (i + 1) (live ++ map (as_live due) (take i ss)) due (drop i ss))
+
+behind-nil : (x : Result (List Statement) PlacedRefusal) → behind [] x ≡ x
+behind-nil (Ok ss) = refl
+behind-nil (Err e) = refl
+
+pub so_far-begin : (live : List Live) (due : ℤ) (ss : List Statement) → so_far live due ss 0 ≡ settled live due ss
+so_far-begin live due ss = behind-nil (settled_from 1 (live ++ []) due ss) ∙ ap (λ ls. settled_from 1 ls due ss) (append-nil live)
+
+behind-ahead : (front : List Statement) (s : Statement) (x : Result (List Statement) PlacedRefusal) → behind front (ahead s x) ≡ behind (front ++ s ∷ []) x
+behind-ahead front s (Ok ss) = ap (λ (ys : List Statement). Ok ys) (sym (append_assoc front (s ∷ []) ss))
+behind-ahead front s (Err e) = refl
+
+verdict_is : (place : ℕ) (v : Result Status Refusal) (st : Status) → told_verdict place v ≡ Ok st → v ≡ Ok st
+verdict_is place (Ok x) st h = cc
+verdict_is place (Err w) st h = absurd cc
+
+live-more : (live : List Live) (due : ℤ) (front : List Statement) (s : Statement) → (live ++ map (as_live due) front) ++ as_live due s ∷ [] ≡ live ++ map (as_live due) (front ++ s ∷ [])
+live-more live due front s = append_assoc live (map (as_live due) front) (as_live due s ∷ []) ∙ ap (λ ls. live ++ ls) (sym (map-append (as_live due) front (s ∷ [])))
+
+pub so_far-more : (live : List Live) (due : ℤ) (ss : List Statement) (i place : ℕ) (d : Statement) (st : Status) → i < length ss →
+    told_verdict place (verdict (live ++ map (as_live due) (take i ss)) (get_or ss i d) due) ≡ Ok st → so_far live due ss i ≡ so_far live due (set ss i (as_settled st (get_or ss i d))) (i + 1)
+so_far-more live due ss i place d st lt told =
+    let s = get_or ss i d in
+    let front = take i ss in
+    let before = live ++ map (as_live due) front in
+    let next = as_settled st s in
+    let rest = drop (i + 1) ss in
+    let is = verdict_is place (verdict before s due) st told in
+    let below : i < i + 1 = omega arith in
+    ap (λ ys. behind front (settled_from (i + 1) before due ys)) (drop_more ss i d lt)
+    ∙ ap (λ v. behind front (settled_then (i + 1) s v (λ x. settled_from (i + 1 + 1) (before ++ as_live due x ∷ []) due rest))) is
+    ∙ behind-ahead front next (settled_from (i + 1 + 1) (before ++ as_live due next ∷ []) due rest)
+    ∙ ap (λ ls. behind (front ++ next ∷ []) (settled_from (i + 1 + 1) ls due rest)) (live-more live due front next)
+    ∙ sym (ap (λ ys. behind ys (settled_from (i + 1 + 1) (live ++ map (as_live due) ys) due (drop (i + 1) (set ss i next)))) (take_more_set ss i next lt)
+    ∙ ap (λ ys. behind (front ++ next ∷ []) (settled_from (i + 1 + 1) (live ++ map (as_live due) (front ++ next ∷ [])) due ys)) (drop-set-lt (i + 1) ss i next below))
+
+drop_past : (ss : List Statement) (i : ℕ) → length ss ≤ i → drop i ss ≡ []
+drop_past [] zero le = refl
+drop_past [] (suc i) le = refl
+drop_past (s ∷ ss) zero le = absurd (omega arith)
+drop_past (s ∷ ss) (suc i) le = drop_past ss i (omega arith)
+
+pub so_far-end : (live : List Live) (due : ℤ) (ss : List Statement) (i : ℕ) → length ss ≤ i → so_far live due ss i ≡ Ok ss
+so_far-end live due ss i le =
+    ap (λ ys. behind (take i ss) (settled_from (i + 1) (live ++ map (as_live due) (take i ss)) due ys)) (drop_past ss i le)
+    ∙ ap (λ (ys : List Statement). Ok ys) (append-nil (take i ss) ∙ take_all i ss le)
+
+refused_then : (e : LodgeFault) (front : List Statement) (place : ℕ) (s : Statement) (v : Result Status Refusal) (rest : Statement → Result (List Statement) PlacedRefusal) →
+    Refuses e (told_verdict place v) → Refuses e (told_settled (behind front (settled_then place s v rest)))
+refused_then (Store fault) front place s v rest h = tt
+refused_then (Read fault) front place s (Ok st) rest h = absurd cc
+refused_then (Read fault) front place s (Err w) rest h = let same : fault_at place w ≡ Read fault = cc in ap (λ (x : LodgeFault). Err x) same
+refused_then (StatementTwice p) front place s (Ok st) rest h = absurd cc
+refused_then (StatementTwice p) front place s (Err w) rest h = let same : fault_at place w ≡ StatementTwice p = cc in ap (λ (x : LodgeFault). Err x) same
+refused_then (Record p f) front place s (Ok st) rest h = absurd cc
+refused_then (Record p f) front place s (Err w) rest h = let same : fault_at place w ≡ Record p f = cc in ap (λ (x : LodgeFault). Err x) same
+
+pub so_far-refused : (e : LodgeFault) (live : List Live) (due : ℤ) (ss : List Statement) (i place : ℕ) (d : Statement) → i < length ss → place ≡ i + 1 →
+    Refuses e (told_verdict place (verdict (live ++ map (as_live due) (take i ss)) (get_or ss i d) due)) → Refuses e (told_settled (so_far live due ss i))
+so_far-refused e live due ss i place d lt at h =
+    let before = live ++ map (as_live due) (take i ss) in
+    let here = subst (λ p. Refuses e (told_verdict p (verdict before (get_or ss i d) due))) at h in
+    let all = refused_then e (take i ss) (i + 1) (get_or ss i d) (verdict before (get_or ss i d) due) (λ x. settled_from (i + 1 + 1) (before ++ as_live due x ∷ []) due (drop (i + 1) ss)) here in
+    subst (λ ys. Refuses e (told_settled (behind (take i ss) (settled_from (i + 1) before due ys)))) (sym (drop_more ss i d lt)) all
+
+-- ---- a refused lodging leaves the register
+
+pub refused_step : (r : Register) (name key : List ℕ) (due : ℤ) (bytes : List ℕ) (e : LodgeFault) → settled_reading (live_of (filings_of name r.members)) due (reading bytes) ≡ Err e →
+    ((lodge_step r name key due bytes).answer ≡ Err e) × ((lodge_step r name key due bytes).register ≡ r)
+refused_step r name key due bytes e h = (rw h refl, rw (h, with_filings_same name r.members) refl)
+
+pub refusal_left : (shown : Register → Type 0) (r : Register) (name key : List ℕ) (due : ℤ) (bytes : List ℕ) (e : LodgeFault) →
+    Refuses e (settled_reading (live_of (filings_of name r.members)) due (reading bytes)) → shown r → IsRefusal e shown r (lodge_step r name key due bytes)
+refusal_left shown r name key due bytes (Read fault) h is = let p = refused_step r name key due bytes (Read fault) h in (p.0, subst shown (sym p.1) is)
+refusal_left shown r name key due bytes (StatementTwice place) h is = let p = refused_step r name key due bytes (StatementTwice place) h in (p.0, subst shown (sym p.1) is)
+refusal_left shown r name key due bytes (Record place fault) h is = let p = refused_step r name key due bytes (Record place fault) h in (p.0, subst shown (sym p.1) is)
+refusal_left shown r name key due bytes (Store fault) h is = is
+
+-- a file that isn't read refuses the lodging
+pub refuses-unread : (e : LodgeFault) (live : List Live) (due : ℤ) (file : Result (List Statement) ReadFault) → Refuses e (as_read file) → Refuses e (settled_reading live due file)
+refuses-unread (Store fault) live due file h = tt
+refuses-unread (Read f) live due (Ok ss) h = absurd cc
+refuses-unread (Read f) live due (Err g) h = h
+refuses-unread (StatementTwice p) live due (Ok ss) h = absurd cc
+refuses-unread (StatementTwice p) live due (Err g) h = absurd cc
+refuses-unread (Record p f) live due (Ok ss) h = absurd cc
+refuses-unread (Record p f) live due (Err g) h = absurd cc
+
+pub settled-read : (live : List Live) (due : ℤ) (ss : List Statement) (file : Result (List Statement) ReadFault) → as_read file ≡ Ok ss → settled_reading live due file ≡ told_settled (settled live due ss)
+settled-read live due ss (Ok s) h = ap (λ (x : List Statement). told_settled (settled live due x)) cc
+settled-read live due ss (Err f) h = absurd cc
+
+pub ruleset reading_rules = (settled-read)
+
+-- ---- an accepted lodging
+
+pub accepted_step : (r : Register) (name key : List ℕ) (due : ℤ) (bytes : List ℕ) (ss : List Statement) (number : ℕ) (state : State) →
+    settled_reading (live_of (filings_of name r.members)) due (reading bytes) ≡ Ok ss → number ≡ length (filings_of name r.members) + 1 → state ≡ state_of_live due r.day →
+    ((lodge_step r name key due bytes).answer ≡ Ok (record { number = number; due = due; state = state; fresh = true }))
+    × ((lodge_step r name key due bytes).register ≡ record r { members = with_filings name (filings_of name r.members ++ accepted (filings_of name r.members) key due bytes ss ∷ []) r.members })
+accepted_step r name key due bytes ss number state h e f = (rw (h, e, f) refl, rw h refl)
+
+-- a statement that stands for none
+pub no_statement : Statement
+no_statement = record { id = []; day = pos 0; declaration = []; rec = []; status = None; details = Person KnownPerson None }

@@ -1,0 +1,10 @@
+pub mod Register
+pub mod Journal
+pub mod Publication
+pub mod Rows
+pub mod Promises
+pub mod Lodging
+pub mod Outcomes
+pub mod Legality
+pub mod Laws
+pub mod Holding
