@@ -1,0 +1,157 @@
+//! The check of a file.
+
+ghost use Rattle.std.specs.Prelude.{◌≡◌, ◌++◌, codes, string_bytes, length, IfOk, IfErr, Some, None};
+ghost use Rattle.bods_read.specs.declared.fault.Field.{Field};
+ghost use Rattle.bor_machine.specs.declared.fault.StoreFault.TheVariants.{Memory};
+ghost use Rattle.bor_machine.specs.Publication.{published};
+ghost use Rattle.bor_desk.specs.Texts.{refusal_line, accepted_line, outward_lines};
+ghost use Rattle.bor_desk.specs.CheckReport.{check_day, check_register, check_step, told, refused, outcome_text, check_report, IsRefusalTold};
+
+use crate::text::{Text, add_accepted, add_outwards, add_refusal};
+use bods_read::Field;
+use bor_machine::{Keep, ListKeep, LodgeFault, Lodged, Outward, StoreFault, lodge};
+use bor_terms::{AgentName, Day, Listed, LodgeKey, Token};
+use std::alloc::{AllocError, Global};
+
+/// The greatest file that is checked, in bytes.
+pub const FILE_LIMIT: usize = 1_048_576;
+
+#[tactic(auto, unfolding(bor_terms::specs::Texts::is_agent_name))]
+fn check_agent(alloc: Global) -> Result<AgentName, AllocError>
+    ensures { IfOk result (λ name. name ≡ codes "check") }
+{
+    let Some(name) = AgentName::read(alloc, "check")? else {
+        unreachable!()
+    };
+    Ok(name)
+}
+
+#[tactic(auto, unfolding(bor_terms::specs::Texts::is_lodge_key))]
+fn check_key(alloc: Global) -> Result<LodgeKey, AllocError>
+    ensures { IfOk result (λ key. key ≡ codes "check") }
+{
+    let Some(key) = LodgeKey::read(alloc, "check")? else {
+        unreachable!()
+    };
+    Ok(key)
+}
+
+#[tactic(auto, unfolding(bor_terms::specs::Texts::is_token))]
+fn registrar_token(alloc: Global) -> Result<Token, AllocError>
+    ensures { IfOk result (λ token. token ≡ codes "check-registrar-0001") }
+{
+    let Some(token) = Token::read(alloc, "check-registrar-0001")? else {
+        unreachable!()
+    };
+    Ok(token)
+}
+
+#[tactic(auto, unfolding(bor_terms::specs::Texts::is_token))]
+fn agent_token(alloc: Global) -> Result<Token, AllocError>
+    ensures { IfOk result (λ token. token ≡ codes "check-token-0001") }
+{
+    let Some(token) = Token::read(alloc, "check-token-0001")? else {
+        unreachable!()
+    };
+    Ok(token)
+}
+
+// The day on which a file is checked, 2000-01-01.
+fn check_day() -> Day
+    ensures { result ≡ check_day }
+{
+    let Some(day) = Day::from_number(10_957) else {
+        unreachable!()
+    };
+    day
+}
+
+fn check_keep(alloc: Global) -> Result<ListKeep, StoreFault>
+    ensures shown { IfOk result (λ keep. keep.register ≡ check_register) }
+    ensures err { IfErr result (λ fault. fault ≡ Memory) }
+{
+    let mut keep = ListKeep::new(alloc, registrar_token(alloc)?, check_day());
+    keep.add_agent(&check_agent(alloc)?, &agent_token(alloc)?)?;
+    Ok(keep)
+}
+
+fn told(text: String) -> Text
+    ensures { result ≡ told (string_bytes text) }
+{
+    Text {
+        bytes: Listed::new(text.into_bytes()),
+        refused: false,
+    }
+}
+
+fn refused(
+    alloc: Global,
+    name: &str,
+    place: Option<u32>,
+    field: Option<Field>,
+) -> Result<Text, AllocError>
+    ensures { IfOk result (λ text. text ≡ refused (refusal_line name.now place field)) }
+{
+    let mut text = String::new(alloc);
+    add_refusal(&mut text, name, place, field)?;
+    Ok(Text {
+        bytes: Listed::new(text.into_bytes()),
+        refused: true,
+    })
+}
+
+fn accepted(alloc: Global, lodged: &Lodged, outwards: &[Outward]) -> Result<Text, AllocError>
+    ensures { IfOk result (λ text. text ≡ told (accepted_line lodged.now ++ outward_lines outwards.now)) }
+{
+    let mut text = String::new(alloc);
+    add_accepted(&mut text, lodged)?;
+    add_outwards(&mut text, outwards)?;
+    Ok(told(text))
+}
+
+fn refusal(alloc: Global, fault: LodgeFault) -> Result<Text, StoreFault>
+    ensures { IsRefusalTold fault result }
+{
+    match fault {
+        LodgeFault::Read(fault) => Ok(refused(alloc, fault.name(), fault.place(), fault.field())?),
+        LodgeFault::StatementTwice(place) => {
+            Ok(refused(alloc, "StatementTwice", Some(place), None)?)
+        }
+        LodgeFault::Record { place, fault } => Ok(refused(alloc, fault.name(), Some(place), None)?),
+        LodgeFault::Store(fault) => Err(fault),
+    }
+}
+
+fn lodged_text(alloc: Global, bytes: &[u8]) -> Result<Text, StoreFault>
+    ensures text { IfOk result (λ text. text ≡ outcome_text (check_step bytes.now)) }
+    ensures err { IfErr result (λ fault. fault ≡ Memory) }
+{
+    let mut keep = check_keep(alloc)?;
+    let agent = check_agent(alloc)?;
+    let key = check_key(alloc)?;
+    match lodge(alloc, &mut keep, &agent, &key, check_day(), bytes) {
+        Ok(lodged) => Ok(accepted(alloc, &lodged, &keep.published()?)?),
+        Err(fault) => refusal(alloc, fault),
+    }
+}
+
+/// The text of `bor check`: what lodging a file in a new register is answered, and the statements
+/// that are published then.
+///
+/// The register has the agent `check` and no filings; the file is lodged by that agent, due on the
+/// register's day, so that an accepted filing is published at once. A file of more than
+/// [`FILE_LIMIT`] bytes is refused as `BodyTooLarge` before anything else.
+///
+/// # Errors
+///
+/// Want of memory alone.
+#[tactic(auto, unfolding(crate::specs::CheckReport::check_report))]
+pub fn check_text(alloc: Global, bytes: &[u8]) -> Result<Text, StoreFault>
+    ensures text { IfOk result (λ text. text ≡ check_report bytes.now) }
+    ensures err { IfErr result (λ fault. fault ≡ Memory) }
+{
+    if bytes.len() > FILE_LIMIT {
+        return Ok(refused(alloc, "BodyTooLarge", None, None)?);
+    }
+    lodged_text(alloc, bytes)
+}

@@ -1,0 +1,103 @@
+//! Texts that the program prints.
+
+ghost use Rattle.std.specs.Prelude.{◌≡◌, ◌++◌, OnOk, string_bytes, option_map};
+ghost use Rattle.bor_desk.specs.Texts.{statement_line, statement_lines, outward_lines, accepted_line, refusal_line, place_part, field_part, settled_word};
+
+use bods_read::{Field, Statement, Status};
+use bor_machine::{Lodged, Outward};
+use bor_terms::Listed;
+use std::alloc::AllocError;
+
+/// The text of a command, and whether it tells a refusal.
+#[derive(Debug, Drop)]
+pub struct Text {
+    pub bytes: Listed<u8>,
+    pub refused: bool,
+}
+
+fn settled_word(status: Option<Status>) -> &'static str
+    ensures { result.now ≡ settled_word status }
+{
+    match status {
+        Some(status) => status.as_str(),
+        None => "",
+    }
+}
+
+// Adds the line of a statement.
+fn add_statement(text: &mut String, place: usize, statement: &Statement) -> Result<(), AllocError>
+    ensures { OnOk result (string_bytes text.new ≡ string_bytes text.old ++ statement_line place statement.now) }
+{
+    let record_type = statement.record_type().as_str();
+    let status = settled_word(statement.status);
+    let declaration = statement.declaration.as_str();
+    let rec = statement.rec.as_str();
+    writeln!(
+        text,
+        "{place}\t{record_type}\t{status}\t{declaration}\t{rec}"
+    )
+}
+
+fn add_statements(text: &mut String, statements: &[Statement]) -> Result<(), AllocError>
+    ensures { OnOk result (string_bytes text.new ≡ string_bytes text.old ++ statement_lines 1 statements.now) }
+{
+    for (i, statement) in statements.iter().enumerate() {
+        add_statement(text, i + 1, statement)?;
+    }
+    Ok(())
+}
+
+/// Adds the lines of the statements of published filings, counted from 1 in each.
+pub(crate) fn add_outwards(text: &mut String, outwards: &[Outward]) -> Result<(), AllocError>
+    ensures { OnOk result (string_bytes text.new ≡ string_bytes text.old ++ outward_lines outwards.now) }
+{
+    for outward in outwards {
+        add_statements(text, outward.statements.as_slice())?;
+    }
+    Ok(())
+}
+
+/// Adds the line of a filing that was accepted.
+pub(crate) fn add_accepted(text: &mut String, lodged: &Lodged) -> Result<(), AllocError>
+    ensures { OnOk result (string_bytes text.new ≡ string_bytes text.old ++ accepted_line lodged.now) }
+{
+    let number = lodged.number;
+    let state = lodged.state.as_str();
+    writeln!(text, "filing {number} {state}")
+}
+
+fn add_place(text: &mut String, place: Option<u32>) -> Result<(), AllocError>
+    ensures { OnOk result (string_bytes text.new ≡ string_bytes text.old ++ place_part place) }
+{
+    match place {
+        Some(place) => write!(text, " at {place}"),
+        None => Ok(()),
+    }
+}
+
+fn add_field(text: &mut String, field: Option<Field>) -> Result<(), AllocError>
+    ensures { OnOk result (string_bytes text.new ≡ string_bytes text.old ++ field_part field) }
+{
+    match field {
+        Some(field) => {
+            let name = field.as_str();
+            write!(text, " in {name}")
+        }
+        None => Ok(()),
+    }
+}
+
+/// Adds the line of a refusal.
+pub(crate) fn add_refusal(
+    text: &mut String,
+    name: &str,
+    place: Option<u32>,
+    field: Option<Field>,
+) -> Result<(), AllocError>
+    ensures { OnOk result (string_bytes text.new ≡ string_bytes text.old ++ refusal_line name.now place field) }
+{
+    write!(text, "refused {name}")?;
+    add_place(text, place)?;
+    add_field(text, field)?;
+    writeln!(text)
+}
