@@ -1,0 +1,2 @@
+pub mod KnownWords
+pub mod KnownBytes

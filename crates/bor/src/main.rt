@@ -1,0 +1,48 @@
+//! `bor`, a register of beneficial ownership on the command line.
+#![tactic(auto)]
+
+mod check;
+mod command;
+mod failure;
+mod program;
+mod status;
+#[cfg(test)]
+mod tests;
+
+use failure::Failure;
+use program::run;
+use status::Status;
+use std::env::{self, Env};
+use std::io::{self, ErrorKind, Write};
+use std::process::ExitCode;
+
+// Runs on the words after the program's name and on the three standard streams, and exits with the
+// status that the run gave. Where the words can't be read, it tells why on standard error.
+fn main(rt: HostRuntime) -> ExitCode {
+    let mut errors = rt.stderr();
+    let code = match words(&rt) {
+        Ok(words) => run(
+            &rt,
+            words.as_slice(),
+            &mut rt.stdin(),
+            &mut rt.stdout(),
+            &mut errors,
+        ),
+        Err(error) => tell_unread(&error, &mut errors).code(),
+    };
+    ExitCode::from(code)
+}
+
+// The words after the program's name.
+fn words<R: Env + AllocGlobal>(rt: &R) -> io::Result<Vec<String>> {
+    Ok(env::args(rt)?.skip(1).collect(rt.alloc())?)
+}
+
+// Tells on standard error why the words could not be read.
+fn tell_unread<E: Write>(error: &io::Error, errors: &mut E) -> Status {
+    if error.kind() == ErrorKind::OutOfMemory {
+        return Failure::Memory.tell(errors);
+    }
+    let _ = writeln!(errors, "error: a word on the command line is not UTF-8");
+    Status::Usage
+}
