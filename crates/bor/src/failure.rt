@@ -1,6 +1,6 @@
 //! Why a command could not be done.
 
-ghost use Rattle.std.specs.Prelude.{◌≡◌, ◌↔◌, ◌∷◌, ◌++◌, [], IsTrue, codes};
+ghost use Rattle.std.specs.Prelude.{◌≡◌, ◌≢◌, ◌↔◌, ◌∷◌, ◌++◌, [], IsTrue, codes};
 ghost use Rattle.std.specs.IoError.{error_kind};
 ghost use Rattle.std.specs.Io.KnownBytes.{Appends};
 ghost use Rattle.bor.specs.Failures.{AppendsPart, IsFailureOn, failure_line, failure_of};
@@ -27,6 +27,7 @@ impl<'a> Failure<'a> {
     /// The failure of opening or reading `source` with this error.
     pub fn of_reading(source: Source<'a>, error: &Error) -> Self
         ensures memory { (result ≡ Failure.Memory) ↔ (error_kind error.now ≡ ErrorKind.OutOfMemory) }
+        ensures unreadable { error_kind error.now ≢ ErrorKind.OutOfMemory → result ≡ Failure.Unreadable source.entry }
         ensures source { IsFailureOn source.entry result }
     {
         match error.kind() {
