@@ -1,6 +1,6 @@
 -- The definitions, tried: each equation here computes from the definitions alone.
 use Rattle.std.proofs.Common.{◌≡◌, ℕ, true, false, List, [], ◌∷◌, Some, None, pos, neg_ℤ, refl, map, replicate}
-use Rattle.std.specs.Prelude.{codes, nat_lt, is_some}
+use Rattle.std.specs.Prelude.{codes, nat_lt, is_some, ⊤}
 use Rattle.std.specs.List.{list_all, list_any}
 use Rattle.jiff_core.specs.Calendar.{days_from_civil, day_count, days_of_years, days_of_months}
 use Rattle.bor_terms.specs.Points.{at_least, above, at_most, below, points, has_points}
@@ -85,13 +85,18 @@ open_and_equal = refl
 
 -- ---- days
 
+-- what is opened to compute the day that a text names
+unfoldable pub calendar : ⊤
+unfolding day_of has_marks digits_day pair_at number_of days_from_civil day_count days_of_years days_of_months
+calendar = tt
+
 -- the last two are the ends of the calendar here
 named_days : map day_of (
     codes "2024-01-10" ∷ codes "2024-01-10T09:00:00Z" ∷ codes "2024-01-10T" ∷ codes "2024-02-01"
     ∷ codes "2024-02-29" ∷ codes "1970-01-01" ∷ codes "1969-12-31" ∷ codes "0000-01-01" ∷ codes "9999-12-31" ∷ [])
     ≡ Some (pos 19_732) ∷ Some (pos 19_732) ∷ Some (pos 19_732) ∷ Some (pos 19_754)
     ∷ Some (pos 19_782) ∷ Some (pos 0) ∷ Some (neg_ℤ (pos 1)) ∷ Some (neg_ℤ (pos 719_528)) ∷ Some (pos 2_932_896) ∷ []
-unfolding day_of has_marks digits_day pair_at number_of days_from_civil day_count days_of_years days_of_months
+unfolding calendar
 named_days = refl
 
 unnamed_days : list_any (λ text. is_some (day_of text)) (
@@ -145,5 +150,5 @@ not_below = refl
 
 -- a day on which nothing was filed yet
 pub first_day : day_of (codes "2000-01-01") ≡ Some (pos 10957)
-unfolding day_of has_marks digits_day pair_at number_of days_from_civil day_count days_of_years days_of_months
+unfolding calendar
 first_day = refl

@@ -1,8 +1,8 @@
 -- A day has one spelling of ten bytes.
 use Rattle.std.proofs.Common.{◌≡◌, ℕ, zero, suc, ◌+◌, ◌-◌, ◌*◌, ◌/◌, ◌%◌, ◌<◌, ◌≤◌, Bool, true, false, cond, ◌&&◌, List, length, Some, None, ℤ, pos, refl, sym, ap, ◌∙◌, arith}
-use Rattle.std.specs.Prelude.{nat_le, ◌==◌, slice_index, option_and_then}
+use Rattle.std.specs.Prelude.{nat_le, nat_lt, ◌==◌, slice_index, option_and_then, IsAscii}
 use Rattle.std.proofs.lemmas.Int.{ints}
-use Rattle.std.proofs.lemmas.List.{ext_get_or}
+use Rattle.std.proofs.lemmas.List.{ext_get_or, get_or_past}
 use Rattle.std.proofs.lemmas.Option.{cond_some, option_and_then_some}
 use Rattle.std.proofs.lemmas.Bool.Decides.{nat_tests}
 use Rattle.jiff_core.specs.declared.civil.date.Date.{Date}
@@ -174,3 +174,32 @@ one_spelling a b z sa sb =
     let pa = spelled_day a z sa.1 in
     let pb = spelled_day b z sb.1 in
     same_bytes a b z sa.0 sb.0 pa.0 pb.0 pa.1 pb.1
+
+-- ---- a spelling is ASCII
+
+tens_small : (bytes : List ℕ) (i n : ℕ) → IsPair bytes i n → slice_index bytes i < 128
+tens_small bytes i n p = omega (arith, p.tens, p.small)
+
+ones_small : (bytes : List ℕ) (i n : ℕ) → IsPair bytes i n → slice_index bytes (i + 1) < 128
+ones_small bytes i n p = omega (arith, p.ones)
+
+pub spelling_ascii : (bytes : List ℕ) (z : ℤ) → IsSpelling z bytes → IsAscii bytes
+spelling_ascii bytes z s i = at (nat_lt i 10) refl
+  where
+    inside : HasHyphens bytes → IsSpelled bytes z → i < 10 → slice_index bytes i < 128
+    inside h p lt =
+        below_10 (λ k. slice_index bytes k < 128)
+        (tens_small bytes 0 _ p.century_is) (ones_small bytes 0 _ p.century_is)
+        (tens_small bytes 2 _ p.year_is) (ones_small bytes 2 _ p.year_is)
+        (omega (arith, h.first))
+        (tens_small bytes 5 _ p.month_is) (ones_small bytes 5 _ p.month_is)
+        (omega (arith, h.second))
+        (tens_small bytes 8 _ p.day_is) (ones_small bytes 8 _ p.day_is)
+        i lt
+
+    at : (b : Bool) → nat_lt i 10 ≡ b → slice_index bytes i < 128
+    at true e = let parts = spelled_day bytes z s.1 in inside parts.0 parts.1 (grind (arith, nat_tests))
+    at false e =
+        let beyond : 10 ≤ i = grind (arith, nat_tests) in
+        let none = get_or_past bytes i 0 (omega (arith, s.0)) in
+        omega (arith, none)

@@ -1,6 +1,6 @@
 //! A list as the field of a struct.
 
-ghost use Rattle.std.specs.Prelude.{◌≡◌, ◌++◌, ◌∷◌, [], IfOk, OnOk, OnErr};
+ghost use Rattle.std.specs.Prelude.{◌≡◌, ◌<◌, ◌++◌, ◌∷◌, [], length, slice_index_or, slice_set, IfOk, OnOk, OnErr};
 
 use std::alloc::{AllocError, Global};
 use std::marker::Model;
@@ -21,6 +21,9 @@ impl<T> Model for Listed<T> {
 }
 
 impl<T> Listed<T> {
+    ghost use Rattle.std.specs.Borrow.{Lends, sem};
+    ghost use Rattle.bor_terms.specs.contracts.listed.Listed.{the_row};
+
     /// The list of these items.
     pub fn new(items: Vec<T>) -> Self
         ensures { result ≡ items.items }
@@ -33,6 +36,16 @@ impl<T> Listed<T> {
         ensures { result.now ≡ self.now }
     {
         self.items.as_slice()
+    }
+
+    /// The item at this index, counted from 0, to be changed in place.
+    pub fn item_mut(&mut self, index: usize) -> &mut T
+        requires { index < length self.old }
+        ensures* writes_back { sem 𝓛
+            (Lends (the_row T.row) T.row self.entry result (slice_set self.old index)) }
+        ensures value { result.now ≡ slice_index_or self.old index result.now }
+    {
+        &mut self.items[index]
     }
 
     /// Adds an item at the end. Where memory is wanting, the list is as before.

@@ -182,12 +182,14 @@ fn half_is_no_majority(rt: HostRuntime) {
 }
 
 #[test]
-fn a_list_grows_and_is_copied(rt: HostRuntime) -> Result<(), Fail> {
+fn a_list_grows_and_is_copied_and_changed(rt: HostRuntime) -> Result<(), Fail> {
     let mut list = Listed::new(vec![in rt.alloc(); 1, 2]?);
     list.push(3)?;
     let copied = list.copy(rt.alloc())?;
     list.push(4)?;
     assert_eq!(rt; list.as_slice(), [1, 2, 3, 4].as_slice());
     assert_eq!(rt; copied.as_slice(), [1, 2, 3].as_slice());
+    *list.item_mut(1) = 9;
+    assert_eq!(rt; list.as_slice(), [1, 9, 3, 4].as_slice());
     Ok(())
 }
