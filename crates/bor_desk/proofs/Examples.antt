@@ -1,14 +1,33 @@
--- The report on the worked file, and on files that are refused.
-use Rattle.std.proofs.Common.{◌≡◌, Some, codes, refl}
+-- The checks of the worked file and of files that are refused, and reports on the worked file.
+use Rattle.std.proofs.Common.{◌≡◌, ℕ, List, [], ◌∷◌, Option, Some, None, Contains, codes, true, refl, sym, ap, ◌∙◌, subst, inl, inr}
 use Rattle.std.specs.Fmt.{digits}
+use Rattle.std.specs.List.Sorted.{IsStrictlySortedBy}
+use Rattle.serde_json.proofs.OnLiterals.{serde_json_on_literals}
 use Rattle.bor_terms.specs.Day.{day_of}
-use Rattle.bor_terms.proofs.Examples.{first_day}
+use Rattle.bor_terms.specs.Points.{points}
+use Rattle.bor_terms.proofs.Examples.{first_day, calendar}
 use Rattle.bods_read.specs.Words.{type_word, status_word, field_word}
 use Rattle.bods_read.specs.Faults.{read_fault_word, fault_word}
-use Rattle.bods_read.proofs.Examples.{worked_file, worked_file-reading, reader}
+use Rattle.bods_read.proofs.Examples.{worked_file, worked_day, worked_file-reading, reader}
+use Rattle.bor_records.specs.declared.row.Row.{Row}
 use Rattle.bor_records.specs.Words.{fault_name}
-use Rattle.bor_machine.specs.Publication.{state_word}
-use Rattle.bor_desk.specs.CheckReport.{check_day, check_report, told, refused}
+use Rattle.bor_register.specs.Publication.{state_word}
+use Rattle.bor_machine.specs.Sight.{seen_by}
+use Rattle.bor_chains.specs.declared.node.Node.{Node}
+use Rattle.bor_chains.specs.declared.node.NodeInfo.TheVariants.{Entity, Person}
+use Rattle.bor_chains.specs.declared.node.Link.{Link}
+use Rattle.bor_chains.specs.declared.node.PersonLine.{PersonLine}
+use Rattle.bor_chains.specs.Shown.{Shown, info_of}
+use Rattle.bor_chains.specs.Chains.{IsChain, IsJoinedBy, AreJoined}
+use Rattle.bor_chains.proofs.Found.{none, here, cases}
+use Rattle.bor_desk.specs.declared.refusal.Refusal.TheVariants.{NoEntity}
+use Rattle.bor_desk.specs.Refusals.{refusal_name}
+use Rattle.bor_desk.specs.Texts.{told, refused}
+use Rattle.bor_desk.specs.Step as step
+use Rattle.bor_desk.specs.CheckReport.{check_day, check_step, check_report}
+use Rattle.bor_desk.specs.ChainReport.{person_line, IsTextOf}
+
+-- ---- checks
 
 -- the day of a check is 2000-01-01
 day : day_of (codes "2000-01-01") ≡ Some check_day
@@ -19,21 +38,120 @@ unfolding check_report type_word status_word state_word digits
 accepted = rw worked_file-reading refl
 
 not_a_list : check_report (codes "{}") ≡ refused (codes "refused NotAList\n")
-unfolding check_report read_fault_word reader
+unfolding check_report refusal_name read_fault_word reader
 not_a_list = refl
 
 missing : check_report (codes "[{}]") ≡ refused (codes "refused Missing at 1 in statementId\n")
-unfolding check_report read_fault_word fault_word field_word digits reader
+unfolding check_report refusal_name read_fault_word fault_word field_word digits reader
 missing = refl
 
 -- a first statement that says it is a later one
 unknown : check_report (codes "[{\"statementId\":\"s1\",\"statementDate\":\"2024-01-10\",\"declarationSubject\":\"c1\",\"recordId\":\"e1\",\"recordType\":\"entity\",\"recordStatus\":\"updated\",\"recordDetails\":{}}]")
     ≡ refused (codes "refused RecordUnknown at 1\n")
-unfolding check_report fault_name digits reader
+unfolding check_report refusal_name fault_name digits reader
 unknown = refl
 
 -- an identifier that comes twice
 twice : check_report (codes "[{\"statementId\":\"s1\",\"statementDate\":\"2024-01-10\",\"declarationSubject\":\"c1\",\"recordId\":\"e1\",\"recordType\":\"entity\",\"recordDetails\":{}},{\"statementId\":\"s1\",\"statementDate\":\"2024-01-10\",\"declarationSubject\":\"c1\",\"recordId\":\"e2\",\"recordType\":\"entity\",\"recordDetails\":{}}]")
     ≡ refused (codes "refused StatementTwice at 2\n")
-unfolding check_report digits reader
+unfolding check_report refusal_name digits reader
 twice = refl
+
+-- ---- reports
+
+-- what an agent without filings sees once the worked file is checked
+abbrev seen : List Row
+seen = seen_by (codes "other") (check_step worked_file).register
+
+abbrev node : List ℕ → Node
+node rec = record { agent = codes "check"; declaration = codes "c1"; rec = rec }
+
+abbrev e1 : Node
+e1 = node (codes "e1")
+
+abbrev p1 : Node
+p1 = node (codes "p1")
+
+abbrev held : Link
+held = record { party = p1; subject = e1; stake = true; holding = true }
+
+abbrev worked : Shown
+worked = record {
+  nodes = record { node = e1; info = Entity true; identifiers = [] } ∷ record { node = p1; info = Person (Some (codes "Ann Moss")); identifiers = [] } ∷ [];
+  links = held ∷ [];
+}
+
+-- on the day of the statements
+reported : step.chains_answer seen e1 worked_day ≡ step.report e1 worked_day worked
+unfolding points calendar
+reported = rw worked_file-reading refl
+
+-- the day before; a person; a record that isn't there
+early : step.chains_answer seen e1 check_day ≡ step.refused NoEntity
+unfolding calendar
+early = rw worked_file-reading refl
+
+person : step.chains_answer seen p1 worked_day ≡ step.refused NoEntity
+unfolding calendar
+person = rw worked_file-reading refl
+
+nobody : step.chains_answer seen (node (codes "e2")) worked_day ≡ step.refused NoEntity
+unfolding calendar
+nobody = rw worked_file-reading refl
+
+refusal : IsTextOf (step.refused NoEntity) (refused (codes "refused NoEntity\n"))
+unfolding refusal_name
+refusal = refl
+
+abbrev ann : PersonLine
+ann = record { node = p1; name = Some (codes "Ann Moss") }
+
+named : person_line ann ≡ codes "person\tcheck\tc1\tp1\t\"Ann Moss\"\n"
+unfolding serde_json_on_literals
+named = refl
+
+unnamed : person_line (record ann { name = None }) ≡ codes "person\tcheck\tc1\tp1\tnull\n"
+unnamed = refl
+
+-- a name's tab and line feed are escaped
+escaped : person_line (record ann { name = Some (codes "A\tB\n") }) ≡ codes "person\tcheck\tc1\tp1\t\"A\\tB\\n\"\n"
+unfolding serde_json_on_literals
+escaped = refl
+
+only_link : (l : Link) → Contains worked.links l → held ≡ l
+only_link l on = elim (cases held [] l on) [ inl e ↦ e | inr n ↦ absurd (none l n) ]
+
+-- each chain begins with the one link
+from_p1 : (n : Node) (ls : List Link) → IsChain worked n ls e1 → p1 ≡ n
+from_p1 n [] h = absurd h
+from_p1 n (l ∷ []) h = ap (λ (x : Link). x.party) (only_link l h.0) ∙ h.1
+from_p1 n (l ∷ k ∷ ls) h = ap (λ (x : Link). x.party) (only_link l h.0) ∙ h.1
+
+only_ann : (line : PersonLine) (ls : List Link) → IsJoinedBy worked e1 line ls → ann ≡ line
+only_ann line ls h =
+    let at = from_p1 line.node ls h.1 in
+    let known : Some (Person (Some (codes "Ann Moss"))) ≡ Some (Person line.name) = ap (info_of worked) at ∙ h.0 in
+    let name : Some (codes "Ann Moss") ≡ line.name = cc in
+    ap (λ (n : Node). let x : PersonLine = record { node = n; name = Some (codes "Ann Moss") } in x) at
+    ∙ ap (λ (m : Option (List ℕ)). let x : PersonLine = record { node = line.node; name = m } in x) name
+
+joined : AreJoined worked e1 (ann ∷ [])
+unfolding IsStrictlySortedBy
+joined = record {
+  each = λ line on. elim (cases ann [] line on) [
+    | inl e ↦ subst (λ (x : PersonLine). (ls : List Link) × IsJoinedBy worked e1 x ls) e (held ∷ [], (refl, (here held [], refl, refl, ([], refl))))
+    | inr n ↦ absurd (none line n)
+  ];
+  every = λ line ls h. subst (λ (x : PersonLine). Contains (ann ∷ []) x) (only_ann line ls h) (here ann []);
+  sorted = (tt, tt);
+}
+
+worked_report : IsTextOf (step.chains_answer seen e1 worked_day) (told (codes "entity\tcheck\tc1\te1\t2024-01-10\nperson\tcheck\tc1\tp1\t\"Ann Moss\"\npersons 1\n"))
+unfolding calendar digits serde_json_on_literals
+worked_report = subst (λ a. IsTextOf a (told (codes "entity\tcheck\tc1\te1\t2024-01-10\nperson\tcheck\tc1\tp1\t\"Ann Moss\"\npersons 1\n"))) (sym reported) (record {
+  date = codes "2024-01-10";
+  spells = (refl, refl);
+  persons = ann ∷ [];
+  joined = joined;
+  lines = refl;
+})

@@ -1,2 +1,5 @@
+pub mod SeenChains
+pub mod SeenSnapshots
 pub mod Reports
+pub mod Steps
 pub mod Examples

@@ -1,45 +1,66 @@
 -- The text of an outcome.
-use Rattle.std.proofs.Common.{◌≡◌, ◌⊎◌, inl, inr, Result, IfOk, IfErr, ℕ, ℤ, List, ◌++◌, Ok, Err, codes, refl, sym, ap, ◌∙◌}
-use Rattle.bor_machine.specs.declared.fault.StoreFault.{StoreFault}
-use Rattle.bor_machine.specs.declared.fault.StoreFault.TheVariants.{Memory}
+use Rattle.std.proofs.Common.{◌≡◌, ◌⊎◌, inl, inr, Result, IfOk, IfErr, ℕ, ℤ, List, ◌++◌, Ok, Err, codes, refl, sym, ap, ◌∙◌, subst}
+use Rattle.bor_register.specs.declared.fault.StoreFault.{StoreFault}
+use Rattle.bor_register.specs.declared.fault.StoreFault.TheVariants.{Memory}
+use Rattle.bor_register.specs.declared.filing.Outward.{Outward}
+use Rattle.bor_register.specs.Register.{Register}
+use Rattle.bor_register.specs.Publication.{published}
 use Rattle.bor_machine.specs.declared.fault.LodgeFault.{LodgeFault}
-use Rattle.bor_machine.specs.declared.fault.LodgeFault.TheVariants.{Read, StatementTwice, Record, Store}
-use Rattle.bor_machine.specs.Outcomes.{IsRefusal, IsToldBy}
-use Rattle.bor_desk.specs.declared.text.Text.{Text}
-use Rattle.bor_machine.specs.declared.filing.Outward.{Outward}
+use Rattle.bor_machine.specs.declared.fault.LodgeFault.TheVariants as lodges
 use Rattle.bor_machine.specs.declared.lodging.Lodged.{Lodged}
-use Rattle.bor_machine.specs.Register.{Register}
-use Rattle.bor_machine.specs.Publication.{published}
-use Rattle.bor_machine.specs.Lodging.{Outcome, lodge_step}
-use Rattle.bor_desk.specs.Texts.{accepted_line, outward_lines}
-use Rattle.bor_desk.specs.CheckReport.{check_day, check_register, check_step, told, outcome_text, IsRefusalTold}
+use Rattle.bor_machine.specs.Sight.{Outcome}
+use Rattle.bor_machine.specs.Lodging.{lodge_step}
+use Rattle.bor_machine.specs.Outcomes as machine
+use Rattle.bor_desk.specs.declared.text.Text.{Text}
+use Rattle.bor_desk.specs.declared.refusal.DeskFault.{DeskFault}
+use Rattle.bor_desk.specs.declared.refusal.DeskFault.TheVariants.{Refused, Failed}
+use Rattle.bor_desk.specs.Refusals.{of_lodging}
+use Rattle.bor_desk.specs.Texts.{told, accepted_line, outward_lines}
+use Rattle.bor_desk.specs.CheckReport.{check_day, check_register, check_step, fault_text, answer_text, outcome_text, IsFaultTold}
 
 pub lodge_step-check : (r : Register) (agent key : List ℕ) (day : ℤ) (bytes : List ℕ) → r ≡ check_register → agent ≡ codes "check" → key ≡ codes "check" → day ≡ check_day → lodge_step r agent key day bytes ≡ check_step bytes
 lodge_step-check r agent key day bytes e f g h = rw (e, f, g, h) refl
 
-pub accepted-text : (o : Outcome) (lodged : Lodged) (after : Register) (outwards : List Outward) → o.answer ≡ Ok lodged → after ≡ o.register → outwards ≡ published after.day after.members →
+pub accepted-text : (o : Outcome (Result Lodged LodgeFault)) (lodged : Lodged) (after : Register) (outwards : List Outward) → o.answer ≡ Ok lodged → after ≡ o.register → outwards ≡ published after.day after.members →
     told (accepted_line lodged ++ outward_lines outwards) ≡ outcome_text o
 accepted-text o lodged after outwards e f g = rw (e, g, f) refl
 
+-- what is made of a fault is its text
+made-text : (given : DeskFault) (made : Result Text StoreFault) → IsFaultTold given made → IfOk made (λ text. text ≡ fault_text given)
+made-text (Refused why) made h = h.text
+made-text (Failed fault) (Ok text) h = absurd cc
+made-text (Failed fault) (Err e) h = tt
+
+answered-text : (fault : LodgeFault) (given : DeskFault) (o wanted : Outcome (Result Lodged LodgeFault)) (made : Result Text StoreFault) → o ≡ wanted → o.answer ≡ Err fault → given ≡ of_lodging fault → IsFaultTold given made → IfOk made (λ text. text ≡ outcome_text wanted)
+answered-text fault given o wanted made same answer e h =
+    let answered : wanted.answer ≡ Err fault = ap (λ (x : Outcome (Result Lodged LodgeFault)). x.answer) (sym same) ∙ answer in
+    let texts = ap fault_text e ∙ sym (ap (λ (a : Result Lodged LodgeFault). answer_text a wanted.register) answered) in
+    subst (λ (wanted_text : Text). IfOk made (λ text. text ≡ wanted_text)) texts (made-text given made h)
+
+-- a fault of the store makes no text
+failed-text : (fault : StoreFault) (given : DeskFault) (made : Result Text StoreFault) (wanted : Text) → given ≡ Failed fault → IsFaultTold given made → IfOk made (λ text. text ≡ wanted)
+failed-text fault given (Ok text) wanted e h =
+    let made : Ok text ≡ Err fault = subst (λ (g : DeskFault). IsFaultTold g (Ok text)) e h in
+    absurd cc
+failed-text fault given (Err f) wanted e h = tt
+
 -- a refusal of the step is told by its text
-pub refused-text : (fault : LodgeFault) (shown : Register → Type 0) (r : Register) (o wanted : Outcome) (made : Result Text StoreFault) → o ≡ wanted → IsRefusal fault shown r o → IsRefusalTold fault made → IfOk made (λ text. text ≡ outcome_text wanted)
-refused-text (Read fault) shown r o wanted (Ok text) same h told = let answer = ap (λ (x : Outcome). x.answer) (sym same) ∙ h.0 in rw answer told.text
-refused-text (Read fault) shown r o wanted (Err e) same h told = tt
-refused-text (StatementTwice place) shown r o wanted (Ok text) same h told = let answer = ap (λ (x : Outcome). x.answer) (sym same) ∙ h.0 in rw answer told.text
-refused-text (Record place fault) shown r o wanted (Ok text) same h told = let answer = ap (λ (x : Outcome). x.answer) (sym same) ∙ h.0 in rw answer told.text
-refused-text (StatementTwice place) shown r o wanted (Err e) same h told = tt
-refused-text (Record place fault) shown r o wanted (Err e) same h told = tt
-refused-text (Store fault) shown r o wanted (Ok text) same h told = absurd cc
-refused-text (Store fault) shown r o wanted (Err e) same h told = tt
+pub refused-text : (fault : LodgeFault) (given : DeskFault) (shown : Register → Type 0) (r : Register) (o wanted : Outcome (Result Lodged LodgeFault)) (made : Result Text StoreFault) → o ≡ wanted → machine.IsOutcome {A = Lodged} machine.of_lodging (Err fault) shown r o → given ≡ of_lodging fault → IsFaultTold given made → IfOk made (λ text. text ≡ outcome_text wanted)
+refused-text (lodges.Store fault) given shown r o wanted made same step e h = failed-text fault given made (outcome_text wanted) e h
+refused-text fault given shown r o wanted made same step e h = answered-text fault given o wanted made same step.0 e h
 
 memory_only : (fault : StoreFault) → (fault ≡ Memory) ⊎ (fault ≡ Memory) → fault ≡ Memory
 memory_only fault (inl h) = h
 memory_only fault (inr h) = h
 
+told-err : (given : DeskFault) (made : Result Text StoreFault) → ((fault : StoreFault) → given ≡ Failed fault → fault ≡ Memory) → IsFaultTold given made → IfErr made (λ f. f ≡ Memory)
+told-err (Refused why) made only h = h.err
+told-err (Failed fault) made only h = subst (λ (m : Result Text StoreFault). IfErr m (λ f. f ≡ Memory)) (sym h) (only fault refl)
+
 -- a keep whose only fault is want of memory
-pub refused-err : (fault : LodgeFault) (made : Result Text StoreFault) → IsToldBy (λ f. f ≡ Memory) fault → IsRefusalTold fault made → IfErr made (λ f. f ≡ Memory)
-refused-err (Read fault) made h told = told.err
-refused-err (StatementTwice place) made h told = told.err
-refused-err (Record place fault) made h told = told.err
-refused-err (Store fault) (Ok text) h told = tt
-refused-err (Store fault) (Err e) h told = let same : e ≡ fault = cc in same ∙ memory_only fault h
+only_memory : (fault : LodgeFault) (f : StoreFault) → machine.IsToldBy machine.of_lodging (λ g. g ≡ Memory) fault → Failed f ≡ of_lodging fault → f ≡ Memory
+only_memory (lodges.Store fault) f h e = let same : f ≡ fault = cc in same ∙ memory_only fault h
+only_memory fault f h e = absurd cc
+
+pub refused-err : (fault : LodgeFault) (given : DeskFault) (made : Result Text StoreFault) → machine.IsToldBy machine.of_lodging (λ f. f ≡ Memory) fault → given ≡ of_lodging fault → IsFaultTold given made → IfErr made (λ f. f ≡ Memory)
+refused-err fault given made h e told = told-err given made (λ f failed. only_memory fault f h (sym failed ∙ e)) told

@@ -1,18 +1,19 @@
 -- The text of a check: what the lodging of a file in a new register is answered, and what is published then.
-use Rattle.std.specs.Prelude.{◌≡◌, IfOk, IfErr, ℕ, List, [], ◌++◌, length, nat_lt, true, false, Some, None, Result, Ok, Err, ℤ, pos, codes, if◌then◌else◌}
-use Rattle.bods_read.specs.Faults.{read_fault_word, read_fault_place, read_fault_field}
-use Rattle.bor_records.specs.Words.{fault_name}
+use Rattle.std.specs.Prelude.{◌≡◌, IfOk, IfErr, ℕ, List, [], ◌++◌, length, nat_lt, None, Result, Ok, Err, ℤ, pos, codes, if◌then◌else◌}
+use Rattle.bor_register.specs.declared.fault.StoreFault.{StoreFault}
+use Rattle.bor_register.specs.declared.fault.StoreFault.TheVariants.{Memory}
+use Rattle.bor_register.specs.Register.{Register, empty_register, new_member, with_member}
+use Rattle.bor_register.specs.Publication.{published}
 use Rattle.bor_machine.specs.declared.fault.LodgeFault.{LodgeFault}
-use Rattle.bor_machine.specs.declared.fault.LodgeFault.TheVariants.{Read, StatementTwice, Record, Store}
-use Rattle.bor_machine.specs.declared.fault.StoreFault.{StoreFault}
-use Rattle.bor_machine.specs.declared.fault.StoreFault.TheVariants.{Memory}
 use Rattle.bor_machine.specs.declared.lodging.Lodged.{Lodged}
-use Rattle.bor_machine.specs.Register.{Register, empty_register, new_member, with_member}
-use Rattle.bor_machine.specs.Publication.{published}
-use Rattle.bor_machine.specs.Lodging.{Outcome, lodge_step}
+use Rattle.bor_machine.specs.Sight.{Outcome}
+use Rattle.bor_machine.specs.Lodging.{lodge_step}
 use Rattle.bor_desk.specs.declared.text.Text.{Text}
 use Rattle.bor_desk.specs.declared.check.TheConstants.{FILE_LIMIT}
-use Rattle.bor_desk.specs.Texts.{outward_lines, accepted_line, refusal_line}
+use Rattle.bor_desk.specs.declared.refusal.DeskFault.{DeskFault}
+use Rattle.bor_desk.specs.declared.refusal.DeskFault.TheVariants.{Refused, Failed}
+use Rattle.bor_desk.specs.Refusals.{of_lodging}
+use Rattle.bor_desk.specs.Texts.{told, refused, refused_text, outward_lines, accepted_line, refusal_line}
 
 -- 2000-01-01 in days since 1970-01-01
 abbrev pub check_day : ℤ
@@ -25,28 +26,20 @@ check_register =
     record empty { members = with_member (new_member (codes "check") (codes "check-token-0001")) empty.members }
 
 -- the lodging of the file by that agent, due on that day
-abbrev pub check_step : List ℕ → Outcome
+abbrev pub check_step : List ℕ → Outcome (Result Lodged LodgeFault)
 check_step bytes = lodge_step check_register (codes "check") (codes "check") check_day bytes
 
-abbrev pub told : List ℕ → Text
-told bytes = record { bytes = bytes; refused = false }
-
-abbrev pub refused : List ℕ → Text
-refused bytes = record { bytes = bytes; refused = true }
-
 -- the text of a refusal; want of memory and a failed store have none
-abbrev pub refusal_text : LodgeFault → Text
-refusal_text (Read fault) = refused (refusal_line (read_fault_word fault) (read_fault_place fault) (read_fault_field fault))
-refusal_text (StatementTwice place) = refused (refusal_line (codes "StatementTwice") (Some place) None)
-refusal_text (Record place fault) = refused (refusal_line (fault_name fault) (Some place) None)
-refusal_text (Store fault) = refused []
+abbrev pub fault_text : DeskFault → Text
+fault_text (Refused why) = refused_text why
+fault_text (Failed fault) = refused []
 
 -- the text of an answer, and of the register after it
 abbrev pub answer_text : Result Lodged LodgeFault → Register → Text
 answer_text (Ok lodged) after = told (accepted_line lodged ++ outward_lines (published after.day after.members))
-answer_text (Err fault) after = refusal_text fault
+answer_text (Err fault) after = fault_text (of_lodging fault)
 
-abbrev pub outcome_text : Outcome → Text
+abbrev pub outcome_text : Outcome (Result Lodged LodgeFault) → Text
 outcome_text o = answer_text o.answer o.register
 
 -- the text of `bor check`: a file that is too long is refused before anything else
@@ -63,8 +56,6 @@ pub record IsMade (wanted : Text) (made : Result Text StoreFault) : Type 0 where
   pub err : IfErr made (λ fault. fault ≡ Memory)
 
 -- a refusal is told by its text, and a fault of the store is passed on
-abbrev pub IsRefusalTold : LodgeFault → Result Text StoreFault → Type 0
-IsRefusalTold (Read fault) made = IsMade (refusal_text (Read fault)) made
-IsRefusalTold (StatementTwice place) made = IsMade (refusal_text (StatementTwice place)) made
-IsRefusalTold (Record place fault) made = IsMade (refusal_text (Record place fault)) made
-IsRefusalTold (Store fault) made = made ≡ Err fault
+abbrev pub IsFaultTold : DeskFault → Result Text StoreFault → Type 0
+IsFaultTold (Refused why) made = IsMade (refused_text why) made
+IsFaultTold (Failed fault) made = made ≡ Err fault

@@ -1,2 +1,6 @@
+pub mod Refusals
 pub mod Texts
+pub mod Step
+pub mod Outcomes
 pub mod CheckReport
+pub mod ChainReport

@@ -1,13 +1,22 @@
 -- The lines that are printed of a register.
-use Rattle.std.specs.Prelude.{ℕ, ◌+◌, List, [], ◌∷◌, ◌++◌, Option, Some, None, codes}
+use Rattle.std.specs.Prelude.{ℕ, ◌+◌, List, [], ◌∷◌, ◌++◌, Option, Some, None, codes, true, false}
 use Rattle.std.specs.Fmt.{decimal}
 use Rattle.bods_read.specs.declared.statement.Statement.{Statement}
 use Rattle.bods_read.specs.declared.statement.Status.{Status}
 use Rattle.bods_read.specs.declared.fault.Field.{Field}
 use Rattle.bods_read.specs.Words.{type_word, type_of, status_word, field_word}
-use Rattle.bor_machine.specs.declared.filing.Outward.{Outward}
+use Rattle.bor_register.specs.declared.filing.Outward.{Outward}
 use Rattle.bor_machine.specs.declared.lodging.Lodged.{Lodged}
-use Rattle.bor_machine.specs.Publication.{state_word}
+use Rattle.bor_desk.specs.declared.text.Text.{Text}
+use Rattle.bor_desk.specs.declared.refusal.Refusal.{Refusal}
+use Rattle.bor_desk.specs.Refusals.{refusal_name, refusal_place, refusal_field}
+use Rattle.bor_register.specs.Publication.{state_word}
+
+abbrev pub told : List ℕ → Text
+told bytes = record { bytes = bytes; refused = false }
+
+abbrev pub refused : List ℕ → Text
+refused bytes = record { bytes = bytes; refused = true }
 
 -- parts joined by tabs, and a line feed
 abbrev pub tabbed : List ℕ → List (List ℕ) → List ℕ
@@ -52,3 +61,6 @@ field_part (Some field) = codes " in " ++ field_word field
 -- a refusal by its name, with its place and its field where it has them
 abbrev pub refusal_line : List ℕ → Option ℕ → Option Field → List ℕ
 refusal_line name place field = codes "refused " ++ name ++ place_part place ++ field_part field ++ 10 ∷ []
+
+abbrev pub refused_text : Refusal → Text
+refused_text why = refused (refusal_line (refusal_name why) (refusal_place why) (refusal_field why))

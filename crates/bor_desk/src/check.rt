@@ -1,16 +1,14 @@
 //! The check of a file.
 
-ghost use Rattle.std.specs.Prelude.{◌≡◌, ◌++◌, codes, string_bytes, length, IfOk, IfErr, Some, None};
-ghost use Rattle.bods_read.specs.declared.fault.Field.{Field};
-ghost use Rattle.bor_machine.specs.declared.fault.StoreFault.TheVariants.{Memory};
-ghost use Rattle.bor_machine.specs.Publication.{published};
-ghost use Rattle.bor_desk.specs.Texts.{refusal_line, accepted_line, outward_lines};
-ghost use Rattle.bor_desk.specs.CheckReport.{check_day, check_register, check_step, told, refused, outcome_text, check_report, IsRefusalTold};
+ghost use Rattle.std.specs.Prelude.{◌≡◌, ◌++◌, codes, IfOk, IfErr};
+ghost use Rattle.bor_register.specs.declared.fault.StoreFault.TheVariants.{Memory};
+ghost use Rattle.bor_desk.specs.Texts.{told, accepted_line, outward_lines};
+ghost use Rattle.bor_desk.specs.CheckReport.{check_day, check_register, check_step, outcome_text, check_report, IsFaultTold};
 
-use crate::text::{Text, add_accepted, add_outwards, add_refusal};
-use bods_read::Field;
-use bor_machine::{Keep, ListKeep, LodgeFault, Lodged, Outward, StoreFault, lodge};
-use bor_terms::{AgentName, Day, Listed, LodgeKey, Token};
+use crate::refusal::DeskFault;
+use crate::text::{Text, add_accepted, add_outwards, refused, refused_as, told};
+use bor_machine::{Keep, ListKeep, Lodged, Outward, StoreFault, lodge};
+use bor_terms::{AgentName, Day, LodgeKey, Token};
 use std::alloc::{AllocError, Global};
 
 /// The greatest file that is checked, in bytes.
@@ -75,31 +73,6 @@ fn check_keep(alloc: Global) -> Result<ListKeep, StoreFault>
     Ok(keep)
 }
 
-fn told(text: String) -> Text
-    ensures { result ≡ told (string_bytes text) }
-{
-    Text {
-        bytes: Listed::new(text.into_bytes()),
-        refused: false,
-    }
-}
-
-fn refused(
-    alloc: Global,
-    name: &str,
-    place: Option<u32>,
-    field: Option<Field>,
-) -> Result<Text, AllocError>
-    ensures { IfOk result (λ text. text ≡ refused (refusal_line name.now place field)) }
-{
-    let mut text = String::new(alloc);
-    add_refusal(&mut text, name, place, field)?;
-    Ok(Text {
-        bytes: Listed::new(text.into_bytes()),
-        refused: true,
-    })
-}
-
 fn accepted(alloc: Global, lodged: &Lodged, outwards: &[Outward]) -> Result<Text, AllocError>
     ensures { IfOk result (λ text. text ≡ told (accepted_line lodged.now ++ outward_lines outwards.now)) }
 {
@@ -109,16 +82,12 @@ fn accepted(alloc: Global, lodged: &Lodged, outwards: &[Outward]) -> Result<Text
     Ok(told(text))
 }
 
-fn refusal(alloc: Global, fault: LodgeFault) -> Result<Text, StoreFault>
-    ensures { IsRefusalTold fault result }
+fn fault_text(alloc: Global, fault: DeskFault) -> Result<Text, StoreFault>
+    ensures { IsFaultTold fault result }
 {
     match fault {
-        LodgeFault::Read(fault) => Ok(refused(alloc, fault.name(), fault.place(), fault.field())?),
-        LodgeFault::StatementTwice(place) => {
-            Ok(refused(alloc, "StatementTwice", Some(place), None)?)
-        }
-        LodgeFault::Record { place, fault } => Ok(refused(alloc, fault.name(), Some(place), None)?),
-        LodgeFault::Store(fault) => Err(fault),
+        DeskFault::Refused(refusal) => Ok(refused(alloc, refusal)?),
+        DeskFault::Failed(fault) => Err(fault),
     }
 }
 
@@ -131,7 +100,7 @@ fn lodged_text(alloc: Global, bytes: &[u8]) -> Result<Text, StoreFault>
     let key = check_key(alloc)?;
     match lodge(alloc, &mut keep, &agent, &key, check_day(), bytes) {
         Ok(lodged) => Ok(accepted(alloc, &lodged, &keep.published()?)?),
-        Err(fault) => refusal(alloc, fault),
+        Err(fault) => fault_text(alloc, DeskFault::from(fault)),
     }
 }
 
@@ -151,7 +120,7 @@ pub fn check_text(alloc: Global, bytes: &[u8]) -> Result<Text, StoreFault>
     ensures err { IfErr result (λ fault. fault ≡ Memory) }
 {
     if bytes.len() > FILE_LIMIT {
-        return Ok(refused(alloc, "BodyTooLarge", None, None)?);
+        return Ok(refused_as(alloc, "BodyTooLarge", None, None)?);
     }
     lodged_text(alloc, bytes)
 }

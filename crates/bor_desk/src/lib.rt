@@ -1,6 +1,7 @@
-//! The desk: the texts that are told of a register.
+//! The desk: who asks, what is answered, and the texts that are told of a register.
 //!
-//! So far it tells one: what becomes of a file in a new register.
+//! [`answer`] takes the token and the request of a caller to a keep of a register, and gives the
+//! reply. [`check_text`] and [`report_text`] give what the program prints:
 //!
 //! ```
 //! let text = check_text(rt.alloc(), b"[]")?;
@@ -8,13 +9,25 @@
 //! assert!(rt; text.bytes.as_slice() == b"refused NoStatements\n".as_slice());
 //! ```
 //!
-//! Nothing is read or printed here: the bytes of the file come in, and the bytes of the text go out.
+//! Nothing is read or printed here, and no HTTP is known of: requests come in as values, and replies
+//! go out as values or as bytes of a text.
 #![tactic(auto)]
 
 mod check;
+mod desk;
+pub mod laws;
+mod refusal;
+mod reply;
+mod report;
+mod request;
 mod text;
 
 pub use check::{FILE_LIMIT, check_text};
+pub use desk::answer;
+pub use refusal::Refusal;
+pub use reply::DeskReply;
+pub use report::report_text;
+pub use request::Request;
 pub use text::Text;
 
 #[cfg(test)]

@@ -1,12 +1,21 @@
-//! What no clause says: the texts of worked files, letter by letter.
+//! What no clause says: the texts and replies of worked files, letter by letter.
+
+mod asking;
+mod callers;
+mod calls;
+mod chains;
+mod lodging;
+mod notation;
+mod reports;
+mod sight;
+mod spelled;
+mod withdrawing;
 
 use super::*;
+use crate::tests::asking::FIRST;
+use crate::tests::notation::file;
 use std::alloc::Global;
 use std::test::Fail;
-
-// An entity, a person, and the person's voting rights in the entity.
-const FILE: &str =
-    "[{\"statementId\":\"s1\",\"statementDate\":\"2024-01-10\",\"declarationSubject\":\"c1\",\"recordId\":\"e1\",\"recordType\":\"entity\",\"recordDetails\":{\"entityType\":{\"type\":\"registeredEntity\"},\"name\":\"Alder Ltd\"}},{\"statementId\":\"s2\",\"statementDate\":\"2024-01-10\",\"declarationSubject\":\"c1\",\"recordId\":\"p1\",\"recordType\":\"person\",\"recordDetails\":{\"personType\":\"knownPerson\",\"names\":[{\"fullName\":\"Ann Moss\"}]}},{\"statementId\":\"s3\",\"statementDate\":\"2024-01-10\",\"declarationSubject\":\"c1\",\"recordId\":\"r1\",\"recordType\":\"relationship\",\"recordDetails\":{\"subject\":\"e1\",\"interestedParty\":\"p1\",\"interests\":[{\"type\":\"votingRights\",\"share\":{\"exact\":SHARE}}]}}]";
 
 fn told(alloc: Global, file: &str, text: &str, refused: bool) -> Result<bool, Fail> {
     let told = check_text(alloc, file.as_bytes())?;
@@ -15,7 +24,7 @@ fn told(alloc: Global, file: &str, text: &str, refused: bool) -> Result<bool, Fa
 
 fn told_with_share(alloc: Global, share: &str, text: &str, refused: bool) -> Result<bool, Fail> {
     let mut file = String::new(alloc);
-    let (before, after) = FILE.split_once("SHARE").ok_or("no share")?;
+    let (before, after) = FIRST.split_once("100").ok_or("no share")?;
     file.push_str(before)?;
     file.push_str(share)?;
     file.push_str(after)?;
@@ -67,71 +76,32 @@ fn a_refusal_has_its_name_place_and_field(rt: HostRuntime) -> Result<(), Fail> {
     Ok(())
 }
 
-// A file of entity statements, each with its identifier, its record and further members.
-fn entities(alloc: Global, statements: &[(&str, &str, &str)]) -> Result<String, Fail> {
-    let mut file = String::from_str(alloc, "[")?;
-    for (i, (id, rec, more)) in statements.iter().enumerate() {
-        if i > 0 {
-            file.push(',')?;
-        }
-        write!(
-            file,
-            "{{\"statementId\":\"{id}\",\"statementDate\":\"2024-01-10\",\"declarationSubject\":\"c1\",\"recordId\":\"{rec}\",\"recordType\":\"entity\",\"recordDetails\":{{}}{more}}}"
-        )?;
-    }
-    file.push(']')?;
-    Ok(file)
-}
-
 #[test]
 fn a_record_may_be_updated(rt: HostRuntime) -> Result<(), Fail> {
     let alloc = rt.alloc();
-    let file = entities(alloc, &[("s1", "e1", ""), ("s2", "e1", "")])?;
-    assert!(rt;
-        told(
-            alloc,
-            file.as_str(),
-            "filing 1 published\n1\tentity\tnew\tc1\te1\n2\tentity\tupdated\tc1\te1\n",
-            false
-        )?
-    );
+    let file = file(alloc, "E s1 e1; E s2 e1")?;
+    let text = "filing 1 published\n1\tentity\tnew\tc1\te1\n2\tentity\tupdated\tc1\te1\n";
+    assert!(rt; told(alloc, file.as_str(), text, false)?);
     Ok(())
 }
 
 #[test]
 fn a_statement_that_may_not_follow_is_refused_at_its_place(rt: HostRuntime) -> Result<(), Fail> {
     let alloc = rt.alloc();
-    let closed = ",\"recordStatus\":\"closed\"";
-    let updated = ",\"recordStatus\":\"updated\"";
-    let new = ",\"recordStatus\":\"new\"";
-    let earlier = ",\"statementDate\":\"2024-01-09\"";
-    let person = ",\"recordType\":\"person\"";
-    let twice = entities(alloc, &[("s1", "e1", ""), ("s1", "e2", "")])?;
-    assert!(rt; told(alloc, twice.as_str(), "refused StatementTwice at 2\n", true)?);
-    let exists = entities(alloc, &[("s1", "e1", ""), ("s2", "e1", new)])?;
-    assert!(rt; told(alloc, exists.as_str(), "refused RecordExists at 2\n", true)?);
-    let unknown = entities(alloc, &[("s1", "e1", updated)])?;
-    assert!(rt;
-        told(
-            alloc,
-            unknown.as_str(),
-            "refused RecordUnknown at 1\n",
-            true
-        )?
-    );
-    let over = entities(
-        alloc,
-        &[
-            ("s1", "e1", ""),
-            ("s2", "e1", closed),
-            ("s3", "e1", updated),
-        ],
-    )?;
-    assert!(rt; told(alloc, over.as_str(), "refused RecordClosed at 3\n", true)?);
-    let back = entities(alloc, &[("s1", "e1", ""), ("s2", "e1", earlier)])?;
-    assert!(rt; told(alloc, back.as_str(), "refused DateBack at 2\n", true)?);
-    let changed = entities(alloc, &[("s1", "e1", ""), ("s2", "e1", person)])?;
-    assert!(rt; told(alloc, changed.as_str(), "refused TypeChanged at 2\n", true)?);
+    for (statements, text) in [
+        ("E s1 e1; E s1 e2", "refused StatementTwice at 2\n"),
+        ("E s1 e1; E s2 e1 +new", "refused RecordExists at 2\n"),
+        ("E s1 e1 +updated", "refused RecordUnknown at 1\n"),
+        (
+            "E s1 e1; E s2 e1 +closed; E s3 e1 +updated",
+            "refused RecordClosed at 3\n",
+        ),
+        ("E s1 e1; E s2 e1 @2024-01-09", "refused DateBack at 2\n"),
+        ("E s1 e1; P s2 e1", "refused TypeChanged at 2\n"),
+    ] {
+        let file = file(alloc, statements)?;
+        assert!(rt; told(alloc, file.as_str(), text, true)?, "{statements}");
+    }
     Ok(())
 }
 

@@ -1,18 +1,53 @@
 //! Texts that the program prints.
 
-ghost use Rattle.std.specs.Prelude.{◌≡◌, ◌++◌, OnOk, string_bytes, option_map};
-ghost use Rattle.bor_desk.specs.Texts.{statement_line, statement_lines, outward_lines, accepted_line, refusal_line, place_part, field_part, settled_word};
+ghost use Rattle.std.specs.Prelude.{◌≡◌, ◌++◌, IfOk, OnOk, string_bytes};
+ghost use Rattle.bor_desk.specs.Texts.{statement_line, statement_lines, outward_lines, accepted_line, refusal_line, place_part, field_part, settled_word, told, refused, refused_text};
 
+use crate::refusal::Refusal;
 use bods_read::{Field, Statement, Status};
 use bor_machine::{Lodged, Outward};
 use bor_terms::Listed;
-use std::alloc::AllocError;
+use std::alloc::{AllocError, Global};
 
 /// The text of a command, and whether it tells a refusal.
 #[derive(Debug, Drop)]
 pub struct Text {
     pub bytes: Listed<u8>,
     pub refused: bool,
+}
+
+/// The text of what was done.
+pub(crate) fn told(text: String) -> Text
+    ensures { result ≡ told (string_bytes text) }
+{
+    Text {
+        bytes: Listed::new(text.into_bytes()),
+        refused: false,
+    }
+}
+
+/// The text of a refusal by its name, with its place and its field where it has them.
+pub(crate) fn refused_as(
+    alloc: Global,
+    name: &str,
+    place: Option<u32>,
+    field: Option<Field>,
+) -> Result<Text, AllocError>
+    ensures { IfOk result (λ text. text ≡ refused (refusal_line name.now place field)) }
+{
+    let mut text = String::new(alloc);
+    add_refusal(&mut text, name, place, field)?;
+    Ok(Text {
+        bytes: Listed::new(text.into_bytes()),
+        refused: true,
+    })
+}
+
+/// The text of a refusal.
+pub(crate) fn refused(alloc: Global, refusal: Refusal) -> Result<Text, AllocError>
+    ensures { IfOk result (λ text. text ≡ refused_text refusal) }
+{
+    refused_as(alloc, refusal.name(), refusal.place(), refusal.field())
 }
 
 fn settled_word(status: Option<Status>) -> &'static str
@@ -87,8 +122,8 @@ fn add_field(text: &mut String, field: Option<Field>) -> Result<(), AllocError>
     }
 }
 
-/// Adds the line of a refusal.
-pub(crate) fn add_refusal(
+// Adds the line of a refusal.
+fn add_refusal(
     text: &mut String,
     name: &str,
     place: Option<u32>,

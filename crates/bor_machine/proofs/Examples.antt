@@ -1,206 +1,226 @@
--- Registers that are legal, registers that break one rule each, and what the worked file does to one.
-use Rattle.std.proofs.Common.{◌≡◌, ℕ, ℤ, List, [], ◌∷◌, replicate, Option, Result, Ok, Err, codes, refl, sym, ◌∙◌, ap, arith, pos, true, map}
-use Rattle.std.specs.List.{zip}
-use Rattle.std.proofs.lemmas.List.{length-replicate}
+-- What lodgings are answered and leave: the worked file, each refusal, each pair of neighbours in the order of the refusals where both hold, and what a repeat is told.
+use Rattle.std.proofs.Common.{◌≡◌, ℕ, ℤ, pos, List, [], ◌∷◌, ◌++◌, replicate, Bool, Result, Ok, Err, codes, refl, map, true, false}
 use Rattle.bods_read.specs.declared.statement.Statement.{Statement}
-use Rattle.bods_read.specs.declared.statement.Status.TheVariants.{New, Updated}
-use Rattle.bor_records.specs.declared.row.Row.{Row}
-use Rattle.bor_records.specs.Settling.{as_settled}
+use Rattle.bods_read.specs.declared.statement.Status.TheVariants.{New}
+use Rattle.bods_read.specs.declared.fault.Field.TheVariants as fields
+use Rattle.bods_read.specs.declared.fault.Fault.TheVariants.{Missing}
+use Rattle.bods_read.specs.declared.fault.ReadFault.TheVariants.{NotAList, At}
 use Rattle.bods_read.specs.File.{reading}
-use Rattle.bods_read.proofs.Examples.{worked_file, worked_statements, worked_file-reading}
-use Rattle.bor_machine.specs.declared.member.Member.{Member}
-use Rattle.bor_machine.specs.declared.filing.AcceptedFiling.{AcceptedFiling}
-use Rattle.bor_machine.specs.declared.filing.State.TheVariants as states
-use Rattle.bods_read.specs.declared.statement.Status.{Status}
+use Rattle.bods_read.proofs.Examples.{worked_file, worked_statements, worked_file-reading, reader}
+use Rattle.bor_records.specs.Settling.{as_settled}
+use Rattle.bor_records.specs.declared.fault.RecordFault.TheVariants.{RecordExists, RecordUnknown}
+use Rattle.bor_register.specs.declared.filing.AcceptedFiling.{AcceptedFiling}
+use Rattle.bor_register.specs.declared.filing.State.{State}
+use Rattle.bor_register.specs.declared.filing.State.TheVariants as states
+use Rattle.bor_register.specs.Register.{Register, empty_register, new_member, with_member, with_filings}
+use Rattle.bor_register.specs.Live.{accepted}
+use Rattle.bor_register.specs.Publication.{published, outward}
+use Rattle.bor_register.specs.Withdrawal.{as_withdrawn}
 use Rattle.bor_machine.specs.declared.fault.LodgeFault.{LodgeFault}
-use Rattle.bor_machine.specs.declared.fault.LodgeFault.TheVariants.{StatementTwice}
-use Rattle.bor_machine.specs.Register.{Register, empty_register, new_member, with_member}
-use Rattle.bor_machine.specs.Publication.{published, outward}
-use Rattle.bor_machine.specs.Lodging.{accepted, live_of, settled_reading, lodge_step}
-use Rattle.bor_machine.specs.Rows.{rows_of}
-use Rattle.bor_machine.specs.Journal.{Agent, Entry, Journal, register_of}
-use Rattle.bor_machine.specs.Legality.{AreLegal, IsLegal}
+use Rattle.bor_machine.specs.declared.fault.LodgeFault.TheVariants.{KeyReused, FilingsFull, DuePast, Read, StatementTwice, Record}
+use Rattle.bor_machine.specs.declared.lodging.Lodged.{Lodged}
+use Rattle.bor_machine.specs.Lodging.{settled_reading, lodge_step}
 
--- ---- the worked file
+-- ---- the register
 
 -- the register on a day with the agents birch and alder, enrolled in this order
-abbrev two_agents : ℤ → Register
+abbrev pub two_agents : ℤ → Register
 two_agents day =
     let empty = empty_register (codes "registrar-token-0001") day in
     record empty {
       members = with_member (new_member (codes "alder") (codes "alder-token-000001")) (with_member (new_member (codes "birch") (codes "birch-token-000001")) empty.members);
     }
 
+-- the same with these filings of alder
+abbrev pub with_own : ℤ → List AcceptedFiling → Register
+with_own day filings = record (two_agents day) { members = with_filings (codes "alder") filings (two_agents day).members }
+
 -- 2024-02-01
-abbrev today : ℤ
+abbrev pub today : ℤ
 today = pos 19754
 
+abbrev pub tomorrow : ℤ
+tomorrow = pos 19755
+
+abbrev pub yesterday : ℤ
+yesterday = pos 19753
+
+-- what alder is answered, and what is left
+abbrev lodged : Register → List ℕ → ℤ → List ℕ → Result Lodged LodgeFault
+lodged r key due bytes = (lodge_step r (codes "alder") key due bytes).answer
+
+abbrev left : Register → List ℕ → ℤ → List ℕ → Register
+left r key due bytes = (lodge_step r (codes "alder") key due bytes).register
+
+abbrev answer : ℕ → ℤ → State → Bool → Result Lodged LodgeFault
+answer number due state fresh = Ok (record { number = number; due = due; state = state; fresh = fresh })
+
+-- ---- the worked file
+
 -- its statements, each the first of its record
-abbrev settled_file : List Statement
+abbrev pub settled_file : List Statement
 settled_file = map (as_settled New) worked_statements
 
-settled-worked : settled_reading [] today (reading worked_file) ≡ Ok settled_file
+pub settled-worked : settled_reading [] today (reading worked_file) ≡ Ok settled_file
 settled-worked = rw worked_file-reading refl
 
 -- alder's filing of the worked file, due today
-abbrev first_filing : AcceptedFiling
+abbrev pub first_filing : AcceptedFiling
 first_filing = accepted [] (codes "f1") today worked_file settled_file
 
-abbrev after_lodging : Register
-after_lodging = record (two_agents today) {
-  members = record (new_member (codes "alder") (codes "alder-token-000001")) { filings = first_filing ∷ [] } ∷ new_member (codes "birch") (codes "birch-token-000001") ∷ [];
-}
+abbrev pub after_lodging : Register
+after_lodging = with_own today (first_filing ∷ [])
 
-told : (lodge_step (two_agents today) (codes "alder") (codes "f1") today worked_file).answer ≡ Ok (record { number = 1; due = today; state = states.Published; fresh = true })
+told : lodged (two_agents today) (codes "f1") today worked_file ≡ answer 1 today states.Published true
 told = rw worked_file-reading refl
 
-left : (lodge_step (two_agents today) (codes "alder") (codes "f1") today worked_file).register ≡ after_lodging
-left = rw worked_file-reading refl
+filed : left (two_agents today) (codes "f1") today worked_file ≡ after_lodging
+filed = rw worked_file-reading refl
 
 -- due a day later it is a draft
-told_draft : (lodge_step (two_agents today) (codes "alder") (codes "f1") (pos 19755) worked_file).answer ≡ Ok (record { number = 1; due = pos 19755; state = states.Draft; fresh = true })
+told_draft : lodged (two_agents today) (codes "f1") tomorrow worked_file ≡ answer 1 tomorrow states.Draft true
 told_draft = rw worked_file-reading refl
+
+filed_draft : left (two_agents today) (codes "f1") tomorrow worked_file ≡ with_own today (record first_filing { due = tomorrow } ∷ [])
+filed_draft = rw worked_file-reading refl
 
 -- what all see of it, on its due day and the day before
 seen : published today after_lodging.members ≡ outward (codes "alder") first_filing ∷ []
 seen = refl
 
-unseen : published (pos 19753) after_lodging.members ≡ []
+unseen : published yesterday after_lodging.members ≡ []
 unseen = refl
 
--- ---- the rows of a declaration, by who asks
-
-abbrev placed : Row → (ℕ × ℕ) × Statement
-placed row = ((row.filing, row.place), row.statement)
-
-seen_by_all : map placed (rows_of (codes "birch") today (codes "alder") (codes "c1") (first_filing ∷ []))
-    ≡ map (λ p. ((1, p.0), p.1)) (zip (1 ∷ 2 ∷ 3 ∷ []) settled_file)
-seen_by_all = refl
-
-draft_unseen : rows_of (codes "birch") (pos 19753) (codes "alder") (codes "c1") (first_filing ∷ []) ≡ []
-draft_unseen = refl
-
-draft_seen_by_its_agent : map (λ (row : Row). row.place) (rows_of (codes "alder") (pos 19753) (codes "alder") (codes "c1") (first_filing ∷ [])) ≡ 1 ∷ 2 ∷ 3 ∷ []
-draft_seen_by_its_agent = refl
-
-other_declaration : rows_of (codes "alder") today (codes "alder") (codes "c2") (first_filing ∷ []) ≡ []
-other_declaration = refl
-
--- ---- a second filing
-
--- the same file under another key: its first identifier is taken
-again : settled_reading (live_of (first_filing ∷ [])) today (reading worked_file) ≡ Err (StatementTwice 1)
-again = rw worked_file-reading refl
-
-again_refused : (lodge_step after_lodging (codes "alder") (codes "f2") today worked_file).answer ≡ Err (StatementTwice 1)
-again_refused = rw worked_file-reading refl
-
-again_left : (lodge_step after_lodging (codes "alder") (codes "f2") today worked_file).register ≡ after_lodging
-again_left = rw worked_file-reading refl
-
--- another agent may use the same identifiers
-by_another : (lodge_step after_lodging (codes "birch") (codes "f1") today worked_file).answer ≡ Ok (record { number = 1; due = today; state = states.Published; fresh = true })
+-- another agent may use the same key and the same identifiers
+by_another : (lodge_step after_lodging (codes "birch") (codes "f1") today worked_file).answer ≡ answer 1 today states.Published true
 by_another = rw worked_file-reading refl
 
--- ---- journals
+-- a withdrawn filing has no statements, and keeps its number and its key
+abbrev pub withdrawn_filing : AcceptedFiling
+withdrawn_filing = as_withdrawn first_filing
 
-abbrev agents : List Agent
-agents = record { name = codes "birch"; token = codes "birch-token-000001" } ∷ record { name = codes "alder"; token = codes "alder-token-000001" } ∷ []
+after_withdrawn : lodged (with_own today (withdrawn_filing ∷ [])) (codes "f2") today worked_file ≡ answer 2 today states.Published true
+after_withdrawn = rw worked_file-reading refl
 
-abbrev journal : List Entry → Journal
-journal entries = record { day = today; registrar = codes "registrar-token-0001"; agents = agents; entries = entries }
+-- ---- other files
 
--- alder's two filings with one of birch between them, and behind them
-abbrev of_alder : ℕ → Entry
-of_alder n = record { agent = codes "alder"; filing = record first_filing { number = n } }
+-- an entity statement of record e1 with this identifier, and what follows it
+abbrev statement_text : List ℕ → List ℕ → List ℕ
+statement_text id more =
+    codes "{\"statementId\":\"" ++ id ++ codes "\",\"statementDate\":\"2024-01-10\",\"declarationSubject\":\"c1\",\"recordId\":\"e1\",\"recordType\":\"entity\",\"recordDetails\":{}" ++ more ++ codes "}"
 
-abbrev of_birch : Entry
-of_birch = record { agent = codes "birch"; filing = first_filing }
+abbrev saying : List ℕ → List ℕ
+saying status = codes ",\"recordStatus\":\"" ++ status ++ codes "\""
 
-one_register : register_of (journal (of_alder 1 ∷ of_birch ∷ of_alder 2 ∷ [])) ≡ register_of (journal (of_alder 1 ∷ of_alder 2 ∷ of_birch ∷ []))
-one_register = refl
+abbrev file_of : List ℕ → List ℕ → List ℕ
+file_of id more = codes "[" ++ statement_text id more ++ codes "]"
 
-own_order_counts : register_of (journal (of_alder 1 ∷ of_alder 2 ∷ [])) ≡ register_of (journal (of_alder 2 ∷ of_alder 1 ∷ [])) → ⊥
-own_order_counts e = let numbers = ap numbers_of e in absurd cc
-  where
-    numbers_of : Register → List (List ℕ)
-    numbers_of r = map (λ (m : Member). map (λ (f : AcceptedFiling). f.number) m.filings) r.members
+abbrev file_of_two : List ℕ → List ℕ → List ℕ
+file_of_two first second = codes "[" ++ first ++ codes "," ++ second ++ codes "]"
 
--- ---- legal registers
+-- ---- each refusal, and each with the next
 
-none_legal : AreLegal []
-none_legal = record { numbered = tt; few = omega arith; keyed = tt; read = tt }
+-- the key with other bytes, and with another due day
+other_bytes : lodged after_lodging (codes "f1") today (codes "{}") ≡ Err KeyReused
+other_bytes = refl
 
-empty_legal : IsLegal (empty_register (codes "registrar-token-0001") today)
-empty_legal = record { names = tt; tokens = tt; registrar = refl; own = tt }
+other_due : lodged after_lodging (codes "f1") tomorrow worked_file ≡ Err KeyReused
+other_due = refl
 
-agents_legal : IsLegal (two_agents today)
-agents_legal = record { names = ((refl, tt), (tt, tt)); tokens = (refl, (refl, tt)); registrar = refl; own = (none_legal, (none_legal, tt)) }
+earlier_due : lodged after_lodging (codes "f1") yesterday worked_file ≡ Err KeyReused
+earlier_due = refl
 
-lodging_legal : IsLegal after_lodging
-lodging_legal = record {
-  names = ((refl, tt), (tt, tt));
-  tokens = (refl, (refl, tt));
-  registrar = refl;
-  own = (record { numbered = (refl, tt); few = omega arith; keyed = (refl, tt); read = (settled-worked, tt) }, (none_legal, tt));
-}
+-- so many withdrawn filings with the key f1
+abbrev filings : ℕ → Register
+filings n = with_own today (replicate n withdrawn_filing)
 
--- ---- registers that break one rule
+reused_and_full : lodged (filings 999) (codes "f1") yesterday (codes "{}") ≡ Err KeyReused
+reused_and_full = refl
 
-abbrev alder : Member
-alder = new_member (codes "alder") (codes "alder-token-000001")
+full : lodged (filings 999) (codes "f2") today worked_file ≡ Err FilingsFull
+full = refl
 
-abbrev birch : Member
-birch = new_member (codes "birch") (codes "birch-token-000001")
+not_full : lodged (filings 998) (codes "f2") today worked_file ≡ answer 999 today states.Published true
+not_full = rw worked_file-reading refl
 
-abbrev of_members : List Member → Register
-of_members members = record { day = today; registrar = codes "registrar-token-0001"; members = members }
+full_and_past : lodged (filings 999) (codes "f2") yesterday (codes "{}") ≡ Err FilingsFull
+full_and_past = refl
 
-names_out_of_order : IsLegal (of_members (birch ∷ alder ∷ [])) → ⊥
-names_out_of_order l = let h = l.names.0.0 in absurd cc
+past : lodged (two_agents today) (codes "f1") yesterday worked_file ≡ Err DuePast
+past = refl
 
-name_twice : IsLegal (of_members (alder ∷ new_member (codes "alder") (codes "birch-token-000001") ∷ [])) → ⊥
-name_twice l = let h = l.names.0.0 in absurd cc
+past_and_unread : lodged (two_agents today) (codes "f1") yesterday (codes "{}") ≡ Err DuePast
+past_and_unread = refl
 
-token_twice : IsLegal (of_members (alder ∷ new_member (codes "birch") (codes "alder-token-000001") ∷ [])) → ⊥
-token_twice l = let h = l.tokens.0 in absurd cc
+unread : lodged (two_agents today) (codes "f1") today (codes "{}") ≡ Err (Read NotAList)
+unfolding reader
+unread = refl
 
-registrars_token : IsLegal (of_members (new_member (codes "alder") (codes "registrar-token-0001") ∷ [])) → ⊥
-registrars_token l = let h = l.registrar in absurd cc
+-- its first identifier is taken, and its second statement isn't read
+unread_and_taken : lodged after_lodging (codes "f2") today (file_of_two (statement_text (codes "s1") []) (codes "{}")) ≡ Err (Read (At 2 (Missing fields.StatementId)))
+unfolding reader
+unread_and_taken = refl
 
-abbrev with_own : List AcceptedFiling → Register
-with_own filings = of_members (record alder { filings = filings } ∷ [])
+-- the worked file under another key: its first identifier is taken
+taken : lodged after_lodging (codes "f2") today worked_file ≡ Err (StatementTwice 1)
+taken = rw worked_file-reading refl
 
-number_two_first : IsLegal (with_own (record first_filing { number = 2 } ∷ [])) → ⊥
-number_two_first l = let h = l.own.0.numbered.0 in absurd cc
+-- an identifier that comes twice in a file
+twice : lodged (two_agents today) (codes "f1") today (file_of_two (statement_text (codes "s1") []) (statement_text (codes "s1") [])) ≡ Err (StatementTwice 2)
+unfolding reader
+twice = refl
 
--- a withdrawn filing has no statements
-abbrev withdrawn_filing : AcceptedFiling
-withdrawn_filing = record first_filing { withdrawn = true; statements = [] }
+-- the identifier is taken, and the record has a live statement
+taken_and_existing : lodged after_lodging (codes "f2") today (file_of (codes "s1") (saying (codes "new"))) ≡ Err (StatementTwice 1)
+unfolding reader
+taken_and_existing = refl
 
-number_twice : IsLegal (with_own (withdrawn_filing ∷ record withdrawn_filing { key = codes "f2" } ∷ [])) → ⊥
-number_twice l = let h = l.own.0.numbered.1.0 in absurd cc
+existing : lodged after_lodging (codes "f2") today (file_of (codes "s4") (saying (codes "new"))) ≡ Err (Record 1 RecordExists)
+unfolding reader
+existing = refl
 
-key_twice : IsLegal (with_own (withdrawn_filing ∷ record withdrawn_filing { number = 2 } ∷ [])) → ⊥
-key_twice l = let h = l.own.0.keyed.0 in absurd cc
+-- a first statement that says it is a later one
+unknown : lodged (two_agents today) (codes "f1") today (file_of (codes "s1") (saying (codes "updated"))) ≡ Err (Record 1 RecordUnknown)
+unfolding reader
+unknown = refl
 
-a_thousand : IsLegal (with_own (replicate 1000 withdrawn_filing)) → ⊥
-a_thousand l = let h = l.own.0.few in absurd (omega (arith, length-replicate 1000 withdrawn_filing))
+-- the first place counts, whatever it is refused for
+first_place : lodged after_lodging (codes "f2") today (file_of_two (statement_text (codes "s4") (saying (codes "new"))) (statement_text (codes "s1") [])) ≡ Err (Record 1 RecordExists)
+unfolding reader
+first_place = refl
 
-withdrawn_with_statements : IsLegal (with_own (record first_filing { withdrawn = true } ∷ [])) → ⊥
-withdrawn_with_statements l = let h = l.own.0.read.0 in absurd cc
+-- a refusal leaves the register
+refused_left : left after_lodging (codes "f2") today worked_file ≡ after_lodging
+refused_left = rw worked_file-reading refl
 
-statements_left_out : IsLegal (with_own (record first_filing { statements = [] } ∷ [])) → ⊥
-statements_left_out l = let h = sym settled-worked ∙ l.own.0.read.0 in absurd cc
+reused_left : left after_lodging (codes "f1") tomorrow worked_file ≡ after_lodging
+reused_left = refl
 
--- the same file again: its statements' identifiers are taken
-statements_again : IsLegal (with_own (first_filing ∷ record first_filing { number = 2; key = codes "f2" } ∷ [])) → ⊥
-statements_again l = let h = sym again ∙ l.own.0.read.1.0 in absurd cc
+-- ---- a repeat
 
--- a file whose statements are settled as later ones, where they are the first
-settled_as_later : IsLegal (with_own (record first_filing { statements = map (as_settled Updated) worked_statements } ∷ [])) → ⊥
-settled_as_later l = let h = ap statuses_of (sym settled-worked ∙ l.own.0.read.0) in absurd cc
-  where
-    statuses_of : Result (List Statement) LodgeFault → List (Option Status)
-    statuses_of (Ok ss) = map (λ (x : Statement). x.status) ss
-    statuses_of (Err fault) = []
+-- alder's draft of the worked file, after a withdrawn filing
+abbrev draft : AcceptedFiling
+draft = accepted (withdrawn_filing ∷ []) (codes "f2") tomorrow worked_file settled_file
+
+abbrev with_draft : ℤ → Register
+with_draft day = with_own day (withdrawn_filing ∷ draft ∷ [])
+
+repeated_draft : lodged (with_draft today) (codes "f2") tomorrow worked_file ≡ answer 2 tomorrow states.Draft false
+repeated_draft = refl
+
+-- once it is published, on its due day and after it
+repeated_published : lodged (with_draft tomorrow) (codes "f2") tomorrow worked_file ≡ answer 2 tomorrow states.Published false
+repeated_published = refl
+
+repeated_later : lodged (with_draft (pos 19756)) (codes "f2") tomorrow worked_file ≡ answer 2 tomorrow states.Published false
+repeated_later = refl
+
+repeated_withdrawn : lodged (with_draft today) (codes "f1") today worked_file ≡ answer 1 today states.Withdrawn false
+repeated_withdrawn = refl
+
+repeated_left : left (with_draft tomorrow) (codes "f2") tomorrow worked_file ≡ with_draft tomorrow
+repeated_left = refl
+
+-- where no other filing has room
+repeated_full : lodged (filings 999) (codes "f1") today worked_file ≡ answer 1 today states.Withdrawn false
+repeated_full = refl

@@ -1,11 +1,11 @@
--- What is true of each register that requests lead to (this register's own rules).
+-- What is true of a new register, and of each that requests lead to from one (this register's own rules).
 use Rattle.std.specs.Prelude.{◌≡◌, ℕ, ◌+◌, ◌≤◌, List, [], ◌∷◌, ◌++◌, length, map, Bool, true, false, None, Ok}
 use Rattle.bods_read.specs.File.{reading}
 use Rattle.bor_records.specs.Admission.{Live}
 use Rattle.bor_records.specs.Settling.{as_live}
-use Rattle.bor_machine.specs.declared.member.Member.{Member}
-use Rattle.bor_machine.specs.declared.filing.AcceptedFiling.{AcceptedFiling}
-use Rattle.bor_machine.specs.Register.{Register, filing_keyed, is_agents_token, IsOrdered}
+use Rattle.bor_register.specs.declared.member.Member.{Member}
+use Rattle.bor_register.specs.declared.filing.AcceptedFiling.{AcceptedFiling}
+use Rattle.bor_register.specs.Register.{Register, filing_keyed, is_agents_token, IsOrdered}
 use Rattle.bor_machine.specs.Lodging.{settled_reading}
 
 -- the numbers go up by one

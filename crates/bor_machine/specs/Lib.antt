@@ -1,10 +1,7 @@
-pub mod Register
-pub mod Journal
-pub mod Publication
-pub mod Rows
-pub mod Promises
+pub mod Sight
 pub mod Lodging
+pub mod Withdrawing
+pub mod Registrar
 pub mod Outcomes
 pub mod Legality
 pub mod Laws
-pub mod Holding

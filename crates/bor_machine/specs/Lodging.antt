@@ -1,37 +1,24 @@
 -- What a lodging is answered, and what it leaves, by what its agent can see (this register's own rules, over statements of BODS 0.4).
-use Rattle.std.specs.Prelude.{ℕ, ◌+◌, ℤ, List, [], ◌∷◌, ◌++◌, length, map, true, false, Result, Ok, Err}
+use Rattle.std.specs.Prelude.{ℕ, ℤ, int_lt, nat_le, List, [], ◌∷◌, ◌++◌, length, Bool, ◌&&◌, true, false, Option, Some, None, Result, Ok, Err, if◌then◌else◌}
+use Rattle.std.specs.Ordering.{int_eq}
+use Rattle.bor_terms.specs.Texts.{is_same}
 use Rattle.bods_read.specs.declared.statement.Statement.{Statement}
 use Rattle.bods_read.specs.declared.statement.Status.{Status}
 use Rattle.bods_read.specs.declared.fault.ReadFault.{ReadFault}
 use Rattle.bods_read.specs.File.{reading}
 use Rattle.bor_records.specs.Admission.{Live}
-use Rattle.bor_records.specs.Settling.{Refusal, statement_twice, by_record, PlacedRefusal, as_live, settled}
+use Rattle.bor_records.specs.Settling.{Refusal, statement_twice, by_record, PlacedRefusal, settled}
+use Rattle.bor_register.specs.declared.filing.AcceptedFiling.{AcceptedFiling}
+use Rattle.bor_register.specs.Register.{Register, filing_keyed, with_filings}
+use Rattle.bor_register.specs.Publication.{state_of}
+use Rattle.bor_register.specs.Live.{live_of, accepted}
 use Rattle.bor_machine.specs.declared.fault.LodgeFault.{LodgeFault}
-use Rattle.bor_machine.specs.declared.fault.LodgeFault.TheVariants.{Read, StatementTwice, Record}
-use Rattle.bor_machine.specs.declared.filing.AcceptedFiling.{AcceptedFiling}
-use Rattle.bor_machine.specs.declared.filing.Outward.{Outward}
+use Rattle.bor_machine.specs.declared.fault.LodgeFault.TheVariants.{KeyReused, FilingsFull, DuePast, Read, StatementTwice, Record}
 use Rattle.bor_machine.specs.declared.lodging.Lodged.{Lodged}
-use Rattle.bor_machine.specs.Register.{Register, filings_of, with_filings}
-use Rattle.bor_machine.specs.Publication.{published, state_of}
-
--- ---- what an agent can see
-
--- All that an answer to an agent depends on: the day, the agent's own filings, and what all see of the published ones.
-pub record Sight : Type 0 where
-  pub day : ℤ
-  pub own : List AcceptedFiling
-  pub published : List Outward
-
--- what the agent sees of the register
-abbrev pub sight_of : List ℕ → Register → Sight
-sight_of name r = record { day = r.day; own = filings_of name r.members; published = published r.day r.members }
+use Rattle.bor_machine.specs.declared.lodging.TheConstants.{FILINGS_LIMIT}
+use Rattle.bor_machine.specs.Sight.{Sight, sight_of, Outcome}
 
 -- ---- the statements of a file
-
--- the live statements of an agent's filings, each with its filing's due day; a withdrawn filing has none
-abbrev pub live_of : List AcceptedFiling → List Live
-live_of [] = []
-live_of (f ∷ fs) = map (as_live f.due) f.statements ++ live_of fs
 
 -- what an agent is told of a statement that is refused
 abbrev pub fault_at : ℕ → Refusal → LodgeFault
@@ -57,47 +44,60 @@ abbrev pub as_read : Result (List Statement) ReadFault → Result (List Statemen
 as_read (Ok statements) = Ok statements
 as_read (Err fault) = Err (Read fault)
 
--- ---- the lodging
+-- ---- a key that is there
 
--- the filing that is added to the agent's filings: live, with the next number
-abbrev pub accepted : List AcceptedFiling → List ℕ → ℤ → List ℕ → List Statement → AcceptedFiling
-accepted own key due bytes statements =
-    record { number = length own + 1; key = key; due = due; withdrawn = false; bytes = bytes; statements = statements }
+-- what the agent is told of a filing on a day
+abbrev pub told_of : Bool → ℤ → AcceptedFiling → Lodged
+told_of fresh day f = record { number = f.number; due = f.due; state = state_of day f; fresh = fresh }
 
--- what the agent is told of a filing that was just accepted
-abbrev pub told_of : ℤ → AcceptedFiling → Lodged
-told_of day f = record { number = f.number; due = f.due; state = state_of day f; fresh = true }
+-- The same due day and bytes are told the filing that is there, with its state now; anything else is refused.
+abbrev pub repeated : ℤ → ℤ → List ℕ → AcceptedFiling → Result Lodged LodgeFault
+repeated day due bytes f = if int_eq f.due due && is_same f.bytes bytes then Ok (told_of false day f) else Err KeyReused
+
+-- ---- a key that is new
 
 abbrev pub filing_of : List AcceptedFiling → List ℕ → ℤ → List ℕ → Result (List Statement) LodgeFault → Result AcceptedFiling LodgeFault
 filing_of own key due bytes (Ok statements) = Ok (accepted own key due bytes statements)
 filing_of own key due bytes (Err fault) = Err fault
 
--- the filing that a lodging adds, or why it is refused
-abbrev pub lodging : Sight → List ℕ → ℤ → List ℕ → Result AcceptedFiling LodgeFault
-lodging sight key due bytes =
-    filing_of sight.own key due bytes (settled_reading (live_of sight.own) due (reading bytes))
+-- The filing that is added, or why it is refused: the agent has 999 filings, withdrawn ones included; the due day is before the register's; the file's first fault; the first place that is refused.
+abbrev pub addition : Sight → List ℕ → ℤ → List ℕ → Result AcceptedFiling LodgeFault
+addition sight key due bytes =
+    if nat_le FILINGS_LIMIT (length sight.own) then Err FilingsFull
+    else (if int_lt due sight.day then Err DuePast
+    else filing_of sight.own key due bytes (settled_reading (live_of sight.own) due (reading bytes)))
 
--- what the agent is answered
-abbrev pub answer_of : ℤ → Result AcceptedFiling LodgeFault → Result Lodged LodgeFault
-answer_of day (Ok f) = Ok (told_of day f)
-answer_of day (Err fault) = Err fault
+abbrev pub told_added : ℤ → Result AcceptedFiling LodgeFault → Result Lodged LodgeFault
+told_added day (Ok f) = Ok (told_of true day f)
+told_added day (Err fault) = Err fault
+
+abbrev pub own_added : List AcceptedFiling → Result AcceptedFiling LodgeFault → List AcceptedFiling
+own_added own (Ok f) = own ++ f ∷ []
+own_added own (Err fault) = own
+
+-- ---- the lodging
+
+abbrev pub lodging_at : Sight → List ℕ → ℤ → List ℕ → Option AcceptedFiling → Result Lodged LodgeFault
+lodging_at sight key due bytes (Some f) = repeated sight.day due bytes f
+lodging_at sight key due bytes None = told_added sight.day (addition sight key due bytes)
+
+abbrev pub own_lodged_at : Sight → List ℕ → ℤ → List ℕ → Option AcceptedFiling → List AcceptedFiling
+own_lodged_at sight key due bytes (Some f) = sight.own
+own_lodged_at sight key due bytes None = own_added sight.own (addition sight key due bytes)
+
+-- what the agent is answered, by what it can see
+abbrev pub lodging : Sight → List ℕ → ℤ → List ℕ → Result Lodged LodgeFault
+lodging sight key due bytes = lodging_at sight key due bytes (filing_keyed key sight.own)
 
 -- the agent's filings after it
-abbrev pub own_after : List AcceptedFiling → Result AcceptedFiling LodgeFault → List AcceptedFiling
-own_after own (Ok f) = own ++ f ∷ []
-own_after own (Err fault) = own
+abbrev pub own_lodged : Sight → List ℕ → ℤ → List ℕ → List AcceptedFiling
+own_lodged sight key due bytes = own_lodged_at sight key due bytes (filing_keyed key sight.own)
 
--- An answer and the register after it.
-pub record Outcome : Type 0 where
-  pub answer : Result Lodged LodgeFault
-  pub register : Register
-
--- the lodging of a file under a new key by an agent that has fewer than 999 filings, due no earlier than the register's day
-abbrev pub lodge_step : Register → List ℕ → List ℕ → ℤ → List ℕ → Outcome
+-- the lodging of a file by an agent
+abbrev pub lodge_step : Register → List ℕ → List ℕ → ℤ → List ℕ → Outcome (Result Lodged LodgeFault)
 lodge_step r name key due bytes =
     let sight = sight_of name r in
-    let lodged = lodging sight key due bytes in
     record {
-      answer = answer_of sight.day lodged;
-      register = record r { members = with_filings name (own_after sight.own lodged) r.members };
+      answer = lodging sight key due bytes;
+      register = record r { members = with_filings name (own_lodged sight key due bytes) r.members };
     }

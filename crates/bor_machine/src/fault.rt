@@ -1,39 +1,26 @@
 //! Why an operation was not done.
 
 ghost use Rattle.std.specs.Prelude.{◌≡◌};
-ghost use Rattle.bor_machine.specs.declared.fault.StoreFault.TheVariants as store_faults;
+ghost use Rattle.bor_register.specs.declared.fault.StoreFault.TheVariants as store_faults;
 ghost use Rattle.bor_machine.specs.declared.fault.LodgeFault.TheVariants as lodge_faults;
+ghost use Rattle.bor_machine.specs.declared.fault.WithdrawFault.TheVariants as withdraw_faults;
+ghost use Rattle.bor_machine.specs.declared.fault.AdvanceFault.TheVariants as advance_faults;
+ghost use Rattle.bor_machine.specs.declared.fault.EnrolFault.TheVariants as enrol_faults;
 
 use bods_read::ReadFault;
 use bor_records::RecordFault;
+use bor_register::StoreFault;
 use std::alloc::AllocError;
-use thiserror::Error;
-
-/// Why a keep did not do what it was asked. The register is as before.
-#[derive(Clone, Copy, Debug, PartialEq, Eq, Error)]
-pub enum StoreFault {
-    /// Memory was wanting.
-    #[error("out of memory")]
-    Memory,
-    /// The store failed.
-    #[error("the store failed")]
-    Store,
-    /// The store holds what no register is.
-    #[error("the store is damaged")]
-    Damaged,
-}
-
-impl From<AllocError> for StoreFault {
-    ghost from_gives = { λ _ fault. fault ≡ store_faults.Memory };
-
-    fn from(_error: AllocError) -> Self {
-        StoreFault::Memory
-    }
-}
 
 /// Why a file was not lodged. The register is as before.
 #[derive(Clone, Copy, Debug, PartialEq, Eq)]
 pub enum LodgeFault {
+    /// The agent has lodged another file under the key, or the same with another due day.
+    KeyReused,
+    /// The agent has 999 filings, withdrawn ones included.
+    FilingsFull,
+    /// The due day is before the register's day.
+    DuePast,
     /// The file isn't read; want of memory is never told so, but as `Store`.
     Read(ReadFault),
     /// The identifier of the statement at this place, from 1, is that of a live statement of the
@@ -50,5 +37,70 @@ impl From<StoreFault> for LodgeFault {
 
     fn from(fault: StoreFault) -> Self {
         LodgeFault::Store(fault)
+    }
+}
+
+/// Why a filing was not withdrawn. The register is as before.
+#[derive(Clone, Copy, Debug, PartialEq, Eq)]
+pub enum WithdrawFault {
+    /// The agent has no filing under the key.
+    NoSuchFiling,
+    /// The filing is published.
+    Published,
+    /// A later live filing of the agent has a statement of one of the filing's records.
+    HasSuccessor,
+    /// The keep failed, or memory was wanting.
+    Store(StoreFault),
+}
+
+impl From<StoreFault> for WithdrawFault {
+    ghost from_gives = { λ fault given. given ≡ withdraw_faults.Store fault };
+
+    fn from(fault: StoreFault) -> Self {
+        WithdrawFault::Store(fault)
+    }
+}
+
+impl From<AllocError> for WithdrawFault {
+    ghost from_gives = { λ _ given. given ≡ withdraw_faults.Store store_faults.Memory };
+
+    fn from(_error: AllocError) -> Self {
+        WithdrawFault::Store(StoreFault::Memory)
+    }
+}
+
+/// Why the register's day was not moved. The register is as before.
+#[derive(Clone, Copy, Debug, PartialEq, Eq)]
+pub enum AdvanceFault {
+    /// The day is before the register's.
+    DayBack,
+    /// The keep failed, or memory was wanting.
+    Store(StoreFault),
+}
+
+impl From<StoreFault> for AdvanceFault {
+    ghost from_gives = { λ fault given. given ≡ advance_faults.Store fault };
+
+    fn from(fault: StoreFault) -> Self {
+        AdvanceFault::Store(fault)
+    }
+}
+
+/// Why an agent was not enrolled. The register is as before.
+#[derive(Clone, Copy, Debug, PartialEq, Eq)]
+pub enum EnrolFault {
+    /// An agent has the name.
+    NameTaken,
+    /// An agent or the registrar has the token.
+    TokenTaken,
+    /// The keep failed, or memory was wanting.
+    Store(StoreFault),
+}
+
+impl From<StoreFault> for EnrolFault {
+    ghost from_gives = { λ fault given. given ≡ enrol_faults.Store fault };
+
+    fn from(fault: StoreFault) -> Self {
+        EnrolFault::Store(fault)
     }
 }

@@ -1,13 +1,17 @@
-//! A register of filings: what it holds, what keeps it, and how a file is lodged in it.
+//! The operations of a register of filings: lodging and withdrawing by its agents, the day and the
+//! enrolment of agents by its registrar.
 //!
 //! Agents lodge files of statements. A filing is a draft until its due day, seen by its agent alone,
-//! and published from then on. Any [`Keep`] keeps a register; [`ListKeep`] does in memory:
+//! and published from then on; a draft may be withdrawn. Any [`Keep`] keeps a register;
+//! [`ListKeep`] does in memory:
 //!
 //! ```
 //! let mut keep = ListKeep::new(alloc, registrar, today);
-//! keep.add_agent(&alder, &token)?;
-//! let lodged = lodge(alloc, &mut keep, &alder, &key, today, file)?;
-//! assert_eq!(rt; (lodged.number, lodged.state), (1, State::Published));
+//! let alder = enrol(&mut keep, alder, token)?;
+//! assert!(rt; keep.has_agent(&alder)?);
+//! let lodged = lodge(alloc, &mut keep, &alder, &key, tomorrow, file)?;
+//! assert_eq!(rt; (lodged.number, lodged.state), (1, State::Draft));
+//! assert_eq!(rt; advance(&mut keep, tomorrow), Ok(tomorrow));
 //! assert_eq!(rt; keep.published()?.len(), 1);
 //! ```
 //!
@@ -16,20 +20,17 @@
 #![tactic(auto)]
 
 mod fault;
-mod filing;
-mod keep;
 pub mod laws;
-mod list_keep;
-mod live;
 mod lodging;
-mod member;
-
-pub use fault::{LodgeFault, StoreFault};
-pub use filing::{AcceptedFiling, Filing, FilingLine, Outward, State};
-pub use keep::Keep;
-pub use list_keep::ListKeep;
-pub use lodging::{Lodged, lodge};
-pub use member::Member;
-
+mod registrar;
 #[cfg(test)]
 mod tests;
+mod withdrawal;
+
+pub use bor_register::{
+    AcceptedFiling, Caller, Filing, FilingLine, Keep, ListKeep, Member, Outward, State, StoreFault,
+};
+pub use fault::{AdvanceFault, EnrolFault, LodgeFault, WithdrawFault};
+pub use lodging::{FILINGS_LIMIT, Lodged, lodge};
+pub use registrar::{advance, enrol};
+pub use withdrawal::withdraw;

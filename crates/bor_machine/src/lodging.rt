@@ -1,24 +1,30 @@
 //! Lodging a file.
 
-ghost use Rattle.std.specs.Prelude.{◌≡◌, ◌<◌, ◌≤◌, ◌+◌, ◌++◌, take, slice_index_or, ℕ, Option, Some, None, Result, IfOk, IfErr, map, length, true, int_le};
+ghost use Rattle.std.specs.Prelude.{◌≡◌, ◌<◌, ◌≤◌, ◌+◌, ◌++◌, take, slice_index_or, ℕ, Option, Some, None, Result, IfOk, IfErr, map, length, true, nat_le, int_lt, Ok, Err, if◌then◌else◌};
 ghost use Rattle.bods_read.specs.File.{reading};
 ghost use Rattle.bods_read.specs.declared.statement.Statement.{Statement};
 ghost use Rattle.bor_records.specs.Admission.{last_of};
 ghost use Rattle.bor_records.specs.Settling.{as_live, has_id, settled, verdict};
-ghost use Rattle.bor_machine.specs.Register.{Register, is_enrolled, filings_of, filing_keyed};
-ghost use Rattle.bor_machine.specs.Lodging.{live_of, as_read, told_settled, told_verdict, settled_reading, lodge_step};
-ghost use Rattle.bor_machine.specs.Outcomes.{IsOutcome, IsAccounted, IsCounted, IsToldBy, IsMade, IsDone};
+ghost use Rattle.bor_register.specs.declared.filing.AcceptedFiling.{AcceptedFiling};
+ghost use Rattle.bor_register.specs.Register.{Register, is_enrolled, filings_of, filing_keyed};
+ghost use Rattle.bor_register.specs.Live.{live_of};
+ghost use Rattle.bor_register.specs.Publication.{state_of, filing_shown};
+ghost use Rattle.bor_register.specs.Promises.{Kept, Promised, Sure};
+ghost use Rattle.bor_machine.specs.declared.fault.LodgeFault.TheVariants as lodge_faults;
+ghost use Rattle.bor_machine.specs.declared.lodging.TheConstants.{FILINGS_LIMIT};
+ghost use Rattle.bor_machine.specs.Lodging.{as_read, told_settled, told_verdict, settled_reading, repeated, lodge_step};
+ghost use Rattle.bor_machine.specs.Outcomes.{of_lodging, IsOutcome, IsAccounted, IsToldBy, IsCounted, IsDone, IsMade};
 ghost use Rattle.bor_machine.specs.Legality.{IsLegal};
-ghost use Rattle.bor_machine.specs.Promises.{Kept, Promised, Sure};
 
-use crate::fault::{LodgeFault, StoreFault};
-use crate::filing::State;
-use crate::keep::Keep;
-use crate::live::{any_has_id, last_in};
+use crate::fault::LodgeFault;
 use bods_read::{ReadFault, Statement, Status, read_file};
 use bor_records::{Last, admit};
+use bor_register::{Filing, Keep, State, StoreFault, any_has_id, last_in};
 use bor_terms::{AgentName, Day, Ident, LodgeKey};
 use std::alloc::Global;
+
+/// The filings that an agent may have for good, withdrawn ones included.
+pub const FILINGS_LIMIT: usize = 999;
 
 /// What an agent is told of a filing that it lodged.
 #[derive(Clone, Copy, Debug, PartialEq, Eq)]
@@ -42,7 +48,7 @@ fn read(alloc: Global, bytes: &[u8]) -> Result<Vec<Statement>, LodgeFault>
 }
 
 // Whether a live statement of the agent or an earlier one of the file has the identifier.
-#[tactic(auto, using(crate::proofs::LiveStatements::file_rules, crate::proofs::Lodgings::moved))]
+#[tactic(auto, using(bor_register::proofs::LiveStatements::file_rules, crate::proofs::Lodgings::moved))]
 fn is_taken<K: Keep>(
     keep: &mut K,
     agent: &AgentName,
@@ -63,7 +69,7 @@ fn is_taken<K: Keep>(
 }
 
 // What is known of the record's last statement, in the file or before it.
-#[tactic(auto, using(crate::proofs::LiveStatements::file_rules, crate::proofs::Lodgings::moved))]
+#[tactic(auto, using(bor_register::proofs::LiveStatements::file_rules, crate::proofs::Lodgings::moved))]
 fn last<K: Keep>(
     keep: &mut K,
     agent: &AgentName,
@@ -95,8 +101,8 @@ fn settled_status<K: Keep>(
     place: u32,
 ) -> Result<Status, LodgeFault>
     ensures kept { Kept K.shows K.is_clean keep.old keep.new }
-    ensures told { IfErr result (IsToldBy K.may_tell) }
-    ensures accounted { IsAccounted result (K.fault_count keep.old) (K.fault_count keep.new) }
+    ensures told { IfErr result (IsToldBy of_lodging K.may_tell) }
+    ensures accounted { IsAccounted of_lodging result (K.fault_count keep.old) (K.fault_count keep.new) }
     ensures answer { Promised K.shows K.is_clean keep.old keep.new (λ r.
         IsDone (λ status. status) result (told_verdict place
         (verdict (live_of (filings_of agent.now r.members) ++ map (as_live due) earlier.now) statement.now due))) }
@@ -121,8 +127,8 @@ fn status_at<K: Keep>(
     requires within { i < length statements.now }
     requires few { length statements.now ≤ 1000 }
     ensures kept { Kept K.shows K.is_clean keep.old keep.new }
-    ensures told { IfErr result (IsToldBy K.may_tell) }
-    ensures accounted { IsAccounted result (K.fault_count keep.old) (K.fault_count keep.new) }
+    ensures told { IfErr result (IsToldBy of_lodging K.may_tell) }
+    ensures accounted { IsAccounted of_lodging result (K.fault_count keep.old) (K.fault_count keep.new) }
     ensures answer { Promised K.shows K.is_clean keep.old keep.new (λ r.
         (d : Statement) → IsDone (λ status. status) result (told_verdict (i + 1)
         (verdict (live_of (filings_of agent.now r.members) ++ map (as_live due) (take i statements.now))
@@ -147,8 +153,8 @@ fn settle<K: Keep>(
 ) -> Result<(), LodgeFault>
     requires few { length statements.old ≤ 1000 }
     ensures kept { Kept K.shows K.is_clean keep.old keep.new }
-    ensures told { IfErr result (IsToldBy K.may_tell) }
-    ensures accounted { IsAccounted result (K.fault_count keep.old) (K.fault_count keep.new) }
+    ensures told { IfErr result (IsToldBy of_lodging K.may_tell) }
+    ensures accounted { IsAccounted of_lodging result (K.fault_count keep.old) (K.fault_count keep.new) }
     ensures answer { Promised K.shows K.is_clean keep.old keep.new (λ r.
         IsDone (λ _. statements.new) result
         (told_settled (settled (live_of (filings_of agent.now r.members)) due statements.old))) }
@@ -170,8 +176,8 @@ fn settled<K: Keep>(
     bytes: &[u8],
 ) -> Result<Vec<Statement>, LodgeFault>
     ensures kept { Kept K.shows K.is_clean keep.old keep.new }
-    ensures told { IfErr result (IsToldBy K.may_tell) }
-    ensures accounted { IsAccounted result (K.fault_count keep.old) (K.fault_count keep.new) }
+    ensures told { IfErr result (IsToldBy of_lodging K.may_tell) }
+    ensures accounted { IsAccounted of_lodging result (K.fault_count keep.old) (K.fault_count keep.new) }
     ensures answer { Promised K.shows K.is_clean keep.old keep.new (λ r.
         IsDone (λ statements. statements.items) result
         (settled_reading (live_of (filings_of agent.now r.members)) due (reading bytes.now))) }
@@ -181,18 +187,114 @@ fn settled<K: Keep>(
     Ok(statements)
 }
 
-/// Lodges a file under a new key for an agent that has fewer than 999 filings: reads it, settles
-/// its statements, adds it as the agent's next filing and tells its number, due day and state.
+/// The state of a filing on the register's day.
+pub(crate) fn state_now<K: Keep>(keep: &mut K, filing: &Filing) -> Result<State, StoreFault>
+    ensures kept { Kept K.shows K.is_clean keep.old keep.new }
+    ensures told { IfErr result K.may_tell }
+    ensures accounted { IsCounted result (K.fault_count keep.old) (K.fault_count keep.new) }
+    ensures answer { Promised K.shows K.is_clean keep.old keep.new (λ r. IfOk result (λ state.
+        (f : AcceptedFiling) → filing.now ≡ filing_shown f → state ≡ state_of r.day f)) }
+{
+    if filing.withdrawn {
+        return Ok(State::Withdrawn);
+    }
+    Ok(State::of_live(filing.due, keep.day()?))
+}
+
+// What is told where the agent has a filing under the key.
+fn repeat<K: Keep>(
+    keep: &mut K,
+    filing: &Filing,
+    due: Day,
+    bytes: &[u8],
+) -> Result<Lodged, LodgeFault>
+    ensures kept { Kept K.shows K.is_clean keep.old keep.new }
+    ensures told { IfErr result (IsToldBy of_lodging K.may_tell) }
+    ensures accounted { IsAccounted of_lodging result (K.fault_count keep.old) (K.fault_count keep.new) }
+    ensures answer { Promised K.shows K.is_clean keep.old keep.new (λ r.
+        (f : AcceptedFiling) → filing.now ≡ filing_shown f →
+        IsDone (λ lodged. lodged) result (repeated r.day due bytes.now f)) }
+{
+    if filing.due != due || filing.bytes.as_slice() != bytes {
+        return Err(LodgeFault::KeyReused);
+    }
+    Ok(Lodged {
+        number: filing.number,
+        due,
+        state: state_now(keep, filing)?,
+        fresh: false,
+    })
+}
+
+// Whether the agent has as many filings as it may have.
+fn is_full<K: Keep>(keep: &mut K, agent: &AgentName) -> Result<bool, StoreFault>
+    ensures kept { Kept K.shows K.is_clean keep.old keep.new }
+    ensures told { IfErr result K.may_tell }
+    ensures accounted { IsCounted result (K.fault_count keep.old) (K.fault_count keep.new) }
+    ensures answer { Promised K.shows K.is_clean keep.old keep.new (λ r. IfOk result (λ full.
+        full ≡ nat_le FILINGS_LIMIT (length (filings_of agent.now r.members)))) }
+{
+    Ok(keep.filings(agent)?.len() >= FILINGS_LIMIT)
+}
+
+// The register's day, where the due day isn't before it.
+fn day_for<K: Keep>(keep: &mut K, due: Day) -> Result<Day, LodgeFault>
+    ensures kept { Kept K.shows K.is_clean keep.old keep.new }
+    ensures told { IfErr result (IsToldBy of_lodging K.may_tell) }
+    ensures accounted { IsAccounted of_lodging result (K.fault_count keep.old) (K.fault_count keep.new) }
+    ensures answer { Promised K.shows K.is_clean keep.old keep.new (λ r.
+        IsDone (λ day. day) result (if int_lt due r.day then Err lodge_faults.DuePast else Ok r.day)) }
+{
+    let day = keep.day()?;
+    if due < day {
+        return Err(LodgeFault::DuePast);
+    }
+    Ok(day)
+}
+
+// Lodges a file under a key that is new to the agent.
+fn lodge_new<K: Keep>(
+    alloc: Global,
+    keep: &mut K,
+    agent: &AgentName,
+    key: &LodgeKey,
+    due: Day,
+    bytes: &[u8],
+) -> Result<Lodged, LodgeFault>
+    requires enrolled { Sure K.shows K.is_clean keep.old (λ r. is_enrolled agent.now r.members ≡ true) }
+    requires new_key { Sure K.shows K.is_clean keep.old (λ r.
+        filing_keyed key.now (filings_of agent.now r.members) ≡ None) }
+    ensures began { K.is_clean keep.new → K.is_clean keep.old }
+    ensures step { Promised K.shows K.is_clean keep.old keep.new (λ r.
+        IsOutcome of_lodging result (K.shows keep.new) r (lodge_step r agent.now key.now due bytes.now)) }
+    ensures accounted { IsAccounted of_lodging result (K.fault_count keep.old) (K.fault_count keep.new) }
+    ensures told { IfErr result (IsToldBy of_lodging K.may_tell) }
+{
+    if is_full(keep, agent)? {
+        return Err(LodgeFault::FilingsFull);
+    }
+    let day = day_for(keep, due)?;
+    let statements = settled(alloc, keep, agent, due, bytes)?;
+    let number = keep.add_filing(agent, key, due, bytes, &statements)?;
+    Ok(Lodged {
+        number,
+        due,
+        state: State::of_live(due, day),
+        fresh: true,
+    })
+}
+
+/// Lodges a file for an agent: reads it, settles its statements, adds it as the agent's next filing
+/// and tells its number, due day and state.
 ///
-/// It asks that the agent is enrolled (`has_agent` is the test), has fewer than 999 filings
-/// (`filings`) and none under the key (`filing`), and that the due day isn't before the register's
-/// (`day`).
+/// It asks that the agent is enrolled; `has_agent` is the test.
 ///
-/// The refusals, in their order: `Read` with the file's first fault; then by statement in file
-/// order `StatementTwice` and `Record`, each with its place. A refusal leaves the register as it
-/// was, and so does `Store`. The keep is asked at most once for each statement's identifier and
-/// once for its record, and is changed once, last.
-#[tactic(auto, using(crate::proofs::Legality::stays_legal))]
+/// Where the agent has a filing under the key with the same due day and bytes, that filing is told
+/// with its state now, `fresh` is false and nothing changes. Else the refusals are, in their order:
+/// `KeyReused`; `FilingsFull`; `DuePast`; `Read` with the file's first fault; then by statement in
+/// file order `StatementTwice` and `Record`, each with its place. A refusal leaves the register as
+/// it was, and so does `Store`. The keep is asked at most once for each statement's identifier and
+/// once for its record, and is changed at most once, last.
 pub fn lodge<K: Keep>(
     alloc: Global,
     keep: &mut K,
@@ -202,25 +304,16 @@ pub fn lodge<K: Keep>(
     bytes: &[u8],
 ) -> Result<Lodged, LodgeFault>
     requires enrolled { Sure K.shows K.is_clean keep.old (λ r. is_enrolled agent.now r.members ≡ true) }
-    requires room { Sure K.shows K.is_clean keep.old (λ r. length (filings_of agent.now r.members) < 999) }
-    requires fresh { Sure K.shows K.is_clean keep.old (λ r.
-        filing_keyed key.now (filings_of agent.now r.members) ≡ None) }
-    requires not_past { Sure K.shows K.is_clean keep.old (λ r. int_le r.day due ≡ true) }
     ensures began { K.is_clean keep.new → K.is_clean keep.old }
     ensures step { Promised K.shows K.is_clean keep.old keep.new (λ r.
-        IsOutcome result (K.shows keep.new) r (lodge_step r agent.now key.now due bytes.now)) }
-    ensures accounted { IsAccounted result (K.fault_count keep.old) (K.fault_count keep.new) }
-    ensures told { IfErr result (IsToldBy K.may_tell) }
+        IsOutcome of_lodging result (K.shows keep.new) r (lodge_step r agent.now key.now due bytes.now)) }
+    ensures accounted { IsAccounted of_lodging result (K.fault_count keep.old) (K.fault_count keep.new) }
+    ensures told { IfErr result (IsToldBy of_lodging K.may_tell) }
     ensures legal { Promised K.shows K.is_clean keep.old keep.new (λ r.
         IsLegal r → (left : Register) × K.shows keep.new left × IsLegal left) }
 {
-    let day = keep.day()?;
-    let statements = settled(alloc, keep, agent, due, bytes)?;
-    let number = keep.add_filing(agent, key, due, bytes, &statements)?;
-    Ok(Lodged {
-        number,
-        due,
-        state: State::of_live(due, day),
-        fresh: true,
-    })
+    match keep.filing(agent, key)? {
+        Some(filing) => repeat(keep, &filing, due, bytes),
+        None => lodge_new(alloc, keep, agent, key, due, bytes),
+    }
 }

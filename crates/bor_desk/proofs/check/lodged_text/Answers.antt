@@ -1,7 +1,7 @@
-use Rattle.std.proofs.Common.{◌++◌, refl, ap, ◌∙◌}
+use Rattle.std.proofs.Common.{◌≡◌, ◌++◌, refl, ap, ◌∙◌}
 use Rattle.bor_machine.specs.Lodging.{lodge_step}
-use Rattle.bor_desk.specs.Texts.{accepted_line, outward_lines}
-use Rattle.bor_desk.specs.CheckReport.{told, outcome_text}
+use Rattle.bor_desk.specs.Texts.{told, accepted_line, outward_lines}
+use Rattle.bor_desk.specs.CheckReport.{outcome_text}
 use Rattle.bor_desk.proofs.Reports.{lodge_step-check, accepted-text, refused-text, refused-err}
 use Rattle.bor_desk.proofs.check.lodged_text.Goals as goal
 
@@ -21,7 +21,7 @@ pub returns-clause-text : goal.returns-clause-text
 returns-clause-text c =
     let r = c.in_ok-keep.keep.register in
     let same = lodge_step-check r c.in_ok-agent.agent c.in_ok-key.key c.check_day.result c.args.bytes.now c.in_ok-keep.ensures.shown c.in_ok-agent.ensures c.in_ok-key.ensures c.check_day.ensures in
-    refused-text c.in-Err.fault _ r _ _ c.refusal.result same (c.in-Err.ensures.step r refl tt) c.refusal.ensures
+    refused-text c.in-Err.fault c.from.result (λ left. c.lodge.new.keep.register ≡ left) r _ _ c.fault_text.result same (c.in-Err.ensures.step r refl tt) c.from.ensures c.fault_text.ensures
 
 pub returns-clause-err : goal.returns-clause-err
-returns-clause-err c = refused-err c.in-Err.fault c.refusal.result c.in-Err.ensures.told c.refusal.ensures
+returns-clause-err c = refused-err c.in-Err.fault c.from.result c.fault_text.result c.in-Err.ensures.told c.from.ensures c.fault_text.ensures

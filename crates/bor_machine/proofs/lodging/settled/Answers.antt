@@ -3,8 +3,9 @@ use Rattle.std.proofs.lemmas.Result.{err_from_is_err_and}
 use Rattle.bods_read.specs.declared.statement.Statement.{Statement}
 use Rattle.bods_read.specs.File.{reading}
 use Rattle.bor_records.specs.Settling.{settled}
-use Rattle.bor_machine.specs.Register.{filings_of}
-use Rattle.bor_machine.specs.Lodging.{live_of, told_settled}
+use Rattle.bor_register.specs.Register.{filings_of}
+use Rattle.bor_register.specs.Live.{live_of}
+use Rattle.bor_machine.specs.Lodging.{told_settled}
 use Rattle.bor_machine.specs.Outcomes.{Refuses}
 use Rattle.bor_machine.proofs.Lodgings.{refuses-unread, settled-read}
 use Rattle.bor_machine.proofs.lodging.settled.Goals as goal

@@ -1,8 +1,8 @@
 use Rattle.std.proofs.Common.{◌++◌, map, sym, ap, ◌∙◌}
 use Rattle.bor_records.specs.Admission.{admission}
 use Rattle.bor_records.specs.Settling.{as_live}
-use Rattle.bor_machine.specs.Register.{filings_of}
-use Rattle.bor_machine.specs.Lodging.{live_of}
+use Rattle.bor_register.specs.Register.{filings_of}
+use Rattle.bor_register.specs.Live.{live_of}
 use Rattle.bor_machine.proofs.Lodgings.{verdict-ok, verdict-err}
 use Rattle.bor_machine.proofs.lodging.settled_status.Goals as goal
 

@@ -1,0 +1,202 @@
+-- The snapshot of an agent's declaration is the same from the rows that the keep tells of it and from all that the viewer sees.
+use Rattle.std.proofs.Common.{◌≡◌, ℕ, ℤ, ◌+◌, Bool, true, false, List, [], ◌∷◌, ◌++◌, map, Option, Some, None, option_map, option_and_then, refl, sym, ap, ◌∙◌, cond}
+use Rattle.std.specs.Prelude.{◌&&◌, unwrap_or}
+use Rattle.std.specs.List.{filter, filter_map, last_or, cons_option}
+use Rattle.std.specs.Ordering.{nat_cmp}
+use Rattle.std.specs.Cmp.Lexicographic.{slice_cmp}
+use Rattle.std.specs.BTreeSet.{insert_key}
+use Rattle.std.proofs.lemmas.List.{append-nil}
+use Rattle.bor_terms.specs.Texts.{is_same}
+use Rattle.bor_terms.proofs.Texts.{same_is, same_sym, below_differs}
+use Rattle.bods_read.specs.declared.statement.Statement.{Statement}
+use Rattle.bor_records.specs.declared.row.Row.{Row}
+use Rattle.bor_records.specs.declared.row.Entry.{Entry}
+use Rattle.bor_records.specs.Admission.{is_of, is_closed}
+use Rattle.bor_records.specs.Snapshot.{is_dated, latest, series, unless_closed, open_row, entry_of, records, snapshot}
+use Rattle.bor_register.specs.declared.filing.AcceptedFiling.{AcceptedFiling}
+use Rattle.bor_register.specs.declared.member.Member.{Member}
+use Rattle.bor_register.specs.Register.{Register, filings_of, AllAbove, IsOrdered}
+use Rattle.bor_register.specs.Rows.{is_visible, row_of, rows_from, rows_in, of_declaration, visible_in, rows_of, visible}
+use Rattle.bor_machine.specs.Sight.{unnumbered, seen_by}
+use Rattle.bor_desk.specs.declared.reply.DeskReply.TheVariants as tell
+use Rattle.bor_desk.specs.Step.{rows_by}
+
+-- ---- lists
+
+filter-append : (p : Row → Bool) (xs ys : List Row) → filter p (xs ++ ys) ≡ filter p xs ++ filter p ys
+filter-append p [] ys = refl
+filter-append p (x ∷ xs) ys = at (p x) (filter-append p xs ys)
+  where
+    at : (b : Bool) → filter p (xs ++ ys) ≡ filter p xs ++ filter p ys → cond b (x ∷ filter p (xs ++ ys)) (filter p (xs ++ ys)) ≡ cond b (x ∷ filter p xs) (filter p xs) ++ filter p ys
+    at true h = ap (λ rows. x ∷ rows) h
+    at false h = h
+
+-- a test that the number of a filing doesn't change
+filter-unnumbered : (p : Row → Bool) → ((r : Row) → p (unnumbered r) ≡ p r) → (rows : List Row) → filter p (map unnumbered rows) ≡ map unnumbered (filter p rows)
+filter-unnumbered p same [] = refl
+filter-unnumbered p same (r ∷ rows) = ap (λ b. cond b (unnumbered r ∷ filter p (map unnumbered rows)) (filter p (map unnumbered rows))) (same r) ∙ at (p r) (filter-unnumbered p same rows)
+  where
+    at : (b : Bool) → filter p (map unnumbered rows) ≡ map unnumbered (filter p rows)
+        → cond b (unnumbered r ∷ filter p (map unnumbered rows)) (filter p (map unnumbered rows)) ≡ map unnumbered (cond b (r ∷ filter p rows) (filter p rows))
+    at true h = ap (λ xs. unnumbered r ∷ xs) h
+    at false h = h
+
+-- of those that pass a wider test the same pass
+filter-wider : (p q : Row → Bool) → ((r : Row) → p r ≡ true → q r ≡ true) → (rows : List Row) → filter p (filter q rows) ≡ filter p rows
+filter-wider p q wide [] = refl
+filter-wider p q wide (r ∷ rows) = at (q r) (p r) refl refl (filter-wider p q wide rows)
+  where
+    at : (b c : Bool) → q r ≡ b → p r ≡ c → filter p (filter q rows) ≡ filter p rows → filter p (cond b (r ∷ filter q rows) (filter q rows)) ≡ cond c (r ∷ filter p rows) (filter p rows)
+    at true true e f h = ap (λ t. cond t (r ∷ filter p (filter q rows)) (filter p (filter q rows))) f ∙ ap (λ xs. r ∷ xs) h
+    at true false e f h = ap (λ t. cond t (r ∷ filter p (filter q rows)) (filter p (filter q rows))) f ∙ h
+    at false true e f h = absurd (let no = wide r f in cc)
+    at false false e f h = h
+
+last-unnumbered : (o : Option Row) (rows : List Row) → last_or (option_map unnumbered o) (map unnumbered rows) ≡ option_map unnumbered (last_or o rows)
+last-unnumbered o [] = refl
+last-unnumbered o (r ∷ rows) = last-unnumbered (Some r) rows
+
+same_given : (f g : List ℕ → Option Row) → ((k : List ℕ) → f k ≡ g k) → (ks : List (List ℕ)) → filter_map f ks ≡ filter_map g ks
+same_given f g same [] = refl
+same_given f g same (k ∷ ks) = ap (λ o. cons_option o (filter_map f ks)) (same k) ∙ ap (cons_option (g k)) (same_given f g same ks)
+
+-- ---- the rows of one agent
+
+abbrev by : List ℕ → Row → Bool
+by agent row = is_same row.agent agent
+
+-- these rows, or none
+abbrev where_is : Bool → List Row → List Row
+where_is b rows = cond b rows []
+
+by-rows_from : (agent name : List ℕ) (number place : ℕ) (ss : List Statement) (b : Bool) → is_same name agent ≡ b → rows_by agent (rows_from name number place ss) ≡ where_is b (rows_from name number place ss)
+by-rows_from agent name number place [] true e = refl
+by-rows_from agent name number place [] false e = refl
+by-rows_from agent name number place (s ∷ ss) true e = rw e (ap (λ rows. row_of name number place s ∷ rows) (by-rows_from agent name number (place + 1) ss true e))
+by-rows_from agent name number place (s ∷ ss) false e = rw e (by-rows_from agent name number (place + 1) ss false e)
+
+by-rows_in : (agent name : List ℕ) (fs : List AcceptedFiling) (b : Bool) → is_same name agent ≡ b → rows_by agent (rows_in name fs) ≡ where_is b (rows_in name fs)
+by-rows_in agent name [] true e = refl
+by-rows_in agent name [] false e = refl
+by-rows_in agent name (f ∷ fs) true e =
+    filter-append (by agent) (rows_from name f.number 1 f.statements) (rows_in name fs)
+    ∙ ap (λ rows. rows ++ rows_by agent (rows_in name fs)) (by-rows_from agent name f.number 1 f.statements true e)
+    ∙ ap (λ rows. rows_from name f.number 1 f.statements ++ rows) (by-rows_in agent name fs true e)
+by-rows_in agent name (f ∷ fs) false e =
+    filter-append (by agent) (rows_from name f.number 1 f.statements) (rows_in name fs)
+    ∙ ap (λ rows. rows ++ rows_by agent (rows_in name fs)) (by-rows_from agent name f.number 1 f.statements false e)
+    ∙ by-rows_in agent name fs false e
+
+-- none of the agents above has rows of this one
+by-above : (viewer : List ℕ) (day : ℤ) (agent : List ℕ) (ms : List Member) → AllAbove agent ms → rows_by agent (visible viewer day ms) ≡ []
+by-above viewer day agent [] h = refl
+by-above viewer day agent (m ∷ ms) h =
+    filter-append (by agent) (visible_in viewer day m.name m.filings) (visible viewer day ms)
+    ∙ ap (λ rows. rows ++ rows_by agent (visible viewer day ms)) (by-rows_in agent m.name (filter (is_visible viewer day m.name) m.filings) false (same_sym m.name agent ∙ below_differs agent m.name h.0))
+    ∙ by-above viewer day agent ms h.1
+
+-- of the rows of all agents those of one
+by-visible : (viewer : List ℕ) (day : ℤ) (agent : List ℕ) (ms : List Member) → IsOrdered ms → rows_by agent (visible viewer day ms) ≡ visible_in viewer day agent (filings_of agent ms)
+by-visible viewer day agent [] h = refl
+by-visible viewer day agent (m ∷ ms) h =
+    filter-append (by agent) (visible_in viewer day m.name m.filings) (visible viewer day ms) ∙ at (is_same m.name agent) refl (by-visible viewer day agent ms h.1)
+  where
+    at : (b : Bool) → is_same m.name agent ≡ b → rows_by agent (visible viewer day ms) ≡ visible_in viewer day agent (filings_of agent ms)
+        → rows_by agent (visible_in viewer day m.name m.filings) ++ rows_by agent (visible viewer day ms) ≡ visible_in viewer day agent (cond b m.filings (filings_of agent ms))
+    at true e k =
+        let is : m.name ≡ agent = same_is m.name agent e in
+        ap (λ rows. rows ++ rows_by agent (visible viewer day ms)) (by-rows_in agent m.name (filter (is_visible viewer day m.name) m.filings) true e)
+        ∙ ap (λ rows. visible_in viewer day m.name m.filings ++ rows) (ap (λ name. rows_by name (visible viewer day ms)) (sym is) ∙ by-above viewer day m.name ms h.0)
+        ∙ append-nil (visible_in viewer day m.name m.filings)
+        ∙ ap (λ name. visible_in viewer day name m.filings) is
+    at false e k = ap (λ rows. rows ++ rows_by agent (visible viewer day ms)) (by-rows_in agent m.name (filter (is_visible viewer day m.name) m.filings) false e) ∙ k
+
+-- ---- the rows of one declaration
+
+of_first : (a b : Bool) → (a && b) ≡ true → a ≡ true
+of_first true b h = refl
+of_first false b h = absurd cc
+
+series-of : (declaration rec : List ℕ) (rows : List Row) → series declaration rec (of_declaration declaration rows) ≡ series declaration rec rows
+series-of declaration rec rows =
+    filter-wider (λ r. is_of declaration rec r.statement) (λ row. is_same row.statement.declaration declaration)
+    (λ r h. of_first (is_same r.statement.declaration declaration) (is_same r.statement.rec rec) h) rows
+
+abbrev insert_rec : List (List ℕ) → Row → List (List ℕ)
+insert_rec recs r = insert_key (slice_cmp nat_cmp) recs r.statement.rec
+
+records-of : (declaration : List ℕ) (rows : List Row) → records declaration (of_declaration declaration rows) ≡ records declaration rows
+records-of declaration [] = refl
+records-of declaration (r ∷ rows) = at (is_same r.statement.declaration declaration) refl (records-of declaration rows)
+  where
+    at : (b : Bool) → is_same r.statement.declaration declaration ≡ b → records declaration (of_declaration declaration rows) ≡ records declaration rows
+        → records declaration (cond b (r ∷ of_declaration declaration rows) (of_declaration declaration rows)) ≡ cond b (insert_rec (records declaration rows) r) (records declaration rows)
+    at true e h =
+        ap (λ t. cond t (insert_rec (records declaration (of_declaration declaration rows)) r) (records declaration (of_declaration declaration rows))) e
+        ∙ ap (λ recs. insert_rec recs r) h
+    at false e h = h
+
+-- a snapshot looks at the rows of its declaration alone
+snapshot-of : (declaration : List ℕ) (day : ℤ) (rows : List Row) → snapshot declaration day (of_declaration declaration rows) ≡ snapshot declaration day rows
+snapshot-of declaration day rows =
+    ap (map entry_of)
+    (same_given (open_row declaration day (of_declaration declaration rows)) (open_row declaration day rows)
+    (λ rec. ap (λ rs. option_and_then unless_closed (latest day rs)) (series-of declaration rec rows)) (records declaration (of_declaration declaration rows))
+    ∙ ap (filter_map (open_row declaration day rows)) (records-of declaration rows))
+
+-- ---- numbers of filings
+
+unless_closed-unnumbered : (o : Option Row) → option_and_then unless_closed (option_map unnumbered o) ≡ option_map unnumbered (option_and_then unless_closed o)
+unless_closed-unnumbered None = refl
+unless_closed-unnumbered (Some r) = at (is_closed r.status)
+  where
+    at : (b : Bool) → cond b None (Some (unnumbered r)) ≡ option_map unnumbered (cond b None (Some r))
+    at true = refl
+    at false = refl
+
+open-unnumbered : (declaration : List ℕ) (day : ℤ) (rows : List Row) (rec : List ℕ) → open_row declaration day (map unnumbered rows) rec ≡ option_map unnumbered (open_row declaration day rows rec)
+open-unnumbered declaration day rows rec =
+    ap (λ rs. option_and_then unless_closed (latest day rs)) (filter-unnumbered (λ r. is_of declaration rec r.statement) (λ r. refl) rows)
+    ∙ ap (λ rs. option_and_then unless_closed (last_or None rs)) (filter-unnumbered (is_dated day) (λ r. refl) (series declaration rec rows))
+    ∙ ap (option_and_then unless_closed) (last-unnumbered None (filter (is_dated day) (series declaration rec rows)))
+    ∙ unless_closed-unnumbered (latest day (series declaration rec rows))
+
+records-unnumbered : (declaration : List ℕ) (rows : List Row) → records declaration (map unnumbered rows) ≡ records declaration rows
+records-unnumbered declaration [] = refl
+records-unnumbered declaration (r ∷ rows) =
+    ap (λ recs. cond (is_same r.statement.declaration declaration) (insert_rec recs r) recs) (records-unnumbered declaration rows)
+
+entries-unnumbered : (g : List ℕ → Option Row) (ks : List (List ℕ)) → map entry_of (filter_map (λ k. option_map unnumbered (g k)) ks) ≡ map entry_of (filter_map g ks)
+entries-unnumbered g [] = refl
+entries-unnumbered g (k ∷ ks) = at (g k) (entries-unnumbered g ks)
+  where
+    at : (o : Option Row) → map entry_of (filter_map (λ q. option_map unnumbered (g q)) ks) ≡ map entry_of (filter_map g ks)
+        → map entry_of (cons_option (option_map unnumbered o) (filter_map (λ q. option_map unnumbered (g q)) ks)) ≡ map entry_of (cons_option o (filter_map g ks))
+    at None h = h
+    at (Some r) h = ap (λ es. entry_of r ∷ es) h
+
+-- a snapshot shows no number of a filing
+snapshot-unnumbered : (declaration : List ℕ) (day : ℤ) (rows : List Row) → snapshot declaration day (map unnumbered rows) ≡ snapshot declaration day rows
+snapshot-unnumbered declaration day rows =
+    ap (map entry_of)
+    (same_given (open_row declaration day (map unnumbered rows)) (λ rec. option_map unnumbered (open_row declaration day rows rec)) (open-unnumbered declaration day rows) (records declaration (map unnumbered rows))
+    ∙ ap (filter_map (λ rec. option_map unnumbered (open_row declaration day rows rec))) (records-unnumbered declaration rows))
+    ∙ entries-unnumbered (open_row declaration day rows) (records declaration rows)
+
+-- ---- what the viewer sees
+
+pub snapshot-seen : (r : Register) (viewer agent declaration : List ℕ) (day : ℤ) → IsOrdered r.members →
+    snapshot declaration day (rows_of viewer r.day agent declaration (filings_of agent r.members)) ≡ snapshot declaration day (rows_by agent (seen_by viewer r))
+snapshot-seen r viewer agent declaration day ordered =
+    snapshot-of declaration day (visible_in viewer r.day agent (filings_of agent r.members))
+    ∙ ap (snapshot declaration day) (sym (by-visible viewer r.day agent r.members ordered))
+    ∙ sym (snapshot-unnumbered declaration day (rows_by agent (visible viewer r.day r.members)))
+    ∙ ap (snapshot declaration day) (sym (filter-unnumbered (by agent) (λ row. refl) (visible viewer r.day r.members)))
+
+-- what is told from the rows of the keep
+pub snapshot-told : (r : Register) (viewer agent declaration : List ℕ) (date : Option ℤ) (day : ℤ) (rows : List Row) (made entries : List Entry) → IsOrdered r.members → day ≡ unwrap_or date r.day →
+    rows ≡ rows_of viewer r.day agent declaration (filings_of agent r.members) → made ≡ snapshot declaration day rows → entries ≡ made →
+    tell.Snapshot day entries ≡ tell.Snapshot (unwrap_or date r.day) (snapshot declaration (unwrap_or date r.day) (rows_by agent (seen_by viewer r)))
+snapshot-told r viewer agent declaration date day rows made entries ordered on of is listed =
+    ap (tell.Snapshot day) (listed ∙ is ∙ ap (snapshot declaration day) of ∙ snapshot-seen r viewer agent declaration day ordered)
+    ∙ ap (λ d. tell.Snapshot d (snapshot declaration d (rows_by agent (seen_by viewer r)))) on

@@ -1,0 +1,17 @@
+use Rattle.bor_register.specs.Register.{caller_of}
+use Rattle.bor_desk.specs.Step.{step}
+use Rattle.bor_desk.specs.Outcomes.{denial}
+use Rattle.bor_desk.proofs.Steps.{step-stays_legal, left_legal}
+use Rattle.bor_desk.proofs.desk.answer.Goals as goal
+
+pub returns-in-Ok-clause-legal : goal.returns-in-Ok-clause-legal
+returns-in-Ok-clause-legal g c = λ r is clean legal.
+    let caller = caller_of c.args.token.now r in
+    left_legal c.in-Ok.reply (g.K.Keep.shows c.answer_caller.new.keep) r (step r caller c.args.request.now) (c.in-Ok.ensures.step r is clean legal) legal
+    (step-stays_legal r caller c.args.request.now legal)
+
+pub returns-in-Err-clause-legal : goal.returns-in-Err-clause-legal
+returns-in-Err-clause-legal g c = λ r is clean legal.
+    let caller = caller_of c.args.token.now r in
+    left_legal (denial c.in-Err.fault) (g.K.Keep.shows c.answer_caller.new.keep) r (step r caller c.args.request.now) (c.in-Err.ensures.step r is clean legal) legal
+    (step-stays_legal r caller c.args.request.now legal)

@@ -1,0 +1,64 @@
+-- What a reply has of the step.
+use Rattle.std.specs.Prelude.{◌≡◌, ◌⊎◌, ℕ, ℤ, List, Result, Ok, Err}
+use Rattle.bor_chains.specs.declared.node.Node.{Node}
+use Rattle.bor_chains.specs.declared.node.PersonLine.{PersonLine}
+use Rattle.bor_chains.specs.Shown.{Shown}
+use Rattle.bor_chains.specs.Chains.{AreJoined}
+use Rattle.bor_register.specs.declared.fault.StoreFault.{StoreFault}
+use Rattle.bor_register.specs.declared.fault.StoreFault.TheVariants.{Memory}
+use Rattle.bor_register.specs.Register.{Register}
+use Rattle.bor_machine.specs.Sight.{Outcome}
+use Rattle.bor_machine.specs.Outcomes.{HasCause}
+use Rattle.bor_desk.specs.declared.reply.DeskReply.{DeskReply}
+use Rattle.bor_desk.specs.declared.reply.DeskReply.TheVariants as tell
+use Rattle.bor_desk.specs.declared.refusal.DeskFault.{DeskFault}
+use Rattle.bor_desk.specs.declared.refusal.DeskFault.TheVariants.{Refused, Failed}
+use Rattle.bor_desk.specs.Step.{Answer, exactly, report, refused, report_on}
+
+-- The reply tells the answer: of a report it names exactly the persons that are joined to the entity.
+abbrev pub IsTold : Answer → DeskReply → Type 0
+IsTold (exactly wanted) reply = reply ≡ wanted
+IsTold (report entity day shown) reply = (persons : List PersonLine) × AreJoined shown entity persons × (reply ≡ tell.Chains entity day persons)
+
+-- the reply that a fault makes
+abbrev pub denial : DeskFault → DeskReply
+denial (Refused why) = tell.Refused why
+denial (Failed fault) = tell.Failed fault
+
+-- P of a reply that tells the answer, Q of a fault of the store
+abbrev pub ByReply : DeskReply → Type 0 → (StoreFault → Type 0) → Type 0
+ByReply (tell.Failed fault) P Q = Q fault
+ByReply reply P Q = P
+
+-- The reply tells the step's answer and the step's register is shown; want of memory or a failed store leaves the register as it was.
+abbrev pub IsServed : DeskReply → (Register → Type 0) → Register → Outcome Answer → Type 0
+IsServed reply shown r o = ByReply reply (IsTold o.answer reply × shown o.register) (λ fault. shown r)
+
+-- a failed or damaged store is told only where the keep's count of faults moved; a reply that is no fault leaves the count
+abbrev pub IsReplyAccounted : DeskReply → ℕ → ℕ → Type 0
+IsReplyAccounted reply before after = ByReply reply (after ≡ before) (λ fault. HasCause fault before after)
+
+-- a fault of the store is one that the keep may tell, or want of memory
+abbrev pub IsReplyTold : (StoreFault → Type 0) → DeskReply → Type 0
+IsReplyTold may_tell reply = ByReply reply (Unit {0}) (λ fault. (fault ≡ Memory) ⊎ may_tell fault)
+
+-- ---- parts of an answer
+
+-- the same of a reply that leaves the register
+abbrev pub IsAnswered : DeskReply → Answer → Type 0
+IsAnswered reply answer = ByReply reply (IsTold answer reply) (λ fault. Unit {0})
+
+-- the persons that were found, or why there is no report, are those of the answer to who stands behind an entity
+abbrev pub AreFound : {P : Type 0} → (P → List PersonLine) → Result P DeskFault → Shown → Node → ℤ → Type 0
+AreFound items (Ok persons) shown entity day = (report_on shown entity day ≡ report entity day shown) × AreJoined shown entity (items persons)
+AreFound items (Err (Refused why)) shown entity day = report_on shown entity day ≡ refused why
+AreFound items (Err (Failed fault)) shown entity day = Unit {0}
+
+-- the reply that was made, or the one that a fault makes
+abbrev pub reply_of : Result DeskReply DeskFault → DeskReply
+reply_of (Ok reply) = reply
+reply_of (Err fault) = denial fault
+
+-- Two replies that tell one answer are one.
+abbrev pub AnswerIsDetermined : Type 0
+AnswerIsDetermined = (answer : Answer) (x y : DeskReply) → IsTold answer x → IsTold answer y → x ≡ y

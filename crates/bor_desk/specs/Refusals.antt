@@ -1,0 +1,90 @@
+-- What a refusal is told as: its name, the place of a statement, and the member that it is about.
+use Rattle.std.specs.Prelude.{ℕ, List, Option, Some, None, codes}
+use Rattle.bods_read.specs.declared.fault.Field.{Field}
+use Rattle.bods_read.specs.Faults.{read_fault_word, read_fault_place, read_fault_field}
+use Rattle.bor_records.specs.Words.{fault_name}
+use Rattle.bor_register.specs.declared.fault.StoreFault.{StoreFault}
+use Rattle.bor_register.specs.declared.fault.StoreFault.TheVariants as stores
+use Rattle.bor_machine.specs.declared.fault.LodgeFault.{LodgeFault}
+use Rattle.bor_machine.specs.declared.fault.LodgeFault.TheVariants as lodges
+use Rattle.bor_machine.specs.declared.fault.WithdrawFault.{WithdrawFault}
+use Rattle.bor_machine.specs.declared.fault.WithdrawFault.TheVariants as withdraws
+use Rattle.bor_machine.specs.declared.fault.AdvanceFault.{AdvanceFault}
+use Rattle.bor_machine.specs.declared.fault.AdvanceFault.TheVariants as advances
+use Rattle.bor_machine.specs.declared.fault.EnrolFault.{EnrolFault}
+use Rattle.bor_machine.specs.declared.fault.EnrolFault.TheVariants as enrols
+use Rattle.bor_chains.specs.declared.fault.ChainFault.{ChainFault}
+use Rattle.bor_chains.specs.declared.fault.ChainFault.TheVariants as chains
+use Rattle.bor_desk.specs.declared.refusal.Refusal.{Refusal}
+use Rattle.bor_desk.specs.declared.refusal.Refusal.TheVariants.{NoAgent, NotRegistrar, NotAgent, KeyReused, FilingsFull, DuePast, Read, StatementTwice, Record, NoSuchFiling, Published, HasSuccessor, NoEntity, DayBack, NameTaken, TokenTaken}
+use Rattle.bor_desk.specs.declared.refusal.DeskFault.{DeskFault}
+use Rattle.bor_desk.specs.declared.refusal.DeskFault.TheVariants.{Refused, Failed}
+
+-- ---- how a refusal is told
+
+unfoldable pub refusal_name : Refusal → List ℕ
+refusal_name NoAgent = codes "NoAgent"
+refusal_name NotRegistrar = codes "NotRegistrar"
+refusal_name NotAgent = codes "NotAgent"
+refusal_name KeyReused = codes "KeyReused"
+refusal_name FilingsFull = codes "FilingsFull"
+refusal_name DuePast = codes "DuePast"
+refusal_name (Read fault) = read_fault_word fault
+refusal_name (StatementTwice place) = codes "StatementTwice"
+refusal_name (Record place fault) = fault_name fault
+refusal_name NoSuchFiling = codes "NoSuchFiling"
+refusal_name Published = codes "Published"
+refusal_name HasSuccessor = codes "HasSuccessor"
+refusal_name NoEntity = codes "NoEntity"
+refusal_name DayBack = codes "DayBack"
+refusal_name NameTaken = codes "NameTaken"
+refusal_name TokenTaken = codes "TokenTaken"
+
+-- the place of the statement that is refused, from 1
+abbrev pub refusal_place : Refusal → Option ℕ
+refusal_place (Read fault) = read_fault_place fault
+refusal_place (StatementTwice place) = Some place
+refusal_place (Record place fault) = Some place
+refusal_place refusal = None
+
+-- the member of the file that it is about
+abbrev pub refusal_field : Refusal → Option Field
+refusal_field (Read fault) = read_fault_field fault
+refusal_field refusal = None
+
+-- ---- what the operations' faults are told as
+
+abbrev pub of_lodging : LodgeFault → DeskFault
+of_lodging lodges.KeyReused = Refused KeyReused
+of_lodging lodges.FilingsFull = Refused FilingsFull
+of_lodging lodges.DuePast = Refused DuePast
+of_lodging (lodges.Read fault) = Refused (Read fault)
+of_lodging (lodges.StatementTwice place) = Refused (StatementTwice place)
+of_lodging (lodges.Record place fault) = Refused (Record place fault)
+of_lodging (lodges.Store fault) = Failed fault
+
+abbrev pub of_withdrawal : WithdrawFault → DeskFault
+of_withdrawal withdraws.NoSuchFiling = Refused NoSuchFiling
+of_withdrawal withdraws.Published = Refused Published
+of_withdrawal withdraws.HasSuccessor = Refused HasSuccessor
+of_withdrawal (withdraws.Store fault) = Failed fault
+
+abbrev pub of_advance : AdvanceFault → DeskFault
+of_advance advances.DayBack = Refused DayBack
+of_advance (advances.Store fault) = Failed fault
+
+abbrev pub of_enrolment : EnrolFault → DeskFault
+of_enrolment enrols.NameTaken = Refused NameTaken
+of_enrolment enrols.TokenTaken = Refused TokenTaken
+of_enrolment (enrols.Store fault) = Failed fault
+
+-- a report on chains; the one fault of rows in memory is want of memory
+abbrev pub of_chains : {F : Type 0} → ChainFault F → DeskFault
+of_chains chains.NoEntity = Refused NoEntity
+of_chains (chains.Source fault) = Failed stores.Memory
+of_chains chains.Memory = Failed stores.Memory
+
+-- which faults are the store's
+abbrev pub failed : DeskFault → Option StoreFault
+failed (Failed fault) = Some fault
+failed (Refused why) = None

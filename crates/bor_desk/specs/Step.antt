@@ -1,0 +1,110 @@
+-- What each request is answered, and the register after it (this register's own rules).
+use Rattle.std.specs.Prelude.{ℕ, ℤ, List, map, filter, Option, Some, None, unwrap_or, Result, Ok, Err, if◌then◌else◌}
+use Rattle.bor_terms.specs.Texts.{is_same}
+use Rattle.bor_records.specs.declared.row.Row.{Row}
+use Rattle.bor_records.specs.Snapshot.{snapshot}
+use Rattle.bor_chains.specs.declared.node.Node.{Node}
+use Rattle.bor_chains.specs.Shown.{Shown, info_of}
+use Rattle.bor_chains.specs.Rows.{is_entity_info, shown_of}
+use Rattle.bor_register.specs.declared.caller.Caller.{Caller}
+use Rattle.bor_register.specs.declared.caller.Caller.TheVariants.{Registrar, Agent}
+use Rattle.bor_register.specs.declared.filing.AcceptedFiling.{AcceptedFiling}
+use Rattle.bor_register.specs.Register.{Register, filing_keyed, with_filings}
+use Rattle.bor_register.specs.Publication.{line_of}
+use Rattle.bor_machine.specs.Sight.{Sight, sight_of, Outcome}
+use Rattle.bor_machine.specs.Lodging.{lodging, own_lodged}
+use Rattle.bor_machine.specs.Withdrawing.{withdrawal, own_withdrawn}
+use Rattle.bor_machine.specs.Registrar.{advance_step, enrol_step}
+use Rattle.bor_desk.specs.declared.request.Request.{Request}
+use Rattle.bor_desk.specs.declared.request.Request.TheVariants as ask
+use Rattle.bor_desk.specs.declared.reply.DeskReply.{DeskReply}
+use Rattle.bor_desk.specs.declared.reply.DeskReply.TheVariants as tell
+use Rattle.bor_desk.specs.declared.refusal.Refusal.{Refusal}
+use Rattle.bor_desk.specs.declared.refusal.Refusal.TheVariants.{NoAgent, NotRegistrar, NotAgent, NoSuchFiling, NoEntity}
+use Rattle.bor_desk.specs.declared.refusal.DeskFault.{DeskFault}
+use Rattle.bor_desk.specs.declared.refusal.DeskFault.TheVariants as faults
+use Rattle.bor_desk.specs.Refusals.{of_lodging, of_withdrawal, of_advance, of_enrolment}
+
+-- An answer: exactly a reply, or the report on an entity on a day, by the nodes and links that the caller sees.
+pub data Answer : Type 0 where
+  exactly : DeskReply → Answer
+  report : Node → ℤ → Shown → Answer
+
+abbrev pub refused : Refusal → Answer
+refused why = exactly (tell.Refused why)
+
+-- ---- what an operation's answer is told as
+
+abbrev pub denied : DeskFault → Answer
+denied (faults.Refused why) = refused why
+denied (faults.Failed fault) = exactly (tell.Failed fault)
+
+abbrev pub told : {A E : Type 0} → (A → DeskReply) → (E → DeskFault) → Result A E → Answer
+told reply fault (Ok answer) = exactly (reply answer)
+told reply fault (Err error) = denied (fault error)
+
+-- ---- what an agent is answered, by what it can see
+
+-- the bytes of its filing, a withdrawn one too
+abbrev pub file_answer : Option AcceptedFiling → Answer
+file_answer None = refused NoSuchFiling
+file_answer (Some f) = exactly (tell.File f.bytes)
+
+-- of these rows those of an agent
+abbrev pub rows_by : List ℕ → List Row → List Row
+rows_by agent rows = filter (λ row. is_same row.agent agent) rows
+
+-- the snapshot of the agent's declaration on a day; empty where there is no such agent or declaration
+abbrev pub snapshot_answer : List Row → List ℕ → List ℕ → ℤ → Answer
+snapshot_answer seen agent declaration day = exactly (tell.Snapshot day (snapshot declaration day (rows_by agent seen)))
+
+abbrev pub report_on : Shown → Node → ℤ → Answer
+report_on shown entity day = if is_entity_info (info_of shown entity) then report entity day shown else refused NoEntity
+
+-- the report on an entity, by the statements that the caller sees, on a day
+abbrev pub chains_answer : List Row → Node → ℤ → Answer
+chains_answer seen entity day = report_on (shown_of day seen) entity day
+
+-- An absent date is the register's day.
+abbrev pub agent_answer : Sight → Request → Answer
+agent_answer s (ask.Lodge key due file) = told tell.Lodged of_lodging (lodging s key due file)
+agent_answer s (ask.Withdraw key) = told tell.Withdrawn of_withdrawal (withdrawal s key)
+agent_answer s ask.Filings = exactly (tell.Filings (map (line_of s.day) s.own))
+agent_answer s (ask.File key) = file_answer (filing_keyed key s.own)
+agent_answer s ask.Published = exactly (tell.Published s.published)
+agent_answer s (ask.Snapshot agent declaration date) = snapshot_answer s.seen agent declaration (unwrap_or date s.day)
+agent_answer s (ask.Chains entity date) = chains_answer s.seen entity (unwrap_or date s.day)
+agent_answer s (ask.Day date) = refused NotRegistrar
+agent_answer s (ask.Enrol name token) = refused NotRegistrar
+
+-- the agent's filings after its request
+abbrev pub own_after : Sight → Request → List AcceptedFiling
+own_after s (ask.Lodge key due file) = own_lodged s key due file
+own_after s (ask.Withdraw key) = own_withdrawn s key
+own_after s request = s.own
+
+abbrev pub agent_step : Register → List ℕ → Request → Outcome Answer
+agent_step r name request =
+    let s = sight_of name r in
+    record { answer = agent_answer s request; register = record r { members = with_filings name (own_after s request) r.members } }
+
+-- ---- what the registrar is answered
+
+abbrev pub refuses : Register → Refusal → Outcome Answer
+refuses r why = record { answer = refused why; register = r }
+
+abbrev pub told_step : {A E : Type 0} → (A → DeskReply) → (E → DeskFault) → Outcome (Result A E) → Outcome Answer
+told_step reply fault o = record { answer = told reply fault o.answer; register = o.register }
+
+abbrev pub registrar_step : Register → Request → Outcome Answer
+registrar_step r (ask.Day date) = told_step tell.Day of_advance (advance_step r date)
+registrar_step r (ask.Enrol name token) = told_step tell.Enrolled of_enrolment (enrol_step r name token)
+registrar_step r request = refuses r NotAgent
+
+-- ---- the step
+
+-- Who asks is told by the token: nobody, the registrar or an agent.
+abbrev pub step : Register → Option Caller → Request → Outcome Answer
+step r None request = refuses r NoAgent
+step r (Some Registrar) request = registrar_step r request
+step r (Some (Agent name)) request = agent_step r name request

@@ -1,0 +1,213 @@
+//! Who asks, and what is answered.
+
+ghost use Rattle.std.specs.Prelude.{◌≡◌, IfOk, IfErr, unwrap_or, true};
+ghost use Rattle.bor_register.specs.Register.{Register, caller_of, is_enrolled, filings_of, filing_keyed};
+ghost use Rattle.bor_register.specs.Promises.{Promised, Sure, Kept};
+ghost use Rattle.bor_machine.specs.Legality.{IsLegal};
+ghost use Rattle.bor_machine.specs.Sight.{seen_by};
+ghost use Rattle.bor_machine.specs.Outcomes.{IsCounted};
+ghost use Rattle.bor_desk.specs.Step.{step, agent_step, registrar_step, file_answer, chains_answer, snapshot_answer};
+ghost use Rattle.bor_desk.specs.Outcomes.{IsServed, IsAnswered, IsReplyAccounted, IsReplyTold, reply_of, denial};
+
+use crate::refusal::{DeskFault, Refusal};
+use crate::reply::DeskReply;
+use crate::report::persons_seen;
+use crate::request::Request;
+use bor_chains::Node;
+use bor_machine::{Caller, Keep, StoreFault, advance, enrol, lodge, withdraw};
+use bor_records::snapshot;
+use bor_terms::{AgentName, Day, Ident, Listed, LodgeKey, Token};
+use std::alloc::Global;
+
+impl From<DeskFault> for DeskReply {
+    ghost from_gives = { λ fault given. given ≡ denial fault };
+
+    fn from(fault: DeskFault) -> Self {
+        match fault {
+            DeskFault::Refused(refusal) => DeskReply::Refused(refusal),
+            DeskFault::Failed(fault) => DeskReply::Failed(fault),
+        }
+    }
+}
+
+// The date that is asked for, or the register's day.
+fn date_or_day<K: Keep>(keep: &mut K, date: Option<Day>) -> Result<Day, StoreFault>
+    ensures kept { Kept K.shows K.is_clean keep.old keep.new }
+    ensures told { IfErr result K.may_tell }
+    ensures accounted { IsCounted result (K.fault_count keep.old) (K.fault_count keep.new) }
+    ensures answer { Promised K.shows K.is_clean keep.old keep.new (λ r.
+        IfOk result (λ day. day ≡ unwrap_or date r.day)) }
+{
+    match date {
+        Some(date) => Ok(date),
+        None => keep.day(),
+    }
+}
+
+// The bytes of the agent's filing under a key, of a withdrawn one too.
+#[tactic(auto, using(crate::proofs::Steps::file_told, crate::proofs::Steps::file_missing))]
+fn file_for<K: Keep>(keep: &mut K, name: &AgentName, key: &LodgeKey) -> Result<DeskReply, DeskFault>
+    ensures kept { Kept K.shows K.is_clean keep.old keep.new }
+    ensures told { IsReplyTold K.may_tell (reply_of result) }
+    ensures accounted { IsReplyAccounted (reply_of result) (K.fault_count keep.old) (K.fault_count keep.new) }
+    ensures answer { Promised K.shows K.is_clean keep.old keep.new (λ r.
+        IsAnswered (reply_of result) (file_answer (filing_keyed key.now (filings_of name.now r.members)))) }
+{
+    match keep.filing(name, key)? {
+        Some(filing) => Ok(DeskReply::File(filing.bytes)),
+        None => Err(DeskFault::Refused(Refusal::NoSuchFiling)),
+    }
+}
+
+// The snapshot of an agent's declaration, as the viewer sees it.
+fn snapshot_for<K: Keep>(
+    alloc: Global,
+    keep: &mut K,
+    viewer: &AgentName,
+    agent: &AgentName,
+    declaration: &Ident,
+    date: Option<Day>,
+) -> Result<DeskReply, DeskFault>
+    ensures kept { Kept K.shows K.is_clean keep.old keep.new }
+    ensures told { IsReplyTold K.may_tell (reply_of result) }
+    ensures accounted { IsReplyAccounted (reply_of result) (K.fault_count keep.old) (K.fault_count keep.new) }
+    ensures answer { Promised K.shows K.is_clean keep.old keep.new (λ r.
+        IsLegal r → IsAnswered (reply_of result)
+        (snapshot_answer (seen_by viewer.now r) agent.now declaration.now (unwrap_or date r.day))) }
+{
+    let date = date_or_day(keep, date)?;
+    let rows = keep.rows_of(viewer, agent, declaration)?;
+    Ok(DeskReply::Snapshot {
+        date,
+        records: Listed::new(snapshot(alloc, &rows, declaration, date)?),
+    })
+}
+
+// The persons behind an entity on a date, as the viewer sees it.
+fn chains_for<K: Keep>(
+    alloc: Global,
+    keep: &mut K,
+    viewer: &AgentName,
+    entity: &Node,
+    date: Option<Day>,
+) -> Result<DeskReply, DeskFault>
+    ensures kept { Kept K.shows K.is_clean keep.old keep.new }
+    ensures told { IsReplyTold K.may_tell (reply_of result) }
+    ensures accounted { IsReplyAccounted (reply_of result) (K.fault_count keep.old) (K.fault_count keep.new) }
+    ensures answer { Promised K.shows K.is_clean keep.old keep.new (λ r.
+        IsAnswered (reply_of result) (chains_answer (seen_by viewer.now r) entity.now (unwrap_or date r.day))) }
+{
+    let date = date_or_day(keep, date)?;
+    let persons = persons_seen(alloc, keep, viewer, entity, date)?;
+    Ok(DeskReply::Chains {
+        entity: entity.copy(alloc)?,
+        date,
+        persons: Listed::new(persons),
+    })
+}
+
+fn answer_agent<K: Keep>(
+    alloc: Global,
+    keep: &mut K,
+    name: &AgentName,
+    request: &Request,
+) -> Result<DeskReply, DeskFault>
+    requires enrolled { Sure K.shows K.is_clean keep.old (λ r. is_enrolled name.now r.members ≡ true) }
+    ensures began { K.is_clean keep.new → K.is_clean keep.old }
+    ensures step { Promised K.shows K.is_clean keep.old keep.new (λ r.
+        IsLegal r → IsServed (reply_of result) (K.shows keep.new) r (agent_step r name.now request.now)) }
+    ensures accounted { IsReplyAccounted (reply_of result) (K.fault_count keep.old) (K.fault_count keep.new) }
+    ensures told { IsReplyTold K.may_tell (reply_of result) }
+{
+    match request {
+        Request::Lodge { key, due, file } => Ok(DeskReply::Lodged(lodge(
+            alloc,
+            keep,
+            name,
+            key,
+            *due,
+            file.as_slice(),
+        )?)),
+        Request::Withdraw { key } => Ok(DeskReply::Withdrawn(withdraw(alloc, keep, name, key)?)),
+        Request::Filings => Ok(DeskReply::Filings(Listed::new(keep.filings(name)?))),
+        Request::File { key } => file_for(keep, name, key),
+        Request::Published => Ok(DeskReply::Published(Listed::new(keep.published()?))),
+        Request::Snapshot {
+            agent,
+            declaration,
+            date,
+        } => snapshot_for(alloc, keep, name, agent, declaration, *date),
+        Request::Chains { entity, date } => chains_for(alloc, keep, name, entity, *date),
+        Request::Day { .. } | Request::Enrol { .. } => {
+            Err(DeskFault::Refused(Refusal::NotRegistrar))
+        }
+    }
+}
+
+fn answer_registrar<K: Keep>(
+    alloc: Global,
+    keep: &mut K,
+    request: &Request,
+) -> Result<DeskReply, DeskFault>
+    ensures began { K.is_clean keep.new → K.is_clean keep.old }
+    ensures step { Promised K.shows K.is_clean keep.old keep.new (λ r.
+        IsServed (reply_of result) (K.shows keep.new) r (registrar_step r request.now)) }
+    ensures accounted { IsReplyAccounted (reply_of result) (K.fault_count keep.old) (K.fault_count keep.new) }
+    ensures told { IsReplyTold K.may_tell (reply_of result) }
+{
+    match request {
+        Request::Day { date } => Ok(DeskReply::Day(advance(keep, *date)?)),
+        Request::Enrol { name, token } => {
+            let name = name.copy(alloc)?;
+            let token = token.copy(alloc)?;
+            Ok(DeskReply::Enrolled(enrol(keep, name, token)?))
+        }
+        Request::Lodge { .. }
+        | Request::Withdraw { .. }
+        | Request::Filings
+        | Request::File { .. }
+        | Request::Published
+        | Request::Snapshot { .. }
+        | Request::Chains { .. } => Err(DeskFault::Refused(Refusal::NotAgent)),
+    }
+}
+
+fn answer_caller<K: Keep>(
+    alloc: Global,
+    keep: &mut K,
+    token: &Token,
+    request: &Request,
+) -> Result<DeskReply, DeskFault>
+    ensures began { K.is_clean keep.new → K.is_clean keep.old }
+    ensures step { Promised K.shows K.is_clean keep.old keep.new (λ r.
+        IsLegal r → IsServed (reply_of result) (K.shows keep.new) r (step r (caller_of token.now r) request.now)) }
+    ensures accounted { IsReplyAccounted (reply_of result) (K.fault_count keep.old) (K.fault_count keep.new) }
+    ensures told { IsReplyTold K.may_tell (reply_of result) }
+{
+    match keep.who(token)? {
+        None => Err(DeskFault::Refused(Refusal::NoAgent)),
+        Some(Caller::Registrar) => answer_registrar(alloc, keep, request),
+        Some(Caller::Agent(name)) => answer_agent(alloc, keep, &name, request),
+    }
+}
+
+/// Answers the request of whoever has the token.
+///
+/// The refusals are, in their order: `NoAgent` where nobody has the token; `NotRegistrar` where an
+/// agent asks for the registrar's doing; `NotAgent` where the registrar asks for anything else; then
+/// the operation's own. A refusal leaves the register as it was, and so does `Failed`. No call
+/// of the keep is made that the request doesn't need.
+pub fn answer<K: Keep>(alloc: Global, keep: &mut K, token: &Token, request: &Request) -> DeskReply
+    ensures began { K.is_clean keep.new → K.is_clean keep.old }
+    ensures step { Promised K.shows K.is_clean keep.old keep.new (λ r.
+        IsLegal r → IsServed result (K.shows keep.new) r (step r (caller_of token.now r) request.now)) }
+    ensures accounted { IsReplyAccounted result (K.fault_count keep.old) (K.fault_count keep.new) }
+    ensures told { IsReplyTold K.may_tell result }
+    ensures legal { Promised K.shows K.is_clean keep.old keep.new (λ r.
+        IsLegal r → (left : Register) × K.shows keep.new left × IsLegal left) }
+{
+    match answer_caller(alloc, keep, token, request) {
+        Ok(reply) => reply,
+        Err(fault) => DeskReply::from(fault),
+    }
+}

@@ -1,0 +1,42 @@
+//! What a caller is answered.
+
+use crate::refusal::Refusal;
+use bor_chains::{Node, PersonLine};
+use bor_machine::{FilingLine, Lodged, Outward, StoreFault};
+use bor_records::Entry;
+use bor_terms::{AgentName, Day, Listed};
+
+/// An answer.
+#[derive(Debug, Drop)]
+pub enum DeskReply {
+    /// The filing that was lodged, now or before in the same way.
+    Lodged(Lodged),
+    /// The filing that is withdrawn.
+    Withdrawn(FilingLine),
+    /// The caller's own filings, by number.
+    Filings(Listed<FilingLine>),
+    /// The file as it was lodged.
+    File(Listed<u8>),
+    /// The outward forms of all published filings: by agent, those of an agent in order of
+    /// acceptance.
+    Published(Listed<Outward>),
+    /// The open records of the declaration on the date, by their identifiers.
+    Snapshot {
+        date: Day,
+        records: Listed<Entry>,
+    },
+    /// The persons behind the entity on the date, by agent, declaration and record.
+    Chains {
+        entity: Node,
+        date: Day,
+        persons: Listed<PersonLine>,
+    },
+    /// The register's day, once it is moved.
+    Day(Day),
+    /// The agent that is enrolled.
+    Enrolled(AgentName),
+    /// The request is refused. The register is as before.
+    Refused(Refusal),
+    /// The keep failed, or memory was wanting. The register is as before.
+    Failed(StoreFault),
+}

@@ -1,0 +1,133 @@
+//! The report on who stands behind an entity.
+
+ghost use Rattle.std.specs.Prelude.{◌≡◌, ◌⊎◌, ◌++◌, ℕ, List, IfOk, IfErr, OnOk, string_bytes};
+ghost use Rattle.serde_json.specs.Written.{compact_text};
+ghost use Rattle.bor_terms.specs.Day.{IsSpelling};
+ghost use Rattle.bor_chains.specs.Rows.{shown_of};
+ghost use Rattle.bor_register.specs.Promises.{Kept, Promised};
+ghost use Rattle.bor_machine.specs.Sight.{seen_by};
+ghost use Rattle.bor_machine.specs.Outcomes.{IsCounted, IsAccounted, IsToldBy};
+ghost use Rattle.bor_desk.specs.Refusals.{failed};
+ghost use Rattle.bor_register.specs.declared.fault.StoreFault.TheVariants.{Memory};
+ghost use Rattle.bor_desk.specs.Step.{chains_answer};
+ghost use Rattle.bor_desk.specs.Outcomes.{AreFound};
+ghost use Rattle.bor_desk.specs.Texts.{told};
+ghost use Rattle.bor_desk.specs.ChainReport.{name_data, person_line, person_lines, report_lines, IsTextOf};
+
+use crate::refusal::DeskFault;
+use crate::text::{Text, refused, told};
+use bods_read::FreeText;
+use bor_chains::{ListSource, Node, PersonLine, persons_of};
+use bor_machine::{Keep, StoreFault};
+use bor_terms::{AgentName, Day};
+use serde_json::Value;
+use std::alloc::{AllocError, Global};
+
+/// The persons behind an entity on a day, as the viewer sees it.
+pub(crate) fn persons_seen<K: Keep>(
+    alloc: Global,
+    keep: &mut K,
+    viewer: &AgentName,
+    entity: &Node,
+    day: Day,
+) -> Result<Vec<PersonLine>, DeskFault>
+    ensures kept { Kept K.shows K.is_clean keep.old keep.new }
+    ensures answer { Promised K.shows K.is_clean keep.old keep.new (λ r.
+        AreFound (λ persons. persons.items) result (shown_of day (seen_by viewer.now r)) entity.now day) }
+    ensures accounted { IsAccounted failed result (K.fault_count keep.old) (K.fault_count keep.new) }
+    ensures told { IfErr result (IsToldBy failed K.may_tell) }
+{
+    let rows = keep.visible_rows(viewer)?;
+    let mut source = ListSource::from_rows(alloc, &rows, day)?;
+    Ok(persons_of(alloc, &mut source, entity)?)
+}
+
+// A name as a text of JSON, or null.
+fn name_text(alloc: Global, name: &Option<FreeText>) -> Result<String, AllocError>
+    ensures { IfOk result (λ text. string_bytes text ≡ compact_text (name_data name.now)) }
+{
+    let value = match name {
+        Some(name) => Value::String(String::from_str(alloc, name.as_str())?),
+        None => Value::Null,
+    };
+    value.to_string(alloc)
+}
+
+// Adds the line of a person.
+fn add_person(alloc: Global, text: &mut String, person: &PersonLine) -> Result<(), AllocError>
+    ensures { OnOk result (string_bytes text.new ≡ string_bytes text.old ++ person_line person.now) }
+{
+    let agent = person.node.agent.as_str();
+    let declaration = person.node.declaration.as_str();
+    let rec = person.node.rec.as_str();
+    let name = name_text(alloc, &person.name)?;
+    writeln!(text, "person\t{agent}\t{declaration}\t{rec}\t{name}")
+}
+
+fn add_persons(alloc: Global, text: &mut String, persons: &[PersonLine]) -> Result<(), AllocError>
+    ensures { OnOk result (string_bytes text.new ≡ string_bytes text.old ++ person_lines persons.now) }
+{
+    for person in persons {
+        add_person(alloc, text, person)?;
+    }
+    Ok(())
+}
+
+// The ten bytes of the day, which are ASCII.
+fn day_text(alloc: Global, day: Day) -> Result<String, AllocError>
+    ensures { IfOk result (λ text. IsSpelling day (string_bytes text)) }
+{
+    String::from_utf8_lossy(alloc, day.text().as_slice())
+}
+
+// The text of a report: the entity and the day, the persons, and how many they are.
+fn persons_text(
+    alloc: Global,
+    entity: &Node,
+    day: Day,
+    persons: &[PersonLine],
+) -> Result<Text, AllocError>
+    ensures { IfOk result (λ text. (date : List ℕ) × IsSpelling day date
+        × (text ≡ told (report_lines entity.now date persons.now))) }
+{
+    let mut text = String::new(alloc);
+    let agent = entity.agent.as_str();
+    let declaration = entity.declaration.as_str();
+    let rec = entity.rec.as_str();
+    let date = day_text(alloc, day)?;
+    writeln!(text, "entity\t{agent}\t{declaration}\t{rec}\t{date}")?;
+    add_persons(alloc, &mut text, persons)?;
+    let count = persons.len();
+    writeln!(text, "persons {count}")?;
+    Ok(told(text))
+}
+
+/// The text of `bor report`: who stands behind an entity on a day, by the filings that the viewer
+/// sees, its own live ones and the others' published ones. A viewer that isn't enrolled sees what is
+/// published.
+///
+/// The text is a refusal, `NoEntity`, where the viewer sees no open entity there on the day. The
+/// register is left as it is.
+///
+/// # Errors
+///
+/// The keep failed, or memory was wanting.
+pub fn report_text<K: Keep>(
+    alloc: Global,
+    keep: &mut K,
+    viewer: &AgentName,
+    entity: &Node,
+    day: Day,
+) -> Result<Text, StoreFault>
+    ensures kept { Kept K.shows K.is_clean keep.old keep.new }
+    ensures text { Promised K.shows K.is_clean keep.old keep.new (λ r.
+        IfOk result (λ text. IsTextOf (chains_answer (seen_by viewer.now r) entity.now day) text)) }
+    ensures accounted { IsCounted result (K.fault_count keep.old) (K.fault_count keep.new) }
+    ensures told { IfErr result (λ fault. (fault ≡ Memory) ⊎ K.may_tell fault) }
+{
+    match persons_seen(alloc, keep, viewer, entity, day) {
+        Ok(persons) => Ok(persons_text(alloc, entity, day, &persons)?),
+        Err(DeskFault::Refused(refusal)) => Ok(refused(alloc, refusal)?),
+        Err(DeskFault::Failed(fault)) => Err(fault),
+    }
+}

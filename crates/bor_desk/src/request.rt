@@ -1,0 +1,47 @@
+//! What a caller asks for.
+
+use bor_chains::Node;
+use bor_terms::{AgentName, Day, Ident, Listed, LodgeKey, Token};
+
+/// A request. Those of agents are all but `Day` and `Enrol`, which are the registrar's.
+#[derive(Debug, Drop)]
+pub enum Request {
+    /// Lodges a file under a key, due on a day.
+    Lodge {
+        key: LodgeKey,
+        due: Day,
+        file: Listed<u8>,
+    },
+    /// Withdraws the draft under a key.
+    Withdraw {
+        key: LodgeKey,
+    },
+    /// Lists the caller's own filings.
+    Filings,
+    /// Gives the bytes of the caller's own filing under a key.
+    File {
+        key: LodgeKey,
+    },
+    /// Lists what is published.
+    Published,
+    /// Shows the open records of an agent's declaration on a day; without one, on the register's.
+    Snapshot {
+        agent: AgentName,
+        declaration: Ident,
+        date: Option<Day>,
+    },
+    /// Names the persons behind an entity on a day; without one, on the register's.
+    Chains {
+        entity: Node,
+        date: Option<Day>,
+    },
+    /// Moves the register's day.
+    Day {
+        date: Day,
+    },
+    /// Enrols an agent.
+    Enrol {
+        name: AgentName,
+        token: Token,
+    },
+}

@@ -1,0 +1,216 @@
+//! What a keep is asked for: nothing twice, and nothing that the request doesn't need.
+
+ghost use Rattle.std.specs.Prelude.{◌≡◌};
+
+use crate::answer;
+use crate::tests::asking::{request, token_of};
+use bods_read::Statement;
+use bor_machine::{Caller, Filing, FilingLine, Keep, ListKeep, Outward, StoreFault};
+use bor_records::{Last, Row};
+use bor_terms::{AgentName, Day, Ident, LodgeKey, Token};
+use std::alloc::Global;
+use std::test::Fail;
+
+// A keep that notes the calls that it hands on.
+#[derive(Drop)]
+struct Noting<K> {
+    keep: K,
+    calls: String,
+}
+
+impl<K> Noting<K> {
+    fn note(&mut self, call: &str)
+        ensures { self.new.keep ≡ self.old.keep }
+    {
+        let _ = self.calls.push(' ');
+        let _ = self.calls.push_str(call);
+    }
+}
+
+impl<K: Keep> Keep for Noting<K> {
+    ghost shows = { λ k r. K.shows k.keep r };
+
+    ghost is_clean = { λ k. K.is_clean k.keep };
+
+    ghost fault_count = { λ k. K.fault_count k.keep };
+
+    ghost may_tell = { K.may_tell };
+
+    fn faults(&self) -> u64 {
+        self.keep.faults()
+    }
+
+    fn who(&mut self, token: &Token) -> Result<Option<Caller>, StoreFault> {
+        self.note("who");
+        self.keep.who(token)
+    }
+
+    fn has_agent(&mut self, agent: &AgentName) -> Result<bool, StoreFault> {
+        self.note("has_agent");
+        self.keep.has_agent(agent)
+    }
+
+    fn day(&mut self) -> Result<Day, StoreFault> {
+        self.note("day");
+        self.keep.day()
+    }
+
+    fn filing(&mut self, agent: &AgentName, key: &LodgeKey) -> Result<Option<Filing>, StoreFault> {
+        self.note("filing");
+        self.keep.filing(agent, key)
+    }
+
+    fn filings(&mut self, agent: &AgentName) -> Result<Vec<FilingLine>, StoreFault> {
+        self.note("filings");
+        self.keep.filings(agent)
+    }
+
+    fn last(
+        &mut self,
+        agent: &AgentName,
+        declaration: &Ident,
+        rec: &Ident,
+    ) -> Result<Option<Last>, StoreFault> {
+        self.note("last");
+        self.keep.last(agent, declaration, rec)
+    }
+
+    fn has_statement(&mut self, agent: &AgentName, id: &Ident) -> Result<bool, StoreFault> {
+        self.note("has_statement");
+        self.keep.has_statement(agent, id)
+    }
+
+    fn has_successor(&mut self, agent: &AgentName, number: u32) -> Result<bool, StoreFault> {
+        self.note("has_successor");
+        self.keep.has_successor(agent, number)
+    }
+
+    fn rows_of(
+        &mut self,
+        viewer: &AgentName,
+        agent: &AgentName,
+        declaration: &Ident,
+    ) -> Result<Vec<Row>, StoreFault> {
+        self.note("rows_of");
+        self.keep.rows_of(viewer, agent, declaration)
+    }
+
+    fn visible_rows(&mut self, viewer: &AgentName) -> Result<Vec<Row>, StoreFault> {
+        self.note("visible_rows");
+        self.keep.visible_rows(viewer)
+    }
+
+    fn published(&mut self) -> Result<Vec<Outward>, StoreFault> {
+        self.note("published");
+        self.keep.published()
+    }
+
+    fn add_filing(
+        &mut self,
+        agent: &AgentName,
+        key: &LodgeKey,
+        due: Day,
+        bytes: &[u8],
+        statements: &[Statement],
+    ) -> Result<u32, StoreFault> {
+        self.note("add_filing");
+        self.keep.add_filing(agent, key, due, bytes, statements)
+    }
+
+    fn withdraw(&mut self, agent: &AgentName, number: u32) -> Result<(), StoreFault> {
+        self.note("withdraw");
+        self.keep.withdraw(agent, number)
+    }
+
+    fn set_day(&mut self, day: Day) -> Result<(), StoreFault> {
+        self.note("set_day");
+        self.keep.set_day(day)
+    }
+
+    fn add_agent(&mut self, agent: &AgentName, token: &Token) -> Result<(), StoreFault> {
+        self.note("add_agent");
+        self.keep.add_agent(agent, token)
+    }
+}
+
+// The calls that the keep gets for an ask, in order.
+fn calls(alloc: Global, keep: &mut Noting<ListKeep>, ask: &str) -> Result<String, Fail> {
+    let (caller, words) = ask.split_once(' ').ok_or("no words")?;
+    let token = token_of(alloc, caller)?;
+    let request = request(alloc, words)?;
+    keep.calls = String::from_str(alloc, caller)?;
+    let _ = answer(alloc, keep, &token, &request);
+    Ok(keep.calls.clone()?)
+}
+
+// What is asked one after the other, and the calls that come of it.
+const CALLS: [(&str, &str); 22] = [
+    (
+        "registrar enrol alder alder-token-000001",
+        "registrar who has_agent who add_agent",
+    ),
+    (
+        "registrar enrol alder birch-token-000001",
+        "registrar who has_agent",
+    ),
+    (
+        "registrar enrol birch alder-token-000001",
+        "registrar who has_agent who",
+    ),
+    ("nobody published", "nobody who"),
+    ("registrar published", "registrar who"),
+    ("alder day 2024-03-01", "alder who"),
+    ("alder filings", "alder who filings"),
+    (
+        "alder lodge k1 2024-03-01 E s1 e1; E s2 e1; E s3 e2",
+        "alder who filing filings day has_statement last has_statement has_statement last add_filing",
+    ),
+    (
+        "alder lodge k1 2024-03-01 E s1 e1; E s2 e1; E s3 e2",
+        "alder who filing day",
+    ),
+    ("alder lodge k1 2024-03-01 []", "alder who filing"),
+    (
+        "alder lodge k2 2024-01-31 E s9 e9",
+        "alder who filing filings day",
+    ),
+    (
+        "alder lodge k2 2024-03-01 []",
+        "alder who filing filings day",
+    ),
+    (
+        "alder lodge k2 2024-03-01 E s1 e9",
+        "alder who filing filings day has_statement",
+    ),
+    ("alder file k1", "alder who filing"),
+    ("alder published", "alder who published"),
+    ("alder snapshot alder c1", "alder who day rows_of"),
+    ("alder snapshot alder c1 2024-01-10", "alder who rows_of"),
+    ("alder chains alder c1 e1", "alder who day visible_rows"),
+    (
+        "alder chains alder c1 e1 2024-01-10",
+        "alder who visible_rows",
+    ),
+    (
+        "alder withdraw k1",
+        "alder who filing day has_successor withdraw",
+    ),
+    ("alder withdraw k1", "alder who filing"),
+    ("registrar day 2024-03-01", "registrar who day set_day"),
+];
+
+#[test]
+fn a_keep_is_asked_for_no_more_than_is_needed(rt: HostRuntime) -> Result<(), Fail> {
+    let alloc = rt.alloc();
+    let registrar = token_of(alloc, "registrar")?;
+    let today = Day::read("2024-02-01").ok_or("no day")?;
+    let mut keep = Noting {
+        keep: ListKeep::new(alloc, registrar, today),
+        calls: String::new(alloc),
+    };
+    for (ask, wanted) in CALLS {
+        assert_eq!(rt; calls(alloc, &mut keep, ask)?.as_str(), wanted, "{ask}");
+    }
+    assert_eq!(rt; keep.faults(), 0);
+    Ok(())
+}

@@ -1,5 +1,0 @@
-use Rattle.bor_machine.proofs.Journals.{filings_stay}
-use Rattle.bor_machine.proofs.laws.filings_stay_in_order.Goals as goal
-
-pub returns : goal.returns
-returns c = filings_stay

@@ -1,5 +1,0 @@
-use Rattle.bor_machine.proofs.Journals.{order_is_forgotten}
-use Rattle.bor_machine.proofs.laws.order_between_agents_is_forgotten.Goals as goal
-
-pub returns : goal.returns
-returns c = order_is_forgotten

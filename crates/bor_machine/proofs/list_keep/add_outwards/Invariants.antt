@@ -1,7 +1,0 @@
-use Rattle.std.proofs.Common.{◌≡◌, ◌++◌, drop}
-use Rattle.bor_machine.specs.Publication.{outwards_of}
-use Rattle.bor_machine.proofs.list_keep.add_outwards.Given as goal
-
--- what is there and what is left give what all give
-abbrev pub invariant-loop-filing : goal.invariant-loop-filing
-invariant-loop-filing l = l.outwards.items ++ outwards_of l.day l.name (drop l.filing-index l.filings) ≡ l.fn.outwards.items ++ outwards_of l.day l.name l.filings

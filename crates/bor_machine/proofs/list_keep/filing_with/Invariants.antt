@@ -1,7 +1,0 @@
-use Rattle.std.proofs.Common.{◌≡◌, drop}
-use Rattle.bor_machine.specs.Register.{filing_keyed}
-use Rattle.bor_machine.proofs.list_keep.filing_with.Given as goal
-
--- what is left gives what all give
-abbrev pub invariant-loop-filing : goal.invariant-loop-filing
-invariant-loop-filing l = filing_keyed l.key (drop l.filing-index l.filings) ≡ filing_keyed l.key l.filings

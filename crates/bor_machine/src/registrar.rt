@@ -1,0 +1,56 @@
+//! What the registrar does: the day goes on, and agents are enrolled.
+
+ghost use Rattle.std.specs.Prelude.{◌≡◌, IfErr};
+ghost use Rattle.bor_register.specs.Register.{Register};
+ghost use Rattle.bor_register.specs.Promises.{Promised};
+ghost use Rattle.bor_machine.specs.Registrar.{advance_step, enrol_step};
+ghost use Rattle.bor_machine.specs.Outcomes.{of_advance, of_enrolment, IsOutcome, IsAccounted, IsToldBy};
+ghost use Rattle.bor_machine.specs.Legality.{IsLegal};
+
+use crate::fault::{AdvanceFault, EnrolFault};
+use bor_register::Keep;
+use bor_terms::{AgentName, Day, Token};
+
+/// Moves the register's day to this one, and hands it back. What is due by then is published.
+///
+/// `DayBack` is the one refusal: the day is before the register's; the same day is taken. It leaves
+/// the register as it was, and so does `Store`.
+pub fn advance<K: Keep>(keep: &mut K, day: Day) -> Result<Day, AdvanceFault>
+    ensures began { K.is_clean keep.new → K.is_clean keep.old }
+    ensures step { Promised K.shows K.is_clean keep.old keep.new (λ r.
+        IsOutcome of_advance result (K.shows keep.new) r (advance_step r day)) }
+    ensures accounted { IsAccounted of_advance result (K.fault_count keep.old) (K.fault_count keep.new) }
+    ensures told { IfErr result (IsToldBy of_advance K.may_tell) }
+    ensures legal { Promised K.shows K.is_clean keep.old keep.new (λ r.
+        IsLegal r → (left : Register) × K.shows keep.new left × IsLegal left) }
+{
+    if day < keep.day()? {
+        return Err(AdvanceFault::DayBack);
+    }
+    keep.set_day(day)?;
+    Ok(day)
+}
+
+/// Enrols an agent under a name and a token, and hands the name back.
+///
+/// The refusals are, in their order: `NameTaken` where an agent has the name, and `TokenTaken` where
+/// an agent or the registrar has the token. A refusal leaves the register as it was, and so does
+/// `Store`; name and token are dropped then.
+pub fn enrol<K: Keep>(keep: &mut K, name: AgentName, token: Token) -> Result<AgentName, EnrolFault>
+    ensures began { K.is_clean keep.new → K.is_clean keep.old }
+    ensures step { Promised K.shows K.is_clean keep.old keep.new (λ r.
+        IsOutcome of_enrolment result (K.shows keep.new) r (enrol_step r name token)) }
+    ensures accounted { IsAccounted of_enrolment result (K.fault_count keep.old) (K.fault_count keep.new) }
+    ensures told { IfErr result (IsToldBy of_enrolment K.may_tell) }
+    ensures legal { Promised K.shows K.is_clean keep.old keep.new (λ r.
+        IsLegal r → (left : Register) × K.shows keep.new left × IsLegal left) }
+{
+    if keep.has_agent(&name)? {
+        return Err(EnrolFault::NameTaken);
+    }
+    if keep.who(&token)?.is_some() {
+        return Err(EnrolFault::TokenTaken);
+    }
+    keep.add_agent(&name, &token)?;
+    Ok(name)
+}

@@ -1,0 +1,10 @@
+pub mod Callers
+pub mod Members
+pub mod Names
+pub mod Places
+pub mod LiveStatements
+pub mod Journals
+pub mod SeenRows
+pub mod KeptLaws
+pub mod Withdrawals
+pub mod Examples

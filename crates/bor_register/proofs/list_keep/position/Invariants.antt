@@ -1,0 +1,12 @@
+use Rattle.std.proofs.Common.{◌≡◌, ◌++◌, take, drop, List}
+use Rattle.bor_register.specs.Register.{is_enrolled, filings_of, with_filings}
+use Rattle.bor_register.specs.declared.filing.AcceptedFiling.{AcceptedFiling}
+use Rattle.bor_register.proofs.list_keep.position.Given as goal
+
+-- what is left gives what all give
+abbrev pub invariant-loop-i : goal.invariant-loop-i
+invariant-loop-i l = record {
+  enrolled : is_enrolled l.name (drop l.i l.members) ≡ is_enrolled l.name l.members;
+  own : filings_of l.name (drop l.i l.members) ≡ filings_of l.name l.members;
+  written : (fs : List AcceptedFiling) → with_filings l.name fs l.members ≡ take l.i l.members ++ with_filings l.name fs (drop l.i l.members);
+}

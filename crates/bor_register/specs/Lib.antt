@@ -1,0 +1,8 @@
+pub mod Register
+pub mod Journal
+pub mod Live
+pub mod Publication
+pub mod Rows
+pub mod Withdrawal
+pub mod Promises
+pub mod Holding

@@ -1,0 +1,88 @@
+//! Filings, as the register holds them and as callers see them.
+
+ghost use Rattle.std.specs.Prelude.{◌≡◌, codes};
+ghost use Rattle.bor_register.specs.Publication.{state_of_live, state_word};
+
+use bods_read::Statement;
+use bor_terms::{AgentName, Day, Listed, LodgeKey};
+
+/// A filing as the register holds it, in its agent's list.
+#[derive(Debug, Drop)]
+pub struct AcceptedFiling {
+    /// From 1; each agent's filings are numbered in order of acceptance, and no number comes twice.
+    pub number: u32,
+    /// The key under which its agent lodged it.
+    pub key: LodgeKey,
+    /// The day from which on it is published.
+    pub due: Day,
+    /// Whether its agent has withdrawn it.
+    pub withdrawn: bool,
+    /// The file as it was lodged.
+    pub bytes: Listed<u8>,
+    /// The file's statements, each with its settled status; none once it is withdrawn.
+    pub statements: Listed<Statement>,
+}
+
+/// What its agent reads of a filing.
+#[derive(Debug, Drop)]
+pub struct Filing {
+    pub number: u32,
+    pub due: Day,
+    pub withdrawn: bool,
+    /// The file as it was lodged.
+    pub bytes: Listed<u8>,
+}
+
+/// What is known of a filing's publication.
+#[derive(Clone, Copy, Debug, PartialEq, Eq)]
+pub enum State {
+    /// Its due day is after the register's day; its agent alone sees it.
+    Draft,
+    /// Its due day is at or before the register's day; all see it, and it can't be withdrawn.
+    Published,
+    /// Its agent withdrew it while it was a draft.
+    Withdrawn,
+}
+
+impl State {
+    /// The state of a live filing on a day.
+    pub fn of_live(due: Day, day: Day) -> State
+        ensures { result ≡ state_of_live due day }
+    {
+        if due <= day {
+            State::Published
+        } else {
+            State::Draft
+        }
+    }
+
+    /// The word that is shown for it.
+    #[tactic(auto, unfolding(crate::specs::Publication::state_word))]
+    pub fn as_str(self) -> &'static str
+        ensures { result.now ≡ state_word self }
+    {
+        match self {
+            State::Draft => "draft",
+            State::Published => "published",
+            State::Withdrawn => "withdrawn",
+        }
+    }
+}
+
+/// A line of an agent's list of its own filings.
+#[derive(Debug, Drop)]
+pub struct FilingLine {
+    pub key: LodgeKey,
+    pub number: u32,
+    pub due: Day,
+    pub state: State,
+}
+
+/// What all see of a published filing: neither its number, nor its key, nor its bytes.
+#[derive(Debug, Drop)]
+pub struct Outward {
+    pub agent: AgentName,
+    pub due: Day,
+    /// The statements, each with its settled status.
+    pub statements: Listed<Statement>,
+}

@@ -1,0 +1,16 @@
+//! Laws of registers. Each function does nothing: its contract is the law, and it is proved for
+//! every register.
+
+ghost use Rattle.bor_register.specs.Journal.{OrderBetweenAgentsIsForgotten, FilingsStayInOrder};
+
+/// Two lists of filings in order of acceptance stand for one register exactly where the day, the
+/// tokens and each agent's filings in their order are the same: the order between agents is
+/// nowhere.
+pub fn order_between_agents_is_forgotten()
+    ensures { OrderBetweenAgentsIsForgotten }
+{}
+
+/// A register has each agent's filings in the order in which they were accepted.
+pub fn filings_stay_in_order()
+    ensures { FilingsStayInOrder }
+{}
