@@ -7,6 +7,7 @@ ghost use Rattle.bor_machine.specs.Legality.{IsLegal};
 ghost use Rattle.bor_machine.specs.Sight.{seen_by};
 ghost use Rattle.bor_machine.specs.Outcomes.{IsCounted};
 ghost use Rattle.bor_desk.specs.Step.{step, agent_step, registrar_step, file_answer, chains_answer, snapshot_answer};
+ghost use Rattle.bor_desk.specs.Laws.{IsToldAlone};
 ghost use Rattle.bor_desk.specs.Outcomes.{IsServed, IsAnswered, IsReplyAccounted, IsReplyTold, reply_of, denial};
 
 use crate::refusal::{DeskFault, Refusal};
@@ -201,6 +202,8 @@ pub fn answer<K: Keep>(alloc: Global, keep: &mut K, token: &Token, request: &Req
     ensures began { K.is_clean keep.new → K.is_clean keep.old }
     ensures step { Promised K.shows K.is_clean keep.old keep.new (λ r.
         IsLegal r → IsServed result (K.shows keep.new) r (step r (caller_of token.now r) request.now)) }
+    ensures alone { Promised K.shows K.is_clean keep.old keep.new (λ r.
+        IsLegal r → IsToldAlone result (caller_of token.now r) r request.now) }
     ensures accounted { IsReplyAccounted result (K.fault_count keep.old) (K.fault_count keep.new) }
     ensures told { IsReplyTold K.may_tell result }
     ensures legal { Promised K.shows K.is_clean keep.old keep.new (λ r.

@@ -1,8 +1,33 @@
 //! Laws of the step. Each function does nothing: its contract is the law.
 
 ghost use Rattle.bor_desk.specs.Outcomes.{AnswerIsDetermined};
+ghost use Rattle.bor_desk.specs.Laws.{OwnFilingsUntouched, StepStaysLegal, OneExchangeAlone, IsolationOfHistories};
 
 /// Two replies that tell one answer are equal.
 pub fn answer_is_determined()
     ensures { AnswerIsDetermined }
+{}
+
+/// After an exchange the filings of all agents but the one that asks are as they were. An agent
+/// changes neither the day nor who has which token; the registrar changes at most the day and the
+/// agents. This holds of every register.
+pub fn own_filings_untouched()
+    ensures { OwnFilingsUntouched }
+{}
+
+/// Each step leaves a legal register legal.
+pub fn legal_stays_legal()
+    ensures { StepStaysLegal }
+{}
+
+/// What an agent of a legal register is answered, and its filings after it, are the same as they
+/// would be alone with what the others have published.
+pub fn one_exchange_alone()
+    ensures { OneExchangeAlone }
+{}
+
+/// A run leaves a legal register legal. In every run from a legal register the answers to an agent follow from its own filings at the
+/// start, its own requests, the day at each of them, and what the others had published then.
+pub fn histories_are_isolated()
+    ensures { IsolationOfHistories }
 {}

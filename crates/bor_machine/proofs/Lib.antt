@@ -4,6 +4,8 @@ pub mod Keyed
 pub mod Withdrawing
 pub mod Withdrawals
 pub mod Legality
+pub mod Prefixes
+pub mod Alone
 pub mod Examples
 pub mod LegalRegisters
 pub mod WithdrawalExamples

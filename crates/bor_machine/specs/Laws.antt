@@ -1,12 +1,17 @@
 -- What operations do and never do.
-use Rattle.std.specs.Prelude.{◌≡◌, ℕ, ℤ, List, map, false}
+use Rattle.std.specs.Prelude.{◌≡◌, ℕ, ℤ, List, [], ◌++◌, map, filter, true, false}
 use Rattle.bor_terms.specs.Texts.{is_same}
 use Rattle.bor_register.specs.declared.member.Member.{Member}
-use Rattle.bor_register.specs.Register.{Register, empty_register, filings_of}
+use Rattle.bor_records.specs.Admission.{Live, is_of}
+use Rattle.bor_register.specs.Register.{Register, empty_register, filings_of, is_enrolled}
+use Rattle.bor_register.specs.Publication.{is_published}
+use Rattle.bor_register.specs.Live.{live_of}
+use Rattle.bor_machine.specs.Sight.{sight_of}
+use Rattle.bor_machine.specs.Solo.{alone}
 use Rattle.bor_machine.specs.Lodging.{lodge_step}
 use Rattle.bor_machine.specs.Withdrawing.{withdraw_step}
 use Rattle.bor_machine.specs.Registrar.{advance_step, enrol_step}
-use Rattle.bor_machine.specs.Legality.{IsLegal}
+use Rattle.bor_machine.specs.Legality.{AreRead, IsLegal}
 
 -- the agents' names, each with its token
 abbrev pub agents_of : List Member → List (List ℕ × List ℕ)
@@ -31,3 +36,21 @@ pub record StaysLegal : Type 0 where
   pub by_withdrawal : (r : Register) (name key : List ℕ) → IsLegal r → IsLegal (withdraw_step r name key).register
   pub by_advance : (r : Register) (day : ℤ) → IsLegal r → IsLegal (advance_step r day).register
   pub by_enrolment : (r : Register) (name token : List ℕ) → IsLegal r → IsLegal (enrol_step r name token).register
+
+-- the live statements of one record of an agent
+abbrev pub series : List ℕ → List ℕ → List Live → List Live
+series declaration rec live = filter (λ l. is_of declaration rec l.statement) live
+
+-- the one list is the front of the other
+abbrev pub IsPrefix : {X : Type 0} → List X → List X → Type 0
+IsPrefix {X} front whole = (rest : List X) × (whole ≡ front ++ rest)
+
+-- What is published of a record is the front of what is live of it. So an agent's published filings obey the record rules by themselves: each one's statements are those of its file, settled as they are after the published ones before it alone, and no settled status tells of a draft.
+pub record PublishedPrefix : Type 0 where
+  pub of_each_record : (r : Register) (name declaration rec : List ℕ) → IsLegal r →
+      IsPrefix (series declaration rec (live_of (filter (is_published r.day) (filings_of name r.members)))) (series declaration rec (live_of (filings_of name r.members)))
+  pub by_themselves : (r : Register) (name : List ℕ) → IsLegal r → AreRead [] (filter (is_published r.day) (filings_of name r.members))
+
+-- An agent of a legal register sees the same as it would alone with what the others have published.
+abbrev pub SightAlone : Type 0
+SightAlone = (r : Register) (name : List ℕ) → IsLegal r → is_enrolled name r.members ≡ true → sight_of name (alone name r) ≡ sight_of name r

@@ -4,4 +4,5 @@ pub mod Withdrawing
 pub mod Registrar
 pub mod Outcomes
 pub mod Legality
+pub mod Solo
 pub mod Laws

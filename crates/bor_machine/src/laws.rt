@@ -1,6 +1,6 @@
 //! Laws of the operations. Each function does nothing: its contract is the law.
 
-ghost use Rattle.bor_machine.specs.Laws.{OwnFilingsUntouched, StaysLegal};
+ghost use Rattle.bor_machine.specs.Laws.{OwnFilingsUntouched, StaysLegal, PublishedPrefix, SightAlone};
 
 /// After a lodging and after a withdrawal every other agent's filings are as they were, and so are
 /// the day, and who has which token. This holds of every register.
@@ -11,4 +11,17 @@ pub fn own_filings_untouched()
 /// A new register is legal, and each operation leaves a legal register legal.
 pub fn legal_stays_legal()
     ensures { StaysLegal }
+{}
+
+/// In a legal register what is published of a record is the front of what is live of it. So the
+/// published filings of an agent obey the record rules by themselves, and no settled status tells of
+/// a draft.
+pub fn published_is_a_prefix()
+    ensures { PublishedPrefix }
+{}
+
+/// An agent of a legal register sees the same as it would alone with what the others have published:
+/// no number, key, byte or draft of another is in it, nor an order of acceptance between agents.
+pub fn sight_is_alone()
+    ensures { SightAlone }
 {}

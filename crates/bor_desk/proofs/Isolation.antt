@@ -1,0 +1,201 @@
+-- What an agent is answered follows from its own exchanges, the day, and what the others have published.
+use Rattle.std.proofs.Common.{◌≡◌, ℕ, ℤ, List, [], ◌∷◌, Bool, true, false, Option, Some, None, Result, refl, ◌∙◌, sym, ap, subst, arith}
+use Rattle.std.specs.Prelude.{int_lt, if◌then◌else◌}
+use Rattle.bor_terms.specs.Texts.{is_same}
+use Rattle.bor_terms.proofs.Texts.{same_is, same_refl, same_sym}
+use Rattle.bor_register.specs.declared.caller.Caller.{Caller}
+use Rattle.bor_register.specs.declared.caller.Caller.TheVariants.{Registrar, Agent}
+use Rattle.bor_register.specs.declared.member.Member.{Member}
+use Rattle.bor_register.specs.declared.filing.AcceptedFiling.{AcceptedFiling}
+use Rattle.bor_register.specs.Register.{Register, caller_of, is_enrolled, is_taken, filings_of, with_filings, new_member, with_member}
+use Rattle.bor_register.proofs.Callers.{caller_is_enrolled}
+use Rattle.bor_machine.specs.Legality.{IsLegal}
+use Rattle.bor_machine.specs.Sight.{Outcome, sight_of}
+use Rattle.bor_machine.specs.Registrar.{advance_step, enrol_step}
+use Rattle.bor_machine.specs.Solo.{published_beside, with_outwards, member_with, solo_register, alone}
+use Rattle.bor_machine.proofs.Legality.{other-with_filings, leaves-with_filings}
+use Rattle.bor_machine.proofs.Alone.{filings-with_member, sight-alone}
+use Rattle.bor_desk.specs.declared.request.Request.{Request}
+use Rattle.bor_desk.specs.declared.request.Request.TheVariants as ask
+use Rattle.bor_desk.specs.Step.{Answer, own_after, agent_answer, agent_step, registrar_step, step}
+use Rattle.bor_desk.specs.Runs.{Asked, Occasion, exchange, register_after, request_by, occasion_then, history, answer_then, answers_to, solo}
+use Rattle.bor_register.specs.declared.fault.StoreFault.{StoreFault}
+use Rattle.bor_desk.specs.declared.reply.DeskReply.{DeskReply}
+use Rattle.bor_desk.specs.Outcomes.{IsTold, ByReply, IsServed, IsAnswered}
+use Rattle.bor_desk.specs.Laws.{is_agent, OwnFilingsUntouched, IsAsAlone, IsToldAlone, OneExchangeAlone, IsolationOfHistories}
+use Rattle.bor_desk.proofs.Steps.{step-stays_legal, by_reply}
+
+-- ---- the filings of the others
+
+other-with_member : (new : Member) (ms : List Member) (name : List ℕ) → is_same new.name name ≡ false → filings_of name (with_member new ms) ≡ filings_of name ms
+other-with_member new [] name other = rw other refl
+other-with_member new (m ∷ ms) name other = grind (arith, other-with_member new ms name other)
+
+none-unenrolled : (name : List ℕ) (ms : List Member) → is_enrolled name ms ≡ false → filings_of name ms ≡ []
+none-unenrolled name [] h = refl
+none-unenrolled name (m ∷ ms) h = grind (arith, none-unenrolled name ms)
+
+-- a new agent brings no filings
+enrolled-filings : (name token : List ℕ) (ms : List Member) (asked : List ℕ) (b : Bool) → is_same name asked ≡ b → is_enrolled name ms ≡ false →
+    filings_of asked (with_member (new_member name token) ms) ≡ filings_of asked ms
+enrolled-filings name token ms asked true same fresh =
+    ap (λ n. filings_of n (with_member (new_member name token) ms)) (sym (same_is name asked same))
+    ∙ filings-with_member (new_member name token) ms ∙ sym (none-unenrolled name ms fresh) ∙ ap (λ n. filings_of n ms) (same_is name asked same)
+enrolled-filings name token ms asked false other fresh = other-with_member (new_member name token) ms asked other
+
+enrol-filings : (r : Register) (name token asked : List ℕ) (b c : Bool) → is_enrolled name r.members ≡ b → is_taken token r ≡ c → filings_of asked (enrol_step r name token).register.members ≡ filings_of asked r.members
+enrol-filings r name token asked true c h k = rw h refl
+enrol-filings r name token asked false true h k = rw (h, k) refl
+enrol-filings r name token asked false false h k = rw (h, k) (enrolled-filings name token r.members asked (is_same name asked) refl h)
+
+advance-filings : (r : Register) (day : ℤ) (asked : List ℕ) (b : Bool) → int_lt day r.day ≡ b → filings_of asked (advance_step r day).register.members ≡ filings_of asked r.members
+advance-filings r day asked true h = rw h refl
+advance-filings r day asked false h = rw h refl
+
+registrar-filings : (r : Register) (request : Request) (asked : List ℕ) → filings_of asked (registrar_step r request).register.members ≡ filings_of asked r.members
+registrar-filings r (ask.Day date) asked = advance-filings r date asked (int_lt date r.day) refl
+registrar-filings r (ask.Enrol name token) asked = enrol-filings r name token asked _ _ refl refl
+registrar-filings r (ask.Lodge key due file) asked = refl
+registrar-filings r (ask.Withdraw key) asked = refl
+registrar-filings r ask.Filings asked = refl
+registrar-filings r (ask.File key) asked = refl
+registrar-filings r ask.Published asked = refl
+registrar-filings r (ask.Snapshot agent declaration date) asked = refl
+registrar-filings r (ask.Chains entity date) asked = refl
+
+others-filings : (r : Register) (caller : Option Caller) (request : Request) (name : List ℕ) → is_agent name caller ≡ false → filings_of name (step r caller request).register.members ≡ filings_of name r.members
+others-filings r None request name other = refl
+others-filings r (Some Registrar) request name other = registrar-filings r request name
+others-filings r (Some (Agent asking)) request name other = other-with_filings asking name (own_after (sight_of asking r) request) r.members other
+
+enrol-token : (r : Register) (name token : List ℕ) (b c : Bool) → is_enrolled name r.members ≡ b → is_taken token r ≡ c → (enrol_step r name token).register.registrar ≡ r.registrar
+enrol-token r name token true c h k = rw h refl
+enrol-token r name token false true h k = rw (h, k) refl
+enrol-token r name token false false h k = rw (h, k) refl
+
+advance-token : (r : Register) (day : ℤ) (b : Bool) → int_lt day r.day ≡ b → (advance_step r day).register.registrar ≡ r.registrar
+advance-token r day true h = rw h refl
+advance-token r day false h = rw h refl
+
+registrar-token : (r : Register) (request : Request) → (registrar_step r request).register.registrar ≡ r.registrar
+registrar-token r (ask.Day date) = advance-token r date (int_lt date r.day) refl
+registrar-token r (ask.Enrol name token) = enrol-token r name token _ _ refl refl
+registrar-token r (ask.Lodge key due file) = refl
+registrar-token r (ask.Withdraw key) = refl
+registrar-token r ask.Filings = refl
+registrar-token r (ask.File key) = refl
+registrar-token r ask.Published = refl
+registrar-token r (ask.Snapshot agent declaration date) = refl
+registrar-token r (ask.Chains entity date) = refl
+
+pub own_filings : OwnFilingsUntouched
+own_filings = record {
+  by_others = others-filings;
+  by_an_agent = λ r name request. leaves-with_filings r name (own_after (sight_of name r) request);
+  by_the_registrar = registrar-token;
+}
+
+-- ---- one exchange
+
+enrolled-with_member : (new : Member) (ms : List Member) → is_enrolled new.name (with_member new ms) ≡ true
+enrolled-with_member new [] = rw (same_refl new.name) refl
+enrolled-with_member new (m ∷ ms) = grind (arith, same_refl new.name, enrolled-with_member new ms)
+
+filings-with_filings : (name : List ℕ) (fs : List AcceptedFiling) (ms : List Member) → is_enrolled name ms ≡ true → filings_of name (with_filings name fs ms) ≡ fs
+filings-with_filings name fs [] h = absurd cc
+filings-with_filings name fs (m ∷ ms) h = grind (arith, filings-with_filings name fs ms)
+
+as_alone : (r : Register) (name : List ℕ) (request : Request) → IsLegal r → is_enrolled name r.members ≡ true → IsAsAlone r name request
+as_alone r name request legal enrolled =
+    let sight = sight-alone r name legal enrolled in
+    let others = with_outwards (published_beside name r.day r.members) [] in
+    record {
+      answer = ap (λ s. agent_answer s request) sight;
+      filings = filings-with_filings name (own_after (sight_of name (alone name r)) request) (alone name r).members (enrolled-with_member (member_with name (filings_of name r.members)) others)
+          ∙ ap (λ s. own_after s request) sight
+          ∙ sym (filings-with_filings name (own_after (sight_of name r) request) r.members enrolled);
+    }
+
+pub exchange_alone : OneExchangeAlone
+exchange_alone r token name request legal is = as_alone r name request legal (caller_is_enrolled r token name is)
+
+told_by : (reply : DeskReply) (shown : Type 0) (Q : StoreFault → Type 0) (a b : Answer) → b ≡ a → ByReply reply (IsTold a reply × shown) Q → IsAnswered reply b
+told_by reply shown Q a b same h =
+    by_reply reply (IsTold a reply × shown) (IsTold b reply) Q (λ f. Unit {0}) (λ both. subst (λ x. IsTold x reply) (sym same) both.0) (λ f q. tt) h
+
+-- a reply that tells the step's answer to an agent tells the one that it would get alone
+pub told_alone : (reply : DeskReply) (shown : Register → Type 0) (r : Register) (token : List ℕ) (caller : Option Caller) (request : Request) → caller_of token r ≡ caller → IsLegal r →
+    IsServed reply shown r (step r caller request) → IsToldAlone reply caller r request
+told_alone reply shown r token None request is legal h = tt
+told_alone reply shown r token (Some Registrar) request is legal h = tt
+told_alone reply shown r token (Some (Agent name)) request is legal h =
+    told_by reply (shown (agent_step r name request).register) (λ fault. shown r) (agent_step r name request).answer (agent_step (alone name r) name request).answer
+    (exchange_alone r token name request legal is).answer h
+
+-- ---- runs
+
+-- one more exchange, whoever asks
+Goes : (r : Register) (name : List ℕ) (rest : List Asked) → Type 0
+Goes r name rest = answers_to name r rest ≡ solo name (filings_of name r.members) (history name r rest)
+
+passed : (r after : Register) (name : List ℕ) (rest : List Asked) → filings_of name after.members ≡ filings_of name r.members → Goes after name rest →
+    answers_to name after rest ≡ solo name (filings_of name r.members) (history name after rest)
+unfolding Goes
+passed r after name rest same goes = goes ∙ ap (λ own. solo name own (history name after rest)) same
+
+-- after an exchange of the agent itself
+ByItself : Register → List ℕ → Request → List Asked → List ℕ → Type 0
+ByItself r asking request rest name =
+    Goes (agent_step r asking request).register name rest →
+    (agent_step r asking request).answer ∷ answers_to name (agent_step r asking request).register rest
+    ≡ solo name (filings_of name r.members) (record { day = r.day; others = published_beside name r.day r.members; request = request } ∷ history name (agent_step r asking request).register rest)
+
+by_itself : (r : Register) (name : List ℕ) (request : Request) (rest : List Asked) → IsLegal r → is_enrolled name r.members ≡ true → ByItself r name request rest name
+unfolding Goes ByItself
+by_itself r name request rest legal enrolled goes =
+    let one = as_alone r name request legal enrolled in
+    let after = agent_step r name request in
+    let lone = agent_step (alone name r) name request in
+    ap (λ a. a ∷ answers_to name after.register rest) (sym one.answer)
+    ∙ ap (λ rest_told. lone.answer ∷ rest_told) (goes ∙ ap (λ fs. solo name fs (history name after.register rest)) (sym one.filings))
+
+by_agent : (r : Register) (name asking : List ℕ) (request : Request) (rest : List Asked) (b : Bool) → is_same asking name ≡ b → IsLegal r → is_enrolled asking r.members ≡ true →
+    Goes (agent_step r asking request).register name rest →
+    answer_then (if b then Some request else None) (agent_step r asking request).answer (answers_to name (agent_step r asking request).register rest)
+    ≡ solo name (filings_of name r.members) (occasion_then name r (if b then Some request else None) (history name (agent_step r asking request).register rest))
+unfolding Goes ByItself
+by_agent r name asking request rest true same legal enrolled goes =
+    subst (λ n. ByItself r asking request rest n) (same_is asking name same) (by_itself r asking request rest legal enrolled) goes
+by_agent r name asking request rest false other legal enrolled goes =
+    passed r (agent_step r asking request).register name rest (other-with_filings asking name (own_after (sight_of asking r) request) r.members other) goes
+
+by_caller : (r : Register) (token name : List ℕ) (request : Request) (rest : List Asked) (caller : Option Caller) → caller_of token r ≡ caller → IsLegal r →
+    Goes (step r caller request).register name rest →
+    answer_then (request_by name caller request) (step r caller request).answer (answers_to name (step r caller request).register rest)
+    ≡ solo name (filings_of name r.members) (occasion_then name r (request_by name caller request) (history name (step r caller request).register rest))
+by_caller r token name request rest None is legal goes = passed r r name rest refl goes
+by_caller r token name request rest (Some Registrar) is legal goes =
+    passed r (registrar_step r request).register name rest (registrar-filings r request name) goes
+by_caller r token name request rest (Some (Agent asking)) is legal goes =
+    by_agent r name asking request rest (is_same asking name) refl legal (caller_is_enrolled r token asking is) goes
+
+alone_each : (r : Register) (run : List Asked) (name : List ℕ) → IsLegal r → Goes r name run
+unfolding Goes
+alone_each r [] name legal = refl
+alone_each r (a ∷ rest) name legal =
+    by_caller r a.token name a.request rest (caller_of a.token r) refl legal
+    (alone_each (exchange r a).register rest name (step-stays_legal r (caller_of a.token r) a.request legal))
+
+legal_after : (r : Register) (run : List Asked) → IsLegal r → IsLegal (register_after r run)
+legal_after r [] legal = legal
+legal_after r (a ∷ rest) legal = legal_after (exchange r a).register rest (step-stays_legal r (caller_of a.token r) a.request legal)
+
+pub isolated : IsolationOfHistories
+unfolding Goes
+isolated = record {
+  stays_legal = legal_after;
+  alone_each = alone_each;
+  two_runs = λ r q run other name legal lawful own past.
+      alone_each r run name legal ∙ ap (λ fs. solo name fs (history name r run)) own ∙ ap (solo name (filings_of name q.members)) past
+      ∙ sym (alone_each q other name lawful);
+}
