@@ -4,4 +4,5 @@ pub mod Reports
 pub mod Steps
 pub mod Isolation
 pub mod Examples
+pub mod StepExamples
 pub mod Worlds

@@ -12,7 +12,8 @@ use Rattle.bor_records.specs.declared.fault.RecordFault.TheVariants.{RecordExist
 use Rattle.bor_register.specs.declared.filing.AcceptedFiling.{AcceptedFiling}
 use Rattle.bor_register.specs.declared.filing.State.{State}
 use Rattle.bor_register.specs.declared.filing.State.TheVariants as states
-use Rattle.bor_register.specs.Register.{Register, empty_register, new_member, with_member, with_filings}
+use Rattle.bor_register.specs.Register.{Register, new_member, with_member, with_filings}
+use Rattle.bor_register.proofs.Examples.{two_agents, today, tomorrow}
 use Rattle.bor_register.specs.Live.{accepted}
 use Rattle.bor_register.specs.Publication.{published, outward}
 use Rattle.bor_register.specs.Withdrawal.{as_withdrawn}
@@ -23,25 +24,11 @@ use Rattle.bor_machine.specs.Lodging.{settled_reading, lodge_step}
 
 -- ---- the register
 
--- the register on a day with the agents birch and alder, enrolled in this order
-abbrev pub two_agents : ℤ → Register
-two_agents day =
-    let empty = empty_register (codes "registrar-token-0001") day in
-    record empty {
-      members = with_member (new_member (codes "alder") (codes "alder-token-000001")) (with_member (new_member (codes "birch") (codes "birch-token-000001")) empty.members);
-    }
-
--- the same with these filings of alder
+-- alder's filings in the register of alder and birch are these
 abbrev pub with_own : ℤ → List AcceptedFiling → Register
 with_own day filings = record (two_agents day) { members = with_filings (codes "alder") filings (two_agents day).members }
 
--- 2024-02-01
-abbrev pub today : ℤ
-today = pos 19754
-
-abbrev pub tomorrow : ℤ
-tomorrow = pos 19755
-
+-- 2024-01-31
 abbrev pub yesterday : ℤ
 yesterday = pos 19753
 

@@ -11,11 +11,12 @@ use Rattle.bor_register.specs.declared.member.Member.{Member}
 use Rattle.bor_register.specs.declared.filing.AcceptedFiling.{AcceptedFiling}
 use Rattle.bor_register.specs.Register.{Register, empty_register, new_member}
 use Rattle.bor_register.specs.Live.{live_of}
+use Rattle.bor_register.proofs.Examples.{today, two_agents}
 use Rattle.bor_machine.specs.declared.fault.LodgeFault.{LodgeFault}
 use Rattle.bor_machine.specs.declared.fault.LodgeFault.TheVariants.{StatementTwice}
 use Rattle.bor_machine.specs.Lodging.{settled_reading}
 use Rattle.bor_machine.specs.Legality.{AreLegal, IsLegal}
-use Rattle.bor_machine.proofs.Examples.{two_agents, with_own, today, settled-worked, first_filing, withdrawn_filing, after_lodging}
+use Rattle.bor_machine.proofs.Examples.{with_own, settled-worked, first_filing, withdrawn_filing, after_lodging}
 
 -- ---- legal registers
 

@@ -3,13 +3,13 @@ use Rattle.std.proofs.Common.{◌≡◌, ℕ, ℤ, List, [], ◌∷◌, Ok, Err,
 use Rattle.bor_register.specs.declared.member.Member.{Member}
 use Rattle.bor_register.specs.Register.{Register, new_member}
 use Rattle.bor_register.specs.Publication.{published, outward}
+use Rattle.bor_register.proofs.Examples.{first, second, today, tomorrow}
 use Rattle.bor_machine.specs.declared.fault.AdvanceFault.TheVariants.{DayBack}
 use Rattle.bor_machine.specs.declared.fault.EnrolFault.{EnrolFault}
 use Rattle.bor_machine.specs.declared.fault.EnrolFault.TheVariants.{NameTaken, TokenTaken}
 use Rattle.bor_machine.specs.Sight.{Outcome}
 use Rattle.bor_machine.specs.Registrar.{advance_step, enrol_step}
-use Rattle.bor_machine.proofs.Examples.{with_own, today, tomorrow, yesterday}
-use Rattle.bor_machine.proofs.WithdrawalExamples.{first, second}
+use Rattle.bor_machine.proofs.Examples.{with_own, yesterday}
 
 -- ---- a new day
 

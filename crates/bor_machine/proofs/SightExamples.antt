@@ -3,9 +3,9 @@ use Rattle.std.proofs.Common.{◌≡◌, ℕ, List, [], ◌∷◌, codes, refl, 
 use Rattle.bor_records.specs.declared.row.Row.{Row}
 use Rattle.bor_register.specs.declared.filing.AcceptedFiling.{AcceptedFiling}
 use Rattle.bor_register.specs.Withdrawal.{as_withdrawn}
+use Rattle.bor_register.proofs.Examples.{first, second, today, tomorrow}
 use Rattle.bor_machine.specs.Sight.{seen_by, sight_of}
-use Rattle.bor_machine.proofs.Examples.{with_own, today, tomorrow}
-use Rattle.bor_machine.proofs.WithdrawalExamples.{first, second}
+use Rattle.bor_machine.proofs.Examples.{with_own}
 
 -- the same statements under another number and key and with other bytes, between a withdrawn filing and a draft
 abbrev otherwise : List AcceptedFiling

@@ -8,40 +8,15 @@ use Rattle.bor_register.specs.declared.filing.AcceptedFiling.{AcceptedFiling}
 use Rattle.bor_register.specs.declared.filing.FilingLine.{FilingLine}
 use Rattle.bor_register.specs.declared.filing.State.TheVariants as states
 use Rattle.bor_register.specs.Register.{Register, with_filings}
+use Rattle.bor_register.proofs.Examples.{entity, first, second, today, tomorrow, two_agents}
 use Rattle.bor_machine.specs.declared.fault.WithdrawFault.{WithdrawFault}
 use Rattle.bor_machine.specs.declared.fault.WithdrawFault.TheVariants.{NoSuchFiling, Published, HasSuccessor}
 use Rattle.bor_machine.specs.Withdrawing.{withdraw_step}
-use Rattle.bor_machine.proofs.Examples.{two_agents, with_own, today, tomorrow, yesterday}
+use Rattle.bor_machine.proofs.Examples.{with_own, yesterday}
 
 -- ---- three filings
 
--- a statement of declaration c1, dated 2024-01-10
-abbrev pub entity : List ℕ → List ℕ → Statement
-entity id rec = record { id = id; day = pos 19732; declaration = codes "c1"; rec = rec; status = Some New; details = Entity RegisteredEntity None [] }
-
--- of the records e1 and e2, due today
-abbrev pub first : AcceptedFiling
-first = record {
-  number = 1;
-  key = codes "f1";
-  due = today;
-  withdrawn = false;
-  bytes = codes "one";
-  statements = entity (codes "s1") (codes "e1") ∷ entity (codes "s2") (codes "e2") ∷ [];
-}
-
--- of the record e1, due tomorrow
-abbrev pub second : AcceptedFiling
-second = record {
-  number = 2;
-  key = codes "f2";
-  due = tomorrow;
-  withdrawn = false;
-  bytes = codes "two";
-  statements = record (entity (codes "s3") (codes "e1")) { status = Some Updated } ∷ [];
-}
-
--- the same once it is withdrawn: no statements; its number, key, due day and bytes stay
+-- the second one once it is withdrawn: no statements; its number, key, due day and bytes stay
 abbrev second_withdrawn : AcceptedFiling
 second_withdrawn = record { number = 2; key = codes "f2"; due = tomorrow; withdrawn = true; bytes = codes "two"; statements = [] }
 

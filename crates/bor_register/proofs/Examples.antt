@@ -17,7 +17,7 @@ use Rattle.bor_register.specs.Journal.{Agent, Entry, Journal, register_of}
 -- ---- the register
 
 -- the register on a day with the agents birch and alder, enrolled in this order
-abbrev two_agents : ℤ → Register
+abbrev pub two_agents : ℤ → Register
 two_agents day =
     let empty = empty_register (codes "registrar-token-0001") day in
     record empty {
@@ -25,18 +25,18 @@ two_agents day =
     }
 
 -- 2024-02-01
-abbrev today : ℤ
+abbrev pub today : ℤ
 today = pos 19754
 
-abbrev tomorrow : ℤ
+abbrev pub tomorrow : ℤ
 tomorrow = pos 19755
 
 -- a statement of declaration c1, dated 2024-01-10
-abbrev entity : List ℕ → List ℕ → Statement
+abbrev pub entity : List ℕ → List ℕ → Statement
 entity id rec = record { id = id; day = pos 19732; declaration = codes "c1"; rec = rec; status = Some New; details = Entity RegisteredEntity None [] }
 
 -- alder's: of the records e1 and e2, published; and of e1, a draft
-abbrev first : AcceptedFiling
+abbrev pub first : AcceptedFiling
 first = record {
   number = 1;
   key = codes "f1";
@@ -46,7 +46,7 @@ first = record {
   statements = entity (codes "s1") (codes "e1") ∷ entity (codes "s2") (codes "e2") ∷ [];
 }
 
-abbrev second : AcceptedFiling
+abbrev pub second : AcceptedFiling
 second = record {
   number = 2;
   key = codes "f2";
