@@ -1,10 +1,19 @@
--- What two agents see of a register: no number of another's filing, and nothing of another's draft.
+-- What agents see of a register, and alone: no number of another's filing, and nothing of another's draft.
 use Rattle.std.proofs.Common.{◌≡◌, ℕ, List, [], ◌∷◌, codes, refl, map}
+use Rattle.std.specs.Prelude.{filter}
+use Rattle.std.specs.Fmt.{digits}
+use Rattle.bods_read.specs.declared.statement.Statement.{Statement}
 use Rattle.bor_records.specs.declared.row.Row.{Row}
+use Rattle.bor_records.specs.Admission.{Live}
 use Rattle.bor_register.specs.declared.filing.AcceptedFiling.{AcceptedFiling}
+use Rattle.bor_register.specs.Live.{live_of}
+use Rattle.bor_register.specs.Publication.{is_published}
+use Rattle.bor_register.specs.Register.{filings_of}
 use Rattle.bor_register.specs.Withdrawal.{as_withdrawn}
 use Rattle.bor_register.proofs.Examples.{first, second, today, tomorrow}
 use Rattle.bor_machine.specs.Sight.{seen_by, sight_of}
+use Rattle.bor_machine.specs.Solo.{alone}
+use Rattle.bor_machine.specs.Laws.{series}
 use Rattle.bor_machine.proofs.Examples.{with_own}
 
 -- the same statements under another number and key and with other bytes, between a withdrawn filing and a draft
@@ -32,3 +41,30 @@ by_birch = refl
 by_alder : map placed (seen_by (codes "alder") (with_own today (first ∷ second ∷ [])))
     ≡ (codes "alder", (0, (1, codes "s1"))) ∷ (codes "alder", (0, (2, codes "s2"))) ∷ (codes "alder", (0, (1, codes "s3"))) ∷ []
 by_alder = refl
+
+-- ---- birch alone: alder's published filing stands there by its outward form, without its number, key and bytes
+
+abbrev brief : AcceptedFiling → ℕ × (List ℕ × (List ℕ × List (List ℕ)))
+brief f = (f.number, (f.key, (f.bytes, map (λ (s : Statement). s.id) f.statements)))
+
+of_alder : map brief (filings_of (codes "alder") (alone (codes "birch") (with_own today otherwise)).members) ≡ (1, (codes "1", ([], codes "s1" ∷ codes "s2" ∷ []))) ∷ []
+unfolding digits
+of_alder = refl
+
+same_alone : sight_of (codes "birch") (alone (codes "birch") (with_own today otherwise)) ≡ sight_of (codes "birch") (with_own today otherwise)
+unfolding digits
+same_alone = refl
+
+-- ---- of the record e1 what is published is the front of what is live
+
+abbrev ids : List Live → List (List ℕ)
+ids live = map (λ (l : Live). l.statement.id) live
+
+live_of_e1 : ids (series (codes "c1") (codes "e1") (live_of (first ∷ second ∷ []))) ≡ codes "s1" ∷ codes "s3" ∷ []
+live_of_e1 = refl
+
+published_of_e1 : ids (series (codes "c1") (codes "e1") (live_of (filter (is_published today) (first ∷ second ∷ [])))) ≡ codes "s1" ∷ []
+published_of_e1 = refl
+
+all_published_of_e1 : ids (series (codes "c1") (codes "e1") (live_of (filter (is_published tomorrow) (first ∷ second ∷ [])))) ≡ codes "s1" ∷ codes "s3" ∷ []
+all_published_of_e1 = refl
