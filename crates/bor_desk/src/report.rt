@@ -102,8 +102,8 @@ fn persons_text(
     Ok(told(text))
 }
 
-/// The text of `bor report`: who stands behind an entity on a day, by the filings that the viewer
-/// sees, its own live ones and the others' published ones. A viewer that isn't enrolled sees what is
+/// The text of a report: who stands behind an entity on a day, by the filings that the viewer sees,
+/// its own live ones and the others' published ones. A viewer that isn't enrolled sees what is
 /// published.
 ///
 /// The text is a refusal, `NoEntity`, where the viewer sees no open entity there on the day. The
