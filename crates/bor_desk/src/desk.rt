@@ -2,7 +2,7 @@
 
 ghost use Rattle.std.specs.Prelude.{◌≡◌, IfOk, IfErr, unwrap_or, true};
 ghost use Rattle.bor_register.specs.Register.{Register, caller_of, is_enrolled, filings_of, filing_keyed};
-ghost use Rattle.bor_register.specs.Promises.{Promised, Sure, Kept};
+ghost use Rattle.bor_records.specs.Promises.{Promised, Sure, Kept};
 ghost use Rattle.bor_machine.specs.Legality.{IsLegal};
 ghost use Rattle.bor_machine.specs.Sight.{seen_by};
 ghost use Rattle.bor_machine.specs.Outcomes.{IsCounted};

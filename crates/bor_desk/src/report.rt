@@ -4,7 +4,7 @@ ghost use Rattle.std.specs.Prelude.{◌≡◌, ◌⊎◌, ◌++◌, ℕ, List, I
 ghost use Rattle.serde_json.specs.Written.{compact_text};
 ghost use Rattle.bor_terms.specs.Day.{IsSpelling};
 ghost use Rattle.bor_chains.specs.Rows.{shown_of};
-ghost use Rattle.bor_register.specs.Promises.{Kept, Promised};
+ghost use Rattle.bor_records.specs.Promises.{Kept, Promised};
 ghost use Rattle.bor_machine.specs.Sight.{seen_by};
 ghost use Rattle.bor_machine.specs.Outcomes.{IsCounted, IsAccounted, IsToldBy};
 ghost use Rattle.bor_desk.specs.Refusals.{failed};

@@ -9,7 +9,7 @@ ghost use Rattle.bor_register.specs.declared.filing.AcceptedFiling.{AcceptedFili
 ghost use Rattle.bor_register.specs.Register.{Register, is_enrolled, filings_of, filing_keyed};
 ghost use Rattle.bor_register.specs.Live.{live_of};
 ghost use Rattle.bor_register.specs.Publication.{state_of, filing_shown};
-ghost use Rattle.bor_register.specs.Promises.{Kept, Promised, Sure};
+ghost use Rattle.bor_records.specs.Promises.{Kept, Promised, Sure};
 ghost use Rattle.bor_machine.specs.declared.fault.LodgeFault.TheVariants as lodge_faults;
 ghost use Rattle.bor_machine.specs.declared.lodging.TheConstants.{FILINGS_LIMIT};
 ghost use Rattle.bor_machine.specs.Lodging.{as_read, told_settled, told_verdict, settled_reading, repeated, lodge_step};

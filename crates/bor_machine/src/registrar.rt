@@ -2,7 +2,7 @@
 
 ghost use Rattle.std.specs.Prelude.{◌≡◌, IfErr};
 ghost use Rattle.bor_register.specs.Register.{Register};
-ghost use Rattle.bor_register.specs.Promises.{Promised};
+ghost use Rattle.bor_records.specs.Promises.{Promised};
 ghost use Rattle.bor_machine.specs.Registrar.{advance_step, enrol_step};
 ghost use Rattle.bor_machine.specs.Outcomes.{of_advance, of_enrolment, IsOutcome, IsAccounted, IsToldBy};
 ghost use Rattle.bor_machine.specs.Legality.{IsLegal};

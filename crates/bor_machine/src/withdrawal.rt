@@ -2,7 +2,7 @@
 
 ghost use Rattle.std.specs.Prelude.{◌≡◌, Result, IfOk, IfErr, int_le};
 ghost use Rattle.bor_register.specs.Register.{Register};
-ghost use Rattle.bor_register.specs.Promises.{Kept, Promised};
+ghost use Rattle.bor_records.specs.Promises.{Kept, Promised};
 ghost use Rattle.bor_machine.specs.Withdrawing.{withdraw_step};
 ghost use Rattle.bor_machine.specs.Outcomes.{of_withdrawal, IsOutcome, IsAccounted, IsToldBy, IsCounted};
 ghost use Rattle.bor_machine.specs.Legality.{IsLegal};

@@ -3,3 +3,4 @@ pub mod Rows
 pub mod Identifiers
 pub mod OpenRecords
 pub mod Settled
+pub mod KeptLaws

@@ -3,3 +3,4 @@ pub mod Admission
 pub mod Settling
 pub mod Snapshot
 pub mod Found
+pub mod Promises

@@ -5,6 +5,5 @@ pub mod Places
 pub mod LiveStatements
 pub mod Journals
 pub mod SeenRows
-pub mod KeptLaws
 pub mod Withdrawals
 pub mod Examples

@@ -4,5 +4,4 @@ pub mod Live
 pub mod Publication
 pub mod Rows
 pub mod Withdrawal
-pub mod Promises
 pub mod Holding

@@ -1,5 +1,6 @@
 -- What is published, and what all see of it (this register's own rules).
-use Rattle.std.specs.Prelude.{ℕ, ℤ, int_le, List, [], ◌∷◌, ◌++◌, map, filter, Bool, not, ◌&&◌, codes, if◌then◌else◌}
+use Rattle.std.specs.Prelude.{ℕ, ℤ, int_le, List, [], ◌∷◌, ◌++◌, map, filter, Bool, false, not, ◌&&◌, Option, Some, None, codes, if◌then◌else◌}
+use Rattle.bor_terms.specs.Texts.{is_same}
 use Rattle.bor_register.specs.declared.member.Member.{Member}
 use Rattle.bor_register.specs.declared.filing.AcceptedFiling.{AcceptedFiling}
 use Rattle.bor_register.specs.declared.filing.Filing.{Filing}
@@ -23,6 +24,11 @@ state_of day f = if f.withdrawn then Withdrawn else state_of_live f.due day
 -- what its agent reads of a filing
 abbrev pub filing_shown : AcceptedFiling → Filing
 filing_shown f = record { number = f.number; due = f.due; withdrawn = f.withdrawn; bytes = f.bytes }
+
+-- there is such a filing, and its file has these bytes
+abbrev pub has_bytes : List ℕ → Option AcceptedFiling → Bool
+has_bytes bytes None = false
+has_bytes bytes (Some f) = is_same f.bytes bytes
 
 -- its line in the agent's list
 abbrev pub line_of : ℤ → AcceptedFiling → FilingLine

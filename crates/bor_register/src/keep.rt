@@ -3,13 +3,13 @@
 ghost use Rattle.std.specs.Prelude.{◌≡◌, ℕ, ◌+◌, ◌<◌, Option, None, Result, IfOk, IfErr, [], ◌∷◌, ◌++◌, map, option_map, length, true, false};
 ghost use Rattle.bor_register.specs.declared.fault.StoreFault.{StoreFault};
 ghost use Rattle.bor_register.specs.Register.{Register, caller_of, is_enrolled, is_taken, filings_of, with_filings, new_member, with_member, filing_keyed};
-ghost use Rattle.bor_register.specs.Publication.{published, line_of, filing_shown};
+ghost use Rattle.bor_register.specs.Publication.{published, line_of, filing_shown, has_bytes};
 ghost use Rattle.bor_register.specs.Live.{accepted, live_of};
 ghost use Rattle.bor_register.specs.Rows.{rows_of, visible};
 ghost use Rattle.bor_register.specs.Withdrawal.{has_successor, with_withdrawn};
 ghost use Rattle.bor_records.specs.Admission.{last_of};
 ghost use Rattle.bor_records.specs.Settling.{has_id};
-ghost use Rattle.bor_register.specs.Promises.{Kept, Promised, Sure, counted, left_by};
+ghost use Rattle.bor_records.specs.Promises.{Promised, Reads, Sure, counted, left_by};
 
 use crate::caller::Caller;
 use crate::fault::StoreFault;
@@ -43,43 +43,48 @@ pub trait Keep {
 
     /// Who has the token, where anybody has.
     fn who(&mut self, token: &Token) -> Result<Option<Caller>, StoreFault>
-        ensures kept { Kept shows is_clean self.old self.new }
-        ensures counts { fault_count self.new ≡ counted result (fault_count self.old) }
-        ensures told { IfErr result may_tell }
-        ensures answer { Promised shows is_clean self.old self.new (λ r.
-            IfOk result (λ caller. caller ≡ caller_of token.now r)) };
+        ensures { Reads shows is_clean fault_count may_tell self.old self.new result (λ r caller.
+            caller ≡ caller_of token.now r) };
 
     /// Whether an agent has the name.
     fn has_agent(&mut self, agent: &AgentName) -> Result<bool, StoreFault>
-        ensures kept { Kept shows is_clean self.old self.new }
-        ensures counts { fault_count self.new ≡ counted result (fault_count self.old) }
-        ensures told { IfErr result may_tell }
-        ensures answer { Promised shows is_clean self.old self.new (λ r.
-            IfOk result (λ has. has ≡ is_enrolled agent.now r.members)) };
+        ensures { Reads shows is_clean fault_count may_tell self.old self.new result (λ r has.
+            has ≡ is_enrolled agent.now r.members) };
 
     /// The register's day.
     fn day(&mut self) -> Result<Day, StoreFault>
-        ensures kept { Kept shows is_clean self.old self.new }
-        ensures counts { fault_count self.new ≡ counted result (fault_count self.old) }
-        ensures told { IfErr result may_tell }
-        ensures answer { Promised shows is_clean self.old self.new (λ r.
-            IfOk result (λ day. day ≡ r.day)) };
+        ensures { Reads shows is_clean fault_count may_tell self.old self.new result (λ r day.
+            day ≡ r.day) };
 
     /// The agent's filing under a key.
     fn filing(&mut self, agent: &AgentName, key: &LodgeKey) -> Result<Option<Filing>, StoreFault>
-        ensures kept { Kept shows is_clean self.old self.new }
-        ensures counts { fault_count self.new ≡ counted result (fault_count self.old) }
-        ensures told { IfErr result may_tell }
-        ensures answer { Promised shows is_clean self.old self.new (λ r. IfOk result (λ filing.
-            filing ≡ option_map filing_shown (filing_keyed key.now (filings_of agent.now r.members)))) };
+        ensures { Reads shows is_clean fault_count may_tell self.old self.new result (λ r filing.
+            filing ≡ option_map filing_shown (filing_keyed key.now (filings_of agent.now r.members))) };
+
+    /// The line of the agent's filing under a key.
+    fn line(&mut self, agent: &AgentName, key: &LodgeKey) -> Result<Option<FilingLine>, StoreFault>
+        ensures { Reads shows is_clean fault_count may_tell self.old self.new result (λ r line.
+            line ≡ option_map (line_of r.day) (filing_keyed key.now (filings_of agent.now r.members))) };
+
+    /// Whether the agent has a filing under the key, and its file has these bytes.
+    fn has_file(
+        &mut self,
+        agent: &AgentName,
+        key: &LodgeKey,
+        bytes: &[u8],
+    ) -> Result<bool, StoreFault>
+        ensures { Reads shows is_clean fault_count may_tell self.old self.new result (λ r has.
+            has ≡ has_bytes bytes.now (filing_keyed key.now (filings_of agent.now r.members))) };
+
+    /// How many filings the agent has, withdrawn ones included.
+    fn filing_count(&mut self, agent: &AgentName) -> Result<usize, StoreFault>
+        ensures { Reads shows is_clean fault_count may_tell self.old self.new result (λ r count.
+            count ≡ length (filings_of agent.now r.members)) };
 
     /// The lines of the agent's filings, by number.
     fn filings(&mut self, agent: &AgentName) -> Result<Vec<FilingLine>, StoreFault>
-        ensures kept { Kept shows is_clean self.old self.new }
-        ensures counts { fault_count self.new ≡ counted result (fault_count self.old) }
-        ensures told { IfErr result may_tell }
-        ensures answer { Promised shows is_clean self.old self.new (λ r. IfOk result (λ lines.
-            lines.items ≡ map (line_of r.day) (filings_of agent.now r.members))) };
+        ensures { Reads shows is_clean fault_count may_tell self.old self.new result (λ r lines.
+            lines.items ≡ map (line_of r.day) (filings_of agent.now r.members)) };
 
     /// What is known of the record's last live statement; `rec` is its identifier.
     fn last(
@@ -88,28 +93,19 @@ pub trait Keep {
         declaration: &Ident,
         rec: &Ident,
     ) -> Result<Option<Last>, StoreFault>
-        ensures kept { Kept shows is_clean self.old self.new }
-        ensures counts { fault_count self.new ≡ counted result (fault_count self.old) }
-        ensures told { IfErr result may_tell }
-        ensures answer { Promised shows is_clean self.old self.new (λ r. IfOk result (λ last.
-            last ≡ last_of declaration.now rec.now (live_of (filings_of agent.now r.members)))) };
+        ensures { Reads shows is_clean fault_count may_tell self.old self.new result (λ r last.
+            last ≡ last_of declaration.now rec.now (live_of (filings_of agent.now r.members))) };
 
     /// Whether a live statement of the agent has the identifier.
     fn has_statement(&mut self, agent: &AgentName, id: &Ident) -> Result<bool, StoreFault>
-        ensures kept { Kept shows is_clean self.old self.new }
-        ensures counts { fault_count self.new ≡ counted result (fault_count self.old) }
-        ensures told { IfErr result may_tell }
-        ensures answer { Promised shows is_clean self.old self.new (λ r. IfOk result (λ has.
-            has ≡ has_id id.now (live_of (filings_of agent.now r.members)))) };
+        ensures { Reads shows is_clean fault_count may_tell self.old self.new result (λ r has.
+            has ≡ has_id id.now (live_of (filings_of agent.now r.members))) };
 
     /// Whether a filing of the agent that was accepted later has a live statement of one of the
     /// records of the filing with this number.
     fn has_successor(&mut self, agent: &AgentName, number: u32) -> Result<bool, StoreFault>
-        ensures kept { Kept shows is_clean self.old self.new }
-        ensures counts { fault_count self.new ≡ counted result (fault_count self.old) }
-        ensures told { IfErr result may_tell }
-        ensures answer { Promised shows is_clean self.old self.new (λ r. IfOk result (λ has.
-            has ≡ has_successor number (filings_of agent.now r.members))) };
+        ensures { Reads shows is_clean fault_count may_tell self.old self.new result (λ r has.
+            has ≡ has_successor number (filings_of agent.now r.members)) };
 
     /// The rows of a declaration of the agent that the viewer sees: of its own live filings, and of
     /// another's published ones. They stand in order of acceptance and of place.
@@ -119,29 +115,20 @@ pub trait Keep {
         agent: &AgentName,
         declaration: &Ident,
     ) -> Result<Vec<Row>, StoreFault>
-        ensures kept { Kept shows is_clean self.old self.new }
-        ensures counts { fault_count self.new ≡ counted result (fault_count self.old) }
-        ensures told { IfErr result may_tell }
-        ensures answer { Promised shows is_clean self.old self.new (λ r. IfOk result (λ rows.
-            rows.items ≡ rows_of viewer.now r.day agent.now declaration.now (filings_of agent.now r.members))) };
+        ensures { Reads shows is_clean fault_count may_tell self.old self.new result (λ r rows.
+            rows.items ≡ rows_of viewer.now r.day agent.now declaration.now (filings_of agent.now r.members)) };
 
     /// The rows of all agents that the viewer sees: of its own live filings, and of the others'
     /// published ones. They stand by agent, then in order of acceptance and of place. A viewer that
     /// isn't enrolled sees what is published.
     fn visible_rows(&mut self, viewer: &AgentName) -> Result<Vec<Row>, StoreFault>
-        ensures kept { Kept shows is_clean self.old self.new }
-        ensures counts { fault_count self.new ≡ counted result (fault_count self.old) }
-        ensures told { IfErr result may_tell }
-        ensures answer { Promised shows is_clean self.old self.new (λ r. IfOk result (λ rows.
-            rows.items ≡ visible viewer.now r.day r.members)) };
+        ensures { Reads shows is_clean fault_count may_tell self.old self.new result (λ r rows.
+            rows.items ≡ visible viewer.now r.day r.members) };
 
     /// What all see of the published filings: by agent, those of an agent in order of acceptance.
     fn published(&mut self) -> Result<Vec<Outward>, StoreFault>
-        ensures kept { Kept shows is_clean self.old self.new }
-        ensures counts { fault_count self.new ≡ counted result (fault_count self.old) }
-        ensures told { IfErr result may_tell }
-        ensures answer { Promised shows is_clean self.old self.new (λ r. IfOk result (λ outwards.
-            outwards.items ≡ published r.day r.members)) };
+        ensures { Reads shows is_clean fault_count may_tell self.old self.new result (λ r outwards.
+            outwards.items ≡ published r.day r.members) };
 
     /// Adds a filing to those of an agent, who has fewer than 999 and none under the key, and gives
     /// its number. The statements are those of the file, each with its settled status.

@@ -2,7 +2,7 @@
 
 ghost use Rattle.std.specs.Prelude.{◌≡◌, ℕ, ◌+◌, ◌<◌, ◌%◌, ◌^◌, Option, Some, None, IfOk, OnOk, OnErr, List, [], ◌∷◌, ◌++◌, map, option_map, length, IfSome, IfNone, Bool, true, false};
 ghost use Rattle.bor_register.specs.Register.{empty_register, agent_with, is_enrolled, filings_of, filing_keyed, new_member, with_member, with_filings};
-ghost use Rattle.bor_register.specs.Publication.{published, outwards_of, line_of, state_of, filing_shown, is_published};
+ghost use Rattle.bor_register.specs.Publication.{published, outwards_of, line_of, state_of, filing_shown, has_bytes, is_published};
 ghost use Rattle.bor_register.specs.Live.{accepted};
 ghost use Rattle.bor_register.specs.declared.caller.Caller.TheVariants.{Agent};
 ghost use Rattle.bor_register.specs.Withdrawal.{with_withdrawn};
@@ -168,6 +168,29 @@ fn filing_under(
     match filing_with(filings, key) {
         Some(filing) => Ok(Some(filing.shown(alloc)?)),
         None => Ok(None),
+    }
+}
+
+fn line_under(
+    alloc: Global,
+    filings: &[AcceptedFiling],
+    key: &LodgeKey,
+    day: Day,
+) -> Result<Option<FilingLine>, AllocError>
+    ensures { IfOk result (λ line. line ≡ option_map (line_of day) (filing_keyed key.now filings.now)) }
+{
+    match filing_with(filings, key) {
+        Some(filing) => Ok(Some(filing.line(alloc, day)?)),
+        None => Ok(None),
+    }
+}
+
+fn is_filed(filings: &[AcceptedFiling], key: &LodgeKey, bytes: &[u8]) -> bool
+    ensures { result ≡ has_bytes bytes.now (filing_keyed key.now filings.now) }
+{
+    match filing_with(filings, key) {
+        Some(filing) => filing.bytes.as_slice() == bytes,
+        None => false,
     }
 }
 
@@ -353,6 +376,31 @@ impl Keep for ListKeep {
             Ok(filing) => Ok(filing),
             Err(_) => Err(self.want_of_memory()),
         }
+    }
+
+    fn line(
+        &mut self,
+        agent: &AgentName,
+        key: &LodgeKey,
+    ) -> Result<Option<FilingLine>, StoreFault> {
+        let filings = own_filings(&self.members, agent);
+        match line_under(self.alloc, filings, key, self.day) {
+            Ok(line) => Ok(line),
+            Err(_) => Err(self.want_of_memory()),
+        }
+    }
+
+    fn has_file(
+        &mut self,
+        agent: &AgentName,
+        key: &LodgeKey,
+        bytes: &[u8],
+    ) -> Result<bool, StoreFault> {
+        Ok(is_filed(own_filings(&self.members, agent), key, bytes))
+    }
+
+    fn filing_count(&mut self, agent: &AgentName) -> Result<usize, StoreFault> {
+        Ok(own_filings(&self.members, agent).len())
     }
 
     fn filings(&mut self, agent: &AgentName) -> Result<Vec<FilingLine>, StoreFault> {

@@ -60,6 +60,30 @@ impl<K: Keep> Keep for Noting<K> {
         self.keep.filing(agent, key)
     }
 
+    fn line(
+        &mut self,
+        agent: &AgentName,
+        key: &LodgeKey,
+    ) -> Result<Option<FilingLine>, StoreFault> {
+        self.note("line");
+        self.keep.line(agent, key)
+    }
+
+    fn has_file(
+        &mut self,
+        agent: &AgentName,
+        key: &LodgeKey,
+        bytes: &[u8],
+    ) -> Result<bool, StoreFault> {
+        self.note("has_file");
+        self.keep.has_file(agent, key, bytes)
+    }
+
+    fn filing_count(&mut self, agent: &AgentName) -> Result<usize, StoreFault> {
+        self.note("filing_count");
+        self.keep.filing_count(agent)
+    }
+
     fn filings(&mut self, agent: &AgentName) -> Result<Vec<FilingLine>, StoreFault> {
         self.note("filings");
         self.keep.filings(agent)

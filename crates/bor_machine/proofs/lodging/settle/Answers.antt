@@ -4,7 +4,7 @@ use Rattle.bor_register.specs.Register.{filings_of}
 use Rattle.bor_register.specs.Live.{live_of}
 use Rattle.bor_machine.specs.Lodging.{told_settled}
 use Rattle.bor_machine.specs.Outcomes.{Refuses}
-use Rattle.bor_register.proofs.KeptLaws.{kept_then}
+use Rattle.bor_records.proofs.KeptLaws.{kept_then}
 use Rattle.bor_machine.proofs.Lodgings.{so_far-more, so_far-refused, no_statement}
 use Rattle.bor_machine.proofs.lodging.settle.Goals as goal
 

@@ -2,7 +2,7 @@ use Rattle.std.proofs.Common.{◌≡◌}
 use Rattle.bor_records.specs.Settling.{settled}
 use Rattle.bor_register.specs.Register.{filings_of}
 use Rattle.bor_register.specs.Live.{live_of}
-use Rattle.bor_register.specs.Promises.{Kept, Promised}
+use Rattle.bor_records.specs.Promises.{Kept, Promised}
 use Rattle.bor_machine.proofs.Lodgings.{so_far}
 use Rattle.bor_machine.proofs.lodging.settle.Given as goal
 

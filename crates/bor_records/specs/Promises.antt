@@ -1,0 +1,32 @@
+-- What the calls of a keep or of a source promise: nothing of a state that shows no value or doesn't end clean.
+use Rattle.std.specs.Prelude.{◌≡◌, ◌↔◌, ℕ, ◌+◌, ◌%◌, ◌^◌, Result, Ok, Err, IfOk, IfErr}
+
+-- The later state shows what the earlier one did, and no more. A state that ends clean began clean.
+pub record Kept {S V : Type 0} (shows : S → V → Type 0) (is_clean : S → Type 0) (old new : S) : Type 0 where
+  pub began : is_clean new → is_clean old
+  pub same : is_clean new → (v : V) → shows old v ↔ shows new v
+
+-- Where a value was shown and the call ended clean, this holds of it.
+abbrev pub Promised : {S V : Type 0} → (S → V → Type 0) → (S → Type 0) → S → S → (V → Type 0) → Type 0
+Promised {S} {V} shows is_clean old new P = (v : V) → shows old v → is_clean new → P v
+
+-- Where a clean state shows a value, this holds of it.
+abbrev pub Sure : {S V : Type 0} → (S → V → Type 0) → (S → Type 0) → S → (V → Type 0) → Type 0
+Sure {S} {V} shows is_clean state P = (v : V) → shows state v → is_clean state → P v
+
+-- each fault adds one, modulo 2^64, and nothing else changes the count
+abbrev pub counted : {T F : Type 0} → Result T F → ℕ → ℕ
+counted (Ok x) faults = faults
+counted (Err e) faults = (faults + 1) % 2 ^ 64
+
+-- a call that changes the value to this one, or answers a fault and leaves it
+abbrev pub left_by : {T F V : Type 0} → Result T F → V → V → V
+left_by (Ok x) changed v = changed
+left_by (Err e) changed v = v
+
+-- What a read promises: what was shown is shown, a fault is one that may be told and adds one to the count, and P holds of an answer.
+pub record Reads {S V T F : Type 0} (shows : S → V → Type 0) (is_clean : S → Type 0) (faults : S → ℕ) (may_tell : F → Type 0) (old new : S) (result : Result T F) (P : V → T → Type 0) : Type 0 where
+  pub kept : Kept shows is_clean old new
+  pub counts : faults new ≡ counted result (faults old)
+  pub told : IfErr result may_tell
+  pub answer : Promised shows is_clean old new (λ v. IfOk result (P v))
