@@ -1,10 +1,23 @@
-use Rattle.std.proofs.Common.{List, map, sym, subst}
-use Rattle.std.specs.List.{IsDistinct}
+use Rattle.std.proofs.Common.{◌≡◌, ◌∙◌, List, map, sym, subst, ap, Bor, length}
+use Rattle.std.specs.List.{IsDistinct, filter_map}
+use Rattle.std.specs.BTreeMap.{get}
+use Rattle.bor_records.specs.declared.row.Row.{Row}
 use Rattle.bor_chains.specs.declared.node.OpenNode.{OpenNode}
-use Rattle.bor_chains.specs.Nodes.{same_node}
+use Rattle.bor_chains.specs.declared.node.Link.{Link}
+use Rattle.bor_chains.specs.Nodes.{same_node, node_cmp}
+use Rattle.bor_chains.specs.Rows.{nodes_of, node_in}
+use Rattle.bor_chains.specs.Tables.{ArePlaces, AreInto, items_of}
+use Rattle.bor_chains.specs.Likeness.{AreUnder}
+use Rattle.bor_chains.proofs.Signs.{under}
 use Rattle.bor_chains.proofs.Series.{nodes_distinct}
 use Rattle.bor_chains.proofs.list_source.ListSource.from_rows.Goals as goal
 
 pub invariant_of-result : goal.invariant_of-result
 invariant_of-result c =
-    subst (λ (xs : List OpenNode). IsDistinct same_node (map (λ y. y.node) xs)) (sym c.in_ok-nodes.ensures) (nodes_distinct c.args.day c.args.rows.now)
+    let are : c.in_ok-nodes.nodes.items ≡ nodes_of c.args.day c.args.rows.now =
+    c.in_ok-nodes.ensures ∙ ap (λ (rs : List (Bor Row)). filter_map node_in (map (λ x. x.now) rs)) c.deref.ensures.value ∙ ap (λ (rs : List Row). filter_map node_in rs) c.in_ok-latest.ensures in (
+      subst (λ (xs : List OpenNode). IsDistinct same_node (map (λ y. y.node) xs)) (sym are) (nodes_distinct c.args.day c.args.rows.now),
+      subst (λ (xs : List OpenNode). ArePlaces xs (λ n. get node_cmp c.in_ok-places.places n)) c.deref-2.ensures.value c.in_ok-places.ensures,
+      subst (λ (ls : List Link). AreInto (λ n. items_of (λ v. v.items) (get node_cmp c.in_ok-into.into n)) ls) c.deref-5.ensures.value c.in_ok-into.ensures,
+      subst (λ (xs : List OpenNode). AreUnder (length xs) xs (under c.in_ok-alike.alike)) c.deref-6.ensures.value c.in_ok-alike.ensures,
+    )

@@ -1,0 +1,229 @@
+-- The places of nodes by their signs, and the aliases that are found so.
+use Rattle.std.proofs.Common.{◌≡◌, ◌↔◌, ◌⊎◌, ◌+◌, ◌<◌, ◌++◌, ◌&&◌, ◌||◌, not, ℕ, Bool, true, false, cond, Option, Some, None, List, [], ◌∷◌, Contains, take, length, get_or, map, sym, refl, ap, ◌∙◌, subst, inl, inr, arith, Vec, Global}
+use Rattle.std.specs.Prelude.{nat_lt}
+use Rattle.std.specs.declared.cmp.Ordering.{Ordering}
+use Rattle.std.specs.declared.cmp.Ordering.TheVariants.{Less, Equal, Greater}
+use Rattle.std.specs.Ordering.{is_eq, ordering_then}
+use Rattle.std.specs.List.{filter, filter_map, slice_get, list_any, IsDistinct}
+use Rattle.std.specs.BTreeMap.{BTreeMap, get}
+use Rattle.std.proofs.lemmas.Map.Lookups.{CmpEqualImpliesEq, exact_bytes}
+use Rattle.std.proofs.lemmas.Map.Views.{tells_apart}
+use Rattle.std.proofs.lemmas.List.Elements.{Contains-push, Contains-push_cases, Contains-append_left, Contains-append_right}
+use Rattle.std.proofs.lemmas.List.Folds.{Any-from_list_any}
+use Rattle.std.proofs.lemmas.List.{take_more, map-append}
+use Rattle.std.proofs.lemmas.Option.{slice_get-get_or, slice_get_within, get_or_from_slice_get}
+use Rattle.std.proofs.lemmas.Bool.{and_parts, ltb-true, ltb-false}
+use Rattle.bor_terms.specs.Texts.{is_same}
+use Rattle.bor_terms.proofs.Texts.{same_is}
+use Rattle.bods_read.specs.declared.details.Identifier.{Identifier}
+use Rattle.bor_chains.specs.declared.node.Node.{Node}
+use Rattle.bor_chains.specs.declared.node.OpenNode.{OpenNode}
+use Rattle.bor_chains.specs.declared.alike.Sign.{Sign}
+use Rattle.bor_chains.specs.Nodes.{same_node, text_cmp}
+use Rattle.bor_chains.specs.Shown.{Shown, listed_at, are_alike, is_entity, same_record, share_identifier, same_identifier}
+use Rattle.bor_chains.specs.Promises.{AreAliases}
+use Rattle.bor_chains.specs.Listing.{aliases_in, aliases_to}
+use Rattle.bor_chains.specs.Tables.{items_of}
+use Rattle.bor_chains.specs.Likeness.{sign_cmp, by_record, by_identifier, signs, Stays, IsUnder, AreUnder, AreAll, alike_node, alike_at}
+use Rattle.bor_chains.proofs.Found.{none, here, there, cases, Contains-filter, Contains-from_filter, Contains-map, Contains-from_map}
+use Rattle.bor_chains.proofs.ByKey.{Contains-filter_map, Contains-from_filter_map}
+use Rattle.bor_chains.proofs.Lists.{aliases_told}
+
+parts : (p q : Ordering) → ordering_then p q ≡ Equal → (p ≡ Equal) × (q ≡ Equal)
+parts Less q h = absurd (cc)
+parts Equal q h = (cc, h)
+parts Greater q h = absurd (cc)
+
+sign_is : (a b : Sign) → a.group ≡ b.group → a.name ≡ b.name → a ≡ b
+sign_is a b e f = ap (λ (t : List ℕ). let k : Sign = record { group = t; name = a.name } in k) e ∙ ap (λ (t : List ℕ). let k : Sign = record { group = b.group; name = t } in k) f
+
+exact_sign : CmpEqualImpliesEq sign_cmp
+exact_sign a b h = let p = parts (text_cmp a.group b.group) (text_cmp a.name b.name) h in sign_is a b (exact_bytes a.group b.group p.0) (exact_bytes a.name b.name p.1)
+
+abbrev pub under : BTreeMap Sign (Vec ℕ Global) → Sign → List ℕ
+under m k = items_of (λ v. v.items) (get sign_cmp m k)
+
+-- ---- a place more
+
+pub put_stays : (m less more : BTreeMap Sign (Vec ℕ Global)) (key : Sign) (old new : Vec ℕ Global) (place : ℕ) → old.items ≡ under m key → new.items ≡ old.items ++ place ∷ []
+    → ((q : Sign) → get sign_cmp less q ≡ cond (is_eq (sign_cmp key q)) None (get sign_cmp m q))
+    → ((q : Sign) → get sign_cmp more q ≡ cond (is_eq (sign_cmp key q)) (Some new) (get sign_cmp less q))
+    → Stays (under m) (under more)
+put_stays m less more key old new place was is removed put k i h = subst (λ (xs : List ℕ). Contains xs i) (sym now) (by (is_eq (sign_cmp key k)) refl)
+  where
+    now : under more k ≡ cond (is_eq (sign_cmp key k)) new.items (under m k)
+    now = ap (λ (o : Option (Vec ℕ Global)). items_of (λ v. v.items) o) (put k ∙ ap (λ (o : Option (Vec ℕ Global)). cond (is_eq (sign_cmp key k)) (Some new) o) (removed k)) ∙ of (is_eq (sign_cmp key k))
+      where
+        of : (b : Bool) → items_of (λ v. v.items) (cond b (Some new) (cond b None (get sign_cmp m k))) ≡ cond b new.items (under m k)
+        of true = refl
+        of false = refl
+
+    by : (b : Bool) → is_eq (sign_cmp key k) ≡ b → Contains (cond b new.items (under m k)) i
+    by true e = subst (λ (xs : List ℕ). Contains xs i) (sym is) (Contains-append_left old.items (place ∷ []) i
+        (subst (λ (xs : List ℕ). Contains xs i) (sym was) (subst (λ (z : Sign). Contains (under m z) i) (sym (tells_apart exact_sign key k e)) h)))
+    by false e = h
+
+pub put_there : (more : BTreeMap Sign (Vec ℕ Global)) (key : Sign) (old new : Vec ℕ Global) (place : ℕ) → new.items ≡ old.items ++ place ∷ [] → get sign_cmp more key ≡ Some new → Contains (under more key) place
+put_there more key old new place is at =
+    subst (λ (o : Option (Vec ℕ Global)). Contains (items_of (λ v. v.items) o) place) (sym at) (subst (λ (xs : List ℕ). Contains xs place) (sym is) (Contains-push old.items place))
+
+-- ---- identifiers
+
+pub identifiers_more : (ids : List Identifier) (i : ℕ) (d : Identifier) → i < length ids → map by_identifier (take (i + 1) ids) ≡ map by_identifier (take i ids) ++ by_identifier (get_or ids i d) ∷ []
+identifiers_more ids i d lt = ap (λ (xs : List Identifier). map by_identifier xs) (take_more ids i d lt) ∙ map-append by_identifier (take i ids) (get_or ids i d ∷ [])
+
+pub under_none : (place : ℕ) (places : Sign → List ℕ) → IsUnder [] place places
+under_none place places k h = absurd (none k h)
+
+pub under_more : (ids : List Identifier) (i : ℕ) (d : Identifier) (key : Sign) (place : ℕ) (was now : Sign → List ℕ) → i < length ids → key ≡ by_identifier (get_or ids i d) → IsUnder (map by_identifier (take i ids)) place was
+    → Stays was now → Contains (now key) place → IsUnder (map by_identifier (take (i + 1) ids)) place now
+under_more ids i d key place was now lt is before stays at k h =
+    elim (Contains-push_cases (map by_identifier (take i ids)) (by_identifier (get_or ids i d)) k (subst (λ (ks : List Sign). Contains ks k) (identifiers_more ids i d lt) h)) [
+      | inl old ↦ stays k place (before k old)
+      | inr e ↦ subst (λ (z : Sign). Contains (now z) place) (is ∙ e) at
+    ]
+
+pub under_first : (x : OpenNode) (key : Sign) (place : ℕ) (was now : Sign → List ℕ) → key ≡ by_record x.node → Contains (was key) place → Stays was now → IsUnder (map by_identifier x.identifiers) place now → IsUnder (signs x) place now
+under_first x key place was now is at stays rest k h = elim (cases (by_record x.node) (map by_identifier x.identifiers) k h) [
+  | inl e ↦ subst (λ (z : Sign). Contains (now z) place) (is ∙ e) (stays key place at)
+  | inr r ↦ rest k r
+]
+
+-- ---- a node more
+
+pub nodes_none : (nodes : List OpenNode) (places : Sign → List ℕ) → AreUnder 0 nodes places
+nodes_none nodes places i x lt at = absurd (omega (arith, lt))
+
+some_is : (x y : OpenNode) → Some x ≡ Some y → x ≡ y
+some_is x y h = cc
+
+pub nodes_more : (nodes : List OpenNode) (n : ℕ) (one : OpenNode) (was now : Sign → List ℕ) → n < length nodes → one ≡ get_or nodes n one → AreUnder n nodes was → Stays was now → IsUnder (signs one) n now → AreUnder (n + 1) nodes now
+nodes_more nodes n one was now lt is before stays these i x below at k h = elim (split i below) [
+  | inl less ↦ stays k i (before i x less at k h)
+  | inr e ↦ subst (λ (j : ℕ). Contains (now k) j) (sym e) (these k (subst (λ (y : OpenNode). Contains (signs y) k) (same e) h))
+]
+  where
+    split : (j : ℕ) → j < n + 1 → (j < n) ⊎ (j ≡ n)
+    split j l = by (nat_lt j n) refl
+      where
+        by : (b : Bool) → nat_lt j n ≡ b → (j < n) ⊎ (j ≡ n)
+        by true e = inl (ltb-true j n e)
+        by false e = inr (let le = ltb-false j n e in omega (arith, l, le))
+
+    same : i ≡ n → x ≡ one
+    same e = some_is x one (sym at ∙ ap (λ (j : ℕ). slice_get nodes j) e ∙ slice_get-get_or nodes n one lt ∙ ap (λ (y : OpenNode). Some y) (sym is))
+
+-- ---- found
+
+pub all_more : (ids : List Identifier) (n : ℕ) (d : Identifier) (key : Sign) (places : Sign → List ℕ) (was now : List ℕ) → n < length ids → key ≡ by_identifier (get_or ids n d)
+    → AreAll (map by_identifier (take n ids)) places was → now ≡ was ++ places key → AreAll (map by_identifier (take (n + 1) ids)) places now
+all_more ids n d key places was now lt is before e k i h at = subst (λ (xs : List ℕ). Contains xs i) (sym e)
+    (elim (Contains-push_cases (map by_identifier (take n ids)) (by_identifier (get_or ids n d)) k (subst (λ (ks : List Sign). Contains ks k) (identifiers_more ids n d lt) h)) [
+      | inl old ↦ Contains-append_left was (places key) i (before k i old at)
+      | inr q ↦ Contains-append_right was (places key) i (subst (λ (z : Sign). Contains (places z) i) (sym (is ∙ q)) at)
+    ])
+
+pub all_none : (places : Sign → List ℕ) (found : List ℕ) → AreAll [] places found
+all_none places found k i h at = absurd (none k h)
+
+pub kept_more : (a b c more : List ℕ) → c ≡ b ++ more → ((i : ℕ) → Contains a i → Contains b i) → (i : ℕ) → Contains a i → Contains c i
+kept_more a b c more e before i h = subst (λ (xs : List ℕ). Contains xs i) (sym e) (Contains-append_left b more i (before i h))
+
+pub all_signs : (x : OpenNode) (key : Sign) (places : Sign → List ℕ) (was now : List ℕ) → key ≡ by_record x.node → was ≡ [] ++ places key → ((i : ℕ) → Contains was i → Contains now i) → AreAll (map by_identifier x.identifiers) places now
+    → AreAll (signs x) places now
+all_signs x key places was now is e kept rest k i h at = elim (cases (by_record x.node) (map by_identifier x.identifiers) k h) [
+  | inl q ↦ kept i (subst (λ (xs : List ℕ). Contains xs i) (sym e) (subst (λ (z : Sign). Contains (places z) i) (sym (is ∙ q)) at))
+  | inr r ↦ rest k i r at
+]
+
+-- ---- two that are alike have a sign in common
+
+or_cases : (a b : Bool) → (a || b) ≡ true → (a ≡ true) ⊎ (b ≡ true)
+or_cases true b e = inl refl
+or_cases false b e = inr e
+
+abbrev InCommon : OpenNode → OpenNode → Type 0
+InCommon a b = (k : Sign) × Contains (signs a) k × Contains (signs b) k
+
+same_any : {X : Type 0} (p : X → Bool) (xs : List X) → list_any p xs ≡ true → (x : X) × Contains xs x × (p x ≡ true)
+same_any p [] e = absurd cc
+same_any {X} p (x ∷ xs) e = elim (or_cases (p x) (list_any p xs) e) [
+  | inl h ↦ (x, here x xs, h)
+  | inr h ↦ let m = same_any p xs h in (m.0, there x xs m.0 m.1, m.2)
+]
+
+by_same_record : (a b : OpenNode) → same_record a.node b.node ≡ true → InCommon a b
+by_same_record a b h =
+    let p = and_parts (is_same a.node.agent b.node.agent) (is_same a.node.rec b.node.rec && not (is_same a.node.declaration b.node.declaration)) h in
+    let q = and_parts (is_same a.node.rec b.node.rec) (not (is_same a.node.declaration b.node.declaration)) p.1 in
+    let e = sign_is (by_record a.node) (by_record b.node) (same_is a.node.agent b.node.agent p.0) (same_is a.node.rec b.node.rec q.0) in
+    (by_record a.node, here (by_record a.node) (map by_identifier a.identifiers), subst (λ (z : Sign). Contains (signs b) z) (sym e) (here (by_record b.node) (map by_identifier b.identifiers)))
+
+by_same_identifier : (a b : OpenNode) → share_identifier a.identifiers b.identifiers ≡ true → InCommon a b
+by_same_identifier a b h =
+    let x = same_any (λ i. list_any (λ j. same_identifier i j) b.identifiers) a.identifiers h in
+    let y = same_any (λ j. same_identifier x.0 j) b.identifiers x.2 in
+    let p = and_parts (is_same (x.0).scheme (y.0).scheme) (is_same (x.0).id (y.0).id) y.2 in
+    let e = sign_is (by_identifier x.0) (by_identifier y.0) (same_is (x.0).scheme (y.0).scheme p.0) (same_is (x.0).id (y.0).id p.1) in (
+      by_identifier x.0,
+      there (by_record a.node) (map by_identifier a.identifiers) (by_identifier x.0) (Contains-map by_identifier a.identifiers x.0 x.1),
+      subst (λ (z : Sign). Contains (signs b) z) (sym e) (there (by_record b.node) (map by_identifier b.identifiers) (by_identifier y.0) (Contains-map by_identifier b.identifiers y.0 y.1)),
+    )
+
+in_common : (a b : OpenNode) → are_alike a b ≡ true → InCommon a b
+in_common a b h =
+    let q = and_parts (is_entity a.info && is_entity b.info) (same_record a.node b.node || (share_identifier a.identifiers b.identifiers && not (same_node a.node b.node))) h in
+    elim (or_cases (same_record a.node b.node) (share_identifier a.identifiers b.identifiers && not (same_node a.node b.node)) q.1) [
+      | inl r ↦ by_same_record a b r
+      | inr s ↦ by_same_identifier a b (and_parts (share_identifier a.identifiers b.identifiers) (not (same_node a.node b.node)) s).0
+    ]
+
+-- ---- the aliases
+
+placed_in : (nodes : List OpenNode) (y : OpenNode) → Contains nodes y → (i : ℕ) × (i < length nodes) × (slice_get nodes i ≡ Some y)
+placed_in nodes y h = (h.0, h.1, slice_get-get_or nodes h.0 y h.1 ∙ ap (λ (z : OpenNode). Some z) h.2)
+
+in_place : (nodes : List OpenNode) (y : OpenNode) (i : ℕ) → slice_get nodes i ≡ Some y → Contains nodes y
+in_place nodes y i e = (i, slice_get_within nodes i y e, get_or_from_slice_get nodes i y y e)
+
+node_some : (m n : Node) → Some m ≡ Some n → m ≡ n
+node_some m n h = cc
+
+alike_is : (one : OpenNode) (o : Option OpenNode) (b : Node) → alike_node one o ≡ Some b → (y : OpenNode) × (o ≡ Some y) × (are_alike one y ≡ true) × (y.node ≡ b)
+alike_is one None b e = let z : None ≡ Some b = e in absurd cc
+alike_is one (Some y) b e = at (are_alike one y) refl e
+  where
+    at : (t : Bool) → are_alike one y ≡ t → cond t (Some y.node) None ≡ Some b → (z : OpenNode) × (Some y ≡ Some z) × (are_alike one z ≡ true) × (z.node ≡ b)
+    at true f k = (y, refl, f, node_some y.node b k)
+    at false f k = let z : None ≡ Some b = k in absurd cc
+
+pub aliases_confirmed : (s : Shown) (n : Node) (one : OpenNode) (places : Sign → List ℕ) (found : List ℕ) (rough out : List Node) → listed_at s.nodes n ≡ Some one → IsDistinct same_node (map (λ x. x.node) s.nodes)
+    → AreUnder (length s.nodes) s.nodes places → AreAll (signs one) places found → rough ≡ alike_at s.nodes one found
+    → ((b : Node) → Contains out b ↔ Contains rough b) → IsDistinct same_node out → AreAliases s n out
+aliases_confirmed s n one places found rough out at d under_all all is same once = record {
+  each = λ b. ((λ h. (told.each b).0 (into b (subst (λ (bs : List Node). Contains bs b) is ((same b).0 h)))), (λ a. (same b).1 (subst (λ (bs : List Node). Contains bs b) (sym is) (from b ((told.each b).1 a)))));
+  once = once;
+}
+  where
+    told : AreAliases s n (aliases_to s.nodes (Some one))
+    told = subst (λ (o : Option OpenNode). AreAliases s n (aliases_to s.nodes o)) at (aliases_told s n d)
+
+    into : (b : Node) → Contains (alike_at s.nodes one found) b → Contains (aliases_to s.nodes (Some one)) b
+    into b h =
+        let p = Contains-from_filter_map (λ i. alike_node one (slice_get s.nodes i)) found b h in
+        let y = alike_is one (slice_get s.nodes p.0) b p.2 in
+        subst (λ (z : Node). Contains (aliases_to s.nodes (Some one)) z) y.3
+        (Contains-map (λ (x : OpenNode). x.node) (filter (λ x. are_alike one x) s.nodes) y.0 (Contains-filter (λ x. are_alike one x) s.nodes y.0 (in_place s.nodes y.0 p.0 y.1) y.2))
+
+    from : (b : Node) → Contains (aliases_to s.nodes (Some one)) b → Contains (alike_at s.nodes one found) b
+    from b h =
+        let m = Contains-from_map (λ (y : OpenNode). y.node) (filter (λ x. are_alike one x) s.nodes) b h in
+        let f = Contains-from_filter (λ x. are_alike one x) s.nodes m.0 m.1 in
+        let p = placed_in s.nodes m.0 f.0 in
+        let k = in_common one m.0 f.1 in
+        let i = all k.0 p.0 k.1 (under_all p.0 m.0 p.1 p.2 k.0 k.2) in
+        Contains-filter_map (λ j. alike_node one (slice_get s.nodes j)) found p.0 b i
+        (ap (λ (o : Option OpenNode). alike_node one o) p.2 ∙ ap (λ (t : Bool). cond t (Some (m.0).node) None) f.1 ∙ ap (λ (z : Node). Some z) m.2)
+
+pub no_aliases : (s : Shown) (n : Node) → IsDistinct same_node (map (λ x. x.node) s.nodes) → listed_at s.nodes n ≡ None → AreAliases s n []
+no_aliases s n d gone = subst (λ (o : Option OpenNode). AreAliases s n (aliases_to s.nodes o)) gone (aliases_told s n d)
