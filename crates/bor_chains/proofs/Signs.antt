@@ -16,17 +16,17 @@ use Rattle.std.proofs.lemmas.Bool.{and_parts, ltb-true, ltb-false}
 use Rattle.bor_terms.specs.Texts.{is_same}
 use Rattle.bor_terms.proofs.Texts.{same_is}
 use Rattle.bods_read.specs.declared.details.Identifier.{Identifier}
-use Rattle.bor_chains.specs.declared.node.Node.{Node}
-use Rattle.bor_chains.specs.declared.node.OpenNode.{OpenNode}
+use Rattle.bor_links.specs.declared.node.Node.{Node}
+use Rattle.bor_links.specs.declared.node.OpenNode.{OpenNode}
 use Rattle.bor_chains.specs.declared.alike.Sign.{Sign}
-use Rattle.bor_chains.specs.Nodes.{same_node, text_cmp}
-use Rattle.bor_chains.specs.Shown.{Shown, listed_at, are_alike, is_entity, same_record, share_identifier, same_identifier}
-use Rattle.bor_chains.specs.Promises.{AreAliases}
+use Rattle.bor_links.specs.Nodes.{same_node, text_cmp}
+use Rattle.bor_links.specs.Shown.{Shown, listed_at, are_alike, is_entity, same_record, share_identifier, same_identifier}
+use Rattle.bor_links.specs.Answers.{AreAliases}
 use Rattle.bor_chains.specs.Listing.{aliases_in, aliases_to}
 use Rattle.bor_chains.specs.Tables.{items_of}
 use Rattle.bor_chains.specs.Likeness.{sign_cmp, by_record, by_identifier, signs, Stays, IsUnder, AreUnder, AreAll, alike_node, alike_at}
-use Rattle.bor_chains.proofs.Found.{none, here, there, cases, Contains-filter, Contains-from_filter, Contains-map, Contains-from_map}
-use Rattle.bor_chains.proofs.ByKey.{Contains-filter_map, Contains-from_filter_map}
+use Rattle.bor_links.proofs.Found.{none, here, there, cases, Contains-filter, Contains-from_filter, Contains-map, Contains-from_map}
+use Rattle.bor_links.proofs.ByKey.{Contains-filter_map, Contains-from_filter_map}
 use Rattle.bor_chains.proofs.Lists.{aliases_told}
 
 parts : (p q : Ordering) → ordering_then p q ≡ Equal → (p ≡ Equal) × (q ≡ Equal)

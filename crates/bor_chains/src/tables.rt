@@ -2,10 +2,10 @@
 
 ghost use Rattle.std.specs.Prelude.{◌≡◌, IfOk};
 ghost use Rattle.std.specs.BTreeMap.{get};
-ghost use Rattle.bor_chains.specs.Nodes.{node_cmp};
+ghost use Rattle.bor_links.specs.Nodes.{node_cmp};
 ghost use Rattle.bor_chains.specs.Tables.{ArePlaces, AreInto, items_of};
 
-use crate::node::{Link, Node, OpenNode};
+use bor_links::{Link, Node, OpenNode};
 use std::alloc::{AllocError, Global};
 use std::collections::BTreeMap;
 

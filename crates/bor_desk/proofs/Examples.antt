@@ -13,13 +13,13 @@ use Rattle.bor_records.specs.declared.row.Row.{Row}
 use Rattle.bor_records.specs.Words.{fault_name}
 use Rattle.bor_register.specs.Publication.{state_word}
 use Rattle.bor_machine.specs.Sight.{seen_by}
-use Rattle.bor_chains.specs.declared.node.Node.{Node}
-use Rattle.bor_chains.specs.declared.node.NodeInfo.TheVariants.{Entity, Person}
-use Rattle.bor_chains.specs.declared.node.Link.{Link}
-use Rattle.bor_chains.specs.declared.node.PersonLine.{PersonLine}
-use Rattle.bor_chains.specs.Shown.{Shown, info_of}
+use Rattle.bor_links.specs.declared.node.Node.{Node}
+use Rattle.bor_links.specs.declared.node.NodeInfo.TheVariants.{Entity, Person}
+use Rattle.bor_links.specs.declared.node.Link.{Link}
+use Rattle.bor_chains.specs.declared.line.PersonLine.{PersonLine}
+use Rattle.bor_links.specs.Shown.{Shown, info_of}
 use Rattle.bor_chains.specs.Chains.{IsChain, IsJoinedBy, AreJoined}
-use Rattle.bor_chains.proofs.Found.{none, here, cases}
+use Rattle.bor_links.proofs.Found.{none, here, cases}
 use Rattle.bor_desk.specs.declared.refusal.Refusal.TheVariants.{NoEntity}
 use Rattle.bor_desk.specs.Refusals.{refusal_name}
 use Rattle.bor_desk.specs.Texts.{told, refused}

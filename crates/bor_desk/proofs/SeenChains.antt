@@ -6,17 +6,17 @@ use Rattle.bods_read.specs.declared.details.Details.TheVariants as details
 use Rattle.bor_records.specs.declared.row.Row.{Row}
 use Rattle.bor_records.specs.Admission.{is_closed}
 use Rattle.bor_records.specs.Snapshot.{is_dated}
-use Rattle.bor_chains.specs.declared.node.Node.{Node}
-use Rattle.bor_chains.specs.declared.node.NodeInfo.{NodeInfo}
-use Rattle.bor_chains.specs.declared.node.NodeInfo.TheVariants.{Entity, Person}
-use Rattle.bor_chains.specs.declared.node.OpenNode.{OpenNode}
-use Rattle.bor_chains.specs.declared.node.Link.{Link}
-use Rattle.bor_chains.specs.declared.node.PersonLine.{PersonLine}
+use Rattle.bor_links.specs.declared.node.Node.{Node}
+use Rattle.bor_links.specs.declared.node.NodeInfo.{NodeInfo}
+use Rattle.bor_links.specs.declared.node.NodeInfo.TheVariants.{Entity, Person}
+use Rattle.bor_links.specs.declared.node.OpenNode.{OpenNode}
+use Rattle.bor_links.specs.declared.node.Link.{Link}
+use Rattle.bor_chains.specs.declared.line.PersonLine.{PersonLine}
 use Rattle.bor_chains.specs.declared.fault.ChainFault.{ChainFault}
 use Rattle.bor_chains.specs.declared.fault.ChainFault.TheVariants as chains
-use Rattle.bor_chains.specs.Series.{series_of, is_of, is_open_before, open_rows}
-use Rattle.bor_chains.specs.Shown.{Shown, info_of, IsEntity}
-use Rattle.bor_chains.specs.Rows.{is_entity_info, node_in, nodes_of, link_with, link_in, links_of, shown_of}
+use Rattle.bor_links.specs.Series.{series_of, is_of, is_open_before, open_rows}
+use Rattle.bor_links.specs.Shown.{Shown, info_of, IsEntity}
+use Rattle.bor_links.specs.Rows.{is_entity_info, node_in, nodes_of, link_with, link_in, links_of, shown_of}
 use Rattle.bor_chains.specs.Chains.{AreJoined}
 use Rattle.bor_chains.specs.Promises.{OnNoEntity}
 use Rattle.bor_register.specs.Register.{Register}

@@ -1,8 +1,8 @@
 -- What a reply has of the step.
 use Rattle.std.specs.Prelude.{◌≡◌, ◌⊎◌, ℕ, ℤ, List, Result, Ok, Err}
-use Rattle.bor_chains.specs.declared.node.Node.{Node}
-use Rattle.bor_chains.specs.declared.node.PersonLine.{PersonLine}
-use Rattle.bor_chains.specs.Shown.{Shown}
+use Rattle.bor_links.specs.declared.node.Node.{Node}
+use Rattle.bor_chains.specs.declared.line.PersonLine.{PersonLine}
+use Rattle.bor_links.specs.Shown.{Shown}
 use Rattle.bor_chains.specs.Chains.{AreJoined}
 use Rattle.bor_register.specs.declared.fault.StoreFault.{StoreFault}
 use Rattle.bor_register.specs.declared.fault.StoreFault.TheVariants.{Memory}

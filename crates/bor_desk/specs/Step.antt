@@ -3,9 +3,9 @@ use Rattle.std.specs.Prelude.{ℕ, ℤ, List, map, filter, Option, Some, None, u
 use Rattle.bor_terms.specs.Texts.{is_same}
 use Rattle.bor_records.specs.declared.row.Row.{Row}
 use Rattle.bor_records.specs.Snapshot.{snapshot}
-use Rattle.bor_chains.specs.declared.node.Node.{Node}
-use Rattle.bor_chains.specs.Shown.{Shown, info_of}
-use Rattle.bor_chains.specs.Rows.{is_entity_info, shown_of}
+use Rattle.bor_links.specs.declared.node.Node.{Node}
+use Rattle.bor_links.specs.Shown.{Shown, info_of}
+use Rattle.bor_links.specs.Rows.{is_entity_info, shown_of}
 use Rattle.bor_register.specs.declared.caller.Caller.{Caller}
 use Rattle.bor_register.specs.declared.caller.Caller.TheVariants.{Registrar, Agent}
 use Rattle.bor_register.specs.declared.filing.AcceptedFiling.{AcceptedFiling}

@@ -3,7 +3,7 @@
 ghost use Rattle.std.specs.Prelude.{◌≡◌, ◌⊎◌, ◌++◌, ℕ, List, IfOk, IfErr, OnOk, string_bytes};
 ghost use Rattle.serde_json.specs.Written.{compact_text};
 ghost use Rattle.bor_terms.specs.Day.{IsSpelling};
-ghost use Rattle.bor_chains.specs.Rows.{shown_of};
+ghost use Rattle.bor_links.specs.Rows.{shown_of};
 ghost use Rattle.bor_records.specs.Promises.{Kept, Promised};
 ghost use Rattle.bor_machine.specs.Sight.{seen_by};
 ghost use Rattle.bor_machine.specs.Outcomes.{IsCounted, IsAccounted, IsToldBy};

@@ -1,10 +1,10 @@
 use Rattle.std.proofs.Common.{◌≡◌, ◌∙◌, ℕ, List, Option, Some, None, option_map, sym, ap, subst, Bor}
 use Rattle.std.specs.BTreeMap.{get}
-use Rattle.bor_chains.specs.declared.node.Node.{Node}
-use Rattle.bor_chains.specs.declared.node.OpenNode.{OpenNode}
-use Rattle.bor_chains.specs.Nodes.{node_cmp}
-use Rattle.bor_chains.specs.Shown.{Shown, listed_at}
-use Rattle.bor_chains.specs.Promises.{AreAliases}
+use Rattle.bor_links.specs.declared.node.Node.{Node}
+use Rattle.bor_links.specs.declared.node.OpenNode.{OpenNode}
+use Rattle.bor_links.specs.Nodes.{node_cmp}
+use Rattle.bor_links.specs.Shown.{Shown, listed_at}
+use Rattle.bor_links.specs.Answers.{AreAliases}
 use Rattle.bor_chains.specs.Listing.{Listing}
 use Rattle.bor_chains.specs.Tables.{placed}
 use Rattle.bor_chains.specs.Likeness.{alike_at}

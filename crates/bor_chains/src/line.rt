@@ -1,0 +1,58 @@
+//! A person of a report.
+
+ghost use Rattle.std.specs.Prelude.{Some, refl};
+ghost use Rattle.std.specs.Cmp.{partial_equiv_from_equiv};
+ghost use Rattle.bor_chains.specs.Lines.{same_line, line_cmp, line_equiv, line_po, line_total, line_ties};
+
+use bods_read::FreeText;
+use bor_links::Node;
+use std::cmp::Ordering;
+
+/// A person of a report.
+#[derive(Debug, Drop)]
+pub struct PersonLine {
+    /// The record of the person.
+    pub node: Node,
+    /// The name that is shown.
+    pub name: Option<FreeText>,
+}
+
+/// Two lines are compared by their nodes alone: of one source a node has one name.
+impl PartialEq for PersonLine {
+    ghost eq = { same_line };
+
+    ghost laws = { partial_equiv_from_equiv line_equiv };
+
+    fn eq(&self, other: &PersonLine) -> bool {
+        self.node == other.node
+    }
+}
+
+impl Eq for PersonLine {
+    ghost laws = { line_equiv };
+}
+
+impl PartialOrd for PersonLine {
+    ghost partial_cmp = { λ x y. Some (line_cmp x y) };
+
+    ghost laws = { line_po };
+
+    fn partial_cmp(&self, other: &PersonLine) -> Option<Ordering> {
+        Some(self.cmp(other))
+    }
+}
+
+/// Lines are ordered by their nodes.
+impl Ord for PersonLine {
+    ghost cmp = { line_cmp };
+
+    ghost total = { line_total };
+
+    ghost matches_partial_cmp = { λ x y. refl };
+
+    ghost matches_eq = { line_ties };
+
+    fn cmp(&self, other: &PersonLine) -> Ordering {
+        self.node.cmp(&other.node)
+    }
+}

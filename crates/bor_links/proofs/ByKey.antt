@@ -1,0 +1,235 @@
+-- What a series' latest statement tells of the nodes and links of all rows: an open record is read by
+-- its key, and a link or an alias by candidates that cover those which may make it.
+use Rattle.std.proofs.Common.{◌≡◌, ◌↔◌, ◌⊎◌, ◌&&◌, ◌||◌, not, ℕ, ℤ, Bool, true, false, cond, Option, Some, None, option_and_then, option_map, List, [], ◌∷◌, Contains, sym, refl, ap, ◌∙◌, subst, inl, inr}
+use Rattle.std.specs.List.{find, filter_map, cons_option, list_any}
+use Rattle.bods_read.specs.declared.details.Details.{Details}
+use Rattle.bods_read.specs.declared.details.Details.TheVariants as details
+use Rattle.bods_read.specs.declared.interest.Interest.{Interest}
+use Rattle.bor_records.specs.declared.row.Row.{Row}
+use Rattle.bor_records.specs.Admission.{is_closed}
+use Rattle.bor_records.specs.Snapshot.{is_dated}
+use Rattle.bor_links.specs.declared.node.Node.{Node}
+use Rattle.bor_links.specs.declared.node.NodeInfo.{NodeInfo}
+use Rattle.bor_links.specs.declared.node.OpenNode.{OpenNode}
+use Rattle.bor_links.specs.declared.node.Link.{Link}
+use Rattle.bor_links.specs.Nodes.{same_node}
+use Rattle.bor_links.specs.Orders.{node_equiv}
+use Rattle.bor_links.specs.Series.{series_of, is_of, open_at, is_open_before, open_rows}
+use Rattle.bor_links.specs.Shown.{Shown, listed_at, are_alike}
+use Rattle.bor_links.specs.Aliases.{Alias}
+use Rattle.bor_links.specs.Answers.{AreLinksInto}
+use Rattle.bor_links.specs.Rows.{node_in, node_with, nodes_of, link_in, link_with, link_between, links_of, shown_of, beside, is_entity_info, is_some_info}
+use Rattle.bor_links.proofs.SameNode.{same_node_is}
+use Rattle.bor_links.proofs.Found.{none, here, there, cases}
+use Rattle.bor_links.proofs.Series.{open_are_latest}
+
+-- ---- tests
+
+and_parts3 : (a b c : Bool) → (a && b && c) ≡ true → (a ≡ true) × (c ≡ true)
+and_parts3 true true c e = (refl, e)
+and_parts3 true false c e = absurd cc
+and_parts3 false b c e = absurd cc
+
+not_true : (a : Bool) → not a ≡ true → a ≡ false
+not_true true e = absurd cc
+not_true false e = refl
+
+or_parts : (a b : Bool) → (a || b) ≡ false → (a ≡ false) × (b ≡ false)
+or_parts true b e = absurd cc
+or_parts false b e = (refl, e)
+
+and_left : (a b : Bool) → (a && b) ≡ false → b ≡ true → a ≡ false
+and_left a true e k = and_is a e
+  where
+    and_is : (c : Bool) → (c && true) ≡ false → c ≡ false
+    and_is true h = h
+    and_is false h = refl
+and_left a false e k = absurd cc
+
+abbrev has_later : ℤ → Node → List Row → Bool
+has_later day n rows = list_any (λ x. is_of n x && is_dated day x) rows
+
+-- what an open row is, and that no later one is of its series
+opened : (day : ℤ) (r : Row) (rows : List Row) → is_open_before day r rows ≡ true → (is_dated day r ≡ true) × (has_later day (series_of r) rows ≡ false)
+opened day r rows e = let p = and_parts3 (is_dated day r) (not (is_closed r.status)) (not (has_later day (series_of r) rows)) e in (p.0, not_true (has_later day (series_of r) rows) p.1)
+
+-- an open row is one of the rows, and dated
+pub open_row_is : (day : ℤ) (rows : List Row) (r : Row) → Contains (open_rows day rows) r → Contains rows r × (is_dated day r ≡ true)
+open_row_is day [] r h = absurd (none r h)
+open_row_is day (x ∷ xs) r h = at (λ k. open_row_is day xs r k) (is_open_before day x xs) refl h
+  where
+    at : (Contains (open_rows day xs) r → Contains xs r × (is_dated day r ≡ true)) → (t : Bool) → is_open_before day x xs ≡ t
+        → Contains (cond t (x ∷ open_rows day xs) (open_rows day xs)) r → Contains (x ∷ xs) r × (is_dated day r ≡ true)
+    at more true e k = elim (cases x (open_rows day xs) r k) [
+      | inl q ↦ (subst (λ (z : Row). Contains (x ∷ xs) z) q (here x xs), ap (λ (z : Row). is_dated day z) (sym q) ∙ (opened day x xs e).0)
+      | inr q ↦ let m = more q in (there x xs r m.0, m.1)
+    ]
+    at more false e k = let m = more k in (there x xs r m.0, m.1)
+
+-- none of some rows passes a test, so this one doesn't
+none_passes : (p : Row → Bool) (rows : List Row) (r : Row) → list_any p rows ≡ false → Contains rows r → p r ≡ false
+none_passes p [] r e h = absurd (none r h)
+none_passes p (x ∷ xs) r e h = let q = or_parts (p x) (list_any p xs) e in elim (cases x xs r h) [ inl k ↦ ap p (sym k) ∙ q.0 | inr k ↦ none_passes p xs r q.1 k ]
+
+-- an open row is what is found of its series
+pub found_of_series : (day : ℤ) (rows : List Row) (r : Row) → Contains (open_rows day rows) r → find (is_of (series_of r)) (open_rows day rows) ≡ Some r
+found_of_series day [] r h = absurd (none r h)
+found_of_series day (x ∷ xs) r h = at (λ k. found_of_series day xs r k) (is_open_before day x xs) refl h
+  where
+    first : x ≡ r → find (is_of (series_of r)) (x ∷ open_rows day xs) ≡ Some r
+    first q = ap (λ (b : Bool). cond b (Some x) (find (is_of (series_of r)) (open_rows day xs))) (ap (λ (z : Row). same_node (series_of z) (series_of r)) q ∙ node_equiv.refl (series_of r)) ∙ ap (λ (z : Row). Some z) q
+
+    other : is_open_before day x xs ≡ true → Contains (open_rows day xs) r → is_of (series_of r) x ≡ false
+    other e q =
+        let m = open_row_is day xs r q in
+        let n = none_passes (λ y. is_of (series_of x) y && is_dated day y) xs r (opened day x xs e).1 m.0 in
+        node_equiv.symm (series_of x) (series_of r) ∙ and_left (is_of (series_of x) r) (is_dated day r) n m.1
+
+    at : (Contains (open_rows day xs) r → find (is_of (series_of r)) (open_rows day xs) ≡ Some r) → (t : Bool) → is_open_before day x xs ≡ t
+        → Contains (cond t (x ∷ open_rows day xs) (open_rows day xs)) r → find (is_of (series_of r)) (cond t (x ∷ open_rows day xs) (open_rows day xs)) ≡ Some r
+    at more true e k = elim (cases x (open_rows day xs) r k) [
+      | inl q ↦ first q
+      | inr q ↦ ap (λ (b : Bool). cond b (Some x) (find (is_of (series_of r)) (open_rows day xs))) (other e q) ∙ more q
+    ]
+    at more false e k = more k
+
+-- an open row is the latest visible statement of its series
+pub open_row_at : (day : ℤ) (rows : List Row) (r : Row) → Contains (open_rows day rows) r → open_at day (series_of r) rows ≡ Some r
+open_row_at day rows r h = sym (open_are_latest day (series_of r) rows) ∙ found_of_series day rows r h
+
+some_is : (x y : Row) → Some x ≡ Some y → x ≡ y
+some_is x y h = cc
+
+-- what is found is there, and of the series
+found_in : (n : Node) (rows : List Row) (r : Row) → find (is_of n) rows ≡ Some r → Contains rows r × (series_of r ≡ n)
+found_in n [] r h = let no : None ≡ Some r = h in absurd cc
+found_in n (x ∷ xs) r h = at (λ k. found_in n xs r k) (is_of n x) refl h
+  where
+    at : (find (is_of n) xs ≡ Some r → Contains xs r × (series_of r ≡ n)) → (t : Bool) → is_of n x ≡ t → cond t (Some x) (find (is_of n) xs) ≡ Some r → Contains (x ∷ xs) r × (series_of r ≡ n)
+    at more true e k = let q = some_is x r k in (subst (λ (z : Row). Contains (x ∷ xs) z) q (here x xs), ap (λ (z : Row). series_of z) (sym q) ∙ same_node_is (series_of x) n e)
+    at more false e k = let m = more k in (there x xs r m.0, m.1)
+
+pub open_at_in : (day : ℤ) (n : Node) (rows : List Row) (r : Row) → open_at day n rows ≡ Some r → Contains (open_rows day rows) r × (series_of r ≡ n)
+open_at_in day n rows r h = found_in n (open_rows day rows) r (open_are_latest day n rows ∙ h)
+
+-- ---- nodes by key
+
+none_open : (day : ℤ) (n : Node) (rows : List Row) → has_later day n rows ≡ false → find (is_of n) (open_rows day rows) ≡ None
+none_open day n [] h = refl
+none_open day n (x ∷ xs) h = let q = or_parts (is_of n x && is_dated day x) (has_later day n xs) h in at q.0 (none_open day n xs q.1) (is_open_before day x xs) refl
+  where
+    at : (is_of n x && is_dated day x) ≡ false → find (is_of n) (open_rows day xs) ≡ None → (t : Bool) → is_open_before day x xs ≡ t → find (is_of n) (cond t (x ∷ open_rows day xs) (open_rows day xs)) ≡ None
+    at f more true e = ap (λ (b : Bool). cond b (Some x) (find (is_of n) (open_rows day xs))) (and_left (is_of n x) (is_dated day x) f (opened day x xs e).0) ∙ more
+    at f more false e = more
+
+listed_found : (day : ℤ) (n : Node) (rows : List Row) → listed_at (nodes_of day rows) n ≡ option_and_then node_in (find (is_of n) (open_rows day rows))
+listed_found day n [] = refl
+listed_found day n (r ∷ rows) = at (listed_found day n rows) (is_open_before day r rows) refl
+  where
+    rest : Option Row
+    rest = find (is_of n) (open_rows day rows)
+
+    -- its own record, or another's
+    own : (d : Details) → listed_at (nodes_of day rows) n ≡ None → is_of n r ≡ true → listed_at (cons_option (node_with (series_of r) d) (nodes_of day rows)) n ≡ node_with (series_of r) d
+    own (details.Entity kind name identifiers) gone i = ap (λ (b : Bool). cond b (node_with (series_of r) (details.Entity kind name identifiers)) (listed_at (nodes_of day rows) n)) i
+    own (details.Person kind name) gone i = ap (λ (b : Bool). cond b (node_with (series_of r) (details.Person kind name)) (listed_at (nodes_of day rows) n)) i
+    own (details.Relationship subject party interests) gone i = gone
+
+    others : (d : Details) → is_of n r ≡ false → listed_at (cons_option (node_with (series_of r) d) (nodes_of day rows)) n ≡ listed_at (nodes_of day rows) n
+    others (details.Entity kind name identifiers) i = ap (λ (b : Bool). cond b (node_with (series_of r) (details.Entity kind name identifiers)) (listed_at (nodes_of day rows) n)) i
+    others (details.Person kind name) i = ap (λ (b : Bool). cond b (node_with (series_of r) (details.Person kind name)) (listed_at (nodes_of day rows) n)) i
+    others (details.Relationship subject party interests) i = refl
+
+    none_later : is_open_before day r rows ≡ true → is_of n r ≡ true → rest ≡ None
+    none_later e i = none_open day n rows (ap (λ (m : Node). has_later day m rows) (sym (same_node_is (series_of r) n i)) ∙ (opened day r rows e).1)
+
+    by : listed_at (nodes_of day rows) n ≡ option_and_then node_in rest → is_open_before day r rows ≡ true → (i : Bool) → is_of n r ≡ i
+        → listed_at (cons_option (node_in r) (nodes_of day rows)) n ≡ option_and_then node_in (cond i (Some r) rest)
+    by more e true i = own r.statement.details (more ∙ ap (λ (o : Option Row). option_and_then node_in o) (none_later e i)) i
+    by more e false i = others r.statement.details i ∙ more
+
+    at : listed_at (nodes_of day rows) n ≡ option_and_then node_in rest → (t : Bool) → is_open_before day r rows ≡ t
+        → listed_at (filter_map node_in (cond t (r ∷ open_rows day rows) (open_rows day rows))) n ≡ option_and_then node_in (find (is_of n) (cond t (r ∷ open_rows day rows) (open_rows day rows)))
+    at more true e = by more e (is_of n r) refl
+    at more false e = more
+
+-- what is listed of a node is what its series' latest statement says
+pub listed_by_key : (day : ℤ) (n : Node) (rows : List Row) → listed_at (nodes_of day rows) n ≡ option_and_then node_in (open_at day n rows)
+listed_by_key day n rows = listed_found day n rows ∙ ap (λ (o : Option Row). option_and_then node_in o) (open_are_latest day n rows)
+
+-- ---- links by candidates
+
+pub Contains-from_filter_map : {X Y : Type 0} (h : X → Option Y) (xs : List X) (y : Y) → Contains (filter_map h xs) y → (x : X) × Contains xs x × (h x ≡ Some y)
+Contains-from_filter_map h [] y k = absurd (none y k)
+Contains-from_filter_map {X} {Y} h (x ∷ xs) y k = at (λ j. Contains-from_filter_map h xs y j) (h x) refl k
+  where
+    at : (Contains (filter_map h xs) y → (z : X) × Contains xs z × (h z ≡ Some y)) → (o : Option Y) → h x ≡ o → Contains (cons_option o (filter_map h xs)) y → (z : X) × Contains (x ∷ xs) z × (h z ≡ Some y)
+    at more None e j = let m = more j in (m.0, there x xs m.0 m.1, m.2)
+    at more (Some v) e j = elim (cases v (filter_map h xs) y j) [
+      | inl q ↦ (x, here x xs, e ∙ ap (λ (w : Y). Some w) q)
+      | inr q ↦ let m = more q in (m.0, there x xs m.0 m.1, m.2)
+    ]
+
+pub Contains-filter_map : {X Y : Type 0} (h : X → Option Y) (xs : List X) (x : X) (y : Y) → Contains xs x → h x ≡ Some y → Contains (filter_map h xs) y
+Contains-filter_map h [] x y k e = absurd (none x k)
+Contains-filter_map {X} {Y} h (z ∷ zs) x y k e = elim (cases z zs x k) [
+  | inl q ↦ subst (λ (o : Option Y). Contains (cons_option o (filter_map h zs)) y) (sym (ap h q ∙ e)) (here y (filter_map h zs))
+  | inr q ↦ at (h z) (Contains-filter_map h zs x y q e)
+]
+  where
+    at : (o : Option Y) → Contains (filter_map h zs) y → Contains (cons_option o (filter_map h zs)) y
+    at None m = m
+    at (Some v) m = there v (filter_map h zs) y m
+
+-- a link is made by the latest statement of an open series
+pub link_found : (day : ℤ) (rows : List Row) (l : Link) → Contains (links_of day rows) l
+    → (r : Row) × Contains rows r × (open_at day (series_of r) rows ≡ Some r) × (link_in (nodes_of day rows) r ≡ Some l)
+link_found day rows l h =
+    let m = Contains-from_filter_map (link_in (nodes_of day rows)) (open_rows day rows) l h in
+    (m.0, (open_row_is day rows m.0 m.1).0, open_row_at day rows m.0 m.1, m.2)
+
+pub link_made : (day : ℤ) (n : Node) (rows : List Row) (r : Row) (l : Link) → open_at day n rows ≡ Some r → link_in (nodes_of day rows) r ≡ Some l → Contains (links_of day rows) l
+link_made day n rows r l at made = Contains-filter_map (link_in (nodes_of day rows)) (open_rows day rows) r l (open_at_in day n rows r at).0 made
+
+-- a candidate's latest statement makes the link
+abbrev IsMade : ℤ → List Row → List Node → Node → Link → Type 0
+IsMade day rows candidates n l = (m : Node) × (r : Row) × Contains candidates m × (open_at day m rows ≡ Some r) × (link_in (nodes_of day rows) r ≡ Some l) × (l.subject ≡ n)
+
+-- the candidates have the series of each row that, were it the latest, would make a link into the node
+abbrev CoverLinks : List Row → List Node → Node → Type 0
+CoverLinks rows candidates n = (r : Row) (nodes : List OpenNode) (l : Link) → Contains rows r → link_in nodes r ≡ Some l → l.subject ≡ n → Contains candidates (series_of r)
+
+pub links_by_candidates : (day : ℤ) (rows : List Row) (candidates : List Node) (n : Node) (out : List Link) → CoverLinks rows candidates n
+    → ((l : Link) → Contains out l ↔ IsMade day rows candidates n l) → AreLinksInto (shown_of day rows) n out
+links_by_candidates day rows candidates n out cover told l = (
+  (λ h. let m = (told l).0 h in (link_made day m.0 rows m.1 l m.3 m.4, m.5)),
+  (λ h. let f = link_found day rows l h.0 in (told l).1 (series_of f.0, f.0, cover f.0 (nodes_of day rows) l f.1 f.3 h.1, f.2, f.3, h.1)),
+)
+
+-- ---- aliases by candidates
+
+-- an alias is alike by what the latest statements say
+pub alias_found : (day : ℤ) (rows : List Row) (a b : Node) → Alias (shown_of day rows) a b
+    → (one : OpenNode) × (two : OpenNode) × (r : Row) × (option_and_then node_in (open_at day a rows) ≡ Some one) × (open_at day b rows ≡ Some r) × (node_in r ≡ Some two) × (are_alike one two ≡ true)
+alias_found day rows a b h = at (open_at day b rows) refl (sym (listed_by_key day b rows) ∙ h.two_is)
+  where
+    at : (o : Option Row) → open_at day b rows ≡ o → option_and_then node_in o ≡ Some h.two
+        → (one : OpenNode) × (two : OpenNode) × (r : Row) × (option_and_then node_in (open_at day a rows) ≡ Some one) × (open_at day b rows ≡ Some r) × (node_in r ≡ Some two) × (are_alike one two ≡ true)
+    at None e k = let no : None ≡ Some h.two = k in absurd cc
+    at (Some r) e k = (h.one, h.two, r, sym (listed_by_key day a rows) ∙ h.one_is, e, k, h.alike)
+
+pub alias_made : (day : ℤ) (rows : List Row) (a b : Node) (one two : OpenNode) → option_and_then node_in (open_at day a rows) ≡ Some one → option_and_then node_in (open_at day b rows) ≡ Some two → are_alike one two ≡ true
+    → Alias (shown_of day rows) a b
+alias_made day rows a b one two p q t = record { one = one; two = two; one_is = listed_by_key day a rows ∙ p; two_is = listed_by_key day b rows ∙ q; alike = t }
+
+-- ---- a source over a keep
+
+-- what a keep shows, seen through a function of it
+abbrev Through : {K R S : Type 0} → (K → R → Type 0) → (R → S) → K → S → Type 0
+Through {K} {R} {S} shows f k s = (r : R) × shows k r × (s ≡ f r)
+
+pub through_same : {K R S : Type 0} (shows : K → R → Type 0) (f : R → S) (a b : K) → ((r : R) → shows a r ↔ shows b r) → (s : S) → Through shows f a s ↔ Through shows f b s
+through_same shows f a b same s = ((λ h. (h.0, (same h.0).0 h.1, h.2)), (λ h. (h.0, (same h.0).1 h.1, h.2)))
+
+pub through_promised : {K R S : Type 0} (shows : K → R → Type 0) (f : R → S) (P : S → Type 0) (a : K) → ((r : R) → shows a r → P (f r)) → (s : S) → Through shows f a s → P s
+through_promised shows f P a told s h = subst P (sym h.2) (told h.0 h.1)

@@ -1,0 +1,17 @@
+-- What may be answered of a node.
+use Rattle.std.specs.Prelude.{◌≡◌, ◌↔◌, List, Contains}
+use Rattle.std.specs.List.{IsDistinct}
+use Rattle.bor_links.specs.declared.node.Node.{Node}
+use Rattle.bor_links.specs.declared.node.Link.{Link}
+use Rattle.bor_links.specs.Nodes.{same_node}
+use Rattle.bor_links.specs.Shown.{Shown}
+use Rattle.bor_links.specs.Aliases.{Alias}
+
+-- exactly the nodes one alias away, each once
+pub record AreAliases (s : Shown) (a : Node) (nodes : List Node) : Type 0 where
+  pub each : (b : Node) → Contains nodes b ↔ Alias s a b
+  pub once : IsDistinct same_node nodes
+
+-- exactly the links with this subject
+abbrev pub AreLinksInto : Shown → Node → List Link → Type 0
+AreLinksInto s n links = (l : Link) → Contains links l ↔ (Contains s.links l × (l.subject ≡ n))

@@ -1,0 +1,9 @@
+pub mod Nodes
+pub mod Orders
+pub mod Stakes
+pub mod Series
+pub mod Shown
+pub mod Aliases
+pub mod Rows
+pub mod Answers
+pub mod Laws

@@ -1,0 +1,11 @@
+//! The nodes and links of the rows of a register.
+#![tactic(auto)]
+
+pub mod laws;
+mod node;
+mod rows;
+mod stake;
+
+pub use node::{Link, Node, NodeInfo, OpenNode};
+pub use rows::{node_of, open_rows, record_of};
+pub use stake::{holding_of, stake_of};
