@@ -1,27 +1,27 @@
--- What a series' latest statement tells of the nodes and links of all rows: an open record is read by
--- its key, and a link or an alias by candidates that cover those which may make it.
+-- What a series' latest statement tells of the nodes and links of all rows: an open record and an alias
+-- are read by their keys, and a link by candidates that cover those which may make it.
 use Rattle.std.proofs.Common.{◌≡◌, ◌↔◌, ◌⊎◌, ◌&&◌, ◌||◌, not, ℕ, ℤ, Bool, true, false, cond, Option, Some, None, option_and_then, option_map, List, [], ◌∷◌, Contains, sym, refl, ap, ◌∙◌, subst, inl, inr}
-use Rattle.std.specs.List.{find, filter_map, cons_option, list_any}
+use Rattle.std.specs.List.{find, filter, filter_map, cons_option, list_any}
+use Rattle.bor_terms.specs.Texts.{is_same}
 use Rattle.bods_read.specs.declared.details.Details.{Details}
 use Rattle.bods_read.specs.declared.details.Details.TheVariants as details
 use Rattle.bods_read.specs.declared.interest.Interest.{Interest}
 use Rattle.bor_records.specs.declared.row.Row.{Row}
 use Rattle.bor_records.specs.Admission.{is_closed}
-use Rattle.bor_records.specs.Snapshot.{is_dated}
+use Rattle.bor_records.specs.Snapshot.{is_dated, latest, unless_closed}
 use Rattle.bor_links.specs.declared.node.Node.{Node}
 use Rattle.bor_links.specs.declared.node.NodeInfo.{NodeInfo}
 use Rattle.bor_links.specs.declared.node.OpenNode.{OpenNode}
 use Rattle.bor_links.specs.declared.node.Link.{Link}
 use Rattle.bor_links.specs.Nodes.{same_node}
 use Rattle.bor_links.specs.Orders.{node_equiv}
-use Rattle.bor_links.specs.Series.{series_of, is_of, open_at, is_open_before, open_rows}
-use Rattle.bor_links.specs.Shown.{Shown, listed_at, are_alike}
-use Rattle.bor_links.specs.Aliases.{Alias}
-use Rattle.bor_links.specs.Answers.{AreLinksInto}
-use Rattle.bor_links.specs.Rows.{node_in, node_with, nodes_of, link_in, link_with, link_between, links_of, shown_of, beside, is_entity_info, is_some_info}
+use Rattle.bor_links.specs.Series.{series_of, is_of, open_at, has_dated, is_open_before, open_rows}
+use Rattle.bor_links.specs.Shown.{listed_at}
+use Rattle.bor_links.specs.Rows.{node_in, node_with, nodes_of, link_in, links_of}
+use Rattle.bor_links.specs.Laws.{OpenRowsAreTheLatest, OpenRowsAreReadByKey, SnapshotsShowTheOpenRows, NodesAreReadByKey, AliasesAreReadByKey, LinksAreReadByCandidates}
 use Rattle.bor_links.proofs.SameNode.{same_node_is}
 use Rattle.bor_links.proofs.Found.{none, here, there, cases}
-use Rattle.bor_links.proofs.Series.{open_are_latest}
+use Rattle.bor_links.proofs.Series.{both_tests, open_are_latest}
 
 -- ---- tests
 
@@ -46,12 +46,9 @@ and_left a true e k = and_is a e
     and_is false h = refl
 and_left a false e k = absurd cc
 
-abbrev has_later : ℤ → Node → List Row → Bool
-has_later day n rows = list_any (λ x. is_of n x && is_dated day x) rows
-
 -- what an open row is, and that no later one is of its series
-opened : (day : ℤ) (r : Row) (rows : List Row) → is_open_before day r rows ≡ true → (is_dated day r ≡ true) × (has_later day (series_of r) rows ≡ false)
-opened day r rows e = let p = and_parts3 (is_dated day r) (not (is_closed r.status)) (not (has_later day (series_of r) rows)) e in (p.0, not_true (has_later day (series_of r) rows) p.1)
+opened : (day : ℤ) (r : Row) (rows : List Row) → is_open_before day r rows ≡ true → (is_dated day r ≡ true) × (has_dated day (series_of r) rows ≡ false)
+opened day r rows e = let p = and_parts3 (is_dated day r) (not (is_closed r.status)) (not (has_dated day (series_of r) rows)) e in (p.0, not_true (has_dated day (series_of r) rows) p.1)
 
 -- an open row is one of the rows, and dated
 pub open_row_is : (day : ℤ) (rows : List Row) (r : Row) → Contains (open_rows day rows) r → Contains rows r × (is_dated day r ≡ true)
@@ -112,15 +109,48 @@ found_in n (x ∷ xs) r h = at (λ k. found_in n xs r k) (is_of n x) refl h
 pub open_at_in : (day : ℤ) (n : Node) (rows : List Row) (r : Row) → open_at day n rows ≡ Some r → Contains (open_rows day rows) r × (series_of r ≡ n)
 open_at_in day n rows r h = found_in n (open_rows day rows) r (open_are_latest day n rows ∙ h)
 
+pub open_by_key : OpenRowsAreReadByKey
+open_by_key day n rows r = (open_at_in day n rows r, λ h. subst (λ (m : Node). open_at day m rows ≡ Some r) h.1 (open_row_at day rows r h.0))
+
+pub shown_by_snapshots : SnapshotsShowTheOpenRows
+shown_by_snapshots day n rows =
+    ap (λ (rs : List Row). option_and_then unless_closed (latest day rs))
+    (both_tests (λ r. is_same r.statement.declaration n.declaration && is_same r.statement.rec n.rec) (λ r. is_same r.agent n.agent) rows)
+
 -- ---- nodes by key
 
-none_open : (day : ℤ) (n : Node) (rows : List Row) → has_later day n rows ≡ false → find (is_of n) (open_rows day rows) ≡ None
+none_open : (day : ℤ) (n : Node) (rows : List Row) → has_dated day n rows ≡ false → find (is_of n) (open_rows day rows) ≡ None
 none_open day n [] h = refl
-none_open day n (x ∷ xs) h = let q = or_parts (is_of n x && is_dated day x) (has_later day n xs) h in at q.0 (none_open day n xs q.1) (is_open_before day x xs) refl
+none_open day n (x ∷ xs) h = let q = or_parts (is_of n x && is_dated day x) (has_dated day n xs) h in at q.0 (none_open day n xs q.1) (is_open_before day x xs) refl
   where
     at : (is_of n x && is_dated day x) ≡ false → find (is_of n) (open_rows day xs) ≡ None → (t : Bool) → is_open_before day x xs ≡ t → find (is_of n) (cond t (x ∷ open_rows day xs) (open_rows day xs)) ≡ None
     at f more true e = ap (λ (b : Bool). cond b (Some x) (find (is_of n) (open_rows day xs))) (and_left (is_of n x) (is_dated day x) f (opened day x xs e).0) ∙ more
     at f more false e = more
+
+one_open : (day : ℤ) (n : Node) (rows : List Row) → filter (is_of n) (open_rows day rows) ≡ cons_option (find (is_of n) (open_rows day rows)) []
+one_open day n [] = refl
+one_open day n (r ∷ rows) = at (one_open day n rows) (is_open_before day r rows) refl
+  where
+    others : List Row
+    others = filter (is_of n) (open_rows day rows)
+
+    found : Option Row
+    found = find (is_of n) (open_rows day rows)
+
+    by : others ≡ cons_option found [] → is_open_before day r rows ≡ true → (i : Bool) → is_of n r ≡ i → cond i (r ∷ others) others ≡ cons_option (cond i (Some r) found) []
+    by more e true i =
+        ap (λ (rs : List Row). r ∷ rs)
+        (more
+        ∙ ap (λ (o : Option Row). cons_option o []) (none_open day n rows (ap (λ (m : Node). has_dated day m rows) (sym (same_node_is (series_of r) n i)) ∙ (opened day r rows e).1)))
+    by more e false i = more
+
+    at : others ≡ cons_option found [] → (t : Bool) → is_open_before day r rows ≡ t
+        → filter (is_of n) (cond t (r ∷ open_rows day rows) (open_rows day rows)) ≡ cons_option (find (is_of n) (cond t (r ∷ open_rows day rows) (open_rows day rows))) []
+    at more true e = by more e (is_of n r) refl
+    at more false e = more
+
+pub latest_alone : OpenRowsAreTheLatest
+latest_alone day n rows = one_open day n rows ∙ ap (λ (o : Option Row). cons_option o []) (open_are_latest day n rows)
 
 listed_found : (day : ℤ) (n : Node) (rows : List Row) → listed_at (nodes_of day rows) n ≡ option_and_then node_in (find (is_of n) (open_rows day rows))
 listed_found day n [] = refl
@@ -141,7 +171,7 @@ listed_found day n (r ∷ rows) = at (listed_found day n rows) (is_open_before d
     others (details.Relationship subject party interests) i = refl
 
     none_later : is_open_before day r rows ≡ true → is_of n r ≡ true → rest ≡ None
-    none_later e i = none_open day n rows (ap (λ (m : Node). has_later day m rows) (sym (same_node_is (series_of r) n i)) ∙ (opened day r rows e).1)
+    none_later e i = none_open day n rows (ap (λ (m : Node). has_dated day m rows) (sym (same_node_is (series_of r) n i)) ∙ (opened day r rows e).1)
 
     by : listed_at (nodes_of day rows) n ≡ option_and_then node_in rest → is_open_before day r rows ≡ true → (i : Bool) → is_of n r ≡ i
         → listed_at (cons_option (node_in r) (nodes_of day rows)) n ≡ option_and_then node_in (cond i (Some r) rest)
@@ -154,7 +184,7 @@ listed_found day n (r ∷ rows) = at (listed_found day n rows) (is_open_before d
     at more false e = more
 
 -- what is listed of a node is what its series' latest statement says
-pub listed_by_key : (day : ℤ) (n : Node) (rows : List Row) → listed_at (nodes_of day rows) n ≡ option_and_then node_in (open_at day n rows)
+pub listed_by_key : NodesAreReadByKey
 listed_by_key day n rows = listed_found day n rows ∙ ap (λ (o : Option Row). option_and_then node_in o) (open_are_latest day n rows)
 
 -- ---- links by candidates
@@ -191,45 +221,18 @@ link_found day rows l h =
 pub link_made : (day : ℤ) (n : Node) (rows : List Row) (r : Row) (l : Link) → open_at day n rows ≡ Some r → link_in (nodes_of day rows) r ≡ Some l → Contains (links_of day rows) l
 link_made day n rows r l at made = Contains-filter_map (link_in (nodes_of day rows)) (open_rows day rows) r l (open_at_in day n rows r at).0 made
 
--- a candidate's latest statement makes the link
-abbrev IsMade : ℤ → List Row → List Node → Node → Link → Type 0
-IsMade day rows candidates n l = (m : Node) × (r : Row) × Contains candidates m × (open_at day m rows ≡ Some r) × (link_in (nodes_of day rows) r ≡ Some l) × (l.subject ≡ n)
-
--- the candidates have the series of each row that, were it the latest, would make a link into the node
-abbrev CoverLinks : List Row → List Node → Node → Type 0
-CoverLinks rows candidates n = (r : Row) (nodes : List OpenNode) (l : Link) → Contains rows r → link_in nodes r ≡ Some l → l.subject ≡ n → Contains candidates (series_of r)
-
-pub links_by_candidates : (day : ℤ) (rows : List Row) (candidates : List Node) (n : Node) (out : List Link) → CoverLinks rows candidates n
-    → ((l : Link) → Contains out l ↔ IsMade day rows candidates n l) → AreLinksInto (shown_of day rows) n out
-links_by_candidates day rows candidates n out cover told l = (
-  (λ h. let m = (told l).0 h in (link_made day m.0 rows m.1 l m.3 m.4, m.5)),
-  (λ h. let f = link_found day rows l h.0 in (told l).1 (series_of f.0, f.0, cover f.0 (nodes_of day rows) l f.1 f.3 h.1, f.2, f.3, h.1)),
+pub links_by_candidates : LinksAreReadByCandidates
+links_by_candidates day rows candidates n links cover told l = (
+  (λ h. let m = (told l).0 h in (link_made day (m.0).key rows (m.0).row l (m.0).latest (m.0).made, m.1)),
+  (λ h.
+      let f = link_found day rows l h.0 in
+      (told l).1 (record { key = series_of f.0; row = f.0; candidate = cover f.0 (nodes_of day rows) l f.1 f.3 h.1; latest = f.2; made = f.3 }, h.1)),
 )
 
--- ---- aliases by candidates
+-- ---- aliases by key
 
--- an alias is alike by what the latest statements say
-pub alias_found : (day : ℤ) (rows : List Row) (a b : Node) → Alias (shown_of day rows) a b
-    → (one : OpenNode) × (two : OpenNode) × (r : Row) × (option_and_then node_in (open_at day a rows) ≡ Some one) × (open_at day b rows ≡ Some r) × (node_in r ≡ Some two) × (are_alike one two ≡ true)
-alias_found day rows a b h = at (open_at day b rows) refl (sym (listed_by_key day b rows) ∙ h.two_is)
-  where
-    at : (o : Option Row) → open_at day b rows ≡ o → option_and_then node_in o ≡ Some h.two
-        → (one : OpenNode) × (two : OpenNode) × (r : Row) × (option_and_then node_in (open_at day a rows) ≡ Some one) × (open_at day b rows ≡ Some r) × (node_in r ≡ Some two) × (are_alike one two ≡ true)
-    at None e k = let no : None ≡ Some h.two = k in absurd cc
-    at (Some r) e k = (h.one, h.two, r, sym (listed_by_key day a rows) ∙ h.one_is, e, k, h.alike)
-
-pub alias_made : (day : ℤ) (rows : List Row) (a b : Node) (one two : OpenNode) → option_and_then node_in (open_at day a rows) ≡ Some one → option_and_then node_in (open_at day b rows) ≡ Some two → are_alike one two ≡ true
-    → Alias (shown_of day rows) a b
-alias_made day rows a b one two p q t = record { one = one; two = two; one_is = listed_by_key day a rows ∙ p; two_is = listed_by_key day b rows ∙ q; alike = t }
-
--- ---- a source over a keep
-
--- what a keep shows, seen through a function of it
-abbrev Through : {K R S : Type 0} → (K → R → Type 0) → (R → S) → K → S → Type 0
-Through {K} {R} {S} shows f k s = (r : R) × shows k r × (s ≡ f r)
-
-pub through_same : {K R S : Type 0} (shows : K → R → Type 0) (f : R → S) (a b : K) → ((r : R) → shows a r ↔ shows b r) → (s : S) → Through shows f a s ↔ Through shows f b s
-through_same shows f a b same s = ((λ h. (h.0, (same h.0).0 h.1, h.2)), (λ h. (h.0, (same h.0).1 h.1, h.2)))
-
-pub through_promised : {K R S : Type 0} (shows : K → R → Type 0) (f : R → S) (P : S → Type 0) (a : K) → ((r : R) → shows a r → P (f r)) → (s : S) → Through shows f a s → P s
-through_promised shows f P a told s h = subst P (sym h.2) (told h.0 h.1)
+pub alias_by_key : AliasesAreReadByKey
+alias_by_key day rows a b = (
+  (λ h. record { one = h.one; two = h.two; one_is = sym (listed_by_key day a rows) ∙ h.one_is; two_is = sym (listed_by_key day b rows) ∙ h.two_is; alike = h.alike }),
+  (λ h. record { one = h.one; two = h.two; one_is = listed_by_key day a rows ∙ h.one_is; two_is = listed_by_key day b rows ∙ h.two_is; alike = h.alike }),
+)

@@ -21,7 +21,7 @@ latest_of day n rows = last_or None (filter (λ r. is_of n r && is_dated day r) 
 abbrev open_of : ℤ → Node → List Row → Option Row
 open_of day n rows = option_and_then unless_closed (latest_of day n rows)
 
-both_tests : (p q : Row → Bool) (rows : List Row) → filter p (filter q rows) ≡ filter (λ r. q r && p r) rows
+pub both_tests : (p q : Row → Bool) (rows : List Row) → filter p (filter q rows) ≡ filter (λ r. q r && p r) rows
 both_tests p q [] = refl
 both_tests p q (r ∷ rows) = at (q r) (both_tests p q rows)
   where

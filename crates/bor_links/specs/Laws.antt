@@ -1,17 +1,44 @@
 -- Laws of the definitions.
-use Rattle.std.specs.Prelude.{◌≡◌, ℤ, List, map, find, true}
-use Rattle.std.specs.List.{IsDistinct, AllByRecursion}
+use Rattle.std.specs.Prelude.{◌≡◌, ◌↔◌, ℤ, List, [], Contains, Some, map, true}
+use Rattle.std.specs.List.{IsDistinct, AllByRecursion, filter, cons_option}
 use Rattle.bods_read.specs.declared.interest.Interest.{Interest}
 use Rattle.bor_records.specs.declared.row.Row.{Row}
+use Rattle.bor_records.specs.Snapshot.{open_row}
 use Rattle.bor_links.specs.declared.node.Node.{Node}
+use Rattle.bor_links.specs.declared.node.Link.{Link}
 use Rattle.bor_links.specs.Nodes.{same_node}
 use Rattle.bor_links.specs.Stakes.{HasPointsOfShare, is_stake, is_holding}
-use Rattle.bor_links.specs.Series.{is_of, open_at, open_rows}
-use Rattle.bor_links.specs.Rows.{nodes_of}
+use Rattle.bor_links.specs.Series.{series_of, is_of, open_at, open_rows}
+use Rattle.bor_links.specs.Shown.{listed_at}
+use Rattle.bor_links.specs.Aliases.{Alias}
+use Rattle.bor_links.specs.Rows.{nodes_of, shown_of}
+use Rattle.bor_links.specs.Answers.{AreLinksInto}
+use Rattle.bor_links.specs.ByKey.{rows_by, node_at, AreAlikeAt, IsMade, CoverLinks}
 
--- of each series the open rows have its latest statement where it is open, and nothing else
+-- the open rows of a series are its latest statement where it is open, and no others
 abbrev pub OpenRowsAreTheLatest : Type 0
-OpenRowsAreTheLatest = (day : ℤ) (n : Node) (rows : List Row) → find (is_of n) (open_rows day rows) ≡ open_at day n rows
+OpenRowsAreTheLatest = (day : ℤ) (n : Node) (rows : List Row) → filter (is_of n) (open_rows day rows) ≡ cons_option (open_at day n rows) []
+
+-- a series is open with a row exactly where the row is one of the open rows, and of the series
+abbrev pub OpenRowsAreReadByKey : Type 0
+OpenRowsAreReadByKey = (day : ℤ) (n : Node) (rows : List Row) (r : Row) → (open_at day n rows ≡ Some r) ↔ (Contains (open_rows day rows) r × (series_of r ≡ n))
+
+-- a record is open for chains exactly where a snapshot of its agent's rows shows it, with that row
+abbrev pub SnapshotsShowTheOpenRows : Type 0
+SnapshotsShowTheOpenRows = (day : ℤ) (n : Node) (rows : List Row) → open_row n.declaration day (rows_by n.agent rows) n.rec ≡ open_at day n rows
+
+-- a node is what the latest statement of its series says
+abbrev pub NodesAreReadByKey : Type 0
+NodesAreReadByKey = (day : ℤ) (n : Node) (rows : List Row) → listed_at (nodes_of day rows) n ≡ node_at day n rows
+
+-- and its aliases are those that are alike by the latest statements
+abbrev pub AliasesAreReadByKey : Type 0
+AliasesAreReadByKey = (day : ℤ) (rows : List Row) (a b : Node) → Alias (shown_of day rows) a b ↔ AreAlikeAt day rows a b
+
+-- the links into a node are those that candidates make, where the candidates have the series of each row that may make one
+abbrev pub LinksAreReadByCandidates : Type 0
+LinksAreReadByCandidates = (day : ℤ) (rows : List Row) (candidates : List Node) (n : Node) (links : List Link) → CoverLinks rows candidates n
+    → ((l : Link) → Contains links l ↔ (IsMade day rows candidates l × (l.subject ≡ n))) → AreLinksInto (shown_of day rows) n links
 
 -- no node is listed twice
 abbrev pub NodesAreDistinct : Type 0

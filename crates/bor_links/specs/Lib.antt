@@ -6,4 +6,5 @@ pub mod Shown
 pub mod Aliases
 pub mod Rows
 pub mod Answers
+pub mod ByKey
 pub mod Laws
