@@ -1,6 +1,7 @@
 //! What a statement says of its record (BODS 0.4, `recordDetails`).
 
 ghost use Rattle.std.specs.Prelude.{◌≡◌, IfOk};
+ghost use Rattle.bods_read.specs.Words.{entity_word, person_word};
 
 use crate::free_text::FreeText;
 use crate::interest::Interest;
@@ -21,6 +22,25 @@ pub enum EntityKind {
     Other,
 }
 
+impl EntityKind {
+    /// The word of the standard for it; `other` for the kinds that are read as `Other`.
+    #[tactic(auto, unfolding(crate::specs::Words::entity_word))]
+    pub fn as_str(self) -> &'static str
+        ensures { result.now ≡ entity_word self }
+    {
+        match self {
+            EntityKind::RegisteredEntity => "registeredEntity",
+            EntityKind::LegalEntity => "legalEntity",
+            EntityKind::Arrangement => "arrangement",
+            EntityKind::AnonymousEntity => "anonymousEntity",
+            EntityKind::UnknownEntity => "unknownEntity",
+            EntityKind::State => "state",
+            EntityKind::StateBody => "stateBody",
+            EntityKind::Other => "other",
+        }
+    }
+}
+
 /// What kind of person it is (BODS 0.4, `personType`).
 #[derive(Clone, Copy, Debug, PartialEq, Eq)]
 pub enum PersonKind {
@@ -29,6 +49,21 @@ pub enum PersonKind {
     UnknownPerson,
     /// Any other kind, or none.
     Other,
+}
+
+impl PersonKind {
+    /// The word of the standard for it; `other` for the kinds that are read as `Other`.
+    #[tactic(auto, unfolding(crate::specs::Words::person_word))]
+    pub fn as_str(self) -> &'static str
+        ensures { result.now ≡ person_word self }
+    {
+        match self {
+            PersonKind::KnownPerson => "knownPerson",
+            PersonKind::AnonymousPerson => "anonymousPerson",
+            PersonKind::UnknownPerson => "unknownPerson",
+            PersonKind::Other => "other",
+        }
+    }
 }
 
 /// An identifier of an entity under a scheme, as a company number under `GB-COH`.

@@ -1,5 +1,8 @@
 //! The interests of a relationship (BODS 0.4).
 
+ghost use Rattle.std.specs.Prelude.{◌≡◌};
+ghost use Rattle.bods_read.specs.Words.{interest_word, directness_word};
+
 use bor_terms::Span;
 
 /// What kind of interest it is. BODS has more kinds, which play no part in a chain.
@@ -12,6 +15,21 @@ pub enum InterestKind {
     Other,
 }
 
+impl InterestKind {
+    /// The word of the standard for it; `other` for the kinds that are read as `Other`.
+    #[tactic(auto, unfolding(crate::specs::Words::interest_word))]
+    pub fn as_str(self) -> &'static str
+        ensures { result.now ≡ interest_word self }
+    {
+        match self {
+            InterestKind::Shareholding => "shareholding",
+            InterestKind::VotingRights => "votingRights",
+            InterestKind::AppointmentOfBoard => "appointmentOfBoard",
+            InterestKind::Other => "other",
+        }
+    }
+}
+
 /// Whether the interest is held directly.
 #[derive(Clone, Copy, Debug, PartialEq, Eq)]
 pub enum Directness {
@@ -19,6 +37,20 @@ pub enum Directness {
     Indirect,
     /// Any other `directOrIndirect`, or none.
     Unknown,
+}
+
+impl Directness {
+    /// The word of the standard for it.
+    #[tactic(auto, unfolding(crate::specs::Words::directness_word))]
+    pub fn as_str(self) -> &'static str
+        ensures { result.now ≡ directness_word self }
+    {
+        match self {
+            Directness::Direct => "direct",
+            Directness::Indirect => "indirect",
+            Directness::Unknown => "unknown",
+        }
+    }
 }
 
 /// An interest of a relationship.
