@@ -21,8 +21,8 @@ use Rattle.bods_read.specs.declared.interest.Directness.TheVariants as directnes
 use Rattle.bods_read.specs.declared.fault.Field.TheVariants as fields
 use Rattle.bods_read.specs.declared.fault.Fault.{Fault}
 use Rattle.bods_read.specs.declared.fault.Fault.TheVariants.{Missing, Bad, Fraction, ShareRange, EmptyShare, TooLong}
-use Rattle.bods_read.specs.declared.fault.ReadFault.{ReadFault}
-use Rattle.bods_read.specs.declared.fault.ReadFault.TheVariants.{NotJson, NotAList, NoStatements, TooMany, At}
+use Rattle.bods_read.specs.declared.fault.FileFault.{FileFault}
+use Rattle.bods_read.specs.declared.fault.FileFault.TheVariants.{NotJson, NotAList, NoStatements, TooMany, At}
 use Rattle.bods_read.specs.Words.{type_word, type_worded, status_word, status_worded, entity_word, entity_worded, person_word, person_worded, interest_word, interest_worded, directness_word, directness_worded, field_word}
 use Rattle.bods_read.specs.Member.{member, ident_in, day_in, type_in, status_in, object_in, end_in, items_in}
 use Rattle.bods_read.specs.Share.{percent_lines, percent_in, numeral, percent, exclusive, exclusive_of, bounds_of, given, member_lines, range_lines, range_of}
@@ -77,7 +77,7 @@ not_too_many = refl
 
 -- ---- all faults of a file
 
-abbrev all_faults : List ℕ → Option (List ReadFault)
+abbrev all_faults : List ℕ → Option (List FileFault)
 all_faults text = option_map faults (value_of text)
 
 -- every line about an absent member, and every line about a member that is not as stated
@@ -104,10 +104,10 @@ entity_and more =
 abbrev Cases : Type 0
 Cases = List (List ℕ × List Fault)
 
-abbrev found : Cases → List (Option (List ReadFault))
+abbrev found : Cases → List (Option (List FileFault))
 found cases = map (λ c. all_faults c.0) cases
 
-abbrev expected : Cases → List (Option (List ReadFault))
+abbrev expected : Cases → List (Option (List FileFault))
 expected cases = map (λ c. Some (map (At 1) c.1)) cases
 
 -- no line, and each line alone; null counts as absent
@@ -341,12 +341,12 @@ abbrev ranges_in : List Statement → List (Option Range)
 ranges_in [] = []
 ranges_in (s ∷ ss) = ranges_of s.details
 
-abbrev ranges_read : Result (List Statement) ReadFault → Result (List (Option Range)) ReadFault
+abbrev ranges_read : Result (List Statement) FileFault → Result (List (Option Range)) FileFault
 ranges_read (Ok statements) = Ok (ranges_in statements)
 ranges_read (Err fault) = Err fault
 
 -- both spellings of open ends, alone, beside a bound, and beside an exact share
-abbrev shares : List (List ℕ × Result (List (Option Range)) ReadFault)
+abbrev shares : List (List ℕ × Result (List (Option Range)) FileFault)
 shares =
     (with_share (codes "{\"minimum\":50,\"exclusiveMinimum\":50}"), Ok (Some (range 50 true 100 false) ∷ []))
     ∷ (with_share (codes "{\"minimum\":60,\"exclusiveMinimum\":50}"), Ok (Some (range 60 false 100 false) ∷ []))
@@ -380,7 +380,7 @@ shares_are = refl
 
 -- ---- what details read as
 
-abbrev details_read : Result (List Statement) ReadFault → Result (List Details) ReadFault
+abbrev details_read : Result (List Statement) FileFault → Result (List Details) FileFault
 details_read (Ok statements) = Ok (map (λ s. s.details) statements)
 details_read (Err fault) = Err fault
 

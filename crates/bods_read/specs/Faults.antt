@@ -3,8 +3,8 @@ use Rattle.std.specs.Prelude.{ℕ, List, Option, Some, None, codes}
 use Rattle.bods_read.specs.declared.fault.Field.{Field}
 use Rattle.bods_read.specs.declared.fault.Fault.{Fault}
 use Rattle.bods_read.specs.declared.fault.Fault.TheVariants.{Missing, Bad, Fraction, ShareRange, EmptyShare, TooLong}
-use Rattle.bods_read.specs.declared.fault.ReadFault.{ReadFault}
-use Rattle.bods_read.specs.declared.fault.ReadFault.TheVariants.{NotJson, NotAList, NoStatements, TooMany, At, Memory}
+use Rattle.bods_read.specs.declared.fault.FileFault.{FileFault}
+use Rattle.bods_read.specs.declared.fault.FileFault.TheVariants.{NotJson, NotAList, NoStatements, TooMany, At}
 
 -- the name of what is wrong with a statement
 unfoldable pub fault_word : Fault → List ℕ
@@ -24,29 +24,26 @@ fault_field ShareRange = None
 fault_field EmptyShare = None
 fault_field (TooLong field) = Some field
 
--- the name of why a file was not read: of a faulty statement, what is wrong with it
-unfoldable pub read_fault_word : ReadFault → List ℕ
-read_fault_word NotJson = codes "NotJson"
-read_fault_word NotAList = codes "NotAList"
-read_fault_word NoStatements = codes "NoStatements"
-read_fault_word TooMany = codes "TooMany"
-read_fault_word (At place fault) = fault_word fault
-read_fault_word Memory = codes "Memory"
+-- the name of what is wrong with a file: of a faulty statement, what is wrong with that
+unfoldable pub file_fault_word : FileFault → List ℕ
+file_fault_word NotJson = codes "NotJson"
+file_fault_word NotAList = codes "NotAList"
+file_fault_word NoStatements = codes "NoStatements"
+file_fault_word TooMany = codes "TooMany"
+file_fault_word (At place fault) = fault_word fault
 
 -- the place of the faulty statement, from 1
-abbrev pub read_fault_place : ReadFault → Option ℕ
-read_fault_place NotJson = None
-read_fault_place NotAList = None
-read_fault_place NoStatements = None
-read_fault_place TooMany = None
-read_fault_place (At place fault) = Some place
-read_fault_place Memory = None
+abbrev pub file_fault_place : FileFault → Option ℕ
+file_fault_place NotJson = None
+file_fault_place NotAList = None
+file_fault_place NoStatements = None
+file_fault_place TooMany = None
+file_fault_place (At place fault) = Some place
 
 -- the member that it is about
-abbrev pub read_fault_field : ReadFault → Option Field
-read_fault_field NotJson = None
-read_fault_field NotAList = None
-read_fault_field NoStatements = None
-read_fault_field TooMany = None
-read_fault_field (At place fault) = fault_field fault
-read_fault_field Memory = None
+abbrev pub file_fault_field : FileFault → Option Field
+file_fault_field NotJson = None
+file_fault_field NotAList = None
+file_fault_field NoStatements = None
+file_fault_field TooMany = None
+file_fault_field (At place fault) = fault_field fault

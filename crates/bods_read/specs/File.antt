@@ -6,7 +6,9 @@ use Rattle.serde_json.specs.Read.{read}
 use Rattle.bods_read.specs.declared.trouble.Trouble.{Trouble}
 use Rattle.bods_read.specs.declared.trouble.Trouble.TheVariants as troubles
 use Rattle.bods_read.specs.declared.fault.ReadFault.{ReadFault}
-use Rattle.bods_read.specs.declared.fault.ReadFault.TheVariants.{NotJson, NotAList, NoStatements, TooMany, At, Memory}
+use Rattle.bods_read.specs.declared.fault.ReadFault.TheVariants.{File, Memory}
+use Rattle.bods_read.specs.declared.fault.FileFault.{FileFault}
+use Rattle.bods_read.specs.declared.fault.FileFault.TheVariants.{NotJson, NotAList, NoStatements, TooMany, At}
 use Rattle.bods_read.specs.declared.statement.Statement.{Statement}
 use Rattle.bods_read.specs.Outcome.{outcome, lines_from}
 use Rattle.bods_read.specs.Member.{items_in}
@@ -15,18 +17,18 @@ use Rattle.bods_read.specs.Statement.{statement_lines, statement_of}
 -- ---- the faults
 
 -- the lines about the statement at a place
-abbrev pub lines_at : ℕ → Data → List ReadFault
+abbrev pub lines_at : ℕ → Data → List FileFault
 lines_at place d = map (λ fault. At place fault) (statement_lines d)
 
 -- a file is a list of 1 to 1,000 statements (this register's profile)
-abbrev pub list_lines : Option (List Data) → List ReadFault
+abbrev pub list_lines : Option (List Data) → List FileFault
 list_lines None = NotAList ∷ []
 list_lines (Some ds) =
     if length ds == 0 then NoStatements ∷ []
     else (if nat_lt 1000 (length ds) then TooMany ∷ [] else lines_from lines_at 1 ds)
 
 -- all lines that fail, in order; places count from 1
-unfoldable pub faults : Data → List ReadFault
+unfoldable pub faults : Data → List FileFault
 faults d = list_lines (items_in d)
 
 -- ---- the statements
@@ -47,24 +49,29 @@ unfoldable pub value_of : List ℕ → Option Data
 value_of bytes = if is_utf8 bytes then read bytes else None
 
 -- the first of the faults of a value, or its statements
-unfoldable pub reading_of : Data → Result (List Statement) ReadFault
+unfoldable pub reading_of : Data → Result (List Statement) FileFault
 reading_of d = outcome (faults d) (statements d)
 
 -- without a value the bytes are no JSON
-abbrev pub reading_in : Option Data → Result (List Statement) ReadFault
+abbrev pub reading_in : Option Data → Result (List Statement) FileFault
 reading_in None = Err NotJson
 reading_in (Some d) = reading_of d
 
 -- what a file reads as
-unfoldable pub reading : List ℕ → Result (List Statement) ReadFault
+unfoldable pub reading : List ℕ → Result (List Statement) FileFault
 reading bytes = reading_in (value_of bytes)
 
--- what a reader returned, seen by view, is what reading gives, unless memory ran out
-abbrev pub IsReadingBy : {X Y : Type 0} → (X → Y) → Result X ReadFault → Result Y ReadFault → Type 0
+-- a fault of the file that a reader returned is what reading gives; of want of memory nothing is said
+abbrev pub IsUnread : {Y : Type 0} → ReadFault → Result Y FileFault → Type 0
+IsUnread (File fault) read = read ≡ Err fault
+IsUnread Memory read = Unit {0}
+
+-- what a reader returned, seen by view, is what reading gives
+abbrev pub IsReadingBy : {X Y : Type 0} → (X → Y) → Result X ReadFault → Result Y FileFault → Type 0
 IsReadingBy view (Ok x) read = read ≡ Ok (view x)
-IsReadingBy view (Err e) read = ¬ (e ≡ Memory) → read ≡ Err e
+IsReadingBy view (Err why) read = IsUnread why read
 
 -- what is answered for a trouble with the statement at a place
 abbrev pub fault_at : ℕ → Trouble → ReadFault
 fault_at place troubles.Memory = Memory
-fault_at place (troubles.Fault fault) = At place fault
+fault_at place (troubles.Fault fault) = File (At place fault)

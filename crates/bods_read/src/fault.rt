@@ -2,7 +2,7 @@
 
 ghost use Rattle.std.specs.Prelude.{◌≡◌};
 ghost use Rattle.bods_read.specs.Words.{field_word};
-ghost use Rattle.bods_read.specs.Faults.{fault_word, fault_field, read_fault_word, read_fault_place, read_fault_field};
+ghost use Rattle.bods_read.specs.Faults.{fault_word, fault_field, file_fault_word, file_fault_place, file_fault_field};
 ghost use Rattle.bods_read.specs.declared.fault.ReadFault.TheVariants as read_faults;
 
 use std::alloc::{AllocError, AllocFailed};
@@ -104,9 +104,9 @@ impl Fault {
     }
 }
 
-/// Why a file was not read.
+/// What is wrong with a file.
 #[derive(Clone, Copy, Debug, PartialEq, Eq)]
-pub enum ReadFault {
+pub enum FileFault {
     /// The bytes are no JSON.
     NotJson,
     /// The value isn't an array.
@@ -117,44 +117,58 @@ pub enum ReadFault {
     TooMany,
     /// The first faulty statement, and the first thing wrong with it. Places count from 1.
     At { place: u32, fault: Fault },
-    /// Memory was wanting. Nothing is said of the file.
-    Memory,
 }
 
-impl ReadFault {
+impl FileFault {
     /// The name that is printed for it: of a faulty statement, the name of what is wrong with it.
-    #[tactic(auto, unfolding(crate::specs::Faults::read_fault_word))]
+    #[tactic(auto, unfolding(crate::specs::Faults::file_fault_word))]
     pub fn name(self) -> &'static str
-        ensures { result.now ≡ read_fault_word self }
+        ensures { result.now ≡ file_fault_word self }
     {
         match self {
-            ReadFault::NotJson => "NotJson",
-            ReadFault::NotAList => "NotAList",
-            ReadFault::NoStatements => "NoStatements",
-            ReadFault::TooMany => "TooMany",
-            ReadFault::At { fault, .. } => fault.name(),
-            ReadFault::Memory => "Memory",
+            FileFault::NotJson => "NotJson",
+            FileFault::NotAList => "NotAList",
+            FileFault::NoStatements => "NoStatements",
+            FileFault::TooMany => "TooMany",
+            FileFault::At { fault, .. } => fault.name(),
         }
     }
 
     /// The place of the faulty statement, from 1.
     pub fn place(self) -> Option<u32>
-        ensures { result ≡ read_fault_place self }
+        ensures { result ≡ file_fault_place self }
     {
         match self {
-            ReadFault::At { place, .. } => Some(place),
+            FileFault::At { place, .. } => Some(place),
             _ => None,
         }
     }
 
     /// The member that it is about, where it names one.
     pub fn field(self) -> Option<Field>
-        ensures { result ≡ read_fault_field self }
+        ensures { result ≡ file_fault_field self }
     {
         match self {
-            ReadFault::At { fault, .. } => fault.field(),
+            FileFault::At { fault, .. } => fault.field(),
             _ => None,
         }
+    }
+}
+
+/// Why a file was not read.
+#[derive(Clone, Copy, Debug, PartialEq, Eq)]
+pub enum ReadFault {
+    /// Something is wrong with the file.
+    File(FileFault),
+    /// Memory was wanting. Nothing is said of the file.
+    Memory,
+}
+
+impl From<FileFault> for ReadFault {
+    ghost from_gives = { λ fault e. e ≡ read_faults.File fault };
+
+    fn from(fault: FileFault) -> ReadFault {
+        ReadFault::File(fault)
     }
 }
 

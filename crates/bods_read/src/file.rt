@@ -6,7 +6,7 @@ ghost use Rattle.bods_read.specs.Outcome.{outcome, lines_from};
 ghost use Rattle.bods_read.specs.Statement.{statement_of};
 ghost use Rattle.bods_read.specs.File.{lines_at, reading_of, reading, IsReadingBy};
 
-use crate::fault::ReadFault;
+use crate::fault::{FileFault, ReadFault};
 use crate::member::items_in;
 use crate::reading;
 use crate::statement::Statement;
@@ -42,13 +42,13 @@ fn of_value(alloc: Global, value: &Value) -> Result<Vec<Statement>, ReadFault>
     ensures few { IfOk result (λ v. length v.items ≤ 1000) }
 {
     let Some(values) = items_in(value) else {
-        return Err(ReadFault::NotAList);
+        return Err(ReadFault::File(FileFault::NotAList));
     };
     if values.is_empty() {
-        return Err(ReadFault::NoStatements);
+        return Err(ReadFault::File(FileFault::NoStatements));
     }
     if values.len() > 1000 {
-        return Err(ReadFault::TooMany);
+        return Err(ReadFault::File(FileFault::TooMany));
     }
     each(alloc, values)
 }
@@ -60,7 +60,7 @@ fn of_value(alloc: Global, value: &Value) -> Result<Vec<Statement>, ReadFault>
 ///
 /// # Errors
 ///
-/// [`ReadFault`] says when each comes; the first in its order is the answer. Where memory is wanting,
+/// [`FileFault`] says when each comes; the first in its order is the answer. Where memory is wanting,
 /// [`ReadFault::Memory`] stands in place of whatever would follow.
 #[tactic(auto, unfolding(crate::specs::File::reading))]
 pub fn read_file(alloc: Global, bytes: &[u8]) -> Result<Vec<Statement>, ReadFault>
@@ -71,7 +71,7 @@ pub fn read_file(alloc: Global, bytes: &[u8]) -> Result<Vec<Statement>, ReadFaul
         Ok(value) => of_value(alloc, &value),
         Err(error) => match error.classify() {
             Category::Memory => Err(ReadFault::Memory),
-            _ => Err(ReadFault::NotJson),
+            _ => Err(ReadFault::File(FileFault::NotJson)),
         },
     }
 }

@@ -35,7 +35,7 @@ mod statement;
 mod trouble;
 
 pub use details::{Details, EntityKind, Identifier, PersonKind};
-pub use fault::{Fault, Field, ReadFault};
+pub use fault::{Fault, Field, FileFault, ReadFault};
 pub use file::read_file;
 pub use free_text::FreeText;
 pub use interest::{Directness, Interest, InterestKind};

@@ -19,19 +19,23 @@ fn fault_of(alloc: Global, bytes: &[u8]) -> Option<ReadFault> {
     read_file(alloc, bytes).err()
 }
 
+fn of_file(fault: FileFault) -> Option<ReadFault> {
+    Some(ReadFault::File(fault))
+}
+
 fn at(place: u32, fault: Fault) -> Option<ReadFault> {
-    Some(ReadFault::At { place, fault })
+    of_file(FileFault::At { place, fault })
 }
 
 #[test]
 fn files_are_refused_whole(rt: HostRuntime) {
     let alloc = rt.alloc();
-    assert_eq!(rt; fault_of(alloc, b"[]"), Some(ReadFault::NoStatements));
-    assert_eq!(rt; fault_of(alloc, b"{}"), Some(ReadFault::NotAList));
-    assert_eq!(rt; fault_of(alloc, b""), Some(ReadFault::NotJson));
+    assert_eq!(rt; fault_of(alloc, b"[]"), of_file(FileFault::NoStatements));
+    assert_eq!(rt; fault_of(alloc, b"{}"), of_file(FileFault::NotAList));
+    assert_eq!(rt; fault_of(alloc, b""), of_file(FileFault::NotJson));
     assert_eq!(rt;
         fault_of(alloc, b"[{\"statementId\":\"s1\""),
-        Some(ReadFault::NotJson)
+        of_file(FileFault::NotJson)
     );
     assert_eq!(rt;
         fault_of(alloc, b"[{}]"),
@@ -43,18 +47,21 @@ fn files_are_refused_whole(rt: HostRuntime) {
     );
     assert_eq!(rt;
         fault_of(alloc, b"\xef\xbb\xbf[]"),
-        Some(ReadFault::NotJson)
+        of_file(FileFault::NotJson)
     );
-    assert_eq!(rt; fault_of(alloc, b"[\"\\ud800\"]"), Some(ReadFault::NotJson));
+    assert_eq!(rt;
+        fault_of(alloc, b"[\"\\ud800\"]"),
+        of_file(FileFault::NotJson)
+    );
     assert_eq!(rt;
         fault_of(alloc, b"[{\"x\":\"\\udc00\\ud800\"}]"),
-        Some(ReadFault::NotJson)
+        of_file(FileFault::NotJson)
     );
-    assert_eq!(rt; fault_of(alloc, b"[\"\xff\"]"), Some(ReadFault::NotJson));
-    assert_eq!(rt; fault_of(alloc, b"[{}]]"), Some(ReadFault::NotJson));
+    assert_eq!(rt; fault_of(alloc, b"[\"\xff\"]"), of_file(FileFault::NotJson));
+    assert_eq!(rt; fault_of(alloc, b"[{}]]"), of_file(FileFault::NotJson));
     assert_eq!(rt;
         fault_of(alloc, b"[{\"x\":1e400}]"),
-        Some(ReadFault::NotJson)
+        of_file(FileFault::NotJson)
     );
     assert_eq!(rt;
         fault_of(alloc, b"[{\"x\":[1e-999,0e999]}]"),
@@ -79,8 +86,8 @@ fn deep_nesting_is_refused(rt: HostRuntime) -> Result<(), Fail> {
     let alloc = rt.alloc();
     for (levels, want) in [
         (127, at(1, Fault::Bad(Field::Statement))),
-        (128, Some(ReadFault::NotJson)),
-        (200_000, Some(ReadFault::NotJson)),
+        (128, of_file(FileFault::NotJson)),
+        (200_000, of_file(FileFault::NotJson)),
     ] {
         assert_eq!(rt; fault_of(alloc, nested(alloc, levels)?.as_bytes()), want);
     }
@@ -107,9 +114,15 @@ fn a_file_has_up_to_a_thousand_statements(rt: HostRuntime) -> Result<(), Fail> {
     let most = list_of(alloc, ENTITY, 1_000)?;
     assert_eq!(rt; read_file(alloc, most.as_bytes())?.len(), 1_000);
     let more = list_of(alloc, ENTITY, 1_001)?;
-    assert_eq!(rt; fault_of(alloc, more.as_bytes()), Some(ReadFault::TooMany));
+    assert_eq!(rt;
+        fault_of(alloc, more.as_bytes()),
+        of_file(FileFault::TooMany)
+    );
     let empty = list_of(alloc, "{}", 1_001)?;
-    assert_eq!(rt; fault_of(alloc, empty.as_bytes()), Some(ReadFault::TooMany));
+    assert_eq!(rt;
+        fault_of(alloc, empty.as_bytes()),
+        of_file(FileFault::TooMany)
+    );
     Ok(())
 }
 
@@ -288,8 +301,8 @@ fn shares_are_whole_percents(rt: HostRuntime) -> Result<(), Fail> {
         ("{\"exact\":-9223372036854775808}", range),
         ("{\"exact\":10,\"minimum\":200}", range),
         ("{\"exact\":\"25\"}", at(3, Fault::Bad(Field::Exact))),
-        ("{\"exact\":1e400}", Some(ReadFault::NotJson)),
-        ("{\"exact\":25.}", Some(ReadFault::NotJson)),
+        ("{\"exact\":1e400}", of_file(FileFault::NotJson)),
+        ("{\"exact\":25.}", of_file(FileFault::NotJson)),
         ("{\"exact\":101,\"exact\":5}", None),
         (
             "{\"minimum\":50,\"exclusiveMaximum\":50}",
@@ -421,7 +434,7 @@ fn identifiers_without_both_texts_are_passed_over(rt: HostRuntime) -> Result<(),
 
 #[test]
 fn faults_say_what_is_printed(rt: HostRuntime) {
-    let fault = ReadFault::At {
+    let fault = FileFault::At {
         place: 3,
         fault: Fault::Bad(Field::Exact),
     };
@@ -430,9 +443,9 @@ fn faults_say_what_is_printed(rt: HostRuntime) {
     assert_eq!(rt; fault.field(), Some(Field::Exact));
     assert_eq!(rt; Field::Exact.as_str(), "exact");
     assert_eq!(rt; Field::Statement.as_str(), "statement");
-    assert_eq!(rt; ReadFault::NotAList.name(), "NotAList");
-    assert_eq!(rt; ReadFault::NotAList.place(), None);
-    assert_eq!(rt; ReadFault::NotAList.field(), None);
+    assert_eq!(rt; FileFault::NotAList.name(), "NotAList");
+    assert_eq!(rt; FileFault::NotAList.place(), None);
+    assert_eq!(rt; FileFault::NotAList.field(), None);
     let long = Fault::TooLong(Field::Interests);
     assert_eq!(rt; long.name(), "TooLong");
     assert_eq!(rt; long.field(), Some(Field::Interests));

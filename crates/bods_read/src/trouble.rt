@@ -4,7 +4,7 @@ ghost use Rattle.std.specs.Prelude.{◌≡◌};
 ghost use Rattle.bods_read.specs.File.{fault_at};
 ghost use Rattle.bods_read.specs.declared.trouble.Trouble.TheVariants.{Memory};
 
-use crate::fault::{Fault, ReadFault};
+use crate::fault::{Fault, FileFault, ReadFault};
 use std::alloc::{AllocError, AllocFailed};
 
 #[derive(Debug, Drop)]
@@ -22,7 +22,7 @@ impl Trouble {
     {
         match self {
             Trouble::Memory => ReadFault::Memory,
-            Trouble::Fault(fault) => ReadFault::At { place, fault },
+            Trouble::Fault(fault) => ReadFault::File(FileFault::At { place, fault }),
         }
     }
 }

@@ -7,7 +7,7 @@ use Rattle.bor_terms.specs.Day.{day_of}
 use Rattle.bor_terms.specs.Points.{points}
 use Rattle.bor_terms.proofs.Examples.{first_day, calendar}
 use Rattle.bods_read.specs.Words.{type_word, status_word, field_word}
-use Rattle.bods_read.specs.Faults.{read_fault_word, fault_word}
+use Rattle.bods_read.specs.Faults.{file_fault_word, fault_word}
 use Rattle.bods_read.proofs.Examples.{worked_file, worked_day, worked_file-reading, reader}
 use Rattle.bor_records.specs.declared.row.Row.{Row}
 use Rattle.bor_records.specs.Words.{fault_name}
@@ -38,11 +38,11 @@ unfolding check_report type_word status_word state_word digits
 accepted = rw worked_file-reading refl
 
 not_a_list : check_report (codes "{}") ≡ refused (codes "refused NotAList\n")
-unfolding check_report refusal_name read_fault_word reader
+unfolding check_report refusal_name file_fault_word reader
 not_a_list = refl
 
 missing : check_report (codes "[{}]") ≡ refused (codes "refused Missing at 1 in statementId\n")
-unfolding check_report refusal_name read_fault_word fault_word field_word digits reader
+unfolding check_report refusal_name file_fault_word fault_word field_word digits reader
 missing = refl
 
 -- a first statement that says it is a later one

@@ -1,7 +1,7 @@
 -- What a refusal is told as: its name, the place of a statement, and the member that it is about.
 use Rattle.std.specs.Prelude.{ℕ, List, Option, Some, None, codes}
 use Rattle.bods_read.specs.declared.fault.Field.{Field}
-use Rattle.bods_read.specs.Faults.{read_fault_word, read_fault_place, read_fault_field}
+use Rattle.bods_read.specs.Faults.{file_fault_word, file_fault_place, file_fault_field}
 use Rattle.bor_records.specs.Words.{fault_name}
 use Rattle.bor_register.specs.declared.fault.StoreFault.{StoreFault}
 use Rattle.bor_register.specs.declared.fault.StoreFault.TheVariants as stores
@@ -29,7 +29,7 @@ refusal_name NotAgent = codes "NotAgent"
 refusal_name KeyReused = codes "KeyReused"
 refusal_name FilingsFull = codes "FilingsFull"
 refusal_name DuePast = codes "DuePast"
-refusal_name (Read fault) = read_fault_word fault
+refusal_name (Read fault) = file_fault_word fault
 refusal_name (StatementTwice place) = codes "StatementTwice"
 refusal_name (Record place fault) = fault_name fault
 refusal_name NoSuchFiling = codes "NoSuchFiling"
@@ -42,14 +42,14 @@ refusal_name TokenTaken = codes "TokenTaken"
 
 -- the place of the statement that is refused, from 1
 abbrev pub refusal_place : Refusal → Option ℕ
-refusal_place (Read fault) = read_fault_place fault
+refusal_place (Read fault) = file_fault_place fault
 refusal_place (StatementTwice place) = Some place
 refusal_place (Record place fault) = Some place
 refusal_place refusal = None
 
 -- the member of the file that it is about
 abbrev pub refusal_field : Refusal → Option Field
-refusal_field (Read fault) = read_fault_field fault
+refusal_field (Read fault) = file_fault_field fault
 refusal_field refusal = None
 
 -- ---- what the operations' faults are told as

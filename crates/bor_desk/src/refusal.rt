@@ -5,7 +5,7 @@ ghost use Rattle.bor_register.specs.declared.fault.StoreFault.TheVariants as sto
 ghost use Rattle.bor_desk.specs.declared.refusal.DeskFault.TheVariants as faults;
 ghost use Rattle.bor_desk.specs.Refusals.{refusal_name, refusal_place, refusal_field, of_lodging, of_withdrawal, of_advance, of_enrolment, of_chains};
 
-use bods_read::{Field, ReadFault};
+use bods_read::{Field, FileFault};
 use bor_chains::ChainFault;
 use bor_machine::{AdvanceFault, EnrolFault, LodgeFault, StoreFault, WithdrawFault};
 use bor_records::RecordFault;
@@ -26,8 +26,8 @@ pub enum Refusal {
     FilingsFull,
     /// The due day is before the register's day.
     DuePast,
-    /// The file isn't read.
-    Read(ReadFault),
+    /// Something is wrong with the file.
+    Read(FileFault),
     /// The identifier of the statement at this place, from 1, is that of a live statement of the
     /// agent, or of an earlier one of the file.
     StatementTwice(u32),

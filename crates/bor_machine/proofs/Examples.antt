@@ -4,7 +4,7 @@ use Rattle.bods_read.specs.declared.statement.Statement.{Statement}
 use Rattle.bods_read.specs.declared.statement.Status.TheVariants.{New}
 use Rattle.bods_read.specs.declared.fault.Field.TheVariants as fields
 use Rattle.bods_read.specs.declared.fault.Fault.TheVariants.{Missing}
-use Rattle.bods_read.specs.declared.fault.ReadFault.TheVariants.{NotAList, At}
+use Rattle.bods_read.specs.declared.fault.FileFault.TheVariants.{NotAList, At}
 use Rattle.bods_read.specs.File.{reading}
 use Rattle.bods_read.proofs.Examples.{worked_file, worked_statements, worked_file-reading, reader}
 use Rattle.bor_records.specs.Settling.{as_settled}

@@ -4,7 +4,7 @@ use Rattle.std.specs.Prelude.{◌≢◌, ◌%◌, ◌^◌, pos, Some, Bool, nat_
 use Rattle.std.proofs.lemmas.List.{take_more_set, drop_more, drop-set-lt, append-nil, map-append, take_all}
 use Rattle.bods_read.specs.declared.statement.Statement.{Statement}
 use Rattle.bods_read.specs.declared.statement.Status.{Status}
-use Rattle.bods_read.specs.declared.fault.ReadFault.{ReadFault}
+use Rattle.bods_read.specs.declared.fault.FileFault.{FileFault}
 use Rattle.bods_read.specs.File.{reading}
 use Rattle.bor_records.specs.declared.fault.RecordFault.{RecordFault}
 use Rattle.bor_records.specs.Admission.{Live, last_of, refusals, settled_status, unless_refused, admission}
@@ -127,15 +127,15 @@ so_far-refused e live due ss i place d lt at h =
 
 -- ---- a file that isn't read
 
-unread_is : (e : LodgeFault) (live : List Live) (due : ℤ) (file : Result (List Statement) ReadFault) → as_read file ≡ Err e → settled_reading live due file ≡ Err e
+unread_is : (e : LodgeFault) (live : List Live) (due : ℤ) (file : Result (List Statement) FileFault) → as_read file ≡ Err e → settled_reading live due file ≡ Err e
 unread_is e live due (Ok ss) h = absurd cc
 unread_is e live due (Err g) h = h
 
 -- a file that isn't read refuses the lodging
-pub refuses-unread : (e : LodgeFault) (live : List Live) (due : ℤ) (file : Result (List Statement) ReadFault) → Refuses e (as_read file) → Refuses e (settled_reading live due file)
+pub refuses-unread : (e : LodgeFault) (live : List Live) (due : ℤ) (file : Result (List Statement) FileFault) → Refuses e (as_read file) → Refuses e (settled_reading live due file)
 refuses-unread e live due file h = unless_store (of_lodging e) _ _ (unread_is e live due file) h
 
-pub settled-read : (live : List Live) (due : ℤ) (ss : List Statement) (file : Result (List Statement) ReadFault) → as_read file ≡ Ok ss → settled_reading live due file ≡ told_settled (settled live due ss)
+pub settled-read : (live : List Live) (due : ℤ) (ss : List Statement) (file : Result (List Statement) FileFault) → as_read file ≡ Ok ss → settled_reading live due file ≡ told_settled (settled live due ss)
 settled-read live due ss (Ok s) h = ap (λ (x : List Statement). told_settled (settled live due x)) cc
 settled-read live due ss (Err f) h = absurd cc
 

@@ -10,7 +10,7 @@ use Rattle.bor_terms.proofs.Texts.{same_is}
 use Rattle.bor_terms.specs.Texts.{is_same}
 use Rattle.bods_read.specs.declared.statement.Statement.{Statement}
 use Rattle.bods_read.specs.declared.statement.Status.{Status}
-use Rattle.bods_read.specs.declared.fault.ReadFault.{ReadFault}
+use Rattle.bods_read.specs.declared.fault.FileFault.{FileFault}
 use Rattle.bods_read.specs.File.{reading}
 use Rattle.bor_records.specs.declared.admission.Last.{Last}
 use Rattle.bor_records.specs.declared.fault.RecordFault.{RecordFault}
@@ -196,7 +196,7 @@ settled_published day due live kept place (s ∷ ss) out by_day w h =
     )
 
 -- and so for a file as it is read
-reading_published : (day due : ℤ) (live kept : List Live) (file : Result (List Statement) ReadFault) (out : List Statement) → int_le due day ≡ true → IsFront day live kept → settled_reading live due file ≡ Ok out →
+reading_published : (day due : ℤ) (live kept : List Live) (file : Result (List Statement) FileFault) (out : List Statement) → int_le due day ≡ true → IsFront day live kept → settled_reading live due file ≡ Ok out →
     (settled_reading kept due file ≡ Ok out) × IsFront day (live ++ map (as_live due) out) (kept ++ map (as_live due) out)
 reading_published day due live kept (Err fault) out by_day w h = absurd cc
 reading_published day due live kept (Ok ss) out by_day w h =

@@ -7,7 +7,7 @@ use Rattle.bor_terms.proofs.Texts.{same_sym}
 use Rattle.std.proofs.lemmas.List.{append-nil}
 use Rattle.bods_read.specs.declared.statement.Statement.{Statement}
 use Rattle.bods_read.specs.declared.statement.Status.{Status}
-use Rattle.bods_read.specs.declared.fault.ReadFault.{ReadFault}
+use Rattle.bods_read.specs.declared.fault.FileFault.{FileFault}
 use Rattle.bods_read.specs.File.{reading}
 use Rattle.bor_records.specs.Admission.{Live, is_of, last_of, admission, admitted}
 use Rattle.bor_records.specs.Settling.{Refusal, PlacedRefusal, statement_twice, has_id, verdict, as_settled, as_live, ahead, settled_then, settled_from, settled}
@@ -112,7 +112,7 @@ settled_from-without gone live kept place due [] out w h others = h
 settled_from-without gone live kept place due (s ∷ ss) out w h others =
     settled_then-without gone live kept place s due out _ _ w (λ t ts e none. settled_from-without gone _ _ (place + 1) due ss ts (without-more gone live kept (as_live due t ∷ []) w) e none) h others
 
-settled_reading-without : (gone : List Statement) (live kept : List Live) (due : ℤ) (file : Result (List Statement) ReadFault) (out : List Statement) → IsWithout gone live kept → settled_reading live due file ≡ Ok out →
+settled_reading-without : (gone : List Statement) (live kept : List Live) (due : ℤ) (file : Result (List Statement) FileFault) (out : List Statement) → IsWithout gone live kept → settled_reading live due file ≡ Ok out →
     share gone out ≡ false → settled_reading kept due file ≡ Ok out
 settled_reading-without gone live kept due (Err fault) out w h others = h
 settled_reading-without gone live kept due (Ok ss) out w h others = by_settled (settled live due ss) refl h

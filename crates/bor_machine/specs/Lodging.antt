@@ -4,7 +4,7 @@ use Rattle.std.specs.Ordering.{int_eq}
 use Rattle.bor_terms.specs.Texts.{is_same}
 use Rattle.bods_read.specs.declared.statement.Statement.{Statement}
 use Rattle.bods_read.specs.declared.statement.Status.{Status}
-use Rattle.bods_read.specs.declared.fault.ReadFault.{ReadFault}
+use Rattle.bods_read.specs.declared.fault.FileFault.{FileFault}
 use Rattle.bods_read.specs.File.{reading}
 use Rattle.bor_records.specs.Admission.{Live}
 use Rattle.bor_records.specs.Settling.{Refusal, statement_twice, by_record, PlacedRefusal, settled}
@@ -35,12 +35,12 @@ told_verdict place (Ok status) = Ok status
 told_verdict place (Err why) = Err (fault_at place why)
 
 -- the statements that a file is read to, their statuses settled after the agent's live statements; or the first fault of the file, or the first place that is refused
-abbrev pub settled_reading : List Live → ℤ → Result (List Statement) ReadFault → Result (List Statement) LodgeFault
+abbrev pub settled_reading : List Live → ℤ → Result (List Statement) FileFault → Result (List Statement) LodgeFault
 settled_reading live due (Ok statements) = told_settled (settled live due statements)
 settled_reading live due (Err fault) = Err (Read fault)
 
 -- what a lodging is answered of a file's reading
-abbrev pub as_read : Result (List Statement) ReadFault → Result (List Statement) LodgeFault
+abbrev pub as_read : Result (List Statement) FileFault → Result (List Statement) LodgeFault
 as_read (Ok statements) = Ok statements
 as_read (Err fault) = Err (Read fault)
 

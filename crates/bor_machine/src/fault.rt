@@ -7,7 +7,7 @@ ghost use Rattle.bor_machine.specs.declared.fault.WithdrawFault.TheVariants as w
 ghost use Rattle.bor_machine.specs.declared.fault.AdvanceFault.TheVariants as advance_faults;
 ghost use Rattle.bor_machine.specs.declared.fault.EnrolFault.TheVariants as enrol_faults;
 
-use bods_read::ReadFault;
+use bods_read::FileFault;
 use bor_records::RecordFault;
 use bor_register::StoreFault;
 use std::alloc::AllocError;
@@ -21,8 +21,8 @@ pub enum LodgeFault {
     FilingsFull,
     /// The due day is before the register's day.
     DuePast,
-    /// The file isn't read; want of memory is never told so, but as `Store`.
-    Read(ReadFault),
+    /// Something is wrong with the file.
+    Read(FileFault),
     /// The identifier of the statement at this place, from 1, is that of a live statement of the
     /// agent, or of an earlier one of the file.
     StatementTwice(u32),

@@ -42,8 +42,8 @@ fn read(alloc: Global, bytes: &[u8]) -> Result<Vec<Statement>, LodgeFault>
 {
     match read_file(alloc, bytes) {
         Ok(statements) => Ok(statements),
+        Err(ReadFault::File(fault)) => Err(LodgeFault::Read(fault)),
         Err(ReadFault::Memory) => Err(LodgeFault::Store(StoreFault::Memory)),
-        Err(fault) => Err(LodgeFault::Read(fault)),
     }
 }
 

@@ -1,7 +1,7 @@
 //! What no clause says: values from outside, and that each call succeeds.
 
 use super::*;
-use bods_read::{ReadFault, RecordType, Status};
+use bods_read::{FileFault, RecordType, Status};
 use bor_records::RecordFault;
 use bor_terms::{AgentName, Day, LodgeKey, Token};
 use std::alloc::Global;
@@ -119,7 +119,7 @@ fn a_refused_lodging_leaves_the_register(rt: HostRuntime) -> Result<(), Fail> {
     let mut keep = register(alloc)?;
     let (tomorrow, later) = (day("2024-02-02")?, day("2024-03-01")?);
     assert!(rt; file(alloc, &mut keep, "f1", later, FILE)?.is_ok());
-    let no_list = LodgeFault::Read(ReadFault::NotAList);
+    let no_list = LodgeFault::Read(FileFault::NotAList);
     let early = LodgeFault::Record {
         place: 1,
         fault: RecordFault::DueBeforeRecord,

@@ -11,4 +11,4 @@ returns-in-Ok-clause-read c = rw (value_of-read c.args.bytes.now (view c.in-Ok.v
 pub returns-in_default-clause-read : goal.returns-in_default-clause-read
 unfolding reading
 returns-in_default-clause-read c =
-    λ _. ap reading_in (value_of-unread c.args.bytes.now (c.in-Err.ensures.err (λ m. c.in_default.not-Memory (c.classify.ensures.memory.1 m))))
+    ap reading_in (value_of-unread c.args.bytes.now (c.in-Err.ensures.err (λ m. c.in_default.not-Memory (c.classify.ensures.memory.1 m))))
