@@ -1,5 +1,6 @@
 pub mod Outcomes
 pub mod Lodgings
+pub mod Additions
 pub mod Keyed
 pub mod Withdrawing
 pub mod Withdrawals

@@ -3,6 +3,7 @@ pub mod Members
 pub mod Names
 pub mod Places
 pub mod LiveStatements
+pub mod Additions
 pub mod Journals
 pub mod SeenRows
 pub mod Withdrawals

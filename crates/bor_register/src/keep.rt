@@ -4,7 +4,7 @@ ghost use Rattle.std.specs.Prelude.{◌≡◌, ℕ, ◌+◌, ◌<◌, Option, No
 ghost use Rattle.bor_register.specs.declared.fault.StoreFault.{StoreFault};
 ghost use Rattle.bor_register.specs.Register.{Register, caller_of, is_enrolled, is_taken, filings_of, with_filings, new_member, with_member, filing_keyed};
 ghost use Rattle.bor_register.specs.Publication.{published, line_of, filing_shown, has_bytes};
-ghost use Rattle.bor_register.specs.Live.{accepted, live_of};
+ghost use Rattle.bor_register.specs.Live.{accepted, live_of, AreNew};
 ghost use Rattle.bor_register.specs.Rows.{rows_of, visible};
 ghost use Rattle.bor_register.specs.Withdrawal.{has_successor, with_withdrawn};
 ghost use Rattle.bor_records.specs.Admission.{last_of};
@@ -131,7 +131,8 @@ pub trait Keep {
             outwards.items ≡ published r.day r.members) };
 
     /// Adds a filing to those of an agent, who has fewer than 999 and none under the key, and gives
-    /// its number. The statements are those of the file, each with its settled status.
+    /// its number. The statements are those of the file: each has its settled status, their
+    /// identifiers are distinct, and none of them is a live statement's of the agent.
     fn add_filing(
         &mut self,
         agent: &AgentName,
@@ -145,6 +146,8 @@ pub trait Keep {
             length (filings_of agent.now r.members) < 999) }
         requires fresh { Sure shows is_clean self.old (λ r.
             filing_keyed key.now (filings_of agent.now r.members) ≡ None) }
+        requires statements { Sure shows is_clean self.old (λ r.
+            AreNew (live_of (filings_of agent.now r.members)) statements.now) }
         ensures began { is_clean self.new → is_clean self.old }
         ensures counts { fault_count self.new ≡ counted result (fault_count self.old) }
         ensures told { IfErr result may_tell }

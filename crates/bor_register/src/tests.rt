@@ -51,13 +51,14 @@ fn enrol<K: Keep>(keep: &mut K, agent: &AgentName, token: &Token) -> Result<(), 
     Ok(())
 }
 
-// Adds a filing where `add_filing` may be called.
+// Adds a filing of one statement where `add_filing` may be called.
+#[tactic(auto, using(crate::proofs::Additions::one_new))]
 fn add<K: Keep>(
     keep: &mut K,
     agent: &AgentName,
     key: &LodgeKey,
     due: Day,
-    statements: &[Statement],
+    statement: Statement,
 ) -> Result<u32, Fail> {
     if !keep.has_agent(agent)? {
         return Err(Fail::from("not enrolled"));
@@ -68,7 +69,11 @@ fn add<K: Keep>(
     if keep.filing(agent, key)?.is_some() {
         return Err(Fail::from("the key is used"));
     }
-    Ok(keep.add_filing(agent, key, due, b"[]", statements)?)
+    if statement.status.is_none() || keep.has_statement(agent, &statement.id)? {
+        return Err(Fail::from("the statement can't be added"));
+    }
+    let statements = [statement];
+    Ok(keep.add_filing(agent, key, due, b"[]", &statements)?)
 }
 
 // The register on 2024-02-01 with the agents birch and alder, enrolled in this order.
@@ -94,8 +99,7 @@ fn file(
     id: &str,
 ) -> Result<u32, Fail> {
     let (agent, lodge_key) = (agent(alloc, name)?, key(alloc, lodge_key)?);
-    let statement = entity(alloc, id)?;
-    add(keep, &agent, &lodge_key, day(due)?, [statement].as_slice())
+    add(keep, &agent, &lodge_key, day(due)?, entity(alloc, id)?)
 }
 
 // How many rows the viewer sees of alder's declaration c1, and how many of all agents.

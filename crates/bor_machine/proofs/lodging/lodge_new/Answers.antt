@@ -5,6 +5,10 @@ use Rattle.bods_read.specs.declared.statement.Statement.{Statement}
 use Rattle.bor_register.specs.Publication.{state_of_live}
 use Rattle.bor_machine.specs.Lodging.{lodge_step}
 use Rattle.bor_machine.specs.Outcomes.{of_lodging}
+use Rattle.bor_register.specs.Live.{live_of, AreNew}
+use Rattle.bor_register.specs.Register.{filings_of}
+use Rattle.bods_read.specs.File.{reading}
+use Rattle.bor_machine.proofs.Additions.{read_are_new}
 use Rattle.bor_machine.proofs.Outcomes.{refused}
 use Rattle.bor_machine.proofs.Lodgings.{full_new, past_new, day_is, refusal_new, accepted_new}
 use Rattle.bor_machine.proofs.lodging.lodge_new.Goals as goal
@@ -43,6 +47,13 @@ returns-in_err-statements-clause-step g c = λ r is clean3.
     let step = lodge_step r c.args.agent.now c.args.key.now c.args.due c.args.bytes.now in
     let left = refusal_new r c.args.agent.now c.args.key.now c.args.due c.args.bytes.now c.in_err-statements.field-0.0 (c.requires.new_key r is clean0) room day.0 (c.in_err-statements.ensures.answer r is2 clean3) in
     rw (e.1, e.2) (refused of_lodging c.in_err-statements.field-0.0 (g.K.Keep.shows c.settled.new.keep) r step left is3)
+
+pub add_filing-requires-clause-statements : goal.add_filing-requires-clause-statements
+add_filing-requires-clause-statements g c = λ r is3 clean3.
+    let is2 = (c.in_ok-statements.ensures.kept.same clean3 r).1 is3 in
+    let live = live_of (filings_of c.args.agent.now r.members) in
+    let added = read_are_new live c.args.due (reading c.args.bytes.now) _ (c.in_ok-statements.ensures.answer r is2 clean3) in
+    subst (AreNew live) (sym c.deref.ensures.value) added
 
 pub returns-clause-step : goal.returns-clause-step
 returns-clause-step g c = λ r is clean4.
