@@ -2,6 +2,7 @@ pub mod SeenChains
 pub mod SeenSnapshots
 pub mod Reports
 pub mod Steps
+pub mod Unchanged
 pub mod Isolation
 pub mod Examples
 pub mod StepExamples

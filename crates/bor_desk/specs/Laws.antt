@@ -1,5 +1,5 @@
 -- What an exchange tells an agent, and what it leaves.
-use Rattle.std.specs.Prelude.{◌≡◌, ℕ, List, Bool, false, Option, Some}
+use Rattle.std.specs.Prelude.{◌≡◌, ℕ, List, Bool, true, false, Option, Some}
 use Rattle.bor_terms.specs.Texts.{is_same}
 use Rattle.bor_register.specs.declared.caller.Caller.{Caller}
 use Rattle.bor_register.specs.declared.caller.Caller.TheVariants.{Registrar, Agent}
@@ -8,9 +8,11 @@ use Rattle.bor_machine.specs.Legality.{IsLegal}
 use Rattle.bor_machine.specs.Laws.{LeavesOthers}
 use Rattle.bor_machine.specs.Solo.{alone}
 use Rattle.bor_desk.specs.declared.request.Request.{Request}
+use Rattle.bor_desk.specs.declared.request.Request.TheVariants as ask
 use Rattle.bor_desk.specs.declared.reply.DeskReply.{DeskReply}
-use Rattle.bor_desk.specs.Outcomes.{IsAnswered}
-use Rattle.bor_desk.specs.Step.{step, agent_step, registrar_step}
+use Rattle.bor_desk.specs.declared.reply.DeskReply.TheVariants as tell
+use Rattle.bor_desk.specs.Outcomes.{IsTold, IsAnswered}
+use Rattle.bor_desk.specs.Step.{Answer, exactly, report, step, agent_step, registrar_step}
 use Rattle.bor_desk.specs.Runs.{Asked, register_after, history, answers_to, solo}
 
 -- whether the caller is this agent
@@ -24,6 +26,41 @@ pub record OwnFilingsUntouched : Type 0 where
       filings_of name (step r caller request).register.members ≡ filings_of name r.members
   pub by_an_agent : (r : Register) (name : List ℕ) (request : Request) → LeavesOthers name r (agent_step r name request).register
   pub by_the_registrar : (r : Register) (request : Request) → (registrar_step r request).register.registrar ≡ r.registrar
+
+-- whether the answer may tell of a change: a filing that is lodged and wasn't before, a withdrawal, the day, or an agent that is enrolled
+abbrev pub may_tell_a_change : Answer → Bool
+may_tell_a_change (exactly (tell.Lodged lodged)) = lodged.fresh
+may_tell_a_change (exactly (tell.Withdrawn line)) = true
+may_tell_a_change (exactly (tell.Day day)) = true
+may_tell_a_change (exactly (tell.Enrolled name)) = true
+may_tell_a_change answer = false
+
+-- Whatever else is answered, a refusal above all, leaves the register as it was.
+abbrev pub RefusalChangesNothing : Type 0
+RefusalChangesNothing = (r : Register) (caller : Option Caller) (request : Request) → may_tell_a_change (step r caller request).answer ≡ false → (step r caller request).register ≡ r
+
+-- whether the request only reads
+abbrev pub is_read : Request → Bool
+is_read ask.Filings = true
+is_read (ask.File key) = true
+is_read ask.Published = true
+is_read (ask.Snapshot agent declaration date) = true
+is_read (ask.Chains entity date) = true
+is_read request = false
+
+-- whether the reply is to a request that only reads, a refusal apart: it may be of any length
+abbrev pub is_long : DeskReply → Bool
+is_long (tell.Filings lines) = true
+is_long (tell.File bytes) = true
+is_long (tell.Published outwards) = true
+is_long (tell.Snapshot date records) = true
+is_long (tell.Chains entity date persons) = true
+is_long reply = false
+
+-- A request that only reads leaves the register as it was, whatever it is answered; and so does each request that is told a reply of any length.
+pub record ReadsLeave : Type 0 where
+  pub by_request : (r : Register) (caller : Option Caller) (request : Request) → is_read request ≡ true → (step r caller request).register ≡ r
+  pub by_reply : (r : Register) (caller : Option Caller) (request : Request) (reply : DeskReply) → IsTold (step r caller request).answer reply → is_long reply ≡ true → (step r caller request).register ≡ r
 
 -- Each step leaves a legal register legal.
 abbrev pub StepStaysLegal : Type 0

@@ -1,7 +1,7 @@
 //! Laws of the step. Each function does nothing: its contract is the law.
 
 ghost use Rattle.bor_desk.specs.Outcomes.{AnswerIsDetermined};
-ghost use Rattle.bor_desk.specs.Laws.{OwnFilingsUntouched, StepStaysLegal, OneExchangeAlone, IsolationOfHistories};
+ghost use Rattle.bor_desk.specs.Laws.{OwnFilingsUntouched, ReadsLeave, RefusalChangesNothing, StepStaysLegal, OneExchangeAlone, IsolationOfHistories};
 
 /// Two replies that tell one answer are equal.
 pub fn answer_is_determined()
@@ -13,6 +13,18 @@ pub fn answer_is_determined()
 /// agents. This holds of every register.
 pub fn own_filings_untouched()
     ensures { OwnFilingsUntouched }
+{}
+
+/// A refusal leaves the register as it was: only a filing that is lodged and wasn't before, a
+/// withdrawal, a day or an enrolment changes it. This holds of every register, caller and request.
+pub fn refusal_changes_nothing()
+    ensures { RefusalChangesNothing }
+{}
+
+/// What only reads leaves the register as it was, whatever it is answered, and each reply that may
+/// be of any length is to such a request. This holds of every register, caller and request.
+pub fn reads_leave()
+    ensures { ReadsLeave }
 {}
 
 /// Each step leaves a legal register legal.

@@ -1,0 +1,129 @@
+-- What leaves the register as it was: refusals, and requests that only read.
+use Rattle.std.proofs.Common.{◌≡◌, ℕ, ℤ, List, Bool, true, false, Option, Some, None, Result, Ok, Err, refl, sym, ap, subst, ◌∙◌}
+use Rattle.std.specs.Prelude.{int_lt, int_le, if◌then◌else◌}
+use Rattle.bor_register.specs.declared.caller.Caller.{Caller}
+use Rattle.bor_register.specs.declared.caller.Caller.TheVariants.{Registrar, Agent}
+use Rattle.bor_register.specs.declared.filing.AcceptedFiling.{AcceptedFiling}
+use Rattle.bor_register.specs.Register.{Register, is_enrolled, is_taken, filing_keyed, with_filings}
+use Rattle.bor_register.specs.Publication.{line_of}
+use Rattle.bor_register.specs.Withdrawal.{has_successor, as_withdrawn, with_withdrawn}
+use Rattle.bor_machine.specs.declared.fault.LodgeFault.{LodgeFault}
+use Rattle.bor_machine.specs.declared.fault.WithdrawFault.TheVariants as withdraws
+use Rattle.bor_machine.specs.Sight.{Sight, sight_of}
+use Rattle.bor_machine.specs.Lodging.{addition, told_added, own_added, lodging_at, own_lodged_at}
+use Rattle.bor_machine.specs.Withdrawing.{withdrawal_at, own_withdrawn_at}
+use Rattle.bor_desk.specs.declared.request.Request.{Request}
+use Rattle.bor_desk.specs.declared.request.Request.TheVariants as ask
+use Rattle.bor_desk.specs.declared.reply.DeskReply.{DeskReply}
+use Rattle.bor_desk.specs.declared.reply.DeskReply.TheVariants as tell
+use Rattle.bor_desk.specs.Refusals.{of_lodging, of_withdrawal}
+use Rattle.bor_desk.specs.Step.{Answer, exactly, report, told, agent_answer, own_after, agent_step, registrar_step, step}
+use Rattle.bor_desk.specs.Outcomes.{IsTold}
+use Rattle.bor_desk.specs.Laws.{may_tell_a_change, RefusalChangesNothing, is_read, is_long, ReadsLeave}
+use Rattle.bor_desk.proofs.Steps.{written_back}
+
+-- an agent's request leaves the register where it leaves the agent's filings
+pub left_by_agent : (r : Register) (name : List ℕ) (request : Request) → own_after (sight_of name r) request ≡ (sight_of name r).own → (agent_step r name request).register ≡ r
+left_by_agent r name request same = ap (λ own. record r { members = with_filings name own r.members }) same ∙ written_back r name
+
+-- ---- a lodging and a withdrawal
+
+unadded : (day : ℤ) (own : List AcceptedFiling) (added : Result AcceptedFiling LodgeFault) → may_tell_a_change (told tell.Lodged of_lodging (told_added day added)) ≡ false → own_added own added ≡ own
+unadded day own (Ok f) h = absurd cc
+unadded day own (Err fault) h = refl
+
+unlodged : (s : Sight) (key : List ℕ) (due : ℤ) (bytes : List ℕ) (at : Option AcceptedFiling) → may_tell_a_change (told tell.Lodged of_lodging (lodging_at s key due bytes at)) ≡ false → own_lodged_at s key due bytes at ≡ s.own
+unlodged s key due bytes (Some f) h = refl
+unlodged s key due bytes None h = unadded s.day s.own (addition s key due bytes) h
+
+unwithdrawn : (s : Sight) (at : Option AcceptedFiling) → may_tell_a_change (told tell.Withdrawn of_withdrawal (withdrawal_at s at)) ≡ false → own_withdrawn_at s at ≡ s.own
+unwithdrawn s None h = refl
+unwithdrawn s (Some f) h = by_tests f.withdrawn (int_le f.due s.day) (has_successor f.number s.own) h
+  where
+    by_tests : (withdrawn published stood : Bool) →
+        may_tell_a_change (told tell.Withdrawn of_withdrawal (if withdrawn then Ok (line_of s.day f) else (if published then Err withdraws.Published else (if stood then Err withdraws.HasSuccessor else Ok (line_of s.day (as_withdrawn f)))))) ≡ false →
+        (if withdrawn then s.own else (if published then s.own else (if stood then s.own else with_withdrawn f.number s.own))) ≡ s.own
+    by_tests true published stood h = refl
+    by_tests false true stood h = refl
+    by_tests false false true h = refl
+    by_tests false false false h = absurd cc
+
+unchanged_by_agent : (r : Register) (name : List ℕ) (request : Request) → may_tell_a_change (agent_step r name request).answer ≡ false → own_after (sight_of name r) request ≡ (sight_of name r).own
+unchanged_by_agent r name (ask.Lodge key due file) h = let s = sight_of name r in unlodged s key due file (filing_keyed key s.own) h
+unchanged_by_agent r name (ask.Withdraw key) h = let s = sight_of name r in unwithdrawn s (filing_keyed key s.own) h
+unchanged_by_agent r name ask.Filings h = refl
+unchanged_by_agent r name (ask.File key) h = refl
+unchanged_by_agent r name ask.Published h = refl
+unchanged_by_agent r name (ask.Snapshot agent declaration date) h = refl
+unchanged_by_agent r name (ask.Chains entity date) h = refl
+unchanged_by_agent r name (ask.Day date) h = refl
+unchanged_by_agent r name (ask.Enrol new token) h = refl
+
+-- ---- the registrar
+
+unadvanced : (r : Register) (date : ℤ) (back : Bool) → int_lt date r.day ≡ back → may_tell_a_change (registrar_step r (ask.Day date)).answer ≡ false → (registrar_step r (ask.Day date)).register ≡ r
+unadvanced r date true e h = rw e refl
+unadvanced r date false e h = absurd (let no = rw e at h in cc)
+
+unenrolled : (r : Register) (name token : List ℕ) (named taken : Bool) → is_enrolled name r.members ≡ named → is_taken token r ≡ taken →
+    may_tell_a_change (registrar_step r (ask.Enrol name token)).answer ≡ false → (registrar_step r (ask.Enrol name token)).register ≡ r
+unenrolled r name token true taken e f h = rw e refl
+unenrolled r name token false true e f h = rw (e, f) refl
+unenrolled r name token false false e f h = absurd (let no = rw (e, f) at h in cc)
+
+unchanged_by_registrar : (r : Register) (request : Request) → may_tell_a_change (registrar_step r request).answer ≡ false → (registrar_step r request).register ≡ r
+unchanged_by_registrar r (ask.Day date) h = unadvanced r date (int_lt date r.day) refl h
+unchanged_by_registrar r (ask.Enrol name token) h = unenrolled r name token (is_enrolled name r.members) (is_taken token r) refl refl h
+unchanged_by_registrar r (ask.Lodge key due file) h = refl
+unchanged_by_registrar r (ask.Withdraw key) h = refl
+unchanged_by_registrar r ask.Filings h = refl
+unchanged_by_registrar r (ask.File key) h = refl
+unchanged_by_registrar r ask.Published h = refl
+unchanged_by_registrar r (ask.Snapshot agent declaration date) h = refl
+unchanged_by_registrar r (ask.Chains entity date) h = refl
+
+-- ---- refusals
+
+pub refusal_leaves : RefusalChangesNothing
+refusal_leaves r None request h = refl
+refusal_leaves r (Some Registrar) request h = unchanged_by_registrar r request h
+refusal_leaves r (Some (Agent name)) request h = left_by_agent r name request (unchanged_by_agent r name request h)
+
+-- ---- reads
+
+own_read : (s : Sight) (request : Request) → is_read request ≡ true → own_after s request ≡ s.own
+own_read s (ask.Lodge key due file) h = absurd cc
+own_read s (ask.Withdraw key) h = absurd cc
+own_read s request h = refl
+
+-- an agent's request that only reads leaves the register
+pub read_leaves : (r : Register) (name : List ℕ) (request : Request) → is_read request ≡ true → (agent_step r name request).register ≡ r
+read_leaves r name request h = left_by_agent r name request (own_read (sight_of name r) request h)
+
+registrar_reads : (r : Register) (request : Request) → is_read request ≡ true → (registrar_step r request).register ≡ r
+registrar_reads r (ask.Day date) h = absurd cc
+registrar_reads r (ask.Enrol name token) h = absurd cc
+registrar_reads r request h = refl
+
+reads_leave_by_request : (r : Register) (caller : Option Caller) (request : Request) → is_read request ≡ true → (step r caller request).register ≡ r
+reads_leave_by_request r None request h = refl
+reads_leave_by_request r (Some Registrar) request h = registrar_reads r request h
+reads_leave_by_request r (Some (Agent name)) request h = read_leaves r name request h
+
+-- a reply of any length tells of no change
+long_is_unchanged : (reply : DeskReply) → is_long reply ≡ true → may_tell_a_change (exactly reply) ≡ false
+long_is_unchanged (tell.Lodged lodged) h = absurd cc
+long_is_unchanged (tell.Withdrawn line) h = absurd cc
+long_is_unchanged (tell.Day day) h = absurd cc
+long_is_unchanged (tell.Enrolled name) h = absurd cc
+long_is_unchanged reply h = refl
+
+long_told : (answer : Answer) (reply : DeskReply) → IsTold answer reply → is_long reply ≡ true → may_tell_a_change answer ≡ false
+long_told (exactly wanted) reply told h = long_is_unchanged wanted (ap is_long (sym told) ∙ h)
+long_told (report entity day shown) reply told h = refl
+
+pub reads : ReadsLeave
+reads = record {
+  by_request = reads_leave_by_request;
+  by_reply = λ r caller request reply told h. refusal_leaves r caller request (long_told (step r caller request).answer reply told h);
+}
