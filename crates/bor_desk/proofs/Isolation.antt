@@ -1,8 +1,8 @@
 -- What an agent is answered follows from its own exchanges, the day, and what the others have published.
-use Rattle.std.proofs.Common.{◌≡◌, ℕ, ℤ, List, [], ◌∷◌, Bool, true, false, Option, Some, None, Result, refl, ◌∙◌, sym, ap, subst, arith}
+use Rattle.std.proofs.Common.{◌≡◌, ℕ, ℤ, List, [], ◌∷◌, Bool, true, false, Option, Some, None, refl, ◌∙◌, sym, ap, subst, arith}
 use Rattle.std.specs.Prelude.{int_lt, if◌then◌else◌}
 use Rattle.bor_terms.specs.Texts.{is_same}
-use Rattle.bor_terms.proofs.Texts.{same_is, same_refl, same_sym}
+use Rattle.bor_terms.proofs.Texts.{same_is, same_refl}
 use Rattle.bor_register.specs.declared.caller.Caller.{Caller}
 use Rattle.bor_register.specs.declared.caller.Caller.TheVariants.{Registrar, Agent}
 use Rattle.bor_register.specs.declared.member.Member.{Member}
@@ -10,20 +10,19 @@ use Rattle.bor_register.specs.declared.filing.AcceptedFiling.{AcceptedFiling}
 use Rattle.bor_register.specs.Register.{Register, caller_of, is_enrolled, is_taken, filings_of, with_filings, new_member, with_member}
 use Rattle.bor_register.proofs.Callers.{caller_is_enrolled}
 use Rattle.bor_machine.specs.Legality.{IsLegal}
-use Rattle.bor_machine.specs.Sight.{Outcome, sight_of}
+use Rattle.bor_machine.specs.Sight.{sight_of}
 use Rattle.bor_machine.specs.Registrar.{advance_step, enrol_step}
-use Rattle.bor_machine.specs.Solo.{published_beside, with_outwards, member_with, solo_register, alone}
+use Rattle.bor_machine.specs.Solo.{published_beside, with_outwards, member_with, alone}
 use Rattle.bor_machine.proofs.Legality.{other-with_filings, leaves-with_filings}
 use Rattle.bor_machine.proofs.Alone.{filings-with_member, sight-alone}
 use Rattle.bor_desk.specs.declared.request.Request.{Request}
 use Rattle.bor_desk.specs.declared.request.Request.TheVariants as ask
-use Rattle.bor_desk.specs.Step.{Answer, own_after, agent_answer, agent_step, registrar_step, step}
-use Rattle.bor_desk.specs.Runs.{Asked, Occasion, exchange, register_after, request_by, occasion_then, history, answer_then, answers_to, solo}
-use Rattle.bor_register.specs.declared.fault.StoreFault.{StoreFault}
+use Rattle.bor_desk.specs.Step.{own_after, agent_answer, agent_step, registrar_step, step}
+use Rattle.bor_desk.specs.Runs.{Asked, exchange, register_after, request_by, occasion_then, history, answer_then, answers_to, solo}
 use Rattle.bor_desk.specs.declared.reply.DeskReply.{DeskReply}
-use Rattle.bor_desk.specs.Outcomes.{IsTold, ByReply, IsServed, IsAnswered}
+use Rattle.bor_desk.specs.Outcomes.{IsAnswered}
 use Rattle.bor_desk.specs.Laws.{is_agent, OwnFilingsUntouched, IsAsAlone, IsToldAlone, OneExchangeAlone, IsolationOfHistories}
-use Rattle.bor_desk.proofs.Steps.{step-stays_legal, by_reply}
+use Rattle.bor_desk.proofs.Steps.{step-stays_legal}
 
 -- ---- the filings of the others
 
@@ -119,18 +118,12 @@ as_alone r name request legal enrolled =
 pub exchange_alone : OneExchangeAlone
 exchange_alone r token name request legal is = as_alone r name request legal (caller_is_enrolled r token name is)
 
-told_by : (reply : DeskReply) (shown : Type 0) (Q : StoreFault → Type 0) (a b : Answer) → b ≡ a → ByReply reply (IsTold a reply × shown) Q → IsAnswered reply b
-told_by reply shown Q a b same h =
-    by_reply reply (IsTold a reply × shown) (IsTold b reply) Q (λ f. Unit {0}) (λ both. subst (λ x. IsTold x reply) (sym same) both.0) (λ f q. tt) h
-
 -- a reply that tells the step's answer to an agent tells the one that it would get alone
-pub told_alone : (reply : DeskReply) (shown : Register → Type 0) (r : Register) (token : List ℕ) (caller : Option Caller) (request : Request) → caller_of token r ≡ caller → IsLegal r →
-    IsServed reply shown r (step r caller request) → IsToldAlone reply caller r request
-told_alone reply shown r token None request is legal h = tt
-told_alone reply shown r token (Some Registrar) request is legal h = tt
-told_alone reply shown r token (Some (Agent name)) request is legal h =
-    told_by reply (shown (agent_step r name request).register) (λ fault. shown r) (agent_step r name request).answer (agent_step (alone name r) name request).answer
-    (exchange_alone r token name request legal is).answer h
+pub told_alone : (reply : DeskReply) (r : Register) (token : List ℕ) (caller : Option Caller) (request : Request) → caller_of token r ≡ caller → IsLegal r →
+    IsAnswered reply (step r caller request).answer → IsToldAlone reply caller r request
+told_alone reply r token None request is legal h = tt
+told_alone reply r token (Some Registrar) request is legal h = tt
+told_alone reply r token (Some (Agent name)) request is legal h = subst (IsAnswered reply) (sym (exchange_alone r token name request legal is).answer) h
 
 -- ---- runs
 

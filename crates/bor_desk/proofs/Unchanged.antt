@@ -1,5 +1,5 @@
 -- What leaves the register as it was: refusals, and requests that only read.
-use Rattle.std.proofs.Common.{◌≡◌, ℕ, ℤ, List, Bool, true, false, Option, Some, None, Result, Ok, Err, refl, sym, ap, subst, ◌∙◌}
+use Rattle.std.proofs.Common.{◌≡◌, ℕ, ℤ, List, Bool, true, false, Option, Some, None, Result, Ok, Err, refl, sym, ap, ◌∙◌}
 use Rattle.std.specs.Prelude.{int_lt, int_le, if◌then◌else◌}
 use Rattle.bor_register.specs.declared.caller.Caller.{Caller}
 use Rattle.bor_register.specs.declared.caller.Caller.TheVariants.{Registrar, Agent}
@@ -17,7 +17,7 @@ use Rattle.bor_desk.specs.declared.request.Request.TheVariants as ask
 use Rattle.bor_desk.specs.declared.reply.DeskReply.{DeskReply}
 use Rattle.bor_desk.specs.declared.reply.DeskReply.TheVariants as tell
 use Rattle.bor_desk.specs.Refusals.{of_lodging, of_withdrawal}
-use Rattle.bor_desk.specs.Step.{Answer, exactly, report, told, agent_answer, own_after, agent_step, registrar_step, step}
+use Rattle.bor_desk.specs.Step.{Answer, exactly, report, told, own_after, may_change_own, agent_step, registrar_step, step}
 use Rattle.bor_desk.specs.Outcomes.{IsTold}
 use Rattle.bor_desk.specs.Laws.{may_tell_a_change, RefusalChangesNothing, is_read, is_long, ReadsLeave}
 use Rattle.bor_desk.proofs.Steps.{written_back}
@@ -25,6 +25,15 @@ use Rattle.bor_desk.proofs.Steps.{written_back}
 -- an agent's request leaves the register where it leaves the agent's filings
 pub left_by_agent : (r : Register) (name : List ℕ) (request : Request) → own_after (sight_of name r) request ≡ (sight_of name r).own → (agent_step r name request).register ≡ r
 left_by_agent r name request same = ap (λ own. record r { members = with_filings name own r.members }) same ∙ written_back r name
+
+own_same : (s : Sight) (request : Request) → may_change_own request ≡ false → own_after s request ≡ s.own
+own_same s (ask.Lodge key due file) h = absurd cc
+own_same s (ask.Withdraw key) h = absurd cc
+own_same s request h = refl
+
+-- so does each request but a lodging and a withdrawal
+pub same_own : (r : Register) (name : List ℕ) (request : Request) → may_change_own request ≡ false → (agent_step r name request).register ≡ r
+same_own r name request h = left_by_agent r name request (own_same (sight_of name r) request h)
 
 -- ---- a lodging and a withdrawal
 
@@ -91,14 +100,10 @@ refusal_leaves r (Some (Agent name)) request h = left_by_agent r name request (u
 
 -- ---- reads
 
-own_read : (s : Sight) (request : Request) → is_read request ≡ true → own_after s request ≡ s.own
-own_read s (ask.Lodge key due file) h = absurd cc
-own_read s (ask.Withdraw key) h = absurd cc
-own_read s request h = refl
-
--- an agent's request that only reads leaves the register
-pub read_leaves : (r : Register) (name : List ℕ) (request : Request) → is_read request ≡ true → (agent_step r name request).register ≡ r
-read_leaves r name request h = left_by_agent r name request (own_read (sight_of name r) request h)
+read_is_no_change : (request : Request) → is_read request ≡ true → may_change_own request ≡ false
+read_is_no_change (ask.Lodge key due file) h = absurd cc
+read_is_no_change (ask.Withdraw key) h = absurd cc
+read_is_no_change request h = refl
 
 registrar_reads : (r : Register) (request : Request) → is_read request ≡ true → (registrar_step r request).register ≡ r
 registrar_reads r (ask.Day date) h = absurd cc
@@ -108,7 +113,7 @@ registrar_reads r request h = refl
 reads_leave_by_request : (r : Register) (caller : Option Caller) (request : Request) → is_read request ≡ true → (step r caller request).register ≡ r
 reads_leave_by_request r None request h = refl
 reads_leave_by_request r (Some Registrar) request h = registrar_reads r request h
-reads_leave_by_request r (Some (Agent name)) request h = read_leaves r name request h
+reads_leave_by_request r (Some (Agent name)) request h = same_own r name request (read_is_no_change request h)
 
 -- a reply of any length tells of no change
 long_is_unchanged : (reply : DeskReply) → is_long reply ≡ true → may_tell_a_change (exactly reply) ≡ false

@@ -2,7 +2,7 @@
 use Rattle.std.specs.Prelude.{◌≡◌, ℕ, List, Bool, true, false, Option, Some}
 use Rattle.bor_terms.specs.Texts.{is_same}
 use Rattle.bor_register.specs.declared.caller.Caller.{Caller}
-use Rattle.bor_register.specs.declared.caller.Caller.TheVariants.{Registrar, Agent}
+use Rattle.bor_register.specs.declared.caller.Caller.TheVariants.{Agent}
 use Rattle.bor_register.specs.Register.{Register, caller_of, filings_of}
 use Rattle.bor_machine.specs.Legality.{IsLegal}
 use Rattle.bor_machine.specs.Laws.{LeavesOthers}
@@ -12,7 +12,7 @@ use Rattle.bor_desk.specs.declared.request.Request.TheVariants as ask
 use Rattle.bor_desk.specs.declared.reply.DeskReply.{DeskReply}
 use Rattle.bor_desk.specs.declared.reply.DeskReply.TheVariants as tell
 use Rattle.bor_desk.specs.Outcomes.{IsTold, IsAnswered}
-use Rattle.bor_desk.specs.Step.{Answer, exactly, report, step, agent_step, registrar_step}
+use Rattle.bor_desk.specs.Step.{Answer, exactly, step, agent_step, registrar_step}
 use Rattle.bor_desk.specs.Runs.{Asked, register_after, history, answers_to, solo}
 
 -- whether the caller is this agent

@@ -1,5 +1,5 @@
 -- What a reply has of the step.
-use Rattle.std.specs.Prelude.{◌≡◌, ◌⊎◌, ℕ, ℤ, List, Result, Ok, Err}
+use Rattle.std.specs.Prelude.{◌≡◌, ◌⊎◌, ℕ, ℤ, List, Option, Some, None, Result, Ok, Err}
 use Rattle.bor_links.specs.declared.node.Node.{Node}
 use Rattle.bor_chains.specs.declared.line.PersonLine.{PersonLine}
 use Rattle.bor_links.specs.Shown.{Shown}
@@ -7,8 +7,7 @@ use Rattle.bor_chains.specs.Chains.{AreJoined}
 use Rattle.bor_register.specs.declared.fault.StoreFault.{StoreFault}
 use Rattle.bor_register.specs.declared.fault.StoreFault.TheVariants.{Memory}
 use Rattle.bor_register.specs.Register.{Register}
-use Rattle.bor_machine.specs.Sight.{Outcome}
-use Rattle.bor_machine.specs.Outcomes.{HasCause}
+use Rattle.bor_machine.specs.Outcomes.{ByStore, HasCause}
 use Rattle.bor_desk.specs.declared.reply.DeskReply.{DeskReply}
 use Rattle.bor_desk.specs.declared.reply.DeskReply.TheVariants as tell
 use Rattle.bor_desk.specs.declared.refusal.DeskFault.{DeskFault}
@@ -25,28 +24,28 @@ abbrev pub denial : DeskFault → DeskReply
 denial (Refused why) = tell.Refused why
 denial (Failed fault) = tell.Failed fault
 
--- P of a reply that tells the answer, Q of a fault of the store
-abbrev pub ByReply : DeskReply → Type 0 → (StoreFault → Type 0) → Type 0
-ByReply (tell.Failed fault) P Q = Q fault
-ByReply reply P Q = P
+-- the fault of the store that a reply tells
+abbrev pub fault_of : DeskReply → Option StoreFault
+fault_of (tell.Failed fault) = Some fault
+fault_of reply = None
 
--- The reply tells the step's answer and the step's register is shown; want of memory or a failed store leaves the register as it was.
-abbrev pub IsServed : DeskReply → (Register → Type 0) → Register → Outcome Answer → Type 0
-IsServed reply shown r o = ByReply reply (IsTold o.answer reply × shown o.register) (λ fault. shown r)
+-- The reply tells the answer, or a fault of the store.
+abbrev pub IsAnswered : DeskReply → Answer → Type 0
+IsAnswered reply answer = ByStore (fault_of reply) (IsTold answer reply) (λ fault. Unit {0})
+
+-- The step's register is shown; a reply that tells a fault of the store leaves the register as it was.
+abbrev pub IsLeft : DeskReply → (Register → Type 0) → Register → Register → Type 0
+IsLeft reply shown r after = ByStore (fault_of reply) (shown after) (λ fault. shown r)
 
 -- a failed or damaged store is told only where the keep's count of faults moved; a reply that is no fault leaves the count
 abbrev pub IsReplyAccounted : DeskReply → ℕ → ℕ → Type 0
-IsReplyAccounted reply before after = ByReply reply (after ≡ before) (λ fault. HasCause fault before after)
+IsReplyAccounted reply before after = ByStore (fault_of reply) (after ≡ before) (λ fault. HasCause fault before after)
 
 -- a fault of the store is one that the keep may tell, or want of memory
 abbrev pub IsReplyTold : (StoreFault → Type 0) → DeskReply → Type 0
-IsReplyTold may_tell reply = ByReply reply (Unit {0}) (λ fault. (fault ≡ Memory) ⊎ may_tell fault)
+IsReplyTold may_tell reply = ByStore (fault_of reply) (Unit {0}) (λ fault. (fault ≡ Memory) ⊎ may_tell fault)
 
 -- ---- parts of an answer
-
--- the same of a reply that leaves the register
-abbrev pub IsAnswered : DeskReply → Answer → Type 0
-IsAnswered reply answer = ByReply reply (IsTold answer reply) (λ fault. Unit {0})
 
 -- the persons that were found, or why there is no report, are those of the answer to who stands behind an entity
 abbrev pub AreFound : {P : Type 0} → (P → List PersonLine) → Result P DeskFault → Shown → Node → ℤ → Type 0

@@ -1,5 +1,5 @@
 -- What each request is answered, and the register after it (this register's own rules).
-use Rattle.std.specs.Prelude.{ℕ, ℤ, List, map, filter, Option, Some, None, unwrap_or, Result, Ok, Err, if◌then◌else◌}
+use Rattle.std.specs.Prelude.{ℕ, ℤ, Bool, true, false, List, map, filter, Option, Some, None, unwrap_or, Result, Ok, Err, if◌then◌else◌}
 use Rattle.bor_terms.specs.Texts.{is_same}
 use Rattle.bor_records.specs.declared.row.Row.{Row}
 use Rattle.bor_records.specs.Snapshot.{snapshot}
@@ -82,6 +82,12 @@ abbrev pub own_after : Sight → Request → List AcceptedFiling
 own_after s (ask.Lodge key due file) = own_lodged s key due file
 own_after s (ask.Withdraw key) = own_withdrawn s key
 own_after s request = s.own
+
+-- whether the request may change the agent's filings
+abbrev pub may_change_own : Request → Bool
+may_change_own (ask.Lodge key due file) = true
+may_change_own (ask.Withdraw key) = true
+may_change_own request = false
 
 abbrev pub agent_step : Register → List ℕ → Request → Outcome Answer
 agent_step r name request =

@@ -1,14 +1,14 @@
 //! Who asks, and what is answered.
 
-ghost use Rattle.std.specs.Prelude.{◌≡◌, IfOk, IfErr, unwrap_or, true};
-ghost use Rattle.bor_register.specs.Register.{Register, caller_of, is_enrolled, filings_of, filing_keyed};
+ghost use Rattle.std.specs.Prelude.{◌≡◌, IfOk, IfErr, unwrap_or, true, false};
+ghost use Rattle.bor_register.specs.Register.{Register, IsOrdered, caller_of, is_enrolled, filings_of, filing_keyed};
 ghost use Rattle.bor_records.specs.Promises.{Promised, Sure, Kept};
 ghost use Rattle.bor_machine.specs.Legality.{IsLegal};
-ghost use Rattle.bor_machine.specs.Sight.{seen_by};
+ghost use Rattle.bor_machine.specs.Sight.{seen_by, sight_of};
 ghost use Rattle.bor_machine.specs.Outcomes.{IsCounted};
-ghost use Rattle.bor_desk.specs.Step.{step, agent_step, registrar_step, file_answer, chains_answer, snapshot_answer};
+ghost use Rattle.bor_desk.specs.Step.{step, agent_answer, agent_step, may_change_own, registrar_step, file_answer, chains_answer, snapshot_answer};
 ghost use Rattle.bor_desk.specs.Laws.{IsToldAlone};
-ghost use Rattle.bor_desk.specs.Outcomes.{IsServed, IsAnswered, IsReplyAccounted, IsReplyTold, reply_of, denial};
+ghost use Rattle.bor_desk.specs.Outcomes.{IsAnswered, IsLeft, IsReplyAccounted, IsReplyTold, reply_of, denial};
 
 use crate::refusal::{DeskFault, Refusal};
 use crate::reply::DeskReply;
@@ -73,7 +73,7 @@ fn snapshot_for<K: Keep>(
     ensures told { IsReplyTold K.may_tell (reply_of result) }
     ensures accounted { IsReplyAccounted (reply_of result) (K.fault_count keep.old) (K.fault_count keep.new) }
     ensures answer { Promised K.shows K.is_clean keep.old keep.new (λ r.
-        IsLegal r → IsAnswered (reply_of result)
+        IsOrdered r.members → IsAnswered (reply_of result)
         (snapshot_answer (seen_by viewer.now r) agent.now declaration.now (unwrap_or date r.day))) }
 {
     let date = date_or_day(keep, date)?;
@@ -107,6 +107,38 @@ fn chains_for<K: Keep>(
     })
 }
 
+// What an agent is told where its filings stay as they are: what it reads, or that it isn't the
+// registrar.
+fn tell_agent<K: Keep>(
+    alloc: Global,
+    keep: &mut K,
+    name: &AgentName,
+    request: &Request,
+) -> Result<DeskReply, DeskFault>
+    requires { may_change_own request.now ≡ false }
+    ensures kept { Kept K.shows K.is_clean keep.old keep.new }
+    ensures accounted { IsReplyAccounted (reply_of result) (K.fault_count keep.old) (K.fault_count keep.new) }
+    ensures told { IsReplyTold K.may_tell (reply_of result) }
+    ensures answer { Promised K.shows K.is_clean keep.old keep.new (λ r.
+        IsOrdered r.members → IsAnswered (reply_of result) (agent_answer (sight_of name.now r) request.now)) }
+{
+    match request {
+        Request::Filings => Ok(DeskReply::Filings(Listed::new(keep.filings(name)?))),
+        Request::File { key } => file_for(keep, name, key),
+        Request::Published => Ok(DeskReply::Published(Listed::new(keep.published()?))),
+        Request::Snapshot {
+            agent,
+            declaration,
+            date,
+        } => snapshot_for(alloc, keep, name, agent, declaration, *date),
+        Request::Chains { entity, date } => chains_for(alloc, keep, name, entity, *date),
+        Request::Day { .. } | Request::Enrol { .. } => {
+            Err(DeskFault::Refused(Refusal::NotRegistrar))
+        }
+        Request::Lodge { .. } | Request::Withdraw { .. } => unreachable!(),
+    }
+}
+
 fn answer_agent<K: Keep>(
     alloc: Global,
     keep: &mut K,
@@ -116,7 +148,9 @@ fn answer_agent<K: Keep>(
     requires enrolled { Sure K.shows K.is_clean keep.old (λ r. is_enrolled name.now r.members ≡ true) }
     ensures began { K.is_clean keep.new → K.is_clean keep.old }
     ensures step { Promised K.shows K.is_clean keep.old keep.new (λ r.
-        IsLegal r → IsServed (reply_of result) (K.shows keep.new) r (agent_step r name.now request.now)) }
+        IsOrdered r.members → IsAnswered (reply_of result) (agent_step r name.now request.now).answer) }
+    ensures left { Promised K.shows K.is_clean keep.old keep.new (λ r.
+        IsLeft (reply_of result) (K.shows keep.new) r (agent_step r name.now request.now).register) }
     ensures accounted { IsReplyAccounted (reply_of result) (K.fault_count keep.old) (K.fault_count keep.new) }
     ensures told { IsReplyTold K.may_tell (reply_of result) }
 {
@@ -130,18 +164,7 @@ fn answer_agent<K: Keep>(
             file.as_slice(),
         )?)),
         Request::Withdraw { key } => Ok(DeskReply::Withdrawn(withdraw(alloc, keep, name, key)?)),
-        Request::Filings => Ok(DeskReply::Filings(Listed::new(keep.filings(name)?))),
-        Request::File { key } => file_for(keep, name, key),
-        Request::Published => Ok(DeskReply::Published(Listed::new(keep.published()?))),
-        Request::Snapshot {
-            agent,
-            declaration,
-            date,
-        } => snapshot_for(alloc, keep, name, agent, declaration, *date),
-        Request::Chains { entity, date } => chains_for(alloc, keep, name, entity, *date),
-        Request::Day { .. } | Request::Enrol { .. } => {
-            Err(DeskFault::Refused(Refusal::NotRegistrar))
-        }
+        _ => tell_agent(alloc, keep, name, request),
     }
 }
 
@@ -152,7 +175,9 @@ fn answer_registrar<K: Keep>(
 ) -> Result<DeskReply, DeskFault>
     ensures began { K.is_clean keep.new → K.is_clean keep.old }
     ensures step { Promised K.shows K.is_clean keep.old keep.new (λ r.
-        IsServed (reply_of result) (K.shows keep.new) r (registrar_step r request.now)) }
+        IsAnswered (reply_of result) (registrar_step r request.now).answer) }
+    ensures left { Promised K.shows K.is_clean keep.old keep.new (λ r.
+        IsLeft (reply_of result) (K.shows keep.new) r (registrar_step r request.now).register) }
     ensures accounted { IsReplyAccounted (reply_of result) (K.fault_count keep.old) (K.fault_count keep.new) }
     ensures told { IsReplyTold K.may_tell (reply_of result) }
 {
@@ -180,8 +205,10 @@ fn answer_caller<K: Keep>(
     request: &Request,
 ) -> Result<DeskReply, DeskFault>
     ensures began { K.is_clean keep.new → K.is_clean keep.old }
-    ensures step { Promised K.shows K.is_clean keep.old keep.new (λ r.
-        IsLegal r → IsServed (reply_of result) (K.shows keep.new) r (step r (caller_of token.now r) request.now)) }
+    ensures step { Promised K.shows K.is_clean keep.old keep.new (λ r. IsOrdered r.members
+        → IsAnswered (reply_of result) (step r (caller_of token.now r) request.now).answer) }
+    ensures left { Promised K.shows K.is_clean keep.old keep.new (λ r.
+        IsLeft (reply_of result) (K.shows keep.new) r (step r (caller_of token.now r) request.now).register) }
     ensures accounted { IsReplyAccounted (reply_of result) (K.fault_count keep.old) (K.fault_count keep.new) }
     ensures told { IsReplyTold K.may_tell (reply_of result) }
 {
@@ -192,16 +219,31 @@ fn answer_caller<K: Keep>(
     }
 }
 
+// The reply that was made, or the one that tells why there is none.
+fn reply_of(made: Result<DeskReply, DeskFault>) -> DeskReply
+    ensures { result ≡ reply_of made }
+{
+    match made {
+        Ok(reply) => reply,
+        Err(fault) => DeskReply::from(fault),
+    }
+}
+
 /// Answers the request of whoever has the token.
 ///
 /// The refusals are, in their order: `NoAgent` where nobody has the token; `NotRegistrar` where an
 /// agent asks for the registrar's doing; `NotAgent` where the registrar asks for anything else; then
 /// the operation's own. A refusal leaves the register as it was, and so does `Failed`. No call
 /// of the keep is made that the request doesn't need.
+///
+/// What is left is said of every register; what is told, of each whose agents stand in order of
+/// their names, which every legal one does.
 pub fn answer<K: Keep>(alloc: Global, keep: &mut K, token: &Token, request: &Request) -> DeskReply
     ensures began { K.is_clean keep.new → K.is_clean keep.old }
     ensures step { Promised K.shows K.is_clean keep.old keep.new (λ r.
-        IsLegal r → IsServed result (K.shows keep.new) r (step r (caller_of token.now r) request.now)) }
+        IsOrdered r.members → IsAnswered result (step r (caller_of token.now r) request.now).answer) }
+    ensures left { Promised K.shows K.is_clean keep.old keep.new (λ r.
+        IsLeft result (K.shows keep.new) r (step r (caller_of token.now r) request.now).register) }
     ensures alone { Promised K.shows K.is_clean keep.old keep.new (λ r.
         IsLegal r → IsToldAlone result (caller_of token.now r) r request.now) }
     ensures accounted { IsReplyAccounted result (K.fault_count keep.old) (K.fault_count keep.new) }
@@ -209,8 +251,5 @@ pub fn answer<K: Keep>(alloc: Global, keep: &mut K, token: &Token, request: &Req
     ensures legal { Promised K.shows K.is_clean keep.old keep.new (λ r.
         IsLegal r → (left : Register) × K.shows keep.new left × IsLegal left) }
 {
-    match answer_caller(alloc, keep, token, request) {
-        Ok(reply) => reply,
-        Err(fault) => DeskReply::from(fault),
-    }
+    reply_of(answer_caller(alloc, keep, token, request))
 }
