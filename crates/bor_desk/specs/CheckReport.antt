@@ -9,9 +9,9 @@ use Rattle.bor_machine.specs.declared.lodging.Lodged.{Lodged}
 use Rattle.bor_machine.specs.Sight.{Outcome}
 use Rattle.bor_machine.specs.Lodging.{lodge_step}
 use Rattle.bor_desk.specs.declared.text.Text.{Text}
-use Rattle.bor_desk.specs.declared.check.TheConstants.{FILE_LIMIT}
 use Rattle.bor_desk.specs.declared.refusal.DeskFault.{DeskFault}
 use Rattle.bor_desk.specs.declared.refusal.DeskFault.TheVariants.{Refused, Failed}
+use Rattle.bor_desk.specs.Limits.{file_limit}
 use Rattle.bor_desk.specs.Refusals.{of_lodging}
 use Rattle.bor_desk.specs.Texts.{told, refused, refused_text, outward_lines, accepted_line, refusal_line}
 
@@ -45,7 +45,7 @@ outcome_text o = answer_text o.answer o.register
 -- the text of `bor check`: a file that is too long is refused before anything else
 unfoldable pub check_report : List ℕ → Text
 check_report bytes =
-    if nat_lt FILE_LIMIT (length bytes) then refused (refusal_line (codes "BodyTooLarge") None None)
+    if nat_lt file_limit (length bytes) then refused (refusal_line (codes "BodyTooLarge") None None)
     else outcome_text (check_step bytes)
 
 -- ---- parts of the check

@@ -4,5 +4,6 @@ pub mod Step
 pub mod Outcomes
 pub mod Runs
 pub mod Laws
+pub mod Limits
 pub mod CheckReport
 pub mod ChainReport
