@@ -3,6 +3,7 @@ pub mod SeenSnapshots
 pub mod Reports
 pub mod Steps
 pub mod Unchanged
+pub mod OneReply
 pub mod Isolation
 pub mod Examples
 pub mod StepExamples

@@ -1,0 +1,10 @@
+-- Two replies that tell one answer are one.
+use Rattle.std.proofs.Common.{sym, ap, ◌∙◌}
+use Rattle.bor_chains.proofs.OneAnswer.{one_report}
+use Rattle.bor_desk.specs.declared.reply.DeskReply.TheVariants as tell
+use Rattle.bor_desk.specs.Step.{exactly, report}
+use Rattle.bor_desk.specs.Outcomes.{AnswerIsDetermined}
+
+pub one_reply : AnswerIsDetermined
+one_reply (exactly wanted) x y p q = p ∙ sym q
+one_reply (report entity day shown) x y p q = p.2 ∙ ap (tell.Chains entity day) (one_report shown entity p.0 q.0 p.1 q.1) ∙ sym q.2
