@@ -18,7 +18,7 @@ use Rattle.bor_machine.proofs.Alone.{filings-with_member, sight-alone}
 use Rattle.bor_desk.specs.declared.request.Request.{Request}
 use Rattle.bor_desk.specs.declared.request.Request.TheVariants as ask
 use Rattle.bor_desk.specs.Step.{own_after, agent_answer, agent_step, registrar_step, step}
-use Rattle.bor_desk.specs.Runs.{Asked, exchange, register_after, request_by, occasion_then, history, answer_then, answers_to, solo}
+use Rattle.bor_desk.specs.Runs.{Asked, exchange, register_after, request_by, occasion_then, history, told_then, answers_to, solo}
 use Rattle.bor_desk.specs.declared.reply.DeskReply.{DeskReply}
 use Rattle.bor_desk.specs.Outcomes.{IsAnswered}
 use Rattle.bor_desk.specs.Laws.{is_agent, OwnFilingsUntouched, IsAsAlone, IsToldAlone, OneExchangeAlone, IsolationOfHistories}
@@ -154,7 +154,7 @@ by_itself r name request rest legal enrolled goes =
 
 by_agent : (r : Register) (name asking : List ℕ) (request : Request) (rest : List Asked) (b : Bool) → is_same asking name ≡ b → IsLegal r → is_enrolled asking r.members ≡ true →
     Goes (agent_step r asking request).register name rest →
-    answer_then (if b then Some request else None) (agent_step r asking request).answer (answers_to name (agent_step r asking request).register rest)
+    told_then (if b then Some request else None) (agent_step r asking request).answer (answers_to name (agent_step r asking request).register rest)
     ≡ solo name (filings_of name r.members) (occasion_then name r (if b then Some request else None) (history name (agent_step r asking request).register rest))
 unfolding Goes ByItself
 by_agent r name asking request rest true same legal enrolled goes =
@@ -164,7 +164,7 @@ by_agent r name asking request rest false other legal enrolled goes =
 
 by_caller : (r : Register) (token name : List ℕ) (request : Request) (rest : List Asked) (caller : Option Caller) → caller_of token r ≡ caller → IsLegal r →
     Goes (step r caller request).register name rest →
-    answer_then (request_by name caller request) (step r caller request).answer (answers_to name (step r caller request).register rest)
+    told_then (request_by name caller request) (step r caller request).answer (answers_to name (step r caller request).register rest)
     ≡ solo name (filings_of name r.members) (occasion_then name r (request_by name caller request) (history name (step r caller request).register rest))
 by_caller r token name request rest None is legal goes = passed r r name rest refl goes
 by_caller r token name request rest (Some Registrar) is legal goes =

@@ -4,6 +4,7 @@ pub mod Reports
 pub mod Steps
 pub mod Unchanged
 pub mod OneReply
+pub mod Lengths
 pub mod Isolation
 pub mod Examples
 pub mod StepExamples

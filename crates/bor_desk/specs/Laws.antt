@@ -1,5 +1,5 @@
 -- What an exchange tells an agent, and what it leaves.
-use Rattle.std.specs.Prelude.{◌≡◌, ℕ, List, Bool, true, false, Option, Some}
+use Rattle.std.specs.Prelude.{◌≡◌, ℕ, List, length, Bool, true, false, Option, Some}
 use Rattle.bor_terms.specs.Texts.{is_same}
 use Rattle.bor_register.specs.declared.caller.Caller.{Caller}
 use Rattle.bor_register.specs.declared.caller.Caller.TheVariants.{Agent}
@@ -13,7 +13,7 @@ use Rattle.bor_desk.specs.declared.reply.DeskReply.{DeskReply}
 use Rattle.bor_desk.specs.declared.reply.DeskReply.TheVariants as tell
 use Rattle.bor_desk.specs.Outcomes.{IsTold, IsAnswered}
 use Rattle.bor_desk.specs.Step.{Answer, exactly, step, agent_step, registrar_step}
-use Rattle.bor_desk.specs.Runs.{Asked, register_after, history, answers_to, solo}
+use Rattle.bor_desk.specs.Runs.{Asked, answers, register_after, history, answers_to, solo}
 
 -- whether the caller is this agent
 abbrev pub is_agent : List ℕ → Option Caller → Bool
@@ -78,6 +78,11 @@ IsToldAlone reply caller r request = Unit {0}
 
 abbrev pub OneExchangeAlone : Type 0
 OneExchangeAlone = (r : Register) (token name : List ℕ) (request : Request) → IsLegal r → caller_of token r ≡ Some (Agent name) → IsAsAlone r name request
+
+-- Each request of a run has one answer, and each of an agent's own exchanges one to that agent.
+pub record EachIsAnswered : Type 0 where
+  pub each : (r : Register) (run : List Asked) → length (answers r run) ≡ length run
+  pub to_agent : (r : Register) (run : List Asked) (name : List ℕ) → length (answers_to name r run) ≡ length (history name r run)
 
 -- A run leaves a legal register legal. In every run from a legal register the answers to an agent are those to its own exchanges alone: they follow from its filings at the start and its history. So two runs that agree on these two give the agent the same answers.
 pub record IsolationOfHistories : Type 0 where

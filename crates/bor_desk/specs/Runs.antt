@@ -60,15 +60,15 @@ abbrev pub history : List ℕ → Register → List Asked → List Occasion
 history name r [] = []
 history name r (a ∷ rest) = occasion_then name r (request_of name r a) (history name (exchange r a).register rest)
 
-abbrev pub answer_then : Option Request → Answer → List Answer → List Answer
-answer_then None answer rest = rest
-answer_then (Some request) answer rest = answer ∷ rest
+abbrev pub told_then : {T : Type 0} → Option Request → T → List T → List T
+told_then None told rest = rest
+told_then (Some request) told rest = told ∷ rest
 
--- of what was told in a run, in order, that which was told the agent
-abbrev pub told_to : List ℕ → Register → List Asked → List Answer → List Answer
-told_to name r [] told = []
+-- of what was told in a run, in order, that which was told the agent: answers, replies or their bytes
+abbrev pub told_to : {T : Type 0} → List ℕ → Register → List Asked → List T → List T
+told_to name r [] all = []
 told_to name r (a ∷ rest) [] = []
-told_to name r (a ∷ rest) (answer ∷ told) = answer_then (request_of name r a) answer (told_to name (exchange r a).register rest told)
+told_to name r (a ∷ rest) (told ∷ all) = told_then (request_of name r a) told (told_to name (exchange r a).register rest all)
 
 -- the answers in a run to the agent
 abbrev pub answers_to : List ℕ → Register → List Asked → List Answer

@@ -1,7 +1,7 @@
 //! Laws of the step. Each function does nothing: its contract is the law.
 
 ghost use Rattle.bor_desk.specs.Outcomes.{AnswerIsDetermined};
-ghost use Rattle.bor_desk.specs.Laws.{OwnFilingsUntouched, ReadsLeave, RefusalChangesNothing, StepStaysLegal, OneExchangeAlone, IsolationOfHistories};
+ghost use Rattle.bor_desk.specs.Laws.{EachIsAnswered, OwnFilingsUntouched, ReadsLeave, RefusalChangesNothing, StepStaysLegal, OneExchangeAlone, IsolationOfHistories};
 
 /// Two replies that tell one answer are equal.
 pub fn answer_is_determined()
@@ -42,4 +42,10 @@ pub fn one_exchange_alone()
 /// start, its own requests, the day at each of them, and what the others had published then.
 pub fn histories_are_isolated()
     ensures { IsolationOfHistories }
+{}
+
+/// A run has one answer for each request, and as many answers to an agent as its history has
+/// occasions. This holds of every register and run.
+pub fn each_is_answered()
+    ensures { EachIsAnswered }
 {}
