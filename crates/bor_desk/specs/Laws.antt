@@ -1,8 +1,10 @@
 -- What an exchange tells an agent, and what it leaves.
-use Rattle.std.specs.Prelude.{◌≡◌, ℕ, List, length, Bool, true, false, Option, Some}
+use Rattle.std.specs.Prelude.{◌≡◌, ℕ, List, length, Bool, true, false, Option, Some, None}
+use Rattle.std.specs.List.{Contains}
 use Rattle.bor_terms.specs.Texts.{is_same}
 use Rattle.bor_register.specs.declared.caller.Caller.{Caller}
 use Rattle.bor_register.specs.declared.caller.Caller.TheVariants.{Agent}
+use Rattle.bor_register.specs.declared.member.Member.{Member}
 use Rattle.bor_register.specs.Register.{Register, caller_of, filings_of}
 use Rattle.bor_machine.specs.Legality.{IsLegal}
 use Rattle.bor_machine.specs.Laws.{LeavesOthers}
@@ -20,12 +22,18 @@ abbrev pub is_agent : List ℕ → Option Caller → Bool
 is_agent name (Some (Agent other)) = is_same other name
 is_agent name caller = false
 
--- After an exchange the filings of all agents but the one that asks are as they were. After an exchange of an agent the day is too, and who has which token; after one of the registrar, the registrar's token.
+-- The registrar's token is as it was, and each agent that was there is there still, with its name, its token and its filings.
+pub record KeepsAgents (old new : Register) : Type 0 where
+  pub registrar : new.registrar ≡ old.registrar
+  pub agents : (m : Member) → Contains old.members m → Contains new.members m
+
+-- After an exchange the filings of all agents but the one that asks are as they were. After an exchange of an agent the day is too, and who has which token; after one of the registrar, the registrar's token and each agent; after one of nobody, all.
 pub record OwnFilingsUntouched : Type 0 where
   pub by_others : (r : Register) (caller : Option Caller) (request : Request) (name : List ℕ) → is_agent name caller ≡ false →
       filings_of name (step r caller request).register.members ≡ filings_of name r.members
   pub by_an_agent : (r : Register) (name : List ℕ) (request : Request) → LeavesOthers name r (agent_step r name request).register
-  pub by_the_registrar : (r : Register) (request : Request) → (registrar_step r request).register.registrar ≡ r.registrar
+  pub by_the_registrar : (r : Register) (request : Request) → KeepsAgents r (registrar_step r request).register
+  pub by_nobody : (r : Register) (request : Request) → (step r None request).register ≡ r
 
 -- whether the answer may tell of a change: a filing that is lodged and wasn't before, a withdrawal, the day, or an agent that is enrolled
 abbrev pub may_tell_a_change : Answer → Bool

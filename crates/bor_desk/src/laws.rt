@@ -9,8 +9,9 @@ pub fn answer_is_determined()
 {}
 
 /// After an exchange the filings of all agents but the one that asks are as they were. An agent
-/// changes neither the day nor who has which token; the registrar changes at most the day and the
-/// agents. This holds of every register.
+/// changes neither the day nor who has which token. The registrar changes at most the day and who
+/// is enrolled: its token stays, and each agent that was there, with its name, token and filings. An
+/// unknown token changes nothing. This holds of every register.
 pub fn own_filings_untouched()
     ensures { OwnFilingsUntouched }
 {}
