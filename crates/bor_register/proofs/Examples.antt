@@ -12,7 +12,7 @@ use Rattle.bor_register.specs.Register.{Register, empty_register, new_member, wi
 use Rattle.bor_register.specs.Publication.{published, outward}
 use Rattle.bor_register.specs.Rows.{rows_of, visible}
 use Rattle.bor_register.specs.Withdrawal.{has_successor, with_withdrawn}
-use Rattle.bor_register.specs.Journal.{Agent, Entry, Journal, register_of}
+use Rattle.bor_register.specs.Journal.{Agent, JournalEntry, Journal, register_of}
 
 -- ---- the register
 
@@ -135,10 +135,10 @@ seen_the_day_before = refl
 abbrev agents : List Agent
 agents = record { name = codes "birch"; token = codes "birch-token-000001" } ∷ record { name = codes "alder"; token = codes "alder-token-000001" } ∷ []
 
-abbrev journal : List Entry → Journal
+abbrev journal : List JournalEntry → Journal
 journal entries = record { day = today; registrar = codes "registrar-token-0001"; agents = agents; entries = entries }
 
-abbrev entry : List ℕ → AcceptedFiling → Entry
+abbrev entry : List ℕ → AcceptedFiling → JournalEntry
 entry agent filing = record { agent = agent; filing = filing }
 
 -- alder's two filings with one of birch between them, and behind them

@@ -6,14 +6,14 @@ use Rattle.bor_terms.proofs.Texts.{same_is, same_refl, same_sym, below_trans, be
 use Rattle.bor_register.specs.declared.member.Member.{Member}
 use Rattle.bor_register.specs.declared.filing.AcceptedFiling.{AcceptedFiling}
 use Rattle.bor_register.specs.Register.{Register, filings_of, with_member, is_enrolled, AllAbove, IsOrdered}
-use Rattle.bor_register.specs.Journal.{Agent, Entry, Journal, token_of, entries_of, members_from, register_of, AreNamedOnce, AreOfAgents, IsInOrder, AreAlike}
+use Rattle.bor_register.specs.Journal.{Agent, JournalEntry, Journal, token_of, entries_of, members_from, register_of, AreNamedOnce, AreOfAgents, IsInOrder, AreAlike}
 use Rattle.bor_register.proofs.Names.{ordered-with_member}
 
 abbrev member_at : List ℕ → List Member → Option Member
 member_at name [] = None
 member_at name (m ∷ ms) = if is_same m.name name then Some m else member_at name ms
 
-abbrev member_with : List ℕ → List Entry → Option (List ℕ) → Option Member
+abbrev member_with : List ℕ → List JournalEntry → Option (List ℕ) → Option Member
 member_with name entries None = None
 member_with name entries (Some token) = Some (record { name = name; token = token; filings = entries_of name entries })
 
@@ -46,18 +46,18 @@ filings_of-at name (m ∷ ms) = grind (arith, filings_of-at name ms)
 
 -- ---- the members of a journal
 
-at-members_from-by : (name : List ℕ) (a : Agent) (entries : List Entry) (rest : Option Member) (tokens : Option (List ℕ)) (b : Bool) → is_same a.name name ≡ b → rest ≡ member_with name entries tokens →
+at-members_from-by : (name : List ℕ) (a : Agent) (entries : List JournalEntry) (rest : Option Member) (tokens : Option (List ℕ)) (b : Bool) → is_same a.name name ≡ b → rest ≡ member_with name entries tokens →
     (if b then Some (record { name = a.name; token = a.token; filings = entries_of a.name entries }) else rest) ≡ member_with name entries (if b then Some a.token else tokens)
 at-members_from-by name a entries rest tokens true e h = rw (same_is a.name name e) refl
 at-members_from-by name a entries rest tokens false e h = h
 
-at-members_from : (name : List ℕ) (agents : List Agent) (entries : List Entry) → member_at name (members_from agents entries) ≡ member_with name entries (token_of name agents)
+at-members_from : (name : List ℕ) (agents : List Agent) (entries : List JournalEntry) → member_at name (members_from agents entries) ≡ member_with name entries (token_of name agents)
 at-members_from name [] entries = refl
 at-members_from name (a ∷ rest) entries =
     at-with_member name (record { name = a.name; token = a.token; filings = entries_of a.name entries }) (members_from rest entries)
     ∙ at-members_from-by name a entries (member_at name (members_from rest entries)) (token_of name rest) (is_same a.name name) refl (at-members_from name rest entries)
 
-ordered-members_from : (agents : List Agent) (entries : List Entry) → AreNamedOnce agents → IsOrdered (members_from agents entries)
+ordered-members_from : (agents : List Agent) (entries : List JournalEntry) → AreNamedOnce agents → IsOrdered (members_from agents entries)
 ordered-members_from [] entries h = tt
 ordered-members_from (a ∷ rest) entries h =
     ordered-with_member (record { name = a.name; token = a.token; filings = entries_of a.name entries }) (members_from rest entries)
@@ -112,7 +112,7 @@ same-members (m ∷ ms) (n ∷ ns) p q h =
 
 -- ---- alike journals
 
-member_with-same : (name : List ℕ) (a b : List Entry) (token : Option (List ℕ)) → entries_of name a ≡ entries_of name b → member_with name a token ≡ member_with name b token
+member_with-same : (name : List ℕ) (a b : List JournalEntry) (token : Option (List ℕ)) → entries_of name a ≡ entries_of name b → member_with name a token ≡ member_with name b token
 member_with-same name a b None e = refl
 member_with-same name a b (Some token) e = rw e refl
 
@@ -128,23 +128,23 @@ token_in : Option Member → Option (List ℕ)
 token_in None = None
 token_in (Some m) = Some m.token
 
-token_in-with : (name : List ℕ) (entries : List Entry) (token : Option (List ℕ)) → token_in (member_with name entries token) ≡ token
+token_in-with : (name : List ℕ) (entries : List JournalEntry) (token : Option (List ℕ)) → token_in (member_with name entries token) ≡ token
 unfolding token_in
 token_in-with name entries None = refl
 token_in-with name entries (Some token) = refl
 
-none-by : (name : List ℕ) (agents : List Agent) (e : Entry) (rest : List Entry) (b : Bool) → is_same e.agent name ≡ b → IsSome (token_of e.agent agents) → token_of name agents ≡ None → entries_of name rest ≡ [] → entries_of name (e ∷ rest) ≡ []
+none-by : (name : List ℕ) (agents : List Agent) (e : JournalEntry) (rest : List JournalEntry) (b : Bool) → is_same e.agent name ≡ b → IsSome (token_of e.agent agents) → token_of name agents ≡ None → entries_of name rest ≡ [] → entries_of name (e ∷ rest) ≡ []
 none-by name agents e rest true same enrolled none others =
     let P : Option (List ℕ) → Type 0 = λ t. IsSome t in
     let no : IsSome {T = List ℕ} None = subst P (ap (λ n. token_of n agents) (same_is e.agent name same) ∙ none) enrolled in
     absurd cc
 none-by name agents e rest false other enrolled none others = rw other others
 
-none_of : (name : List ℕ) (agents : List Agent) (entries : List Entry) → AreOfAgents agents entries → token_of name agents ≡ None → entries_of name entries ≡ []
+none_of : (name : List ℕ) (agents : List Agent) (entries : List JournalEntry) → AreOfAgents agents entries → token_of name agents ≡ None → entries_of name entries ≡ []
 none_of name agents [] h none = refl
 none_of name agents (e ∷ rest) h none = none-by name agents e rest (is_same e.agent name) refl h.0 none (none_of name agents rest h.1 none)
 
-filings_in-with : (name : List ℕ) (agents : List Agent) (entries : List Entry) (token : Option (List ℕ)) → AreOfAgents agents entries → token_of name agents ≡ token → filings_in (member_with name entries token) ≡ entries_of name entries
+filings_in-with : (name : List ℕ) (agents : List Agent) (entries : List JournalEntry) (token : Option (List ℕ)) → AreOfAgents agents entries → token_of name agents ≡ token → filings_in (member_with name entries token) ≡ entries_of name entries
 unfolding filings_in
 filings_in-with name agents entries None h is = sym (none_of name agents entries h is)
 filings_in-with name agents entries (Some token) h is = refl

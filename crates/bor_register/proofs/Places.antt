@@ -6,7 +6,7 @@ use Rattle.bor_terms.specs.Texts.{is_same}
 use Rattle.bor_register.specs.declared.member.Member.{Member}
 use Rattle.bor_register.specs.declared.filing.AcceptedFiling.{AcceptedFiling}
 use Rattle.bor_register.specs.Register.{is_enrolled, filings_of, with_filings, with_member}
-use Rattle.bor_register.specs.Holding.{IsPlace, IsPlaceFor}
+use Rattle.bor_register.specs.Places.{IsPlace, IsPlaceFor}
 
 place_head : (name : List ℕ) (m : Member) (ms : List Member) → is_same m.name name ≡ true → (is_enrolled name (m ∷ ms) ≡ true) × (filings_of name (m ∷ ms) ≡ m.filings) × ((fs : List AcceptedFiling) → with_filings name fs (m ∷ ms) ≡ record m { filings = fs } ∷ ms)
 place_head name m ms same = (rw same refl, rw same refl, λ fs. rw same refl)

@@ -1,22 +1,8 @@
--- What a register in memory holds, and where an agent stands in it.
-use Rattle.std.specs.Prelude.{◌≡◌, ℕ, ◌<◌, ◌≤◌, List, insert, length, slice_index_or, slice_set, true}
-use Rattle.bor_register.specs.declared.member.Member.{Member}
-use Rattle.bor_register.specs.declared.filing.AcceptedFiling.{AcceptedFiling}
-use Rattle.bor_register.specs.Register.{Register, is_enrolled, filings_of, with_filings, with_member}
+-- What a register in memory holds.
+use Rattle.std.specs.Prelude.{ℕ}
+use Rattle.bor_register.specs.Register.{Register}
 
 -- a register, and how many calls have answered a fault
 pub record Holding : Type 0 where
   pub register : Register
   pub faults : ℕ
-
--- the agent stands at this index
-pub record IsPlace (name : List ℕ) (ms : List Member) (i : ℕ) : Type 0 where
-  pub below : i < length ms
-  pub enrolled : is_enrolled name ms ≡ true
-  pub own : (d : Member) → filings_of name ms ≡ (slice_index_or ms i d).filings
-  pub written : (d : Member) (fs : List AcceptedFiling) → with_filings name fs ms ≡ slice_set ms i (record (slice_index_or ms i d) { filings = fs })
-
--- a member of that name goes to this index
-pub record IsPlaceFor (name : List ℕ) (ms : List Member) (i : ℕ) : Type 0 where
-  pub within : i ≤ length ms
-  pub inserted : (new : Member) → new.name ≡ name → with_member new ms ≡ insert ms i new

@@ -11,7 +11,7 @@ pub record Agent : Type 0 where
   pub token : List ℕ
 
 -- a filing with its agent
-pub record Entry : Type 0 where
+pub record JournalEntry : Type 0 where
   pub agent : List ℕ
   pub filing : AcceptedFiling
 
@@ -20,7 +20,7 @@ pub record Journal : Type 0 where
   pub day : ℤ
   pub registrar : List ℕ
   pub agents : List Agent
-  pub entries : List Entry
+  pub entries : List JournalEntry
 
 -- the agent's token
 abbrev pub token_of : List ℕ → List Agent → Option (List ℕ)
@@ -28,11 +28,11 @@ token_of name [] = None
 token_of name (a ∷ rest) = if is_same a.name name then Some a.token else token_of name rest
 
 -- the agent's filings, in order
-abbrev pub entries_of : List ℕ → List Entry → List AcceptedFiling
+abbrev pub entries_of : List ℕ → List JournalEntry → List AcceptedFiling
 entries_of name [] = []
 entries_of name (e ∷ rest) = if is_same e.agent name then e.filing ∷ entries_of name rest else entries_of name rest
 
-abbrev pub members_from : List Agent → List Entry → List Member
+abbrev pub members_from : List Agent → List JournalEntry → List Member
 members_from [] entries = []
 members_from (a ∷ rest) entries =
     with_member (record { name = a.name; token = a.token; filings = entries_of a.name entries }) (members_from rest entries)
@@ -47,7 +47,7 @@ AreNamedOnce [] = Unit {0}
 AreNamedOnce (a ∷ rest) = (token_of a.name rest ≡ None) × AreNamedOnce rest
 
 -- each filing's agent is enrolled
-abbrev pub AreOfAgents : List Agent → List Entry → Type 0
+abbrev pub AreOfAgents : List Agent → List JournalEntry → Type 0
 AreOfAgents agents [] = Unit {0}
 AreOfAgents agents (e ∷ rest) = IsSome (token_of e.agent agents) × AreOfAgents agents rest
 

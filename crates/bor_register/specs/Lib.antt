@@ -5,3 +5,4 @@ pub mod Publication
 pub mod Rows
 pub mod Withdrawal
 pub mod Holding
+pub mod Places

@@ -25,15 +25,6 @@ rows_from name number place (s ∷ ss) = row_of name number place s ∷ rows_fro
 abbrev pub of_declaration : List ℕ → List Row → List Row
 of_declaration declaration rows = filter (λ row. is_same row.statement.declaration declaration) rows
 
--- whether a statement is asked for: those of the declaration are, or all where none is named
-abbrev pub is_asked : Option (List ℕ) → Statement → Bool
-is_asked None s = true
-is_asked (Some declaration) s = is_same s.declaration declaration
-
--- of these rows those that are asked for
-abbrev pub asked : Option (List ℕ) → List Row → List Row
-asked declaration rows = filter (λ row. is_asked declaration row.statement) rows
-
 -- the rows of an agent's filings, in order of acceptance and of place
 abbrev pub rows_in : List ℕ → List AcceptedFiling → List Row
 rows_in name [] = []
@@ -52,3 +43,14 @@ rows_of viewer day name declaration filings =
 abbrev pub visible : List ℕ → ℤ → List Member → List Row
 visible viewer day [] = []
 visible viewer day (m ∷ ms) = visible_in viewer day m.name m.filings ++ visible viewer day ms
+
+-- ---- for clauses of private functions alone
+
+-- whether a statement is asked for: those of the declaration are, or all where none is named
+abbrev pub is_asked : Option (List ℕ) → Statement → Bool
+is_asked None s = true
+is_asked (Some declaration) s = is_same s.declaration declaration
+
+-- of these rows those that are asked for
+abbrev pub asked : Option (List ℕ) → List Row → List Row
+asked declaration rows = filter (λ row. is_asked declaration row.statement) rows

@@ -1,10 +1,13 @@
 //! Filings, as the register holds them and as callers see them.
 
-ghost use Rattle.std.specs.Prelude.{◌≡◌, codes};
-ghost use Rattle.bor_register.specs.Publication.{state_of_live, state_word};
+ghost use Rattle.std.specs.Prelude.{◌≡◌, IfOk};
+ghost use Rattle.bor_register.specs.Publication.{state_of, state_of_live, state_word, is_published, line_of, filing_shown};
+ghost use Rattle.bor_register.specs.Rows.{is_visible};
+ghost use Rattle.bor_register.specs.Withdrawal.{as_withdrawn};
 
 use bods_read::Statement;
 use bor_terms::{AgentName, Day, Listed, LodgeKey};
+use std::alloc::{AllocError, Global};
 
 /// A filing as the register holds it, in its agent's list.
 #[derive(Debug, Drop)]
@@ -21,6 +24,69 @@ pub struct AcceptedFiling {
     pub bytes: Listed<u8>,
     /// The file's statements, each with its settled status; none once it is withdrawn.
     pub statements: Listed<Statement>,
+}
+
+impl AcceptedFiling {
+    /// Its state on a day.
+    pub(crate) fn state(&self, day: Day) -> State
+        ensures { result ≡ state_of day self.now }
+    {
+        if self.withdrawn {
+            State::Withdrawn
+        } else {
+            State::of_live(self.due, day)
+        }
+    }
+
+    /// Whether it is published on a day.
+    pub(crate) fn is_published(&self, day: Day) -> bool
+        ensures { result ≡ is_published day self.now }
+    {
+        !self.withdrawn && self.due <= day
+    }
+
+    /// Whether the viewer sees it, a filing of the agent, on a day.
+    pub(crate) fn is_visible(&self, viewer: &AgentName, agent: &AgentName, day: Day) -> bool
+        ensures { result ≡ is_visible viewer.now day agent.now self.now }
+    {
+        if viewer == agent {
+            !self.withdrawn
+        } else {
+            self.is_published(day)
+        }
+    }
+
+    /// Its line on a day.
+    pub(crate) fn line(&self, alloc: Global, day: Day) -> Result<FilingLine, AllocError>
+        ensures { IfOk result (λ line. line ≡ line_of day self.now) }
+    {
+        Ok(FilingLine {
+            key: self.key.copy(alloc)?,
+            number: self.number,
+            due: self.due,
+            state: self.state(day),
+        })
+    }
+
+    /// What its agent reads of it.
+    pub(crate) fn shown(&self, alloc: Global) -> Result<Filing, AllocError>
+        ensures { IfOk result (λ filing. filing ≡ filing_shown self.now) }
+    {
+        Ok(Filing {
+            number: self.number,
+            due: self.due,
+            withdrawn: self.withdrawn,
+            bytes: self.bytes.copy(alloc)?,
+        })
+    }
+
+    /// Withdraws it. It takes no memory.
+    pub(crate) fn withdraw(&mut self, alloc: Global)
+        ensures { self.new ≡ as_withdrawn self.old }
+    {
+        self.withdrawn = true;
+        self.statements = Listed::new(Vec::new(alloc));
+    }
 }
 
 /// What its agent reads of a filing.

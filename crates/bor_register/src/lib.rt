@@ -28,12 +28,15 @@
 mod caller;
 mod fault;
 mod filing;
+mod filings;
 mod keep;
 pub mod laws;
 mod list_keep;
 mod live;
 mod member;
+mod publication;
 mod rows;
+mod statements;
 #[cfg(test)]
 mod tests;
 mod withdrawal;
@@ -43,5 +46,5 @@ pub use fault::StoreFault;
 pub use filing::{AcceptedFiling, Filing, FilingLine, Outward, State};
 pub use keep::Keep;
 pub use list_keep::ListKeep;
-pub use live::{any_has_id, last_in};
 pub use member::Member;
+pub use statements::{any_has_id, last_in};

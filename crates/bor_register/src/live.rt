@@ -1,50 +1,18 @@
 //! What an agent's live statements say: the last one of a record, and their identifiers.
 
-ghost use Rattle.std.specs.Prelude.{◌≡◌, map};
+ghost use Rattle.std.specs.Prelude.{◌≡◌};
 ghost use Rattle.std.specs.List.{list_any};
 ghost use Rattle.bor_terms.specs.Texts.{is_same};
-ghost use Rattle.bor_records.specs.Admission.{is_of, known_of, last_of};
-ghost use Rattle.bor_records.specs.Settling.{as_live};
+ghost use Rattle.bor_records.specs.Admission.{last_of};
 ghost use Rattle.bor_register.specs.Live.{live_of};
 
 use crate::filing::AcceptedFiling;
-use bods_read::{Statement, Status};
+use crate::statements::{any_has_id, last_in};
 use bor_records::Last;
-use bor_terms::{Day, Ident};
+use bor_terms::Ident;
 
-fn known(statement: &Statement, due: Day) -> Last
-    ensures { result ≡ known_of (as_live due statement.now) }
-{
-    Last {
-        kind: statement.record_type(),
-        status: statement.status.unwrap_or(Status::New),
-        day: statement.day,
-        due,
-    }
-}
-
-/// Whether the statement is of the record of the declaration; `rec` is its identifier.
-pub(crate) fn is_of(statement: &Statement, declaration: &Ident, rec: &Ident) -> bool
-    ensures { result ≡ is_of declaration.now rec.now statement.now }
-{
-    statement.declaration == *declaration && statement.rec == *rec
-}
-
-/// What is known of the last one of the record among statements that are due on a day.
-#[tactic(auto, using(crate::proofs::LiveStatements::more_statements))]
-pub fn last_in(statements: &[Statement], due: Day, declaration: &Ident, rec: &Ident) -> Option<Last>
-    ensures { result ≡ last_of declaration.now rec.now (map (as_live due) statements.now) }
-{
-    let mut last = None;
-    for statement in statements {
-        if is_of(statement, declaration, rec) {
-            last = Some(known(statement, due));
-        }
-    }
-    last
-}
-
-/// The same among an agent's live statements.
+/// What is known of the last one of the record among an agent's live statements; `rec` is its
+/// identifier.
 #[tactic(auto, using(crate::proofs::LiveStatements::more_filings))]
 pub(crate) fn last_live(
     filings: &[AcceptedFiling],
@@ -63,14 +31,7 @@ pub(crate) fn last_live(
     last
 }
 
-/// Whether one of the statements has the identifier.
-pub fn any_has_id(statements: &[Statement], id: &Ident) -> bool
-    ensures { result ≡ list_any (λ s. is_same s.id id.now) statements.now }
-{
-    statements.iter().any(|statement| statement.id == *id)
-}
-
-/// Whether one of an agent's live statements has it.
+/// Whether one of an agent's live statements has the identifier.
 pub(crate) fn any_live_has_id(filings: &[AcceptedFiling], id: &Ident) -> bool
     ensures { result ≡ list_any (λ f. list_any (λ s. is_same s.id id.now) f.statements) filings.now }
 {

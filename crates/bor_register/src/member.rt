@@ -1,7 +1,19 @@
 //! Agents with what is theirs.
 
+ghost use Rattle.std.specs.Prelude.{◌≡◌, ◌+◌, ◌<◌, ◌++◌, ◌∷◌, [], length, IfSome, IfNone, IfOk, OnOk, OnErr, option_map, true, false};
+ghost use Rattle.bor_register.specs.Register.{agent_with, is_enrolled, filings_of, new_member, with_member, with_filings};
+ghost use Rattle.bor_register.specs.Live.{accepted};
+ghost use Rattle.bor_register.specs.Withdrawal.{with_withdrawn};
+ghost use Rattle.bor_register.specs.Places.{IsPlace, IsPlaceFor};
+ghost use Rattle.bor_register.specs.declared.caller.Caller.TheVariants.{Agent};
+
+use crate::caller::Caller;
 use crate::filing::AcceptedFiling;
-use bor_terms::{AgentName, Listed, Token};
+use crate::statements::copied;
+use crate::withdrawal::withdraw_from;
+use bods_read::Statement;
+use bor_terms::{AgentName, Day, Listed, LodgeKey, Token};
+use std::alloc::{AllocError, Global};
 
 /// An agent of the register, with its filings in order of acceptance.
 #[derive(Debug, Drop)]
@@ -10,4 +22,130 @@ pub struct Member {
     /// The token by which the agent is known.
     pub token: Token,
     pub filings: Listed<AcceptedFiling>,
+}
+
+/// Where the agent stands among the members.
+pub(crate) fn position(members: &[Member], name: &AgentName) -> Option<usize>
+    ensures none { IfNone result (is_enrolled name.now members.now ≡ false) }
+    ensures some { IfSome result (λ i. IsPlace name.now members.now i) }
+{
+    for (i, member) in members.iter().enumerate() {
+        if member.name == *name {
+            return Some(i);
+        }
+    }
+    None
+}
+
+/// The agent that has the token.
+pub(crate) fn caller_with(
+    alloc: Global,
+    members: &[Member],
+    token: &Token,
+) -> Result<Option<Caller>, AllocError>
+    ensures { IfOk result (λ caller. caller ≡ option_map Agent (agent_with token.now members.now)) }
+{
+    for member in members {
+        if member.token == *token {
+            return Ok(Some(Caller::Agent(member.name.copy(alloc)?)));
+        }
+    }
+    Ok(None)
+}
+
+/// The agent's filings; none where there is no such agent.
+pub(crate) fn own_filings<'a>(members: &'a [Member], name: &AgentName) -> &'a [AcceptedFiling]
+    ensures { result.now ≡ filings_of name.now members.now }
+{
+    for member in members {
+        if member.name == *name {
+            return member.filings.as_slice();
+        }
+    }
+    &[]
+}
+
+/// Adds a filing to the agent's, and gives its number.
+pub(crate) fn push_filing(
+    alloc: Global,
+    members: &mut [Member],
+    name: &AgentName,
+    key: &LodgeKey,
+    due: Day,
+    bytes: &[u8],
+    statements: &[Statement],
+) -> Result<u32, AllocError>
+    requires enrolled { is_enrolled name.now members.old ≡ true }
+    requires room { length (filings_of name.now members.old) < 999 }
+    ensures ok { IfOk result (λ number. let own = filings_of name.now members.old in
+        (number ≡ length own + 1)
+        × (members.new ≡ with_filings name.now (own ++ accepted own key.now due bytes.now statements.now ∷ []) members.old)) }
+    ensures err { OnErr result (members.new ≡ members.old) }
+{
+    let Some(at) = position(members, name) else {
+        unreachable!()
+    };
+    let member = &mut members[at];
+    let number = member.filings.as_slice().len() as u32 + 1;
+    member.filings.push(AcceptedFiling {
+        number,
+        key: key.copy(alloc)?,
+        due,
+        withdrawn: false,
+        bytes: Listed::new(Vec::from_slice(alloc, bytes)?),
+        statements: copied(alloc, statements)?,
+    })?;
+    Ok(number)
+}
+
+/// Withdraws the agent's filing with this number, where there is one. It takes no memory.
+#[tactic(auto, using(crate::proofs::Members::with_filings_absent))]
+pub(crate) fn withdraw_of(alloc: Global, members: &mut [Member], name: &AgentName, number: u32)
+    ensures { members.new ≡ with_filings name.now (with_withdrawn number (filings_of name.now members.old)) members.old }
+{
+    if let Some(at) = position(members, name) {
+        let member = &mut members[at];
+        withdraw_from(alloc, &mut member.filings, number);
+    }
+}
+
+fn place_for(members: &[Member], name: &AgentName) -> usize
+    ensures { IsPlaceFor name.now members.now result }
+{
+    for (i, member) in members.iter().enumerate() {
+        if member.name >= *name {
+            return i;
+        }
+    }
+    members.len()
+}
+
+#[tactic(auto, using(crate::proofs::Places::inserted_at))]
+fn insert_member(members: &mut Vec<Member>, member: Member) -> Result<(), AllocError>
+    ensures ok { OnOk result (members.new.items ≡ with_member member members.old.items) }
+    ensures err { OnErr result (members.new.items ≡ members.old.items) }
+{
+    let at = place_for(members, &member.name);
+    if members.insert(at, member).is_err() {
+        return Err(AllocError);
+    }
+    Ok(())
+}
+
+/// Adds an agent who has no filings, at the place of its name.
+pub(crate) fn enrol_member(
+    alloc: Global,
+    members: &mut Vec<Member>,
+    name: &AgentName,
+    token: &Token,
+) -> Result<(), AllocError>
+    ensures ok { OnOk result (members.new.items ≡ with_member (new_member name.now token.now) members.old.items) }
+    ensures err { OnErr result (members.new.items ≡ members.old.items) }
+{
+    let member = Member {
+        name: name.copy(alloc)?,
+        token: token.copy(alloc)?,
+        filings: Listed::new(Vec::new(alloc)),
+    };
+    insert_member(members, member)
 }

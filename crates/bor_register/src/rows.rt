@@ -1,7 +1,7 @@
 //! The rows of statements that a viewer sees.
 
 ghost use Rattle.std.specs.Prelude.{◌≡◌, ◌++◌, option_map, OnOk, IfOk};
-ghost use Rattle.bor_register.specs.Rows.{is_visible, is_asked, asked, row_of, rows_from, visible_in, rows_of, visible};
+ghost use Rattle.bor_register.specs.Rows.{is_asked, asked, row_of, rows_from, visible_in, rows_of, visible};
 
 use crate::filing::AcceptedFiling;
 use crate::member::Member;
@@ -56,18 +56,6 @@ fn add_rows(
         }
     }
     Ok(())
-}
-
-impl AcceptedFiling {
-    fn is_visible(&self, viewer: &AgentName, agent: &AgentName, day: Day) -> bool
-        ensures { result ≡ is_visible viewer.now day agent.now self.now }
-    {
-        if viewer == agent {
-            !self.withdrawn
-        } else {
-            self.is_published(day)
-        }
-    }
 }
 
 // Adds the rows of an agent's filings that the viewer sees, of a declaration or of all.

@@ -3,10 +3,10 @@
 ghost use Rattle.std.specs.Prelude.{◌≡◌};
 ghost use Rattle.std.specs.List.{list_any};
 ghost use Rattle.bor_records.specs.Admission.{is_of};
-ghost use Rattle.bor_register.specs.Withdrawal.{shares_record, has_successor, as_withdrawn, with_withdrawn};
+ghost use Rattle.bor_register.specs.Withdrawal.{shares_record, has_successor, with_withdrawn};
 
 use crate::filing::AcceptedFiling;
-use crate::live::is_of;
+use crate::statements::is_of;
 use bods_read::Statement;
 use bor_terms::{Ident, Listed};
 use std::alloc::Global;
@@ -46,16 +46,6 @@ pub(crate) fn is_succeeded(filings: &[AcceptedFiling], number: u32) -> bool
         }
     }
     false
-}
-
-impl AcceptedFiling {
-    // Takes no memory.
-    fn withdraw(&mut self, alloc: Global)
-        ensures { self.new ≡ as_withdrawn self.old }
-    {
-        self.withdrawn = true;
-        self.statements = Listed::new(Vec::new(alloc));
-    }
 }
 
 /// Withdraws the filing with this number, where there is one. It takes no memory.

@@ -1,6 +1,6 @@
 use Rattle.std.proofs.Common.{◌≡◌, ◌++◌, drop}
 use Rattle.bor_register.specs.Publication.{outwards_of}
-use Rattle.bor_register.proofs.list_keep.add_outwards.Given as goal
+use Rattle.bor_register.proofs.publication.add_outwards.Given as goal
 
 -- what is there and what is left give what all give
 abbrev pub invariant-loop-filing : goal.invariant-loop-filing

@@ -1,7 +1,7 @@
 use Rattle.std.proofs.Common.{◌≡◌, ◌++◌, take, drop, List}
 use Rattle.bor_register.specs.Register.{is_enrolled, filings_of, with_filings}
 use Rattle.bor_register.specs.declared.filing.AcceptedFiling.{AcceptedFiling}
-use Rattle.bor_register.proofs.list_keep.position.Given as goal
+use Rattle.bor_register.proofs.member.position.Given as goal
 
 -- what is left gives what all give
 abbrev pub invariant-loop-i : goal.invariant-loop-i

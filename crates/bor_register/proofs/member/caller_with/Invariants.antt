@@ -1,6 +1,6 @@
 use Rattle.std.proofs.Common.{◌≡◌, drop}
 use Rattle.bor_register.specs.Register.{agent_with}
-use Rattle.bor_register.proofs.list_keep.caller_with.Given as goal
+use Rattle.bor_register.proofs.member.caller_with.Given as goal
 
 -- what is left gives what all give
 abbrev pub invariant-loop-member : goal.invariant-loop-member

@@ -2,7 +2,7 @@ use Rattle.std.proofs.Common.{◌∙◌, sym, ap}
 use Rattle.bor_terms.specs.Texts.{is_same}
 use Rattle.bor_register.specs.declared.member.Member.{Member}
 use Rattle.bor_register.proofs.Places.{place_here}
-use Rattle.bor_register.proofs.list_keep.position.Goals as goal
+use Rattle.bor_register.proofs.member.position.Goals as goal
 
 pub returns-then-eq-clause-some : goal.returns-then-eq-clause-some
 returns-then-eq-clause-some c =

@@ -1,6 +1,6 @@
 use Rattle.std.proofs.Common.{◌≡◌, drop}
 use Rattle.bor_register.specs.Register.{filings_of}
-use Rattle.bor_register.proofs.list_keep.own_filings.Given as goal
+use Rattle.bor_register.proofs.member.own_filings.Given as goal
 
 -- what is left gives what all give
 abbrev pub invariant-loop-member : goal.invariant-loop-member

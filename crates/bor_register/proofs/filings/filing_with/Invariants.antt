@@ -1,6 +1,6 @@
 use Rattle.std.proofs.Common.{◌≡◌, drop}
 use Rattle.bor_register.specs.Register.{filing_keyed}
-use Rattle.bor_register.proofs.list_keep.filing_with.Given as goal
+use Rattle.bor_register.proofs.filings.filing_with.Given as goal
 
 -- what is left gives what all give
 abbrev pub invariant-loop-filing : goal.invariant-loop-filing
