@@ -7,3 +7,4 @@ pub mod Interests
 pub mod Details
 pub mod Statement
 pub mod File
+pub mod Forms

@@ -1,5 +1,6 @@
 pub mod Callers
 pub mod Members
+pub mod Forms
 pub mod Names
 pub mod Places
 pub mod LiveStatements

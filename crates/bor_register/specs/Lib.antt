@@ -4,5 +4,6 @@ pub mod Live
 pub mod Publication
 pub mod Rows
 pub mod Withdrawal
+pub mod Forms
 pub mod Holding
 pub mod Places
