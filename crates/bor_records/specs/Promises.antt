@@ -30,3 +30,10 @@ pub record Reads {S V T F : Type 0} (shows : S → V → Type 0) (is_clean : S �
   pub counts : faults new ≡ counted result (faults old)
   pub told : IfErr result may_tell
   pub answer : Promised shows is_clean old new (λ v. IfOk result (P v))
+
+-- What a change promises: what was shown is now what the change makes of it, or as it was where a fault is answered. A fault is one that may be told and adds one to the count, and a state that ends clean began clean.
+pub record Changes {S V T F : Type 0} (shows : S → V → Type 0) (is_clean : S → Type 0) (faults : S → ℕ) (may_tell : F → Type 0) (old new : S) (result : Result T F) (change : V → V) : Type 0 where
+  pub began : is_clean new → is_clean old
+  pub counts : faults new ≡ counted result (faults old)
+  pub told : IfErr result may_tell
+  pub changed : Promised shows is_clean old new (λ v. shows new (left_by result (change v) v))

@@ -1,6 +1,6 @@
 //! What keeps a register, however it does.
 
-ghost use Rattle.std.specs.Prelude.{◌≡◌, ℕ, ◌+◌, ◌<◌, Option, None, Result, IfOk, IfErr, [], ◌∷◌, ◌++◌, map, option_map, length, true, false};
+ghost use Rattle.std.specs.Prelude.{◌≡◌, ℕ, ◌+◌, ◌<◌, None, IfOk, [], ◌∷◌, ◌++◌, map, option_map, length, true, false};
 ghost use Rattle.bor_register.specs.declared.fault.StoreFault.{StoreFault};
 ghost use Rattle.bor_register.specs.Register.{Register, caller_of, is_enrolled, is_taken, filings_of, with_filings, new_member, with_member, filing_keyed};
 ghost use Rattle.bor_register.specs.Publication.{published, line_of, filing_shown, has_bytes};
@@ -9,7 +9,7 @@ ghost use Rattle.bor_register.specs.Rows.{rows_of, visible};
 ghost use Rattle.bor_register.specs.Withdrawal.{has_successor, with_withdrawn};
 ghost use Rattle.bor_records.specs.Admission.{last_of};
 ghost use Rattle.bor_records.specs.Settling.{has_id};
-ghost use Rattle.bor_records.specs.Promises.{Promised, Reads, Sure, counted, left_by};
+ghost use Rattle.bor_records.specs.Promises.{Changes, Promised, Reads, Sure};
 
 use crate::caller::Caller;
 use crate::fault::StoreFault;
@@ -20,10 +20,10 @@ use bor_terms::{AgentName, Day, Ident, LodgeKey, Token};
 
 /// A keep of a register.
 ///
-/// Its meaning is a relation to registers (`shows`). Its promises are made where it showed a
-/// register and ends clean (`is_clean`: its store has returned what was written), and its
-/// conditions are asked where it shows one and is clean. A call that ends clean began clean. A
-/// fault leaves the register as before and adds one to `faults`.
+/// Its meaning is a relation to registers (`shows`). It promises something of a register only where
+/// it showed that one and ends clean (`is_clean`: its store has returned what was written), and asks
+/// for something only where it shows one and is clean. A read leaves what is shown (`Reads`); a change
+/// makes what it says of it (`Changes`); a fault leaves it, and adds one to `faults`.
 pub trait Keep {
     /// The state shows this register.
     ghost shows: { Self → Register → Type 0 };
@@ -41,7 +41,7 @@ pub trait Keep {
     fn faults(&self) -> u64
         ensures { result ≡ fault_count self.now };
 
-    /// Who has the token, where anybody has.
+    /// Who has the token; `None` where nobody has.
     fn who(&mut self, token: &Token) -> Result<Option<Caller>, StoreFault>
         ensures { Reads shows is_clean fault_count may_tell self.old self.new result (λ r caller.
             caller ≡ caller_of token.now r) };
@@ -56,17 +56,18 @@ pub trait Keep {
         ensures { Reads shows is_clean fault_count may_tell self.old self.new result (λ r day.
             day ≡ r.day) };
 
-    /// The agent's filing under a key.
+    /// The agent's filing under a key, a withdrawn one too; `None` where it has lodged none under it.
     fn filing(&mut self, agent: &AgentName, key: &LodgeKey) -> Result<Option<Filing>, StoreFault>
         ensures { Reads shows is_clean fault_count may_tell self.old self.new result (λ r filing.
             filing ≡ option_map filing_shown (filing_keyed key.now (filings_of agent.now r.members))) };
 
-    /// The line of the agent's filing under a key.
+    /// The line of the agent's filing under a key, on the register's day; `None` where it has lodged none
+    /// under it.
     fn line(&mut self, agent: &AgentName, key: &LodgeKey) -> Result<Option<FilingLine>, StoreFault>
         ensures { Reads shows is_clean fault_count may_tell self.old self.new result (λ r line.
             line ≡ option_map (line_of r.day) (filing_keyed key.now (filings_of agent.now r.members))) };
 
-    /// Whether the agent has a filing under the key, and its file has these bytes.
+    /// Whether the agent has a filing under the key, withdrawn or not, whose file has these bytes.
     fn has_file(
         &mut self,
         agent: &AgentName,
@@ -86,7 +87,8 @@ pub trait Keep {
         ensures { Reads shows is_clean fault_count may_tell self.old self.new result (λ r lines.
             lines.items ≡ map (line_of r.day) (filings_of agent.now r.members)) };
 
-    /// What is known of the record's last live statement; `rec` is its identifier.
+    /// What is known of the record's last live statement; `rec` is its identifier. `None` where the record
+    /// has none.
     fn last(
         &mut self,
         agent: &AgentName,
@@ -101,8 +103,9 @@ pub trait Keep {
         ensures { Reads shows is_clean fault_count may_tell self.old self.new result (λ r has.
             has ≡ has_id id.now (live_of (filings_of agent.now r.members))) };
 
-    /// Whether a filing of the agent that was accepted later has a live statement of one of the
-    /// records of the filing with this number.
+    /// Whether a filing of the agent that was accepted after the one with this number has a live
+    /// statement of one of its records. `false` where the agent has no such filing, and where that one is
+    /// withdrawn: its statements are gone.
     fn has_successor(&mut self, agent: &AgentName, number: u32) -> Result<bool, StoreFault>
         ensures { Reads shows is_clean fault_count may_tell self.old self.new result (λ r has.
             has ≡ has_successor number (filings_of agent.now r.members)) };
@@ -148,48 +151,34 @@ pub trait Keep {
             filing_keyed key.now (filings_of agent.now r.members) ≡ None) }
         requires statements { Sure shows is_clean self.old (λ r.
             AreNew (live_of (filings_of agent.now r.members)) statements.now) }
-        ensures began { is_clean self.new → is_clean self.old }
-        ensures counts { fault_count self.new ≡ counted result (fault_count self.old) }
-        ensures told { IfErr result may_tell }
         ensures number { Promised shows is_clean self.old self.new (λ r. IfOk result (λ number.
             number ≡ length (filings_of agent.now r.members) + 1)) }
-        ensures changed { Promised shows is_clean self.old self.new (λ r.
+        ensures changes { Changes shows is_clean fault_count may_tell self.old self.new result (λ r.
             let own = filings_of agent.now r.members in
-            shows self.new (left_by result (record r {
+            record r {
               members = with_filings agent.now
                   (own ++ accepted own key.now due bytes.now statements.now ∷ []) r.members;
-            }) r)) };
+            }) };
 
     /// Withdraws the agent's filing with this number: its statements are gone, its number, key, due
     /// day and bytes stay. What may be withdrawn is for the caller to test.
     fn withdraw(&mut self, agent: &AgentName, number: u32) -> Result<(), StoreFault>
-        ensures began { is_clean self.new → is_clean self.old }
-        ensures counts { fault_count self.new ≡ counted result (fault_count self.old) }
-        ensures told { IfErr result may_tell }
-        ensures changed { Promised shows is_clean self.old self.new (λ r.
-            shows self.new (left_by result (record r {
-              members = with_filings agent.now
-                  (with_withdrawn number (filings_of agent.now r.members)) r.members;
-            }) r)) };
+        ensures { Changes shows is_clean fault_count may_tell self.old self.new result (λ r. record r {
+          members = with_filings agent.now
+              (with_withdrawn number (filings_of agent.now r.members)) r.members;
+        }) };
 
     /// Sets the register's day. That it isn't an earlier one is for the caller to test.
     fn set_day(&mut self, day: Day) -> Result<(), StoreFault>
-        ensures began { is_clean self.new → is_clean self.old }
-        ensures counts { fault_count self.new ≡ counted result (fault_count self.old) }
-        ensures told { IfErr result may_tell }
-        ensures changed { Promised shows is_clean self.old self.new (λ r.
-            shows self.new (left_by result (record r { day = day }) r)) };
+        ensures { Changes shows is_clean fault_count may_tell self.old self.new result (λ r.
+            record r { day = day }) };
 
     /// Adds an agent whose name and token are new to the register.
     fn add_agent(&mut self, agent: &AgentName, token: &Token) -> Result<(), StoreFault>
         requires new_name { Sure shows is_clean self.old (λ r.
             is_enrolled agent.now r.members ≡ false) }
         requires new_token { Sure shows is_clean self.old (λ r. is_taken token.now r ≡ false) }
-        ensures began { is_clean self.new → is_clean self.old }
-        ensures counts { fault_count self.new ≡ counted result (fault_count self.old) }
-        ensures told { IfErr result may_tell }
-        ensures changed { Promised shows is_clean self.old self.new (λ r.
-            shows self.new (left_by result (record r {
-              members = with_member (new_member agent.now token.now) r.members;
-            }) r)) };
+        ensures { Changes shows is_clean fault_count may_tell self.old self.new result (λ r. record r {
+          members = with_member (new_member agent.now token.now) r.members;
+        }) };
 }

@@ -57,7 +57,7 @@ add_filing-requires-clause-statements g c = λ r is3 clean3.
 
 pub returns-clause-step : goal.returns-clause-step
 returns-clause-step g c = λ r is clean4.
-    let clean3 = c.in_ok-number.ensures.began clean4 in
+    let clean3 = c.in_ok-number.ensures.changes.began clean4 in
     let clean2 = c.in_ok-statements.ensures.kept.began clean3 in
     let clean1 = c.in_ok-day.ensures.kept.began clean2 in
     let clean0 = c.in_ok-is_full.ensures.kept.began clean1 in
@@ -70,4 +70,4 @@ returns-clause-step g c = λ r is clean4.
     let number = c.in_ok-number.ensures.number r is3 clean4 in
     let state = c.of_live.ensures ∙ ap (state_of_live c.args.due) day.1 in
     let p = accepted_new r c.args.agent.now c.args.key.now c.args.due c.args.bytes.now c.deref.result.now c.in_ok-number.number c.of_live.result (c.requires.new_key r is clean0) room day.0 told number state in
-    (p.0, subst (g.K.Keep.shows c.add_filing.new.self) (sym p.1) (c.in_ok-number.ensures.changed r is3 clean4))
+    (p.0, subst (g.K.Keep.shows c.add_filing.new.self) (sym p.1) (c.in_ok-number.ensures.changes.changed r is3 clean4))
