@@ -89,11 +89,14 @@ impl AcceptedFiling {
     }
 }
 
-/// What its agent reads of a filing.
+/// What its agent reads of a filing, a withdrawn one too.
 #[derive(Debug, Drop)]
 pub struct Filing {
+    /// From 1, in order of acceptance.
     pub number: u32,
+    /// The day from which on it is published, unless it is withdrawn.
     pub due: Day,
+    /// Whether its agent has withdrawn it.
     pub withdrawn: bool,
     /// The file as it was lodged.
     pub bytes: Listed<u8>,
@@ -135,19 +138,25 @@ impl State {
     }
 }
 
-/// A line of an agent's list of its own filings.
+/// A line of an agent's list of its own filings: what it reads of one without its file.
 #[derive(Debug, Drop)]
 pub struct FilingLine {
+    /// The key under which the agent lodged it.
     pub key: LodgeKey,
+    /// From 1, in order of acceptance.
     pub number: u32,
+    /// The day from which on it is published, unless it is withdrawn.
     pub due: Day,
+    /// Its state on the register's day.
     pub state: State,
 }
 
 /// What all see of a published filing: neither its number, nor its key, nor its bytes.
 #[derive(Debug, Drop)]
 pub struct Outward {
+    /// Who lodged it.
     pub agent: AgentName,
+    /// The day since which it is published.
     pub due: Day,
     /// The statements, each with its settled status.
     pub statements: Listed<Statement>,

@@ -59,7 +59,7 @@ pub(crate) fn is_filed(filings: &[AcceptedFiling], key: &LodgeKey, bytes: &[u8])
 }
 
 /// The lines of an agent's filings on a day, in order of acceptance.
-pub(crate) fn all_lines(
+pub fn all_lines(
     alloc: Global,
     filings: &[AcceptedFiling],
     day: Day,

@@ -21,6 +21,9 @@
 //! assert_eq!(rt; keep.filings(&alder)?.len(), 0);
 //! ```
 //!
+//! What it computes of its members is for other keeps that hold them: [`own_filings`], [`all_lines`],
+//! [`rows_seen`], [`all_visible`], [`all_published`], [`is_succeeded`].
+//!
 //! A keep answers and changes what it is asked to and tests nothing of it: which lodging, which
 //! withdrawal and which day may be is told by `bor_machine`, which hands all of this on.
 #![tactic(auto)]
@@ -44,7 +47,11 @@ mod withdrawal;
 pub use caller::Caller;
 pub use fault::StoreFault;
 pub use filing::{AcceptedFiling, Filing, FilingLine, Outward, State};
+pub use filings::all_lines;
 pub use keep::Keep;
 pub use list_keep::ListKeep;
-pub use member::Member;
+pub use member::{Member, own_filings};
+pub use publication::all_published;
+pub use rows::{all_visible, rows_seen};
 pub use statements::{any_has_id, last_in};
+pub use withdrawal::is_succeeded;

@@ -18,9 +18,11 @@ use std::alloc::{AllocError, Global};
 /// An agent of the register, with its filings in order of acceptance.
 #[derive(Debug, Drop)]
 pub struct Member {
+    /// The agent's name; no other member has it.
     pub name: AgentName,
     /// The token by which the agent is known.
     pub token: Token,
+    /// All that it has lodged, withdrawn filings included.
     pub filings: Listed<AcceptedFiling>,
 }
 
@@ -54,7 +56,7 @@ pub(crate) fn caller_with(
 }
 
 /// The agent's filings; none where there is no such agent.
-pub(crate) fn own_filings<'a>(members: &'a [Member], name: &AgentName) -> &'a [AcceptedFiling]
+pub fn own_filings<'a>(members: &'a [Member], name: &AgentName) -> &'a [AcceptedFiling]
     ensures { result.now ≡ filings_of name.now members.now }
 {
     for member in members {

@@ -32,7 +32,7 @@ fn add_outwards(
 
 /// What all see of the filings that are published on a day: by agent, those of an agent in order of
 /// acceptance.
-pub(crate) fn all_published(
+pub fn all_published(
     alloc: Global,
     members: &[Member],
     day: Day,

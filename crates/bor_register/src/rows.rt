@@ -79,8 +79,10 @@ fn add_visible(
     Ok(())
 }
 
-/// The rows of a declaration of the agent that the viewer sees on a day.
-pub(crate) fn rows_seen(
+/// The rows of a declaration of the agent that the viewer sees on a day, by the agent's filings: of
+/// its own live ones, and of another's published ones. They stand in order of acceptance and of
+/// place.
+pub fn rows_seen(
     alloc: Global,
     viewer: &AgentName,
     day: Day,
@@ -104,8 +106,9 @@ pub(crate) fn rows_seen(
     Ok(rows)
 }
 
-/// The rows of all agents that the viewer sees on a day.
-pub(crate) fn all_visible(
+/// The rows of all agents that the viewer sees on a day: by agent, then in order of acceptance and of
+/// place. A viewer that isn't among the members sees what is published.
+pub fn all_visible(
     alloc: Global,
     viewer: &AgentName,
     day: Day,
