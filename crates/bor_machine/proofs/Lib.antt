@@ -5,6 +5,7 @@ pub mod Keyed
 pub mod Withdrawing
 pub mod Withdrawals
 pub mod Legality
+pub mod Forms
 pub mod Prefixes
 pub mod Alone
 pub mod Examples

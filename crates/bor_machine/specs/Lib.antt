@@ -4,5 +4,6 @@ pub mod Withdrawing
 pub mod Registrar
 pub mod Outcomes
 pub mod Legality
+pub mod Forms
 pub mod Solo
 pub mod Laws

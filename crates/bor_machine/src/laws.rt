@@ -13,6 +13,13 @@ pub fn legal_stays_legal()
     ensures { StaysLegal }
 {}
 
+ghost use Rattle.bor_machine.specs.Forms.{StaysFormed};
+
+/// A new register has values of their forms, and each operation on such values leaves such a one.
+pub fn forms_are_kept()
+    ensures { StaysFormed }
+{}
+
 /// In a legal register what is published of a record is the front of what is live of it. So the
 /// published filings of an agent obey the record rules by themselves, and no settled status tells of
 /// a draft.
