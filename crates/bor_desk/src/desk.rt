@@ -163,7 +163,7 @@ fn answer_agent<K: Keep>(
             *due,
             file.as_slice(),
         )?)),
-        Request::Withdraw { key } => Ok(DeskReply::Withdrawn(withdraw(alloc, keep, name, key)?)),
+        Request::Withdraw { key } => Ok(DeskReply::Withdrawn(withdraw(keep, name, key)?)),
         _ => tell_agent(alloc, keep, name, request),
     }
 }

@@ -1,6 +1,7 @@
 pub mod Outcomes
 pub mod Lodgings
 pub mod Additions
+pub mod Refusals
 pub mod Keyed
 pub mod Withdrawing
 pub mod Withdrawals

@@ -1,6 +1,7 @@
 -- What a lodging is refused for, and what a refused one leaves.
 use Rattle.std.proofs.Common.{◌≡◌, ℕ, zero, suc, ℤ, ◌+◌, ◌<◌, ◌≤◌, subst, List, [], ◌∷◌, ◌++◌, length, take, drop, get_or, set, map, true, false, None, Result, Ok, Err, refl, ◌∙◌, sym, ap, append_assoc, arith}
 use Rattle.std.specs.Prelude.{◌≢◌, ◌%◌, ◌^◌, pos, Some, Bool, nat_le, int_lt, if◌then◌else◌}
+use Rattle.std.proofs.lemmas.Bool.{leb-false}
 use Rattle.std.proofs.lemmas.List.{take_more_set, drop_more, drop-set-lt, append-nil, map-append, take_all}
 use Rattle.bods_read.specs.declared.statement.Statement.{Statement}
 use Rattle.bods_read.specs.declared.statement.Status.{Status}
@@ -18,7 +19,7 @@ use Rattle.bods_read.specs.declared.details.PersonKind.TheVariants.{KnownPerson}
 use Rattle.bor_register.specs.declared.filing.State.{State}
 use Rattle.bor_register.specs.Publication.{state_of_live}
 use Rattle.bor_register.specs.Live.{accepted, live_of}
-use Rattle.bor_machine.specs.Sight.{sight_of}
+use Rattle.bor_machine.specs.Sight.{Sight}
 use Rattle.bor_machine.specs.Lodging.{fault_at, told_verdict, told_settled, settled_reading, as_read, repeated, filing_of, addition, lodge_step}
 use Rattle.bor_machine.specs.Outcomes.{of_lodging, ByStore, IsOutcome, Refuses, IsDone}
 use Rattle.bor_machine.specs.declared.lodging.Lodged.{Lodged}
@@ -114,16 +115,16 @@ refused_is e front place s (Ok st) rest h = absurd cc
 refused_is e front place s (Err w) rest h = let same : fault_at place w ≡ e = cc in ap (λ (x : LodgeFault). Err x) same
 
 refused_then : (e : LodgeFault) (front : List Statement) (place : ℕ) (s : Statement) (v : Result Status Refusal) (rest : Statement → Result (List Statement) PlacedRefusal) →
-    Refuses e (told_verdict place v) → Refuses e (told_settled (behind front (settled_then place s v rest)))
+    Refuses of_lodging e (told_verdict place v) → Refuses of_lodging e (told_settled (behind front (settled_then place s v rest)))
 refused_then e front place s v rest h = unless_store (of_lodging e) _ _ (refused_is e front place s v rest) h
 
 pub so_far-refused : (e : LodgeFault) (live : List Live) (due : ℤ) (ss : List Statement) (i place : ℕ) (d : Statement) → i < length ss → place ≡ i + 1 →
-    Refuses e (told_verdict place (verdict (live ++ map (as_live due) (take i ss)) (get_or ss i d) due)) → Refuses e (told_settled (so_far live due ss i))
+    Refuses of_lodging e (told_verdict place (verdict (live ++ map (as_live due) (take i ss)) (get_or ss i d) due)) → Refuses of_lodging e (told_settled (so_far live due ss i))
 so_far-refused e live due ss i place d lt at h =
     let before = live ++ map (as_live due) (take i ss) in
-    let here = subst (λ p. Refuses e (told_verdict p (verdict before (get_or ss i d) due))) at h in
+    let here = subst (λ p. Refuses of_lodging e (told_verdict p (verdict before (get_or ss i d) due))) at h in
     let all = refused_then e (take i ss) (i + 1) (get_or ss i d) (verdict before (get_or ss i d) due) (λ x. settled_from (i + 1 + 1) (before ++ as_live due x ∷ []) due (drop (i + 1) ss)) here in
-    subst (λ ys. Refuses e (told_settled (behind (take i ss) (settled_from (i + 1) before due ys)))) (sym (drop_more ss i d lt)) all
+    subst (λ ys. Refuses of_lodging e (told_settled (behind (take i ss) (settled_from (i + 1) before due ys)))) (sym (drop_more ss i d lt)) all
 
 -- ---- a file that isn't read
 
@@ -132,7 +133,7 @@ unread_is e live due (Ok ss) h = absurd cc
 unread_is e live due (Err g) h = h
 
 -- a file that isn't read refuses the lodging
-pub refuses-unread : (e : LodgeFault) (live : List Live) (due : ℤ) (file : Result (List Statement) FileFault) → Refuses e (as_read file) → Refuses e (settled_reading live due file)
+pub refuses-unread : (e : LodgeFault) (live : List Live) (due : ℤ) (file : Result (List Statement) FileFault) → Refuses of_lodging e (as_read file) → Refuses of_lodging e (settled_reading live due file)
 refuses-unread e live due file h = unless_store (of_lodging e) _ _ (unread_is e live due file) h
 
 pub settled-read : (live : List Live) (due : ℤ) (ss : List Statement) (file : Result (List Statement) FileFault) → as_read file ≡ Ok ss → settled_reading live due file ≡ told_settled (settled live due ss)
@@ -149,7 +150,7 @@ repeated_step r name key due bytes f found = (rw found refl, rw (found, with_fil
 
 -- a filing that is told again leaves the register
 pub repeat_outcome : (told : Result Lodged LodgeFault) (shown : Register → Type 0) (r : Register) (name key : List ℕ) (due : ℤ) (bytes : List ℕ) (f : AcceptedFiling) →
-    filing_keyed key (filings_of name r.members) ≡ Some f → IsDone (λ lodged. lodged) told (repeated r.day due bytes f) → shown r → IsOutcome of_lodging told shown r (lodge_step r name key due bytes)
+    filing_keyed key (filings_of name r.members) ≡ Some f → IsDone of_lodging (λ lodged. lodged) told (repeated r.day due bytes f) → shown r → IsOutcome of_lodging told shown r (lodge_step r name key due bytes)
 repeat_outcome (Ok lodged) shown r name key due bytes f found h is = let p = repeated_step r name key due bytes f found in (p.0 ∙ h, subst shown (sym p.1) is)
 repeat_outcome (Err e) shown r name key due bytes f found h is =
     let p = repeated_step r name key due bytes f found in
@@ -157,50 +158,13 @@ repeat_outcome (Err e) shown r name key due bytes f found h is =
 
 -- ---- a key that is new
 
--- what it is that an agent adds
-abbrev pub added_to : Register → List ℕ → List ℕ → ℤ → List ℕ → Result AcceptedFiling LodgeFault
-added_to r name key due bytes = addition (sight_of name r) key due bytes
-
-refused_new : (r : Register) (name key : List ℕ) (due : ℤ) (bytes : List ℕ) (e : LodgeFault) → filing_keyed key (filings_of name r.members) ≡ None → added_to r name key due bytes ≡ Err e →
-    ((lodge_step r name key due bytes).answer ≡ Err e) × ((lodge_step r name key due bytes).register ≡ r)
-refused_new r name key due bytes e new h = (rw (new, h) refl, rw (new, h, with_filings_same name r.members) refl)
-
-pub full_new : (r : Register) (name key : List ℕ) (due : ℤ) (bytes : List ℕ) → filing_keyed key (filings_of name r.members) ≡ None → nat_le FILINGS_LIMIT (length (filings_of name r.members)) ≡ true →
-    ((lodge_step r name key due bytes).answer ≡ Err FilingsFull) × ((lodge_step r name key due bytes).register ≡ r)
-full_new r name key due bytes new full = refused_new r name key due bytes FilingsFull new (rw full refl)
-
-past_is : {A : Type 0} (past : Bool) (today : ℤ) (x : Result A LodgeFault) (e : LodgeFault) → (if past then Err DuePast else Ok today) ≡ Err e → (if past then Err DuePast else x) ≡ Err e
-past_is true today x e h = let same : DuePast ≡ e = cc in ap (λ (f : LodgeFault). Err f) same
-past_is false today x e h = absurd cc
-
--- the register's day, where the due day isn't before it
-pub day_is : (past : Bool) (today day : ℤ) → (if past then Err DuePast else Ok today) ≡ Ok day → (past ≡ false) × (day ≡ today)
-day_is true today day h = absurd cc
-day_is false today day h = (refl, cc)
-
-pub past_new : (r : Register) (name key : List ℕ) (due : ℤ) (bytes : List ℕ) (e : LodgeFault) → filing_keyed key (filings_of name r.members) ≡ None → nat_le FILINGS_LIMIT (length (filings_of name r.members)) ≡ false →
-    Refuses e (if int_lt due r.day then Err DuePast else Ok r.day) →
-    ByStore (of_lodging e) (((lodge_step r name key due bytes).answer ≡ Err e) × ((lodge_step r name key due bytes).register ≡ r)) (λ f. Unit {0})
-past_new r name key due bytes e new room told =
-    unless_store (of_lodging e) _ _ (λ h. refused_new r name key due bytes e new (rw room (past_is (int_lt due r.day) r.day _ e h))) told
-
-added_is : (r : Register) (name key : List ℕ) (due : ℤ) (bytes : List ℕ) → nat_le FILINGS_LIMIT (length (filings_of name r.members)) ≡ false → int_lt due r.day ≡ false →
-    added_to r name key due bytes ≡ filing_of (filings_of name r.members) key due bytes (settled_reading (live_of (filings_of name r.members)) due (reading bytes))
-added_is r name key due bytes room coming = rw (room, coming) refl
-
-pub refusal_new : (r : Register) (name key : List ℕ) (due : ℤ) (bytes : List ℕ) (e : LodgeFault) → filing_keyed key (filings_of name r.members) ≡ None → nat_le FILINGS_LIMIT (length (filings_of name r.members)) ≡ false →
-    int_lt due r.day ≡ false → Refuses e (settled_reading (live_of (filings_of name r.members)) due (reading bytes)) →
-    ByStore (of_lodging e) (((lodge_step r name key due bytes).answer ≡ Err e) × ((lodge_step r name key due bytes).register ≡ r)) (λ f. Unit {0})
-refusal_new r name key due bytes e new room coming told =
-    unless_store (of_lodging e) _ _ (λ h. refused_new r name key due bytes e new (added_is r name key due bytes room coming ∙ ap (filing_of (filings_of name r.members) key due bytes) h)) told
-
-pub accepted_new : (r : Register) (name key : List ℕ) (due : ℤ) (bytes : List ℕ) (ss : List Statement) (number : ℕ) (state : State) → filing_keyed key (filings_of name r.members) ≡ None →
-    nat_le FILINGS_LIMIT (length (filings_of name r.members)) ≡ false → int_lt due r.day ≡ false → settled_reading (live_of (filings_of name r.members)) due (reading bytes) ≡ Ok ss →
-    number ≡ length (filings_of name r.members) + 1 → state ≡ state_of_live due r.day →
-    ((lodge_step r name key due bytes).answer ≡ Ok (record { number = number; due = due; state = state; fresh = true }))
-    × ((lodge_step r name key due bytes).register ≡ record r { members = with_filings name (filings_of name r.members ++ accepted (filings_of name r.members) key due bytes ss ∷ []) r.members })
-accepted_new r name key due bytes ss number state new room coming h e f =
-    let added = added_is r name key due bytes room coming ∙ ap (filing_of (filings_of name r.members) key due bytes) h in (rw (new, added, e, f) refl, rw (new, added) refl)
+-- an agent that adds a filing has fewer than 999
+pub addition_room : (s : Sight) (key : List ℕ) (due : ℤ) (bytes : List ℕ) (f : AcceptedFiling) → addition s key due bytes ≡ Ok f → length s.own < 999
+addition_room s key due bytes f h = by_test (nat_le FILINGS_LIMIT (length s.own)) _ refl h
+  where
+    by_test : (full : Bool) (rest : Result AcceptedFiling LodgeFault) → nat_le FILINGS_LIMIT (length s.own) ≡ full → (if full then Err FilingsFull else rest) ≡ Ok f → length s.own < 999
+    by_test true rest e told = absurd cc
+    by_test false rest e told = leb-false FILINGS_LIMIT (length s.own) e
 
 -- a statement that stands for none
 pub no_statement : Statement

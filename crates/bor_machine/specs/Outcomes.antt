@@ -66,13 +66,13 @@ IsCounted (Ok answer) before after = after ≡ before
 IsCounted (Err fault) before after = HasCause fault before after
 
 -- an error says what the definition gives, but for a fault of the store
-abbrev pub Refuses : {B : Type 0} → LodgeFault → Result B LodgeFault → Type 0
-Refuses fault told = ByStore (of_lodging fault) (told ≡ Err fault) (λ f. Unit {0})
+abbrev pub Refuses : {B E : Type 0} → (E → Option StoreFault) → E → Result B E → Type 0
+Refuses store fault told = ByStore (store fault) (told ≡ Err fault) (λ f. Unit {0})
 
 -- a call answers what the definition gives, but for a fault of the store
-abbrev pub IsDone : {A B : Type 0} → (A → B) → Result A LodgeFault → Result B LodgeFault → Type 0
-IsDone view (Ok x) told = told ≡ Ok (view x)
-IsDone view (Err fault) told = Refuses fault told
+abbrev pub IsDone : {A B E : Type 0} → (E → Option StoreFault) → (A → B) → Result A E → Result B E → Type 0
+IsDone store view (Ok x) told = told ≡ Ok (view x)
+IsDone store view (Err fault) told = Refuses store fault told
 
 -- a fault of the store that isn't want of memory
 abbrev pub IsOfStore : LodgeFault → Type 0
@@ -82,5 +82,5 @@ IsOfStore fault = ⊥
 
 -- the same of a call that asks no keep: its one fault of the store is want of memory
 pub record IsMade {A B : Type 0} (view : A → B) (made : Result A LodgeFault) (told : Result B LodgeFault) : Type 0 where
-  pub done : IsDone view made told
+  pub done : IsDone of_lodging view made told
   pub err : IfErr made (λ fault. ¬ (IsOfStore fault))

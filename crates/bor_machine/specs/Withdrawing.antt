@@ -2,6 +2,7 @@
 use Rattle.std.specs.Prelude.{ℕ, int_le, List, Option, Some, None, Result, Ok, Err, if◌then◌else◌}
 use Rattle.bor_register.specs.declared.filing.AcceptedFiling.{AcceptedFiling}
 use Rattle.bor_register.specs.declared.filing.FilingLine.{FilingLine}
+use Rattle.bor_register.specs.declared.filing.State.TheVariants.{Withdrawn}
 use Rattle.bor_register.specs.Register.{Register, filing_keyed, with_filings}
 use Rattle.bor_register.specs.Publication.{line_of}
 use Rattle.bor_register.specs.Withdrawal.{has_successor, as_withdrawn, with_withdrawn}
@@ -31,6 +32,10 @@ withdrawal sight key = withdrawal_at sight (filing_keyed key sight.own)
 -- the agent's filings after it
 abbrev pub own_withdrawn : Sight → List ℕ → List AcceptedFiling
 own_withdrawn sight key = own_withdrawn_at sight (filing_keyed key sight.own)
+
+-- a filing's line once it is withdrawn
+abbrev pub line_withdrawn : FilingLine → FilingLine
+line_withdrawn line = record line { state = Withdrawn }
 
 -- the withdrawal of a filing by its agent
 abbrev pub withdraw_step : Register → List ℕ → List ℕ → Outcome (Result FilingLine WithdrawFault)

@@ -1,7 +1,6 @@
 //! Why an operation was not done.
 
 ghost use Rattle.std.specs.Prelude.{◌≡◌};
-ghost use Rattle.bor_register.specs.declared.fault.StoreFault.TheVariants as store_faults;
 ghost use Rattle.bor_machine.specs.declared.fault.LodgeFault.TheVariants as lodge_faults;
 ghost use Rattle.bor_machine.specs.declared.fault.WithdrawFault.TheVariants as withdraw_faults;
 ghost use Rattle.bor_machine.specs.declared.fault.AdvanceFault.TheVariants as advance_faults;
@@ -10,7 +9,6 @@ ghost use Rattle.bor_machine.specs.declared.fault.EnrolFault.TheVariants as enro
 use bods_read::FileFault;
 use bor_records::RecordFault;
 use bor_register::StoreFault;
-use std::alloc::AllocError;
 
 /// Why a file was not lodged. The register is as before.
 #[derive(Clone, Copy, Debug, PartialEq, Eq)]
@@ -58,14 +56,6 @@ impl From<StoreFault> for WithdrawFault {
 
     fn from(fault: StoreFault) -> Self {
         WithdrawFault::Store(fault)
-    }
-}
-
-impl From<AllocError> for WithdrawFault {
-    ghost from_gives = { λ _ given. given ≡ withdraw_faults.Store store_faults.Memory };
-
-    fn from(_error: AllocError) -> Self {
-        WithdrawFault::Store(StoreFault::Memory)
     }
 }
 

@@ -1,25 +1,26 @@
 //! Lodging a file.
 
-ghost use Rattle.std.specs.Prelude.{◌≡◌, ◌<◌, ◌≤◌, ◌+◌, ◌++◌, take, slice_index_or, ℕ, Option, Some, None, Result, IfOk, IfErr, map, length, true, nat_le, int_lt, Ok, Err, if◌then◌else◌};
+ghost use Rattle.std.specs.Prelude.{◌≡◌, ◌<◌, ◌≤◌, ◌+◌, ◌++◌, take, slice_index_or, ℕ, List, Option, Some, None, Result, IfOk, IfErr, map, length, true, nat_le, int_lt, Ok, Err, if◌then◌else◌};
 ghost use Rattle.bods_read.specs.File.{reading};
 ghost use Rattle.bods_read.specs.declared.statement.Statement.{Statement};
 ghost use Rattle.bor_records.specs.Admission.{last_of};
 ghost use Rattle.bor_records.specs.Settling.{as_live, has_id, settled, verdict};
 ghost use Rattle.bor_register.specs.declared.filing.AcceptedFiling.{AcceptedFiling};
 ghost use Rattle.bor_register.specs.Register.{Register, is_enrolled, filings_of, filing_keyed};
-ghost use Rattle.bor_register.specs.Live.{live_of};
-ghost use Rattle.bor_register.specs.Publication.{state_of, filing_shown};
-ghost use Rattle.bor_records.specs.Promises.{Kept, Promised, Sure};
+ghost use Rattle.bor_register.specs.Live.{accepted, live_of};
+ghost use Rattle.bor_register.specs.Publication.{state_of_live, line_of};
+ghost use Rattle.bor_records.specs.Promises.{Kept, Promised, Reads, Sure};
 ghost use Rattle.bor_machine.specs.declared.fault.LodgeFault.TheVariants as lodge_faults;
 ghost use Rattle.bor_machine.specs.declared.lodging.TheConstants.{FILINGS_LIMIT};
-ghost use Rattle.bor_machine.specs.Lodging.{as_read, told_settled, told_verdict, settled_reading, repeated, lodge_step};
-ghost use Rattle.bor_machine.specs.Outcomes.{of_lodging, IsOutcome, IsAccounted, IsToldBy, IsCounted, IsDone, IsMade};
+ghost use Rattle.bor_machine.specs.Lodging.{as_read, told_settled, told_verdict, settled_reading, repeated, addition, lodge_step};
+ghost use Rattle.bor_machine.specs.Outcomes.{of_lodging, IsOutcome, IsAccounted, IsToldBy, IsDone, IsMade};
 ghost use Rattle.bor_machine.specs.Legality.{IsLegal};
+ghost use Rattle.bor_machine.specs.Sight.{sight_of};
 
 use crate::fault::LodgeFault;
 use bods_read::{ReadFault, Statement, Status, read_file};
 use bor_records::{Last, admit};
-use bor_register::{Filing, Keep, State, StoreFault, any_has_id, last_in};
+use bor_register::{FilingLine, Keep, State, StoreFault, any_has_id, last_in};
 use bor_terms::{AgentName, Day, Ident, LodgeKey};
 use std::alloc::Global;
 
@@ -56,11 +57,8 @@ fn is_taken<K: Keep>(
     earlier: &[Statement],
     id: &Ident,
 ) -> Result<bool, StoreFault>
-    ensures kept { Kept K.shows K.is_clean keep.old keep.new }
-    ensures told { IfErr result K.may_tell }
-    ensures accounted { IsCounted result (K.fault_count keep.old) (K.fault_count keep.new) }
-    ensures answer { Promised K.shows K.is_clean keep.old keep.new (λ r. IfOk result (λ taken.
-        taken ≡ has_id id.now (live_of (filings_of agent.now r.members) ++ map (as_live due) earlier.now))) }
+    ensures { Reads K.shows K.is_clean K.fault_count K.may_tell keep.old keep.new result (λ r taken.
+        taken ≡ has_id id.now (live_of (filings_of agent.now r.members) ++ map (as_live due) earlier.now)) }
 {
     if any_has_id(earlier, id) {
         return Ok(true);
@@ -77,12 +75,9 @@ fn last<K: Keep>(
     earlier: &[Statement],
     statement: &Statement,
 ) -> Result<Option<Last>, StoreFault>
-    ensures kept { Kept K.shows K.is_clean keep.old keep.new }
-    ensures told { IfErr result K.may_tell }
-    ensures accounted { IsCounted result (K.fault_count keep.old) (K.fault_count keep.new) }
-    ensures answer { Promised K.shows K.is_clean keep.old keep.new (λ r. IfOk result (λ last.
+    ensures { Reads K.shows K.is_clean K.fault_count K.may_tell keep.old keep.new result (λ r last.
         last ≡ last_of statement.now.declaration statement.now.rec
-        (live_of (filings_of agent.now r.members) ++ map (as_live due) earlier.now))) }
+        (live_of (filings_of agent.now r.members) ++ map (as_live due) earlier.now)) }
 {
     match last_in(earlier, due, &statement.declaration, &statement.rec) {
         Some(last) => Ok(Some(last)),
@@ -104,7 +99,7 @@ fn settled_status<K: Keep>(
     ensures told { IfErr result (IsToldBy of_lodging K.may_tell) }
     ensures accounted { IsAccounted of_lodging result (K.fault_count keep.old) (K.fault_count keep.new) }
     ensures answer { Promised K.shows K.is_clean keep.old keep.new (λ r.
-        IsDone (λ status. status) result (told_verdict place
+        IsDone of_lodging (λ status. status) result (told_verdict place
         (verdict (live_of (filings_of agent.now r.members) ++ map (as_live due) earlier.now) statement.now due))) }
 {
     if is_taken(keep, agent, due, earlier, &statement.id)? {
@@ -130,7 +125,7 @@ fn status_at<K: Keep>(
     ensures told { IfErr result (IsToldBy of_lodging K.may_tell) }
     ensures accounted { IsAccounted of_lodging result (K.fault_count keep.old) (K.fault_count keep.new) }
     ensures answer { Promised K.shows K.is_clean keep.old keep.new (λ r.
-        (d : Statement) → IsDone (λ status. status) result (told_verdict (i + 1)
+        (d : Statement) → IsDone of_lodging (λ status. status) result (told_verdict (i + 1)
         (verdict (live_of (filings_of agent.now r.members) ++ map (as_live due) (take i statements.now))
         (slice_index_or statements.now i d) due))) }
 {
@@ -156,7 +151,7 @@ fn settle<K: Keep>(
     ensures told { IfErr result (IsToldBy of_lodging K.may_tell) }
     ensures accounted { IsAccounted of_lodging result (K.fault_count keep.old) (K.fault_count keep.new) }
     ensures answer { Promised K.shows K.is_clean keep.old keep.new (λ r.
-        IsDone (λ _. statements.new) result
+        IsDone of_lodging (λ _. statements.new) result
         (told_settled (settled (live_of (filings_of agent.now r.members)) due statements.old))) }
 {
     for i in 0..statements.len() {
@@ -179,7 +174,7 @@ fn settled<K: Keep>(
     ensures told { IfErr result (IsToldBy of_lodging K.may_tell) }
     ensures accounted { IsAccounted of_lodging result (K.fault_count keep.old) (K.fault_count keep.new) }
     ensures answer { Promised K.shows K.is_clean keep.old keep.new (λ r.
-        IsDone (λ statements. statements.items) result
+        IsDone of_lodging (λ statements. statements.items) result
         (settled_reading (live_of (filings_of agent.now r.members)) due (reading bytes.now))) }
 {
     let mut statements = read(alloc, bytes)?;
@@ -187,69 +182,84 @@ fn settled<K: Keep>(
     Ok(statements)
 }
 
-/// The state of a filing on the register's day.
-pub(crate) fn state_now<K: Keep>(keep: &mut K, filing: &Filing) -> Result<State, StoreFault>
-    ensures kept { Kept K.shows K.is_clean keep.old keep.new }
-    ensures told { IfErr result K.may_tell }
-    ensures accounted { IsCounted result (K.fault_count keep.old) (K.fault_count keep.new) }
-    ensures answer { Promised K.shows K.is_clean keep.old keep.new (λ r. IfOk result (λ state.
-        (f : AcceptedFiling) → filing.now ≡ filing_shown f → state ≡ state_of r.day f)) }
-{
-    if filing.withdrawn {
-        return Ok(State::Withdrawn);
-    }
-    Ok(State::of_live(filing.due, keep.day()?))
-}
-
-// What is told where the agent has a filing under the key.
+// What is told where the agent has a filing under the key, by its line.
 fn repeat<K: Keep>(
     keep: &mut K,
-    filing: &Filing,
+    agent: &AgentName,
+    key: &LodgeKey,
     due: Day,
     bytes: &[u8],
+    line: &FilingLine,
 ) -> Result<Lodged, LodgeFault>
     ensures kept { Kept K.shows K.is_clean keep.old keep.new }
     ensures told { IfErr result (IsToldBy of_lodging K.may_tell) }
     ensures accounted { IsAccounted of_lodging result (K.fault_count keep.old) (K.fault_count keep.new) }
     ensures answer { Promised K.shows K.is_clean keep.old keep.new (λ r.
-        (f : AcceptedFiling) → filing.now ≡ filing_shown f →
-        IsDone (λ lodged. lodged) result (repeated r.day due bytes.now f)) }
+        (f : AcceptedFiling) → filing_keyed key.now (filings_of agent.now r.members) ≡ Some f →
+        line.now ≡ line_of r.day f → IsDone of_lodging (λ lodged. lodged) result (repeated r.day due bytes.now f)) }
 {
-    if filing.due != due || filing.bytes.as_slice() != bytes {
+    if line.due != due || !keep.has_file(agent, key, bytes)? {
         return Err(LodgeFault::KeyReused);
     }
     Ok(Lodged {
-        number: filing.number,
+        number: line.number,
         due,
-        state: state_now(keep, filing)?,
+        state: line.state,
         fresh: false,
     })
 }
 
-// Whether the agent has as many filings as it may have.
-fn is_full<K: Keep>(keep: &mut K, agent: &AgentName) -> Result<bool, StoreFault>
-    ensures kept { Kept K.shows K.is_clean keep.old keep.new }
-    ensures told { IfErr result K.may_tell }
-    ensures accounted { IsCounted result (K.fault_count keep.old) (K.fault_count keep.new) }
-    ensures answer { Promised K.shows K.is_clean keep.old keep.new (λ r. IfOk result (λ full.
-        full ≡ nat_le FILINGS_LIMIT (length (filings_of agent.now r.members)))) }
-{
-    Ok(keep.filings(agent)?.len() >= FILINGS_LIMIT)
-}
-
-// The register's day, where the due day isn't before it.
-fn day_for<K: Keep>(keep: &mut K, due: Day) -> Result<Day, LodgeFault>
+// The register's day, where the agent may have one more filing and the due day isn't past.
+fn day_for<K: Keep>(keep: &mut K, agent: &AgentName, due: Day) -> Result<Day, LodgeFault>
     ensures kept { Kept K.shows K.is_clean keep.old keep.new }
     ensures told { IfErr result (IsToldBy of_lodging K.may_tell) }
     ensures accounted { IsAccounted of_lodging result (K.fault_count keep.old) (K.fault_count keep.new) }
     ensures answer { Promised K.shows K.is_clean keep.old keep.new (λ r.
-        IsDone (λ day. day) result (if int_lt due r.day then Err lodge_faults.DuePast else Ok r.day)) }
+        IsDone of_lodging (λ day. day) result
+        (if nat_le FILINGS_LIMIT (length (filings_of agent.now r.members)) then Err lodge_faults.FilingsFull
+        else (if int_lt due r.day then Err lodge_faults.DuePast else Ok r.day))) }
 {
+    if keep.filing_count(agent)? >= FILINGS_LIMIT {
+        return Err(LodgeFault::FilingsFull);
+    }
     let day = keep.day()?;
     if due < day {
         return Err(LodgeFault::DuePast);
     }
     Ok(day)
+}
+
+// What a lodging under a new key adds.
+#[derive(Drop)]
+struct Prepared {
+    statements: Vec<Statement>,
+    state: State,
+}
+
+// What a lodging adds, or why it is refused.
+fn prepare<K: Keep>(
+    alloc: Global,
+    keep: &mut K,
+    agent: &AgentName,
+    due: Day,
+    bytes: &[u8],
+) -> Result<Prepared, LodgeFault>
+    ensures kept { Kept K.shows K.is_clean keep.old keep.new }
+    ensures told { IfErr result (IsToldBy of_lodging K.may_tell) }
+    ensures accounted { IsAccounted of_lodging result (K.fault_count keep.old) (K.fault_count keep.new) }
+    ensures answer { Promised K.shows K.is_clean keep.old keep.new (λ r.
+        (key : List ℕ) → IsDone of_lodging
+        (λ new. accepted (filings_of agent.now r.members) key due bytes.now new.statements.items)
+        result (addition (sight_of agent.now r) key due bytes.now)) }
+    ensures state { Promised K.shows K.is_clean keep.old keep.new (λ r.
+        IfOk result (λ new. new.state ≡ state_of_live due r.day)) }
+{
+    let day = day_for(keep, agent, due)?;
+    let statements = settled(alloc, keep, agent, due, bytes)?;
+    Ok(Prepared {
+        statements,
+        state: State::of_live(due, day),
+    })
 }
 
 // Lodges a file under a key that is new to the agent.
@@ -270,16 +280,12 @@ fn lodge_new<K: Keep>(
     ensures accounted { IsAccounted of_lodging result (K.fault_count keep.old) (K.fault_count keep.new) }
     ensures told { IfErr result (IsToldBy of_lodging K.may_tell) }
 {
-    if is_full(keep, agent)? {
-        return Err(LodgeFault::FilingsFull);
-    }
-    let day = day_for(keep, due)?;
-    let statements = settled(alloc, keep, agent, due, bytes)?;
-    let number = keep.add_filing(agent, key, due, bytes, &statements)?;
+    let new = prepare(alloc, keep, agent, due, bytes)?;
+    let number = keep.add_filing(agent, key, due, bytes, &new.statements)?;
     Ok(Lodged {
         number,
         due,
-        state: State::of_live(due, day),
+        state: new.state,
         fresh: true,
     })
 }
@@ -294,7 +300,8 @@ fn lodge_new<K: Keep>(
 /// `KeyReused`; `FilingsFull`; `DuePast`; `Read` with the file's first fault; then by statement in
 /// file order `StatementTwice` and `Record`, each with its place. A refusal leaves the register as
 /// it was, and so does `Store`. The keep is asked at most once for each statement's identifier and
-/// once for its record, and is changed at most once, last.
+/// once for its record, and is changed at most once, last; none of its calls lists the agent's
+/// filings or copies a file.
 pub fn lodge<K: Keep>(
     alloc: Global,
     keep: &mut K,
@@ -312,8 +319,8 @@ pub fn lodge<K: Keep>(
     ensures legal { Promised K.shows K.is_clean keep.old keep.new (λ r.
         IsLegal r → (left : Register) × K.shows keep.new left × IsLegal left) }
 {
-    match keep.filing(agent, key)? {
-        Some(filing) => repeat(keep, &filing, due, bytes),
+    match keep.line(agent, key)? {
+        Some(line) => repeat(keep, agent, key, due, bytes, &line),
         None => lodge_new(alloc, keep, agent, key, due, bytes),
     }
 }

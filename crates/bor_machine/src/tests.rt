@@ -62,7 +62,7 @@ fn undo<K: Keep>(
     key: &str,
 ) -> Result<Result<(u32, State), WithdrawFault>, Fail> {
     let (alder, key) = (agent(alloc, "alder")?, read_key(alloc, key)?);
-    Ok(match withdraw(alloc, keep, &alder, &key) {
+    Ok(match withdraw(keep, &alder, &key) {
         Ok(line) => Ok((line.number, line.state)),
         Err(fault) => Err(fault),
     })

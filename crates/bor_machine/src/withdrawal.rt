@@ -1,25 +1,43 @@
 //! Withdrawing a filing.
 
-ghost use Rattle.std.specs.Prelude.{◌≡◌, Result, IfOk, IfErr, int_le};
-ghost use Rattle.bor_register.specs.Register.{Register};
+ghost use Rattle.std.specs.Prelude.{◌≡◌, Some, IfOk, IfErr, option_map};
+ghost use Rattle.bor_register.specs.Register.{Register, filings_of, filing_keyed};
+ghost use Rattle.bor_register.specs.Publication.{line_of};
 ghost use Rattle.bor_records.specs.Promises.{Kept, Promised};
-ghost use Rattle.bor_machine.specs.Withdrawing.{withdraw_step};
-ghost use Rattle.bor_machine.specs.Outcomes.{of_withdrawal, IsOutcome, IsAccounted, IsToldBy, IsCounted};
+ghost use Rattle.bor_machine.specs.Sight.{sight_of};
+ghost use Rattle.bor_machine.specs.Withdrawing.{line_withdrawn, withdrawal, withdraw_step};
+ghost use Rattle.bor_machine.specs.Outcomes.{of_withdrawal, IsOutcome, IsAccounted, IsToldBy, IsDone};
 ghost use Rattle.bor_machine.specs.Legality.{IsLegal};
 
 use crate::fault::WithdrawFault;
-use bor_register::{FilingLine, Keep, State, StoreFault};
-use bor_terms::{AgentName, Day, LodgeKey};
-use std::alloc::Global;
+use bor_register::{FilingLine, Keep, State};
+use bor_terms::{AgentName, LodgeKey};
 
-// Whether the register's day is at or after this one.
-fn is_reached<K: Keep>(keep: &mut K, due: Day) -> Result<bool, StoreFault>
+// The line of the agent's filing under a key, where it is withdrawn already or may be.
+fn withdrawable<K: Keep>(
+    keep: &mut K,
+    agent: &AgentName,
+    key: &LodgeKey,
+) -> Result<FilingLine, WithdrawFault>
     ensures kept { Kept K.shows K.is_clean keep.old keep.new }
-    ensures told { IfErr result K.may_tell }
-    ensures accounted { IsCounted result (K.fault_count keep.old) (K.fault_count keep.new) }
-    ensures answer { Promised K.shows K.is_clean keep.old keep.new (λ r. IfOk result (λ is. is ≡ int_le due r.day)) }
+    ensures told { IfErr result (IsToldBy of_withdrawal K.may_tell) }
+    ensures accounted { IsAccounted of_withdrawal result (K.fault_count keep.old) (K.fault_count keep.new) }
+    ensures answer { Promised K.shows K.is_clean keep.old keep.new (λ r.
+        IsDone of_withdrawal line_withdrawn result
+        (withdrawal (sight_of agent.now r) key.now)) }
+    ensures found { Promised K.shows K.is_clean keep.old keep.new (λ r. IfOk result (λ line.
+        Some line ≡ option_map (line_of r.day) (filing_keyed key.now (filings_of agent.now r.members)))) }
 {
-    Ok(due <= keep.day()?)
+    let Some(line) = keep.line(agent, key)? else {
+        return Err(WithdrawFault::NoSuchFiling);
+    };
+    if line.state == State::Published {
+        return Err(WithdrawFault::Published);
+    }
+    if line.state == State::Draft && keep.has_successor(agent, line.number)? {
+        return Err(WithdrawFault::HasSuccessor);
+    }
+    Ok(line)
 }
 
 /// Withdraws an agent's draft: its statements are gone, its number, key, due day and bytes stay.
@@ -27,9 +45,9 @@ fn is_reached<K: Keep>(keep: &mut K, due: Day) -> Result<bool, StoreFault>
 /// Tells the filing's line. A filing that is withdrawn already is told as the first time. The
 /// refusals are, in their order: `NoSuchFiling`; `Published`; `HasSuccessor` where a later live
 /// filing of the agent has a statement of one of its records. A refusal leaves the register as it
-/// was, and so does `Store`. No call of the keep is made twice, and the one that changes it last.
+/// was, and so does `Store`. No call of the keep is made twice, and the one that changes it last; none
+/// copies a file.
 pub fn withdraw<K: Keep>(
-    alloc: Global,
     keep: &mut K,
     agent: &AgentName,
     key: &LodgeKey,
@@ -42,24 +60,13 @@ pub fn withdraw<K: Keep>(
     ensures legal { Promised K.shows K.is_clean keep.old keep.new (λ r.
         IsLegal r → (left : Register) × K.shows keep.new left × IsLegal left) }
 {
-    let Some(filing) = keep.filing(agent, key)? else {
-        return Err(WithdrawFault::NoSuchFiling);
-    };
-    let line = FilingLine {
-        key: key.copy(alloc)?,
-        number: filing.number,
-        due: filing.due,
-        state: State::Withdrawn,
-    };
-    if filing.withdrawn {
+    let line = withdrawable(keep, agent, key)?;
+    if line.state == State::Withdrawn {
         return Ok(line);
     }
-    if is_reached(keep, filing.due)? {
-        return Err(WithdrawFault::Published);
-    }
-    if keep.has_successor(agent, filing.number)? {
-        return Err(WithdrawFault::HasSuccessor);
-    }
-    keep.withdraw(agent, filing.number)?;
-    Ok(line)
+    keep.withdraw(agent, line.number)?;
+    Ok(FilingLine {
+        state: State::Withdrawn,
+        ..line
+    })
 }

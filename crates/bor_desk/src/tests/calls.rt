@@ -168,7 +168,7 @@ fn calls(alloc: Global, keep: &mut Noting<ListKeep>, ask: &str) -> Result<String
 }
 
 // What is asked one after the other, and the calls that come of it.
-const CALLS: [(&str, &str); 22] = [
+const CALLS: [(&str, &str); 23] = [
     (
         "registrar enrol alder alder-token-000001",
         "registrar who has_agent who add_agent",
@@ -187,24 +187,25 @@ const CALLS: [(&str, &str); 22] = [
     ("alder filings", "alder who filings"),
     (
         "alder lodge k1 2024-03-01 E s1 e1; E s2 e1; E s3 e2",
-        "alder who filing filings day has_statement last has_statement has_statement last add_filing",
+        "alder who line filing_count day has_statement last has_statement has_statement last add_filing",
     ),
     (
         "alder lodge k1 2024-03-01 E s1 e1; E s2 e1; E s3 e2",
-        "alder who filing day",
+        "alder who line has_file",
     ),
-    ("alder lodge k1 2024-03-01 []", "alder who filing"),
+    ("alder lodge k1 2024-03-01 []", "alder who line has_file"),
+    ("alder lodge k1 2024-03-02 []", "alder who line"),
     (
         "alder lodge k2 2024-01-31 E s9 e9",
-        "alder who filing filings day",
+        "alder who line filing_count day",
     ),
     (
         "alder lodge k2 2024-03-01 []",
-        "alder who filing filings day",
+        "alder who line filing_count day",
     ),
     (
         "alder lodge k2 2024-03-01 E s1 e9",
-        "alder who filing filings day has_statement",
+        "alder who line filing_count day has_statement",
     ),
     ("alder file k1", "alder who filing"),
     ("alder published", "alder who published"),
@@ -215,11 +216,8 @@ const CALLS: [(&str, &str); 22] = [
         "alder chains alder c1 e1 2024-01-10",
         "alder who visible_rows",
     ),
-    (
-        "alder withdraw k1",
-        "alder who filing day has_successor withdraw",
-    ),
-    ("alder withdraw k1", "alder who filing"),
+    ("alder withdraw k1", "alder who line has_successor withdraw"),
+    ("alder withdraw k1", "alder who line"),
     ("registrar day 2024-03-01", "registrar who day set_day"),
 ];
 

@@ -3,7 +3,7 @@ use Rattle.std.proofs.lemmas.Result.{err_from_is_err_and}
 use Rattle.bor_register.specs.Register.{filings_of}
 use Rattle.bor_register.specs.Live.{live_of}
 use Rattle.bor_machine.specs.Lodging.{told_settled}
-use Rattle.bor_machine.specs.Outcomes.{Refuses}
+use Rattle.bor_machine.specs.Outcomes.{of_lodging, Refuses}
 use Rattle.bor_records.proofs.KeptLaws.{kept_then}
 use Rattle.bor_machine.proofs.Lodgings.{so_far-more, so_far-refused, no_statement}
 use Rattle.bor_machine.proofs.lodging.settle.Goals as goal
@@ -18,7 +18,7 @@ returns-in_err-status-clause-answer g c = λ r is clean.
     let lt : c.loop-i.i < length c.loop-i.statements = omega arith in
     let told = c.in_err-status.ensures.answer r is0 clean no_statement in
     let refused = so_far-refused e (live_of (filings_of c.args.agent.now r.members)) c.args.due c.loop-i.statements c.loop-i.i (c.loop-i.i + 1) no_statement lt refl told in
-    rw (p.1, p.2) (subst (λ x. Refuses e (told_settled x)) (inv.done r is clean0) refused)
+    rw (p.1, p.2) (subst (λ x. Refuses of_lodging e (told_settled x)) (inv.done r is clean0) refused)
 
 pub loop-i-preserved : goal.loop-i-preserved
 loop-i-preserved g c =

@@ -6,7 +6,7 @@ use Rattle.bor_records.specs.Settling.{settled}
 use Rattle.bor_register.specs.Register.{filings_of}
 use Rattle.bor_register.specs.Live.{live_of}
 use Rattle.bor_machine.specs.Lodging.{told_settled}
-use Rattle.bor_machine.specs.Outcomes.{Refuses}
+use Rattle.bor_machine.specs.Outcomes.{of_lodging, Refuses}
 use Rattle.bor_machine.proofs.Lodgings.{refuses-unread, settled-read}
 use Rattle.bor_machine.proofs.lodging.settled.Goals as goal
 
@@ -21,5 +21,5 @@ returns-in_err-settle-clause-answer g c = λ r is clean.
     let e = c.in_err-settle.field-0.0 in
     let live = live_of (filings_of c.args.agent.now r.members) in
     let read = settled-read live c.args.due c.in_ok-statements.statements.items (reading c.args.bytes.now) c.in_ok-statements.ensures.read.done in
-    let told = subst (λ (ss : List Statement). Refuses e (told_settled (settled live c.args.due ss))) c.deref_mut.ensures.value (c.in_err-settle.ensures.answer r is clean) in
+    let told = subst (λ (ss : List Statement). Refuses of_lodging e (told_settled (settled live c.args.due ss))) c.deref_mut.ensures.value (c.in_err-settle.ensures.answer r is clean) in
     rw (p.1, p.2, read) told
