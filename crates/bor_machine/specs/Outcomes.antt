@@ -1,7 +1,7 @@
 -- What an operation over a keep answers and leaves.
 use Rattle.std.specs.Prelude.{◌≡◌, ◌≢◌, ◌⊎◌, IfErr, ℕ, Option, Some, None, Result, Ok, Err}
 use Rattle.bor_register.specs.declared.fault.StoreFault.{StoreFault}
-use Rattle.bor_register.specs.declared.fault.StoreFault.TheVariants as stores
+use Rattle.bor_register.specs.declared.fault.StoreFault.TheVariants.{Memory}
 use Rattle.bor_register.specs.Register.{Register}
 use Rattle.bor_machine.specs.declared.fault.LodgeFault.{LodgeFault}
 use Rattle.bor_machine.specs.declared.fault.LodgeFault.TheVariants as lodges
@@ -43,27 +43,21 @@ abbrev pub IsOutcome : {A E : Type 0} → (E → Option StoreFault) → Result A
 IsOutcome store (Ok answer) shown r o = (o.answer ≡ Ok answer) × shown o.register
 IsOutcome store (Err fault) shown r o = ByStore (store fault) ((o.answer ≡ Err fault) × shown o.register) (λ f. shown r)
 
--- a failed or damaged store is told only where the keep's count of faults moved
-abbrev pub HasCause : StoreFault → ℕ → ℕ → Type 0
-HasCause stores.Memory before after = Unit {0}
-HasCause stores.Store before after = after ≢ before
-HasCause stores.Damaged before after = after ≢ before
+-- A fault of the store is told as what it is: want of memory, where the keep's count of faults hasn't moved; one that the keep may tell, where it has.
+abbrev pub IsFaultOf : (StoreFault → Type 0) → ℕ → ℕ → StoreFault → Type 0
+IsFaultOf may_tell before after fault = ((fault ≡ Memory) × (after ≡ before)) ⊎ (may_tell fault × (after ≢ before))
 
 -- an answer that is no fault of the store leaves the count
-abbrev pub IsAccounted : {A E : Type 0} → (E → Option StoreFault) → Result A E → ℕ → ℕ → Type 0
-IsAccounted store (Ok answer) before after = after ≡ before
-IsAccounted store (Err fault) before after = ByStore (store fault) (after ≡ before) (λ f. HasCause f before after)
-
--- a fault of the store is one that the keep may tell, or want of memory
-abbrev pub IsToldBy : {E : Type 0} → (E → Option StoreFault) → (StoreFault → Type 0) → E → Type 0
-IsToldBy store may_tell fault = ByStore (store fault) (Unit {0}) (λ f. (f ≡ stores.Memory) ⊎ may_tell f)
+abbrev pub IsAccounted : {A E : Type 0} → (E → Option StoreFault) → (StoreFault → Type 0) → Result A E → ℕ → ℕ → Type 0
+IsAccounted store may_tell (Ok answer) before after = after ≡ before
+IsAccounted store may_tell (Err fault) before after = ByStore (store fault) (after ≡ before) (IsFaultOf may_tell before after)
 
 -- ---- parts of an operation
 
--- the same of a call that asks the keep alone
+-- a call that asks the keep alone moves the count where it answers a fault
 abbrev pub IsCounted : {A : Type 0} → Result A StoreFault → ℕ → ℕ → Type 0
 IsCounted (Ok answer) before after = after ≡ before
-IsCounted (Err fault) before after = HasCause fault before after
+IsCounted (Err fault) before after = after ≢ before
 
 -- an error says what the definition gives, but for a fault of the store
 abbrev pub Refuses : {B E : Type 0} → (E → Option StoreFault) → E → Result B E → Type 0
@@ -74,13 +68,7 @@ abbrev pub IsDone : {A B E : Type 0} → (E → Option StoreFault) → (A → B)
 IsDone store view (Ok x) told = told ≡ Ok (view x)
 IsDone store view (Err fault) told = Refuses store fault told
 
--- a fault of the store that isn't want of memory
-abbrev pub IsOfStore : LodgeFault → Type 0
-IsOfStore (lodges.Store stores.Store) = Unit {0}
-IsOfStore (lodges.Store stores.Damaged) = Unit {0}
-IsOfStore fault = ⊥
-
 -- the same of a call that asks no keep: its one fault of the store is want of memory
 pub record IsMade {A B : Type 0} (view : A → B) (made : Result A LodgeFault) (told : Result B LodgeFault) : Type 0 where
   pub done : IsDone of_lodging view made told
-  pub err : IfErr made (λ fault. ¬ (IsOfStore fault))
+  pub err : IfErr made (λ fault. ByStore (of_lodging fault) (Unit {0}) (λ f. f ≡ Memory))

@@ -1,6 +1,6 @@
 //! Lodging a file.
 
-ghost use Rattle.std.specs.Prelude.{◌≡◌, ◌<◌, ◌≤◌, ◌+◌, ◌++◌, take, slice_index_or, ℕ, List, Option, Some, None, Result, IfOk, IfErr, map, length, true, nat_le, int_lt, Ok, Err, if◌then◌else◌};
+ghost use Rattle.std.specs.Prelude.{◌≡◌, ◌<◌, ◌≤◌, ◌+◌, ◌++◌, take, slice_index_or, ℕ, List, Some, None, IfOk, map, length, true, nat_le, int_lt, Ok, Err, if◌then◌else◌};
 ghost use Rattle.bods_read.specs.File.{reading};
 ghost use Rattle.bods_read.specs.declared.statement.Statement.{Statement};
 ghost use Rattle.bor_records.specs.Admission.{last_of};
@@ -13,7 +13,7 @@ ghost use Rattle.bor_records.specs.Promises.{Kept, Promised, Reads, Sure};
 ghost use Rattle.bor_machine.specs.declared.fault.LodgeFault.TheVariants as lodge_faults;
 ghost use Rattle.bor_machine.specs.declared.lodging.TheConstants.{FILINGS_LIMIT};
 ghost use Rattle.bor_machine.specs.Lodging.{as_read, told_settled, told_verdict, settled_reading, repeated, addition, lodge_step};
-ghost use Rattle.bor_machine.specs.Outcomes.{of_lodging, IsOutcome, IsAccounted, IsToldBy, IsDone, IsMade};
+ghost use Rattle.bor_machine.specs.Outcomes.{of_lodging, IsOutcome, IsAccounted, IsDone, IsMade};
 ghost use Rattle.bor_machine.specs.Legality.{IsLegal};
 ghost use Rattle.bor_machine.specs.Sight.{sight_of};
 
@@ -96,8 +96,7 @@ fn settled_status<K: Keep>(
     place: u32,
 ) -> Result<Status, LodgeFault>
     ensures kept { Kept K.shows K.is_clean keep.old keep.new }
-    ensures told { IfErr result (IsToldBy of_lodging K.may_tell) }
-    ensures accounted { IsAccounted of_lodging result (K.fault_count keep.old) (K.fault_count keep.new) }
+    ensures accounted { IsAccounted of_lodging K.may_tell result (K.fault_count keep.old) (K.fault_count keep.new) }
     ensures answer { Promised K.shows K.is_clean keep.old keep.new (λ r.
         IsDone of_lodging (λ status. status) result (told_verdict place
         (verdict (live_of (filings_of agent.now r.members) ++ map (as_live due) earlier.now) statement.now due))) }
@@ -122,8 +121,7 @@ fn status_at<K: Keep>(
     requires within { i < length statements.now }
     requires few { length statements.now ≤ 1000 }
     ensures kept { Kept K.shows K.is_clean keep.old keep.new }
-    ensures told { IfErr result (IsToldBy of_lodging K.may_tell) }
-    ensures accounted { IsAccounted of_lodging result (K.fault_count keep.old) (K.fault_count keep.new) }
+    ensures accounted { IsAccounted of_lodging K.may_tell result (K.fault_count keep.old) (K.fault_count keep.new) }
     ensures answer { Promised K.shows K.is_clean keep.old keep.new (λ r.
         (d : Statement) → IsDone of_lodging (λ status. status) result (told_verdict (i + 1)
         (verdict (live_of (filings_of agent.now r.members) ++ map (as_live due) (take i statements.now))
@@ -148,8 +146,7 @@ fn settle<K: Keep>(
 ) -> Result<(), LodgeFault>
     requires few { length statements.old ≤ 1000 }
     ensures kept { Kept K.shows K.is_clean keep.old keep.new }
-    ensures told { IfErr result (IsToldBy of_lodging K.may_tell) }
-    ensures accounted { IsAccounted of_lodging result (K.fault_count keep.old) (K.fault_count keep.new) }
+    ensures accounted { IsAccounted of_lodging K.may_tell result (K.fault_count keep.old) (K.fault_count keep.new) }
     ensures answer { Promised K.shows K.is_clean keep.old keep.new (λ r.
         IsDone of_lodging (λ _. statements.new) result
         (told_settled (settled (live_of (filings_of agent.now r.members)) due statements.old))) }
@@ -171,8 +168,7 @@ fn settled<K: Keep>(
     bytes: &[u8],
 ) -> Result<Vec<Statement>, LodgeFault>
     ensures kept { Kept K.shows K.is_clean keep.old keep.new }
-    ensures told { IfErr result (IsToldBy of_lodging K.may_tell) }
-    ensures accounted { IsAccounted of_lodging result (K.fault_count keep.old) (K.fault_count keep.new) }
+    ensures accounted { IsAccounted of_lodging K.may_tell result (K.fault_count keep.old) (K.fault_count keep.new) }
     ensures answer { Promised K.shows K.is_clean keep.old keep.new (λ r.
         IsDone of_lodging (λ statements. statements.items) result
         (settled_reading (live_of (filings_of agent.now r.members)) due (reading bytes.now))) }
@@ -192,8 +188,7 @@ fn repeat<K: Keep>(
     line: &FilingLine,
 ) -> Result<Lodged, LodgeFault>
     ensures kept { Kept K.shows K.is_clean keep.old keep.new }
-    ensures told { IfErr result (IsToldBy of_lodging K.may_tell) }
-    ensures accounted { IsAccounted of_lodging result (K.fault_count keep.old) (K.fault_count keep.new) }
+    ensures accounted { IsAccounted of_lodging K.may_tell result (K.fault_count keep.old) (K.fault_count keep.new) }
     ensures answer { Promised K.shows K.is_clean keep.old keep.new (λ r.
         (f : AcceptedFiling) → filing_keyed key.now (filings_of agent.now r.members) ≡ Some f →
         line.now ≡ line_of r.day f → IsDone of_lodging (λ lodged. lodged) result (repeated r.day due bytes.now f)) }
@@ -212,8 +207,7 @@ fn repeat<K: Keep>(
 // The register's day, where the agent may have one more filing and the due day isn't past.
 fn day_for<K: Keep>(keep: &mut K, agent: &AgentName, due: Day) -> Result<Day, LodgeFault>
     ensures kept { Kept K.shows K.is_clean keep.old keep.new }
-    ensures told { IfErr result (IsToldBy of_lodging K.may_tell) }
-    ensures accounted { IsAccounted of_lodging result (K.fault_count keep.old) (K.fault_count keep.new) }
+    ensures accounted { IsAccounted of_lodging K.may_tell result (K.fault_count keep.old) (K.fault_count keep.new) }
     ensures answer { Promised K.shows K.is_clean keep.old keep.new (λ r.
         IsDone of_lodging (λ day. day) result
         (if nat_le FILINGS_LIMIT (length (filings_of agent.now r.members)) then Err lodge_faults.FilingsFull
@@ -245,8 +239,7 @@ fn prepare<K: Keep>(
     bytes: &[u8],
 ) -> Result<Prepared, LodgeFault>
     ensures kept { Kept K.shows K.is_clean keep.old keep.new }
-    ensures told { IfErr result (IsToldBy of_lodging K.may_tell) }
-    ensures accounted { IsAccounted of_lodging result (K.fault_count keep.old) (K.fault_count keep.new) }
+    ensures accounted { IsAccounted of_lodging K.may_tell result (K.fault_count keep.old) (K.fault_count keep.new) }
     ensures answer { Promised K.shows K.is_clean keep.old keep.new (λ r.
         (key : List ℕ) → IsDone of_lodging
         (λ new. accepted (filings_of agent.now r.members) key due bytes.now new.statements.items)
@@ -277,8 +270,7 @@ fn lodge_new<K: Keep>(
     ensures began { K.is_clean keep.new → K.is_clean keep.old }
     ensures step { Promised K.shows K.is_clean keep.old keep.new (λ r.
         IsOutcome of_lodging result (K.shows keep.new) r (lodge_step r agent.now key.now due bytes.now)) }
-    ensures accounted { IsAccounted of_lodging result (K.fault_count keep.old) (K.fault_count keep.new) }
-    ensures told { IfErr result (IsToldBy of_lodging K.may_tell) }
+    ensures accounted { IsAccounted of_lodging K.may_tell result (K.fault_count keep.old) (K.fault_count keep.new) }
 {
     let new = prepare(alloc, keep, agent, due, bytes)?;
     let number = keep.add_filing(agent, key, due, bytes, &new.statements)?;
@@ -314,8 +306,7 @@ pub fn lodge<K: Keep>(
     ensures began { K.is_clean keep.new → K.is_clean keep.old }
     ensures step { Promised K.shows K.is_clean keep.old keep.new (λ r.
         IsOutcome of_lodging result (K.shows keep.new) r (lodge_step r agent.now key.now due bytes.now)) }
-    ensures accounted { IsAccounted of_lodging result (K.fault_count keep.old) (K.fault_count keep.new) }
-    ensures told { IfErr result (IsToldBy of_lodging K.may_tell) }
+    ensures accounted { IsAccounted of_lodging K.may_tell result (K.fault_count keep.old) (K.fault_count keep.new) }
     ensures legal { Promised K.shows K.is_clean keep.old keep.new (λ r.
         IsLegal r → (left : Register) × K.shows keep.new left × IsLegal left) }
 {

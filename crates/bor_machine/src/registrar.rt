@@ -1,10 +1,9 @@
 //! What the registrar does: the day goes on, and agents are enrolled.
 
-ghost use Rattle.std.specs.Prelude.{◌≡◌, IfErr};
 ghost use Rattle.bor_register.specs.Register.{Register};
 ghost use Rattle.bor_records.specs.Promises.{Promised};
 ghost use Rattle.bor_machine.specs.Registrar.{advance_step, enrol_step};
-ghost use Rattle.bor_machine.specs.Outcomes.{of_advance, of_enrolment, IsOutcome, IsAccounted, IsToldBy};
+ghost use Rattle.bor_machine.specs.Outcomes.{of_advance, of_enrolment, IsOutcome, IsAccounted};
 ghost use Rattle.bor_machine.specs.Legality.{IsLegal};
 
 use crate::fault::{AdvanceFault, EnrolFault};
@@ -19,8 +18,7 @@ pub fn advance<K: Keep>(keep: &mut K, day: Day) -> Result<Day, AdvanceFault>
     ensures began { K.is_clean keep.new → K.is_clean keep.old }
     ensures step { Promised K.shows K.is_clean keep.old keep.new (λ r.
         IsOutcome of_advance result (K.shows keep.new) r (advance_step r day)) }
-    ensures accounted { IsAccounted of_advance result (K.fault_count keep.old) (K.fault_count keep.new) }
-    ensures told { IfErr result (IsToldBy of_advance K.may_tell) }
+    ensures accounted { IsAccounted of_advance K.may_tell result (K.fault_count keep.old) (K.fault_count keep.new) }
     ensures legal { Promised K.shows K.is_clean keep.old keep.new (λ r.
         IsLegal r → (left : Register) × K.shows keep.new left × IsLegal left) }
 {
@@ -40,8 +38,7 @@ pub fn enrol<K: Keep>(keep: &mut K, name: AgentName, token: Token) -> Result<Age
     ensures began { K.is_clean keep.new → K.is_clean keep.old }
     ensures step { Promised K.shows K.is_clean keep.old keep.new (λ r.
         IsOutcome of_enrolment result (K.shows keep.new) r (enrol_step r name token)) }
-    ensures accounted { IsAccounted of_enrolment result (K.fault_count keep.old) (K.fault_count keep.new) }
-    ensures told { IfErr result (IsToldBy of_enrolment K.may_tell) }
+    ensures accounted { IsAccounted of_enrolment K.may_tell result (K.fault_count keep.old) (K.fault_count keep.new) }
     ensures legal { Promised K.shows K.is_clean keep.old keep.new (λ r.
         IsLegal r → (left : Register) × K.shows keep.new left × IsLegal left) }
 {

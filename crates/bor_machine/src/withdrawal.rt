@@ -1,12 +1,12 @@
 //! Withdrawing a filing.
 
-ghost use Rattle.std.specs.Prelude.{◌≡◌, Some, IfOk, IfErr, option_map};
+ghost use Rattle.std.specs.Prelude.{◌≡◌, Some, IfOk, option_map};
 ghost use Rattle.bor_register.specs.Register.{Register, filings_of, filing_keyed};
 ghost use Rattle.bor_register.specs.Publication.{line_of};
 ghost use Rattle.bor_records.specs.Promises.{Kept, Promised};
 ghost use Rattle.bor_machine.specs.Sight.{sight_of};
 ghost use Rattle.bor_machine.specs.Withdrawing.{line_withdrawn, withdrawal, withdraw_step};
-ghost use Rattle.bor_machine.specs.Outcomes.{of_withdrawal, IsOutcome, IsAccounted, IsToldBy, IsDone};
+ghost use Rattle.bor_machine.specs.Outcomes.{of_withdrawal, IsOutcome, IsAccounted, IsDone};
 ghost use Rattle.bor_machine.specs.Legality.{IsLegal};
 
 use crate::fault::WithdrawFault;
@@ -20,8 +20,7 @@ fn withdrawable<K: Keep>(
     key: &LodgeKey,
 ) -> Result<FilingLine, WithdrawFault>
     ensures kept { Kept K.shows K.is_clean keep.old keep.new }
-    ensures told { IfErr result (IsToldBy of_withdrawal K.may_tell) }
-    ensures accounted { IsAccounted of_withdrawal result (K.fault_count keep.old) (K.fault_count keep.new) }
+    ensures accounted { IsAccounted of_withdrawal K.may_tell result (K.fault_count keep.old) (K.fault_count keep.new) }
     ensures answer { Promised K.shows K.is_clean keep.old keep.new (λ r.
         IsDone of_withdrawal line_withdrawn result
         (withdrawal (sight_of agent.now r) key.now)) }
@@ -55,8 +54,7 @@ pub fn withdraw<K: Keep>(
     ensures began { K.is_clean keep.new → K.is_clean keep.old }
     ensures step { Promised K.shows K.is_clean keep.old keep.new (λ r.
         IsOutcome of_withdrawal result (K.shows keep.new) r (withdraw_step r agent.now key.now)) }
-    ensures accounted { IsAccounted of_withdrawal result (K.fault_count keep.old) (K.fault_count keep.new) }
-    ensures told { IfErr result (IsToldBy of_withdrawal K.may_tell) }
+    ensures accounted { IsAccounted of_withdrawal K.may_tell result (K.fault_count keep.old) (K.fault_count keep.new) }
     ensures legal { Promised K.shows K.is_clean keep.old keep.new (λ r.
         IsLegal r → (left : Register) × K.shows keep.new left × IsLegal left) }
 {
