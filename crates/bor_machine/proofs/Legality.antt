@@ -1,8 +1,9 @@
 -- Each operation leaves a legal register legal; an agent's touches its own filings alone.
-use Rattle.std.proofs.Common.{append_assoc, length-append, map, ◌≡◌, ℕ, ℤ, ◌+◌, ◌<◌, List, [], ◌∷◌, ◌++◌, length, Option, Some, None, Result, Ok, Err, refl, ◌∙◌, sym, ap, subst, arith, true, false, Bool}
+use Rattle.std.proofs.Common.{append_assoc, length-append, map, Contains, inl, inr, ◌≡◌, ℕ, ℤ, ◌+◌, ◌<◌, List, [], ◌∷◌, ◌++◌, length, Option, Some, None, Result, Ok, Err, refl, ◌∙◌, sym, ap, subst, arith, true, false, Bool}
 use Rattle.std.specs.Prelude.{if◌then◌else◌, int_lt, int_le, nat_le}
 use Rattle.bor_terms.specs.Texts.{is_same, is_below}
 use Rattle.std.proofs.lemmas.List.{append-nil}
+use Rattle.std.proofs.lemmas.List.Elements.{Contains-append_left, Contains-append_right, Contains-append_cases}
 use Rattle.std.proofs.lemmas.Bool.{leb-false}
 use Rattle.std.proofs.lemmas.Grind.{common_steps}
 use Rattle.bor_terms.proofs.Texts.{same_is, same_sym}
@@ -28,7 +29,7 @@ use Rattle.bor_machine.specs.Lodging.{settled_reading, filing_of, addition, own_
 use Rattle.bor_machine.specs.Withdrawing.{own_withdrawn_at, own_withdrawn, withdraw_step}
 use Rattle.bor_machine.specs.Registrar.{advance_step, enrol_step}
 use Rattle.bor_machine.specs.Legality.{IsNumberedFrom, IsKeyedOnce, IsRead, AreRead, AreLegal, AllLegal, AreTokensDistinct, IsLegal}
-use Rattle.bor_machine.specs.Laws.{agents_of, LeavesOthers}
+use Rattle.bor_machine.specs.Laws.{agents_of, LeavesOthers, KeepsAgents}
 use Rattle.bor_machine.proofs.Withdrawals.{or_none, withdrawn-legal}
 
 -- ---- another agent's filings
@@ -55,6 +56,37 @@ lodging-leaves_others r name key due bytes = leaves-with_filings r name (own_lod
 
 pub withdrawal-leaves_others : (r : Register) (name key : List ℕ) → LeavesOthers name r (withdraw_step r name key).register
 withdrawal-leaves_others r name key = leaves-with_filings r name (own_withdrawn (sight_of name r) key)
+
+-- ---- the agents that were there
+
+kept-with_member : (new m : Member) (ms : List Member) → Contains ms m → Contains (with_member new ms) m
+kept-with_member new m [] h = absurd (omega (arith, h.1))
+kept-with_member new m (x ∷ xs) h = at (is_below x.name new.name) (λ k. kept-with_member new m xs k)
+  where
+    at : (b : Bool) → (Contains xs m → Contains (with_member new xs) m) → Contains (if b then x ∷ with_member new xs else new ∷ x ∷ xs) m
+    at true rest = elim (Contains-append_cases (x ∷ []) xs m h) [
+      | inl first ↦ Contains-append_left (x ∷ []) (with_member new xs) m first
+      | inr later ↦ Contains-append_right (x ∷ []) (with_member new xs) m (rest later)
+    ]
+    at false rest = Contains-append_right (new ∷ []) (x ∷ xs) m h
+
+keeps_all : (r : Register) → KeepsAgents r r
+keeps_all r = record { registrar = refl; agents = λ m h. h }
+
+advance-keeps : (r : Register) (day : ℤ) (b : Bool) → int_lt day r.day ≡ b → KeepsAgents r (advance_step r day).register
+advance-keeps r day true h = rw h (keeps_all r)
+advance-keeps r day false h = rw h (record { registrar = refl; agents = λ m on. on })
+
+pub advance-keeps_agents : (r : Register) (day : ℤ) → KeepsAgents r (advance_step r day).register
+advance-keeps_agents r day = advance-keeps r day (int_lt day r.day) refl
+
+enrol-keeps : (r : Register) (name token : List ℕ) (b c : Bool) → is_enrolled name r.members ≡ b → is_taken token r ≡ c → KeepsAgents r (enrol_step r name token).register
+enrol-keeps r name token true c h k = rw h (keeps_all r)
+enrol-keeps r name token false true h k = rw (h, k) (keeps_all r)
+enrol-keeps r name token false false h k = rw (h, k) (record { registrar = refl; agents = λ m on. kept-with_member (new_member name token) m r.members on })
+
+pub enrolment-keeps_agents : (r : Register) (name token : List ℕ) → KeepsAgents r (enrol_step r name token).register
+enrolment-keeps_agents r name token = enrol-keeps r name token _ _ refl refl
 
 -- ---- names and tokens
 

@@ -1,11 +1,18 @@
 -- What operations do and never do.
-use Rattle.std.specs.Prelude.{◌≡◌, ℕ, ℤ, List, [], ◌++◌, map, filter, true, false}
+use Rattle.std.specs.Prelude.{◌≡◌, ℕ, ℤ, List, [], ◌∷◌, ◌++◌, map, filter, true, false, Some, IsSome, Ok, Err}
+use Rattle.std.specs.List.{Contains}
 use Rattle.bor_terms.specs.Texts.{is_same}
 use Rattle.bor_register.specs.declared.member.Member.{Member}
 use Rattle.bor_records.specs.Admission.{Live, is_of}
-use Rattle.bor_register.specs.Register.{Register, empty_register, filings_of, is_enrolled}
+use Rattle.bor_register.specs.declared.filing.AcceptedFiling.{AcceptedFiling}
+use Rattle.bor_register.specs.Register.{Register, empty_register, filings_of, filing_keyed, is_enrolled}
 use Rattle.bor_register.specs.Publication.{is_published}
 use Rattle.bor_register.specs.Live.{live_of}
+use Rattle.bor_machine.specs.declared.fault.LodgeFault.{LodgeFault}
+use Rattle.bor_machine.specs.declared.fault.WithdrawFault.{WithdrawFault}
+use Rattle.bor_machine.specs.declared.fault.AdvanceFault.{AdvanceFault}
+use Rattle.bor_machine.specs.declared.fault.EnrolFault.{EnrolFault}
+use Rattle.bor_machine.specs.declared.lodging.Lodged.{Lodged}
 use Rattle.bor_machine.specs.Sight.{sight_of}
 use Rattle.bor_machine.specs.Solo.{alone}
 use Rattle.bor_machine.specs.Lodging.{lodge_step}
@@ -24,10 +31,28 @@ pub record LeavesOthers (name : List ℕ) (old new : Register) : Type 0 where
   pub agents : agents_of new.members ≡ agents_of old.members
   pub filings : (other : List ℕ) → is_same name other ≡ false → filings_of other new.members ≡ filings_of other old.members
 
--- What an agent does leaves the filings of all others as they were.
+-- The registrar's token is as it was, and each agent that was there is there still, with its name, its token and its filings.
+pub record KeepsAgents (old new : Register) : Type 0 where
+  pub registrar : new.registrar ≡ old.registrar
+  pub agents : (m : Member) → Contains old.members m → Contains new.members m
+
+-- What an agent does leaves the filings of all others as they were; what the registrar does leaves each agent that was there as it was.
 pub record OwnFilingsUntouched : Type 0 where
   pub by_lodging : (r : Register) (name key : List ℕ) (due : ℤ) (bytes : List ℕ) → LeavesOthers name r (lodge_step r name key due bytes).register
   pub by_withdrawal : (r : Register) (name key : List ℕ) → LeavesOthers name r (withdraw_step r name key).register
+  pub by_advance : (r : Register) (day : ℤ) → KeepsAgents r (advance_step r day).register
+  pub by_enrolment : (r : Register) (name token : List ℕ) → KeepsAgents r (enrol_step r name token).register
+
+-- A refusal leaves the register as it was. So does a lodging that is told again, and the withdrawal of a filing that is withdrawn already.
+pub record RefusalChangesNothing : Type 0 where
+  pub of_lodging : (r : Register) (name key : List ℕ) (due : ℤ) (bytes : List ℕ) (fault : LodgeFault) →
+      (lodge_step r name key due bytes).answer ≡ Err fault → (lodge_step r name key due bytes).register ≡ r
+  pub of_repeat : (r : Register) (name key : List ℕ) (due : ℤ) (bytes : List ℕ) (told : Lodged) →
+      (lodge_step r name key due bytes).answer ≡ Ok told → told.fresh ≡ false → (lodge_step r name key due bytes).register ≡ r
+  pub of_withdrawal : (r : Register) (name key : List ℕ) (fault : WithdrawFault) → (withdraw_step r name key).answer ≡ Err fault → (withdraw_step r name key).register ≡ r
+  pub of_withdrawn : (r : Register) (name key : List ℕ) (f : AcceptedFiling) → filing_keyed key (filings_of name r.members) ≡ Some f → f.withdrawn ≡ true → (withdraw_step r name key).register ≡ r
+  pub of_advance : (r : Register) (day : ℤ) (fault : AdvanceFault) → (advance_step r day).answer ≡ Err fault → (advance_step r day).register ≡ r
+  pub of_enrolment : (r : Register) (name token : List ℕ) (fault : EnrolFault) → (enrol_step r name token).answer ≡ Err fault → (enrol_step r name token).register ≡ r
 
 -- A new register is legal, and each operation leaves a legal register legal.
 pub record StaysLegal : Type 0 where

@@ -1,11 +1,18 @@
 //! Laws of the operations. Each function does nothing: its contract is the law.
 
-ghost use Rattle.bor_machine.specs.Laws.{OwnFilingsUntouched, StaysLegal, PublishedPrefix, SightAlone};
+ghost use Rattle.bor_machine.specs.Laws.{OwnFilingsUntouched, RefusalChangesNothing, StaysLegal, PublishedPrefix, SightAlone};
 
 /// After a lodging and after a withdrawal every other agent's filings are as they were, and so are
-/// the day, and who has which token. This holds of every register.
+/// the day, and who has which token. After a new day and an enrolment each agent that was there has
+/// its name, token and filings. This holds of every register.
 pub fn own_filings_untouched()
     ensures { OwnFilingsUntouched }
+{}
+
+/// A refusal leaves the register exactly as it was, and so do a lodging that isn't fresh and the
+/// withdrawal of a filing that is withdrawn already. This holds of every register.
+pub fn a_refusal_changes_nothing()
+    ensures { RefusalChangesNothing }
 {}
 
 /// A new register is legal, and each operation leaves a legal register legal.
