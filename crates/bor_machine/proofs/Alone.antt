@@ -2,6 +2,7 @@
 use Rattle.std.proofs.Common.{append_assoc, length-append, map, ◌≡◌, ℕ, ◌+◌, ℤ, List, [], ◌∷◌, ◌++◌, length, refl, ◌∙◌, sym, ap, subst, arith, true, false, Bool}
 use Rattle.std.specs.Prelude.{if◌then◌else◌, filter, not, ◌||◌, ◌&&◌, int_le}
 use Rattle.std.proofs.lemmas.List.{append-nil, map-append}
+use Rattle.std.proofs.lemmas.List.Elements.{filter-append}
 use Rattle.bor_terms.specs.Texts.{is_same, is_below}
 use Rattle.bor_terms.proofs.Texts.{same_is, same_refl, same_sym, below_trans, below_differs, below_irrefl}
 use Rattle.bods_read.specs.declared.statement.Statement.{Statement}
@@ -110,24 +111,50 @@ with_outwards-agent name (f ∷ fs) rest before h =
     ap (with_outwards (map (outward name) fs ++ rest)) (with_outward-first (outward name f) before h)
     ∙ with_outwards-next name fs rest (filing_from 1 (outward name f) ∷ []) before h
 
+-- what the others have published, agent by agent
+abbrev beside_by_agent : List ℕ → ℤ → List Member → List Outward
+beside_by_agent name day [] = []
+beside_by_agent name day (m ∷ ms) =
+    if is_same m.name name then beside_by_agent name day ms else outwards_of day m.name m.filings ++ beside_by_agent name day ms
+
+-- an agent's outward forms are all its own
+beside_own : (agent name : List ℕ) (fs : List AcceptedFiling) (b : Bool) → is_same agent name ≡ b →
+    filter (λ (o : Outward). not (is_same o.agent name)) (map (outward agent) fs) ≡ (if b then [] else map (outward agent) fs)
+beside_own agent name [] true e = refl
+beside_own agent name [] false e = refl
+beside_own agent name (f ∷ fs) true e = rw e (beside_own agent name fs true e)
+beside_own agent name (f ∷ fs) false e = rw e (ap (λ os. outward agent f ∷ os) (beside_own agent name fs false e))
+
+beside_is : (name : List ℕ) (day : ℤ) (ms : List Member) → published_beside name day ms ≡ beside_by_agent name day ms
+beside_is name day [] = refl
+beside_is name day (m ∷ ms) =
+    filter-append (λ (o : Outward). not (is_same o.agent name)) (outwards_of day m.name m.filings) (published day ms) ∙ by_test (is_same m.name name) refl (beside_is name day ms)
+  where
+    by_test : (b : Bool) → is_same m.name name ≡ b → published_beside name day ms ≡ beside_by_agent name day ms →
+        filter (λ (o : Outward). not (is_same o.agent name)) (outwards_of day m.name m.filings) ++ published_beside name day ms
+        ≡ (if b then beside_by_agent name day ms else outwards_of day m.name m.filings ++ beside_by_agent name day ms)
+    by_test true e rest = ap (λ os. os ++ published_beside name day ms) (beside_own m.name name (filter (is_published day) m.filings) true e) ∙ rest
+    by_test false e rest =
+        ap (λ os. os ++ published_beside name day ms) (beside_own m.name name (filter (is_published day) m.filings) false e) ∙ ap (λ os. outwards_of day m.name m.filings ++ os) rest
+
 -- the others' outward forms, one after the other, bring those that have published
 abbrev AreAppended : List ℕ → ℤ → List Member → List Member → Type 0
-AreAppended name day ms before = with_outwards (published_beside name day ms) before ≡ before ++ shown_beside name day ms
+AreAppended name day ms before = with_outwards (beside_by_agent name day ms) before ≡ before ++ shown_beside name day ms
 
 with_outwards-beside : (name : List ℕ) (day : ℤ) (ms before : List Member) → IsOrdered ms → AreBelow before ms → AreAppended name day ms before
 with_outwards-beside name day [] before ordered below = sym (append-nil before)
 with_outwards-beside name day (m ∷ ms) before ordered below = by_test (is_same m.name name) (λ more. with_outwards-beside name day ms more ordered.1)
   where
     agent-beside : (fs : List AcceptedFiling) → ((more : List Member) → AreBelow more ms → AreAppended name day ms more) →
-        with_outwards (map (outward m.name) fs ++ published_beside name day ms) before ≡ before ++ with_shown m.name (map (outward m.name) fs) (shown_beside name day ms)
+        with_outwards (map (outward m.name) fs ++ beside_by_agent name day ms) before ≡ before ++ with_shown m.name (map (outward m.name) fs) (shown_beside name day ms)
     agent-beside [] rest = rest before below.1
     agent-beside (f ∷ fs) rest =
         let new = member_with m.name (filings_from 1 (map (outward m.name) (f ∷ fs))) in
-        with_outwards-agent m.name (f ∷ fs) (published_beside name day ms) before below.0
+        with_outwards-agent m.name (f ∷ fs) (beside_by_agent name day ms) before below.0
         ∙ rest (before ++ new ∷ []) (AreBelow-push before new ms below.1 ordered.0) ∙ append_assoc before (new ∷ []) (shown_beside name day ms)
 
     by_test : (b : Bool) → ((more : List Member) → AreBelow more ms → AreAppended name day ms more) →
-        with_outwards (if b then published_beside name day ms else outwards_of day m.name m.filings ++ published_beside name day ms) before
+        with_outwards (if b then beside_by_agent name day ms else outwards_of day m.name m.filings ++ beside_by_agent name day ms) before
         ≡ before ++ (if b then shown_beside name day ms else with_shown m.name (outwards_of day m.name m.filings) (shown_beside name day ms))
     by_test true rest = rest before below.1
     by_test false rest = agent-beside (filter (is_published day) m.filings) rest
@@ -288,6 +315,6 @@ seen-alone name day ms ordered enrolled =
 -- alone, the agent sees what it sees in the register
 pub sight-alone : (r : Register) (name : List ℕ) → IsLegal r → is_enrolled name r.members ≡ true → sight_of name (alone name r) ≡ sight_of name r
 sight-alone r name legal enrolled =
-    let others = with_outwards-beside name r.day r.members [] legal.names (AreBelow-none r.members) in
+    let others = ap (λ os. with_outwards os []) (beside_is name r.day r.members) ∙ with_outwards-beside name r.day r.members [] legal.names (AreBelow-none r.members) in
     let own = filings-with_member (member_with name (filings_of name r.members)) (shown_beside name r.day r.members) in
     rw (others, own, published-alone name r.day r.members legal.names enrolled, seen-alone name r.day r.members legal.names enrolled) refl

@@ -1,18 +1,16 @@
 -- The register that an agent would have if it were alone with what the others have published.
-use Rattle.std.specs.Prelude.{ℕ, ◌+◌, ℤ, List, [], ◌∷◌, ◌++◌, length, false, if◌then◌else◌}
+use Rattle.std.specs.Prelude.{ℕ, ◌+◌, ℤ, List, [], ◌∷◌, ◌++◌, length, filter, not, false, if◌then◌else◌}
 use Rattle.std.specs.Fmt.{decimal}
 use Rattle.bor_terms.specs.Texts.{is_same}
 use Rattle.bor_register.specs.declared.member.Member.{Member}
 use Rattle.bor_register.specs.declared.filing.AcceptedFiling.{AcceptedFiling}
 use Rattle.bor_register.specs.declared.filing.Outward.{Outward}
 use Rattle.bor_register.specs.Register.{Register, is_enrolled, filings_of, with_filings, with_member}
-use Rattle.bor_register.specs.Publication.{outwards_of}
+use Rattle.bor_register.specs.Publication.{published}
 
--- the outward forms of what the other agents have published, by agent
+-- what is published, without the agent's own
 abbrev pub published_beside : List ℕ → ℤ → List Member → List Outward
-published_beside name day [] = []
-published_beside name day (m ∷ ms) =
-    if is_same m.name name then published_beside name day ms else outwards_of day m.name m.filings ++ published_beside name day ms
+published_beside name day ms = filter (λ (o : Outward). not (is_same o.agent name)) (published day ms)
 
 -- a live filing of that outward form, with this number, keyed by it and with no bytes
 abbrev pub filing_from : ℕ → Outward → AcceptedFiling
