@@ -14,7 +14,8 @@ use Rattle.bor_links.specs.declared.node.Link.{Link}
 use Rattle.bor_chains.specs.declared.line.PersonLine.{PersonLine}
 use Rattle.bor_chains.specs.declared.fault.ChainFault.{ChainFault}
 use Rattle.bor_chains.specs.declared.fault.ChainFault.TheVariants as chains
-use Rattle.bor_links.specs.Series.{series_of, is_of, is_open_before, open_rows}
+use Rattle.bor_records.specs.OpenRows.{is_open_before, open_rows}
+use Rattle.bor_links.specs.Series.{series_of, is_of}
 use Rattle.bor_links.specs.Shown.{Shown, info_of, IsEntity}
 use Rattle.bor_links.specs.Rows.{is_entity_info, node_in, nodes_of, link_with, link_in, links_of, shown_of}
 use Rattle.bor_chains.specs.Chains.{AreJoined}

@@ -9,19 +9,20 @@ use Rattle.bods_read.specs.declared.interest.Interest.{Interest}
 use Rattle.bor_records.specs.declared.row.Row.{Row}
 use Rattle.bor_records.specs.Admission.{is_closed}
 use Rattle.bor_records.specs.Snapshot.{is_dated, latest, unless_closed}
+use Rattle.bor_records.specs.OpenRows.{is_open_before, open_rows}
 use Rattle.bor_links.specs.declared.node.Node.{Node}
 use Rattle.bor_links.specs.declared.node.NodeInfo.{NodeInfo}
 use Rattle.bor_links.specs.declared.node.OpenNode.{OpenNode}
 use Rattle.bor_links.specs.declared.node.Link.{Link}
 use Rattle.bor_links.specs.Nodes.{same_node}
 use Rattle.bor_links.specs.Orders.{node_equiv}
-use Rattle.bor_links.specs.Series.{series_of, is_of, open_at, has_dated, is_open_before, open_rows}
+use Rattle.bor_links.specs.Series.{series_of, is_of, open_at}
 use Rattle.bor_links.specs.Shown.{listed_at}
 use Rattle.bor_links.specs.Rows.{node_in, node_with, nodes_of, link_in, links_of}
 use Rattle.bor_links.specs.Laws.{OpenRowsAreTheLatest, OpenRowsAreReadByKey, SnapshotsShowTheOpenRows, NodesAreReadByKey, AliasesAreReadByKey, LinksAreReadByCandidates}
 use Rattle.bor_links.proofs.SameNode.{same_node_is}
 use Rattle.bor_links.proofs.Found.{none, here, there, cases}
-use Rattle.bor_links.proofs.Series.{both_tests, open_are_latest}
+use Rattle.bor_links.proofs.Series.{has_dated, both_tests, open_are_latest}
 
 -- ---- tests
 

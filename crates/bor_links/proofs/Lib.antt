@@ -2,6 +2,5 @@ pub mod Wholes
 pub mod SameNode
 pub mod Found
 pub mod Series
-pub mod Backwards
 pub mod EveryStake
 pub mod ByKey

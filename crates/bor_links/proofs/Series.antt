@@ -10,9 +10,14 @@ use Rattle.bor_links.specs.Nodes.{same_node}
 use Rattle.bor_links.specs.Orders.{node_equiv}
 use Rattle.bor_records.specs.Admission.{is_closed}
 use Rattle.bor_records.specs.Snapshot.{is_dated, unless_closed}
-use Rattle.bor_links.specs.Series.{series_of, is_of, open_at, is_open_before, open_rows}
+use Rattle.bor_records.specs.OpenRows.{is_open_before, open_rows}
+use Rattle.bor_links.specs.Series.{series_of, is_of, open_at}
 use Rattle.bor_links.specs.Rows.{node_in, node_with, nodes_of}
 use Rattle.bor_links.proofs.SameNode.{same_node_is}
+
+-- whether a row that is dated is of a series
+abbrev pub has_dated : ℤ → Node → List Row → Bool
+has_dated day n rows = list_any (λ x. is_of n x && is_dated day x) rows
 
 -- both tests at once
 abbrev latest_of : ℤ → Node → List Row → Option Row

@@ -8,7 +8,8 @@ use Rattle.bor_links.specs.declared.node.Node.{Node}
 use Rattle.bor_links.specs.declared.node.Link.{Link}
 use Rattle.bor_links.specs.Nodes.{same_node}
 use Rattle.bor_links.specs.Stakes.{HasPointsOfShare, is_stake, is_holding}
-use Rattle.bor_links.specs.Series.{series_of, is_of, open_at, open_rows}
+use Rattle.bor_records.specs.OpenRows.{open_rows}
+use Rattle.bor_links.specs.Series.{series_of, is_of, open_at}
 use Rattle.bor_links.specs.Shown.{listed_at}
 use Rattle.bor_links.specs.Aliases.{Alias}
 use Rattle.bor_links.specs.Rows.{nodes_of, shown_of}

@@ -12,7 +12,8 @@ use Rattle.bor_links.specs.declared.node.NodeInfo.{NodeInfo}
 use Rattle.bor_links.specs.declared.node.NodeInfo.TheVariants.{Entity, Person}
 use Rattle.bor_links.specs.declared.node.OpenNode.{OpenNode}
 use Rattle.bor_links.specs.declared.node.Link.{Link}
-use Rattle.bor_links.specs.Series.{series_of, open_rows}
+use Rattle.bor_records.specs.OpenRows.{open_rows}
+use Rattle.bor_links.specs.Series.{series_of}
 use Rattle.bor_links.specs.Shown.{Shown, info_in, is_entity}
 use Rattle.bor_links.specs.Stakes.{is_stake, is_holding}
 

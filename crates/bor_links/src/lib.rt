@@ -7,5 +7,5 @@ mod rows;
 mod stake;
 
 pub use node::{Link, Node, NodeInfo, OpenNode};
-pub use rows::{node_of, open_rows, record_of};
+pub use rows::{node_of, record_of};
 pub use stake::{holding_of, stake_of};

@@ -1,5 +1,6 @@
 pub mod Examples
 pub mod Rows
+pub mod Backwards
 pub mod Identifiers
 pub mod OpenRecords
 pub mod Settled

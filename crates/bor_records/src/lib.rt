@@ -17,6 +17,9 @@
 //! assert_eq!(rt; admit(None, two, due), Ok(Status::New));
 //! ```
 //!
+//! `snapshot` answers for one agent's declaration, `open_rows` for all agents and declarations at once,
+//! each in the time of n look-ups among n.
+//!
 //! Who may lodge, what is published and who sees which rows is not told here: the callers hand over
 //! the rows that they may see. Nor are the ends of a relationship looked at, so a snapshot may show
 //! a relationship of records that are closed or were never lodged.
@@ -27,6 +30,7 @@ mod dated;
 mod fault;
 pub mod laws;
 mod row;
+mod series;
 mod snapshots;
 #[cfg(test)]
 mod tests;
@@ -35,4 +39,5 @@ pub use admission::{Last, admit};
 pub use dated::latest;
 pub use fault::RecordFault;
 pub use row::{Entry, Row};
+pub use series::open_rows;
 pub use snapshots::snapshot;

@@ -1,10 +1,10 @@
 use Rattle.std.proofs.Common.{◌≡◌, ◌∙◌, ◌+◌, ◌-◌, ◌<◌, ◌∷◌, ℕ, Bool, List, length, drop, map, reverse, arith, sym, ap, cond, Bor}
-use Rattle.bor_records.specs.declared.row.Row.{Row}
-use Rattle.bor_links.specs.Nodes.{node_cmp}
-use Rattle.bor_links.specs.Series.{open_rows}
 use Rattle.std.specs.BTreeSet.{contains}
-use Rattle.bor_links.proofs.Backwards.{seen_before, latest_before, pushed_on, map_reverse}
-use Rattle.bor_links.proofs.rows.open_rows.Goals as goal
+use Rattle.bor_records.specs.declared.row.Row.{Row}
+use Rattle.bor_records.specs.OpenRows.{open_rows}
+use Rattle.bor_records.specs.Seen.{series_cmp}
+use Rattle.bor_records.proofs.Backwards.{seen_before, latest_before, pushed_on, map_reverse}
+use Rattle.bor_records.proofs.series.open_rows.Goals as goal
 
 pub loop-next-preserved-in-Continue-branch-2 : goal.loop-next-preserved-in-Continue-branch-2
 loop-next-preserved-in-Continue-branch-2 c =
@@ -14,11 +14,11 @@ loop-next-preserved-in-Continue-branch-2 c =
     let lt : next - 1 < length c.args.rows.now = omega arith in
     record {
       within = omega arith;
-      seen = seen_before c.args.day c.args.rows.now next (next - 1) c.index-rows-next.result (λ q. contains node_cmp c.loop-next.seen q) (λ q. contains node_cmp c.is_latest.new.seen q) one lt c.index-rows-next.is
+      seen = seen_before c.args.day c.args.rows.now next (next - 1) c.index-rows-next.result (λ q. contains series_cmp c.loop-next.seen q) (λ q. contains series_cmp c.is_latest.new.seen q) one lt c.index-rows-next.is
           invariant.seen c.in_ok-is_latest.ensures.seen;
       latest = pushed_on {A = Bor Row} {B = Row} (λ x. x.now) c.push.new.self.items c.loop-next.latest.items _ c.in_ok-push.ensures.items
           ∙ ap (λ (b : Bool). cond b (c.index-rows-next.result ∷ reverse (map (λ x. x.now) c.loop-next.latest.items)) (reverse (map (λ x. x.now) c.loop-next.latest.items))) (sym c.if-branch.true)
-          ∙ latest_before c.args.day c.args.rows.now next (next - 1) c.index-rows-next.result (λ q. contains node_cmp c.loop-next.seen q) _ c.in_ok-is_latest.field-0 one lt c.index-rows-next.is
+          ∙ latest_before c.args.day c.args.rows.now next (next - 1) c.index-rows-next.result c.series_of.result (λ q. contains series_cmp c.loop-next.seen q) _ c.in_ok-is_latest.field-0 one lt c.index-rows-next.is c.series_of.ensures
           invariant.seen c.in_ok-is_latest.ensures.latest invariant.latest;
     }
 
@@ -30,10 +30,10 @@ loop-next-preserved c =
     let lt : next - 1 < length c.args.rows.now = omega arith in
     record {
       within = omega arith;
-      seen = seen_before c.args.day c.args.rows.now next (next - 1) c.index-rows-next.result (λ q. contains node_cmp c.loop-next.seen q) (λ q. contains node_cmp c.is_latest.new.seen q) one lt c.index-rows-next.is
+      seen = seen_before c.args.day c.args.rows.now next (next - 1) c.index-rows-next.result (λ q. contains series_cmp c.loop-next.seen q) (λ q. contains series_cmp c.is_latest.new.seen q) one lt c.index-rows-next.is
           invariant.seen c.in_ok-is_latest.ensures.seen;
       latest = ap (λ (b : Bool). cond b (c.index-rows-next.result ∷ reverse (map (λ x. x.now) c.loop-next.latest.items)) (reverse (map (λ x. x.now) c.loop-next.latest.items))) (sym c.if-branch.false)
-          ∙ latest_before c.args.day c.args.rows.now next (next - 1) c.index-rows-next.result (λ q. contains node_cmp c.loop-next.seen q) _ c.in_ok-is_latest.field-0 one lt c.index-rows-next.is
+          ∙ latest_before c.args.day c.args.rows.now next (next - 1) c.index-rows-next.result c.series_of.result (λ q. contains series_cmp c.loop-next.seen q) _ c.in_ok-is_latest.field-0 one lt c.index-rows-next.is c.series_of.ensures
           invariant.seen c.in_ok-is_latest.ensures.latest invariant.latest;
     }
 
