@@ -4,3 +4,4 @@ pub mod Found
 pub mod Series
 pub mod EveryStake
 pub mod ByKey
+pub mod Examples
