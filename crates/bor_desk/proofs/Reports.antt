@@ -1,5 +1,5 @@
 -- The text of an outcome.
-use Rattle.std.proofs.Common.{◌≡◌, ◌⊎◌, inl, inr, Result, IfOk, IfErr, ℕ, ℤ, List, ◌++◌, Ok, Err, codes, refl, sym, ap, ◌∙◌, subst}
+use Rattle.std.proofs.Common.{◌≡◌, inl, inr, Result, IfOk, IfErr, ℕ, ℤ, List, ◌++◌, Ok, Err, codes, refl, sym, ap, ◌∙◌, subst}
 use Rattle.bor_register.specs.declared.fault.StoreFault.{StoreFault}
 use Rattle.bor_register.specs.declared.fault.StoreFault.TheVariants.{Memory}
 use Rattle.bor_register.specs.declared.filing.Outward.{Outward}
@@ -49,18 +49,18 @@ pub refused-text : (fault : LodgeFault) (given : DeskFault) (shown : Register �
 refused-text (lodges.Store fault) given shown r o wanted made same step e h = failed-text fault given made (outcome_text wanted) e h
 refused-text fault given shown r o wanted made same step e h = answered-text fault given o wanted made same step.0 e h
 
-memory_only : (fault : StoreFault) → (fault ≡ Memory) ⊎ (fault ≡ Memory) → fault ≡ Memory
-memory_only fault (inl h) = h
-memory_only fault (inr h) = h
-
 told-err : (given : DeskFault) (made : Result Text StoreFault) → ((fault : StoreFault) → given ≡ Failed fault → fault ≡ Memory) → IsFaultTold given made → IfErr made (λ f. f ≡ Memory)
 told-err (Refused why) made only h = h.err
 told-err (Failed fault) made only h = subst (λ (m : Result Text StoreFault). IfErr m (λ f. f ≡ Memory)) (sym h) (only fault refl)
 
--- a keep whose only fault is want of memory
-only_memory : (fault : LodgeFault) (f : StoreFault) → machine.IsToldBy machine.of_lodging (λ g. g ≡ Memory) fault → Failed f ≡ of_lodging fault → f ≡ Memory
-only_memory (lodges.Store fault) f h e = let same : f ≡ fault = cc in same ∙ memory_only fault h
-only_memory fault f h e = absurd cc
+memory_only : (before after : ℕ) (fault : StoreFault) → machine.IsFaultOf (λ f. f ≡ Memory) before after fault → fault ≡ Memory
+memory_only before after fault (inl h) = h.0
+memory_only before after fault (inr h) = h.0
 
-pub refused-err : (fault : LodgeFault) (given : DeskFault) (made : Result Text StoreFault) → machine.IsToldBy machine.of_lodging (λ f. f ≡ Memory) fault → given ≡ of_lodging fault → IsFaultTold given made → IfErr made (λ f. f ≡ Memory)
-refused-err fault given made h e told = told-err given made (λ f failed. only_memory fault f h (sym failed ∙ e)) told
+-- a keep whose only fault is want of memory
+only_memory : (fault : LodgeFault) (f : StoreFault) (before after : ℕ) → machine.IsAccounted {A = Lodged} machine.of_lodging (λ g. g ≡ Memory) (Err fault) before after → Failed f ≡ of_lodging fault → f ≡ Memory
+only_memory (lodges.Store fault) f before after h e = let same : f ≡ fault = cc in same ∙ memory_only before after fault h
+only_memory fault f before after h e = absurd cc
+
+pub refused-err : (fault : LodgeFault) (given : DeskFault) (made : Result Text StoreFault) (before after : ℕ) → machine.IsAccounted {A = Lodged} machine.of_lodging (λ f. f ≡ Memory) (Err fault) before after → given ≡ of_lodging fault → IsFaultTold given made → IfErr made (λ f. f ≡ Memory)
+refused-err fault given made before after h e told = told-err given made (λ f failed. only_memory fault f before after h (sym failed ∙ e)) told

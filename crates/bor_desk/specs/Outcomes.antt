@@ -1,13 +1,12 @@
 -- What a reply has of the step.
-use Rattle.std.specs.Prelude.{◌≡◌, ◌⊎◌, ℕ, ℤ, List, Option, Some, None, Result, Ok, Err}
+use Rattle.std.specs.Prelude.{◌≡◌, ℕ, ℤ, List, Option, Some, None, Result, Ok, Err}
 use Rattle.bor_links.specs.declared.node.Node.{Node}
 use Rattle.bor_chains.specs.declared.line.PersonLine.{PersonLine}
 use Rattle.bor_links.specs.Shown.{Shown}
 use Rattle.bor_chains.specs.Chains.{AreJoined}
 use Rattle.bor_register.specs.declared.fault.StoreFault.{StoreFault}
-use Rattle.bor_register.specs.declared.fault.StoreFault.TheVariants.{Memory}
 use Rattle.bor_register.specs.Register.{Register}
-use Rattle.bor_machine.specs.Outcomes.{ByStore, HasCause}
+use Rattle.bor_machine.specs.Outcomes.{ByStore, IsFaultOf}
 use Rattle.bor_desk.specs.declared.reply.DeskReply.{DeskReply}
 use Rattle.bor_desk.specs.declared.reply.DeskReply.TheVariants as tell
 use Rattle.bor_desk.specs.declared.refusal.DeskFault.{DeskFault}
@@ -37,13 +36,9 @@ IsAnswered reply answer = ByStore (fault_of reply) (IsTold answer reply) (λ fau
 abbrev pub IsLeft : DeskReply → (Register → Type 0) → Register → Register → Type 0
 IsLeft reply shown r after = ByStore (fault_of reply) (shown after) (λ fault. shown r)
 
--- a failed or damaged store is told only where the keep's count of faults moved; a reply that is no fault leaves the count
-abbrev pub IsReplyAccounted : DeskReply → ℕ → ℕ → Type 0
-IsReplyAccounted reply before after = ByStore (fault_of reply) (after ≡ before) (λ fault. HasCause fault before after)
-
--- a fault of the store is one that the keep may tell, or want of memory
-abbrev pub IsReplyTold : (StoreFault → Type 0) → DeskReply → Type 0
-IsReplyTold may_tell reply = ByStore (fault_of reply) (Unit {0}) (λ fault. (fault ≡ Memory) ⊎ may_tell fault)
+-- a reply that tells a fault of the store tells it as what it is, by whether the keep's count of faults moved; any other leaves the count
+abbrev pub IsReplyAccounted : (StoreFault → Type 0) → DeskReply → ℕ → ℕ → Type 0
+IsReplyAccounted may_tell reply before after = ByStore (fault_of reply) (after ≡ before) (IsFaultOf may_tell before after)
 
 -- ---- parts of an answer
 

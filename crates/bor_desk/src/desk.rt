@@ -8,7 +8,7 @@ ghost use Rattle.bor_machine.specs.Sight.{seen_by, sight_of};
 ghost use Rattle.bor_machine.specs.Outcomes.{IsCounted};
 ghost use Rattle.bor_desk.specs.Step.{step, agent_answer, agent_step, may_change_own, registrar_step, file_answer, chains_answer, snapshot_answer};
 ghost use Rattle.bor_desk.specs.Laws.{IsToldAlone};
-ghost use Rattle.bor_desk.specs.Outcomes.{IsAnswered, IsLeft, IsReplyAccounted, IsReplyTold, reply_of, denial};
+ghost use Rattle.bor_desk.specs.Outcomes.{IsAnswered, IsLeft, IsReplyAccounted, reply_of, denial};
 
 use crate::refusal::{DeskFault, Refusal};
 use crate::reply::DeskReply;
@@ -49,8 +49,7 @@ fn date_or_day<K: Keep>(keep: &mut K, date: Option<Day>) -> Result<Day, StoreFau
 #[tactic(auto, using(crate::proofs::Steps::file_told, crate::proofs::Steps::file_missing))]
 fn file_for<K: Keep>(keep: &mut K, name: &AgentName, key: &LodgeKey) -> Result<DeskReply, DeskFault>
     ensures kept { Kept K.shows K.is_clean keep.old keep.new }
-    ensures told { IsReplyTold K.may_tell (reply_of result) }
-    ensures accounted { IsReplyAccounted (reply_of result) (K.fault_count keep.old) (K.fault_count keep.new) }
+    ensures accounted { IsReplyAccounted K.may_tell (reply_of result) (K.fault_count keep.old) (K.fault_count keep.new) }
     ensures answer { Promised K.shows K.is_clean keep.old keep.new (λ r.
         IsAnswered (reply_of result) (file_answer (filing_keyed key.now (filings_of name.now r.members)))) }
 {
@@ -70,8 +69,7 @@ fn snapshot_for<K: Keep>(
     date: Option<Day>,
 ) -> Result<DeskReply, DeskFault>
     ensures kept { Kept K.shows K.is_clean keep.old keep.new }
-    ensures told { IsReplyTold K.may_tell (reply_of result) }
-    ensures accounted { IsReplyAccounted (reply_of result) (K.fault_count keep.old) (K.fault_count keep.new) }
+    ensures accounted { IsReplyAccounted K.may_tell (reply_of result) (K.fault_count keep.old) (K.fault_count keep.new) }
     ensures answer { Promised K.shows K.is_clean keep.old keep.new (λ r.
         IsOrdered r.members → IsAnswered (reply_of result)
         (snapshot_answer (seen_by viewer.now r) agent.now declaration.now (unwrap_or date r.day))) }
@@ -93,8 +91,7 @@ fn chains_for<K: Keep>(
     date: Option<Day>,
 ) -> Result<DeskReply, DeskFault>
     ensures kept { Kept K.shows K.is_clean keep.old keep.new }
-    ensures told { IsReplyTold K.may_tell (reply_of result) }
-    ensures accounted { IsReplyAccounted (reply_of result) (K.fault_count keep.old) (K.fault_count keep.new) }
+    ensures accounted { IsReplyAccounted K.may_tell (reply_of result) (K.fault_count keep.old) (K.fault_count keep.new) }
     ensures answer { Promised K.shows K.is_clean keep.old keep.new (λ r.
         IsAnswered (reply_of result) (chains_answer (seen_by viewer.now r) entity.now (unwrap_or date r.day))) }
 {
@@ -117,8 +114,7 @@ fn tell_agent<K: Keep>(
 ) -> Result<DeskReply, DeskFault>
     requires { may_change_own request.now ≡ false }
     ensures kept { Kept K.shows K.is_clean keep.old keep.new }
-    ensures accounted { IsReplyAccounted (reply_of result) (K.fault_count keep.old) (K.fault_count keep.new) }
-    ensures told { IsReplyTold K.may_tell (reply_of result) }
+    ensures accounted { IsReplyAccounted K.may_tell (reply_of result) (K.fault_count keep.old) (K.fault_count keep.new) }
     ensures answer { Promised K.shows K.is_clean keep.old keep.new (λ r.
         IsOrdered r.members → IsAnswered (reply_of result) (agent_answer (sight_of name.now r) request.now)) }
 {
@@ -151,8 +147,7 @@ fn answer_agent<K: Keep>(
         IsOrdered r.members → IsAnswered (reply_of result) (agent_step r name.now request.now).answer) }
     ensures left { Promised K.shows K.is_clean keep.old keep.new (λ r.
         IsLeft (reply_of result) (K.shows keep.new) r (agent_step r name.now request.now).register) }
-    ensures accounted { IsReplyAccounted (reply_of result) (K.fault_count keep.old) (K.fault_count keep.new) }
-    ensures told { IsReplyTold K.may_tell (reply_of result) }
+    ensures accounted { IsReplyAccounted K.may_tell (reply_of result) (K.fault_count keep.old) (K.fault_count keep.new) }
 {
     match request {
         Request::Lodge { key, due, file } => Ok(DeskReply::Lodged(lodge(
@@ -178,8 +173,7 @@ fn answer_registrar<K: Keep>(
         IsAnswered (reply_of result) (registrar_step r request.now).answer) }
     ensures left { Promised K.shows K.is_clean keep.old keep.new (λ r.
         IsLeft (reply_of result) (K.shows keep.new) r (registrar_step r request.now).register) }
-    ensures accounted { IsReplyAccounted (reply_of result) (K.fault_count keep.old) (K.fault_count keep.new) }
-    ensures told { IsReplyTold K.may_tell (reply_of result) }
+    ensures accounted { IsReplyAccounted K.may_tell (reply_of result) (K.fault_count keep.old) (K.fault_count keep.new) }
 {
     match request {
         Request::Day { date } => Ok(DeskReply::Day(advance(keep, *date)?)),
@@ -209,8 +203,7 @@ fn answer_caller<K: Keep>(
         → IsAnswered (reply_of result) (step r (caller_of token.now r) request.now).answer) }
     ensures left { Promised K.shows K.is_clean keep.old keep.new (λ r.
         IsLeft (reply_of result) (K.shows keep.new) r (step r (caller_of token.now r) request.now).register) }
-    ensures accounted { IsReplyAccounted (reply_of result) (K.fault_count keep.old) (K.fault_count keep.new) }
-    ensures told { IsReplyTold K.may_tell (reply_of result) }
+    ensures accounted { IsReplyAccounted K.may_tell (reply_of result) (K.fault_count keep.old) (K.fault_count keep.new) }
 {
     match keep.who(token)? {
         None => Err(DeskFault::Refused(Refusal::NoAgent)),
@@ -246,8 +239,7 @@ pub fn answer<K: Keep>(alloc: Global, keep: &mut K, token: &Token, request: &Req
         IsLeft result (K.shows keep.new) r (step r (caller_of token.now r) request.now).register) }
     ensures alone { Promised K.shows K.is_clean keep.old keep.new (λ r.
         IsLegal r → IsToldAlone result (caller_of token.now r) r request.now) }
-    ensures accounted { IsReplyAccounted result (K.fault_count keep.old) (K.fault_count keep.new) }
-    ensures told { IsReplyTold K.may_tell result }
+    ensures accounted { IsReplyAccounted K.may_tell result (K.fault_count keep.old) (K.fault_count keep.new) }
     ensures legal { Promised K.shows K.is_clean keep.old keep.new (λ r.
         IsLegal r → (left : Register) × K.shows keep.new left × IsLegal left) }
 {

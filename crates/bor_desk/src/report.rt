@@ -1,14 +1,13 @@
 //! The report on who stands behind an entity.
 
-ghost use Rattle.std.specs.Prelude.{◌≡◌, ◌⊎◌, ◌++◌, ℕ, List, IfOk, IfErr, OnOk, string_bytes};
+ghost use Rattle.std.specs.Prelude.{◌≡◌, ◌++◌, ℕ, List, Some, IfOk, OnOk, string_bytes};
 ghost use Rattle.serde_json.specs.Written.{compact_text};
 ghost use Rattle.bor_terms.specs.Day.{IsSpelling};
 ghost use Rattle.bor_links.specs.Rows.{shown_of};
 ghost use Rattle.bor_records.specs.Promises.{Kept, Promised};
 ghost use Rattle.bor_machine.specs.Sight.{seen_by};
-ghost use Rattle.bor_machine.specs.Outcomes.{IsCounted, IsAccounted, IsToldBy};
+ghost use Rattle.bor_machine.specs.Outcomes.{IsAccounted};
 ghost use Rattle.bor_desk.specs.Refusals.{failed};
-ghost use Rattle.bor_register.specs.declared.fault.StoreFault.TheVariants.{Memory};
 ghost use Rattle.bor_desk.specs.Step.{chains_answer};
 ghost use Rattle.bor_desk.specs.Outcomes.{AreFound};
 ghost use Rattle.bor_desk.specs.Texts.{told};
@@ -34,8 +33,7 @@ pub(crate) fn persons_seen<K: Keep>(
     ensures kept { Kept K.shows K.is_clean keep.old keep.new }
     ensures answer { Promised K.shows K.is_clean keep.old keep.new (λ r.
         AreFound (λ persons. persons.items) result (shown_of day (seen_by viewer.now r)) entity.now day) }
-    ensures accounted { IsAccounted failed result (K.fault_count keep.old) (K.fault_count keep.new) }
-    ensures told { IfErr result (IsToldBy failed K.may_tell) }
+    ensures accounted { IsAccounted failed K.may_tell result (K.fault_count keep.old) (K.fault_count keep.new) }
 {
     let rows = keep.visible_rows(viewer)?;
     let mut source = ListSource::from_rows(alloc, &rows, day)?;
@@ -122,8 +120,7 @@ pub fn report_text<K: Keep>(
     ensures kept { Kept K.shows K.is_clean keep.old keep.new }
     ensures text { Promised K.shows K.is_clean keep.old keep.new (λ r.
         IfOk result (λ text. IsTextOf (chains_answer (seen_by viewer.now r) entity.now day) text)) }
-    ensures accounted { IsCounted result (K.fault_count keep.old) (K.fault_count keep.new) }
-    ensures told { IfErr result (λ fault. (fault ≡ Memory) ⊎ K.may_tell fault) }
+    ensures accounted { IsAccounted Some K.may_tell result (K.fault_count keep.old) (K.fault_count keep.new) }
 {
     match persons_seen(alloc, keep, viewer, entity, day) {
         Ok(persons) => Ok(persons_text(alloc, entity, day, &persons)?),
