@@ -1,4 +1,4 @@
--- Two runs in which alder's history is the same, though birch does more in the one than in the other: alder is answered the same, by the definitions themselves.
+-- Two runs in which alder's history is the same, though birch does more in the one than in the other: alder is answered the same, by the definitions themselves. And a run of three agents, one of whom is enrolled in it.
 use Rattle.std.proofs.Common.{◌≡◌, ℕ, ℤ, pos, List, [], ◌∷◌, ◌++◌, length, map, Bool, true, false, Option, Some, None, Ok, codes, refl, sym, ap, ◌∙◌}
 use Rattle.std.specs.List.{filter_map, list_all, list_any}
 use Rattle.std.specs.Prelude.{unwrap_or}
@@ -33,8 +33,9 @@ use Rattle.bor_links.proofs.Found.{here, there}
 use Rattle.bor_desk.specs.declared.request.Request.{Request}
 use Rattle.bor_desk.specs.declared.request.Request.TheVariants as ask
 use Rattle.bor_desk.specs.declared.reply.DeskReply.TheVariants as tell
-use Rattle.bor_desk.specs.Step.{Answer, exactly, report}
-use Rattle.bor_desk.specs.Runs.{Asked, answers_to, history, register_after, solo}
+use Rattle.bor_desk.specs.declared.refusal.Refusal.TheVariants.{NoAgent}
+use Rattle.bor_desk.specs.Step.{Answer, exactly, report, refused}
+use Rattle.bor_desk.specs.Runs.{Asked, Occasion, answers, answers_to, history, register_after, solo}
 
 -- ---- the files
 
@@ -385,3 +386,102 @@ later_differs e = one_publisher (ap (all_in publishers) (sym told_in_first ∙ e
 draft_unseen : told_after (by_birch (ask.Lodge (codes "x3") tomorrow x3) ∷ []) ≡ told_after []
 unfolding reader calendar
 draft_unseen = refl
+
+-- ---- the file of a withdrawn filing
+
+-- 18: its agent reads it still, and another never
+file_of_withdrawn : answers_to (codes "birch") start (by_birch (ask.Lodge (codes "x1") december x1) ∷ by_birch (ask.Withdraw (codes "x1")) ∷ by_alder (ask.File (codes "x1")) ∷ by_birch (ask.File (codes "x1")) ∷ [])
+    ≡ lodged 1 december Draft true ∷ exactly (tell.Withdrawn (record { key = codes "x1"; number = 1; due = december; state = Withdrawn })) ∷ exactly (tell.File x1) ∷ []
+unfolding reader calendar
+file_of_withdrawn = refl
+
+-- ---- three agents, a day and an enrolment
+
+abbrev cedar : List ℕ
+cedar = codes "cedar"
+
+abbrev cedars_token : List ℕ
+cedars_token = codes "cedar-token-000001"
+
+abbrev by_cedar : Request → Asked
+by_cedar request = record { token = cedars_token; request = request }
+
+abbrev by_registrar : Request → Asked
+by_registrar request = record { token = codes "registrar-token-0001"; request = request }
+
+-- cedar asks before it is enrolled; birch publishes two filings and alder, on the next day, one; then cedar is enrolled, and asks again
+abbrev third : List Asked
+third =
+    by_cedar ask.Published
+    ∷ by_birch (ask.Lodge (codes "x3") today x3)
+    ∷ by_alder (ask.Lodge (codes "g1") tomorrow g1)
+    ∷ by_birch (ask.Lodge (codes "x1") today x1)
+    ∷ by_alder ask.Published
+    ∷ by_registrar (ask.Day tomorrow)
+    ∷ by_registrar (ask.Enrol cedar cedars_token)
+    ∷ by_cedar ask.Published
+    ∷ by_alder ask.Filings
+    ∷ by_cedar ask.Filings
+    ∷ []
+
+-- the statement of x1, settled
+abbrev z1 : Statement
+z1 = settled (codes "s9") (codes "c1") (codes "z1") (registered [])
+
+abbrev of_birch : List Outward
+of_birch = record { agent = codes "birch"; due = today; statements = b1 ∷ bp ∷ br ∷ [] } ∷ record { agent = codes "birch"; due = today; statements = z1 ∷ [] } ∷ []
+
+abbrev of_both : List Outward
+of_both = record { agent = codes "alder"; due = tomorrow; statements = e1 ∷ a1 ∷ r1 ∷ [] } ∷ of_birch
+
+abbrev occasion : ℤ → List Outward → Request → Occasion
+occasion day others request = record { day = day; others = others; request = request }
+
+-- 19: each request is answered, in order
+all_answers : answers start third
+    ≡ refused NoAgent ∷ lodged 1 today Published true ∷ lodged 1 tomorrow Draft true ∷ lodged 2 today Published true ∷ exactly (tell.Published of_birch)
+    ∷ exactly (tell.Day tomorrow) ∷ exactly (tell.Enrolled cedar) ∷ exactly (tell.Published of_both)
+    ∷ exactly (tell.Filings (record { key = codes "g1"; number = 1; due = tomorrow; state = Published } ∷ [])) ∷ exactly (tell.Filings []) ∷ []
+unfolding reader calendar
+all_answers = refl
+
+-- 20: what cedar asked before its enrolment is none of its exchanges
+cedars_history : history cedar start third ≡ occasion tomorrow of_both ask.Published ∷ occasion tomorrow of_both ask.Filings ∷ []
+unfolding reader calendar
+cedars_history = refl
+
+-- 21: alder's go over two days, and over what birch had published by then
+alders_history : history (codes "alder") start third
+    ≡ occasion today (record { agent = codes "birch"; due = today; statements = b1 ∷ bp ∷ br ∷ [] } ∷ []) (ask.Lodge (codes "g1") tomorrow g1)
+    ∷ occasion today of_birch ask.Published ∷ occasion tomorrow of_birch ask.Filings ∷ []
+unfolding reader calendar
+alders_history = refl
+
+-- 22: alone with its history each is told what it was told in the run
+cedar_alone : solo cedar [] (history cedar start third) ≡ exactly (tell.Published of_both) ∷ exactly (tell.Filings []) ∷ []
+unfolding reader calendar
+cedar_alone = refl
+
+alder_alone : solo (codes "alder") [] (history (codes "alder") start third)
+    ≡ lodged 1 tomorrow Draft true ∷ exactly (tell.Published of_birch) ∷ exactly (tell.Filings (record { key = codes "g1"; number = 1; due = tomorrow; state = Published } ∷ [])) ∷ []
+unfolding reader calendar
+alder_alone = refl
+
+-- 23: birch goes on with its two filings: in the register and alone with them, beside what alder has published, it is told the same
+abbrev more : List Asked
+more = by_birch ask.Filings ∷ by_birch ask.Published ∷ by_birch (ask.Lodge (codes "x1") today x1) ∷ []
+
+abbrev told_more : List Answer
+told_more =
+    exactly (tell.Filings (record { key = codes "x3"; number = 1; due = today; state = Published } ∷ record { key = codes "x1"; number = 2; due = today; state = Published } ∷ []))
+    ∷ exactly (tell.Published of_both)
+    ∷ lodged 2 today Published false
+    ∷ []
+
+birch_told : answers_to (codes "birch") (register_after start third) more ≡ told_more
+unfolding reader calendar
+birch_told = refl
+
+birch_alone : solo (codes "birch") (filings_of (codes "birch") (register_after start third).members) (history (codes "birch") (register_after start third) more) ≡ told_more
+unfolding reader calendar
+birch_alone = refl

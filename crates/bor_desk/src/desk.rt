@@ -131,7 +131,7 @@ fn tell_agent<K: Keep>(
         Request::Day { .. } | Request::Enrol { .. } => {
             Err(DeskFault::Refused(Refusal::NotRegistrar))
         }
-        Request::Lodge { .. } | Request::Withdraw { .. } => unreachable!(),
+        Request::Withdraw { .. } | Request::Lodge { .. } => unreachable!(),
     }
 }
 
