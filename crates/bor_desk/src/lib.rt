@@ -1,13 +1,19 @@
 //! The desk: who asks, what is answered, and the texts that are told of a register.
 //!
 //! [`answer`] takes the token and the request of a caller to a keep of a register, and gives the
-//! reply. [`check_text`] and [`report_text`] give what the program prints:
+//! reply:
 //!
 //! ```
-//! let text = check_text(rt.alloc(), b"[]")?;
-//! assert!(rt; text.refused);
-//! assert!(rt; text.bytes.as_slice() == b"refused NoStatements\n".as_slice());
+//! let mut keep = ListKeep::new(alloc, registrar.copy(alloc)?, day);
+//! let token = alder.copy(alloc)?;
+//! let reply = answer(alloc, &mut keep, &registrar, &Request::Enrol { name, token });
+//! assert!(rt; matches!(&reply, DeskReply::Enrolled(_)));
+//!
+//! let reply = answer(alloc, &mut keep, &alder, &Request::Published);
+//! assert!(rt; matches!(&reply, DeskReply::Published(outwards) if outwards.as_slice().is_empty()));
 //! ```
+//!
+//! [`check_text`] and [`report_text`] give what the program prints.
 //!
 //! Nothing is read or printed here, and no HTTP is known of: requests come in as values, and replies
 //! go out as values or as bytes of a text.
@@ -30,5 +36,7 @@ pub use report::report_text;
 pub use request::Request;
 pub use text::Text;
 
+#[cfg(test)]
+mod example;
 #[cfg(test)]
 mod tests;
