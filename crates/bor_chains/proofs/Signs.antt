@@ -4,12 +4,11 @@ use Rattle.std.specs.Prelude.{nat_lt}
 use Rattle.std.specs.declared.cmp.Ordering.{Ordering}
 use Rattle.std.specs.declared.cmp.Ordering.TheVariants.{Less, Equal, Greater}
 use Rattle.std.specs.Ordering.{is_eq, ordering_then}
-use Rattle.std.specs.List.{filter, filter_map, slice_get, list_any, IsDistinct}
+use Rattle.std.specs.List.{filter, slice_get, list_any, IsDistinct}
 use Rattle.std.specs.BTreeMap.{BTreeMap, get}
 use Rattle.std.proofs.lemmas.Map.Lookups.{CmpEqualImpliesEq, exact_bytes}
 use Rattle.std.proofs.lemmas.Map.Views.{tells_apart}
 use Rattle.std.proofs.lemmas.List.Elements.{Contains-push, Contains-push_cases, Contains-append_left, Contains-append_right}
-use Rattle.std.proofs.lemmas.List.Folds.{Any-from_list_any}
 use Rattle.std.proofs.lemmas.List.{take_more, map-append}
 use Rattle.std.proofs.lemmas.Option.{slice_get-get_or, slice_get_within, get_or_from_slice_get}
 use Rattle.std.proofs.lemmas.Bool.{and_parts, ltb-true, ltb-false}
@@ -21,8 +20,8 @@ use Rattle.bor_links.specs.declared.node.OpenNode.{OpenNode}
 use Rattle.bor_chains.specs.declared.alike.Sign.{Sign}
 use Rattle.bor_links.specs.Nodes.{same_node, text_cmp}
 use Rattle.bor_links.specs.Shown.{Shown, listed_at, are_alike, is_entity, same_record, share_identifier, same_identifier}
+use Rattle.bor_chains.specs.Listing.{aliases_to, aliases_in}
 use Rattle.bor_links.specs.Answers.{AreAliases}
-use Rattle.bor_chains.specs.Listing.{aliases_in, aliases_to}
 use Rattle.bor_chains.specs.Tables.{items_of}
 use Rattle.bor_chains.specs.Likeness.{sign_cmp, by_record, by_identifier, signs, Stays, IsUnder, AreUnder, AreAll, alike_node, alike_at}
 use Rattle.bor_links.proofs.Found.{none, here, there, cases, Contains-filter, Contains-from_filter, Contains-map, Contains-from_map}

@@ -20,12 +20,13 @@ use Rattle.bor_links.specs.Shown.{Shown, info_of, IsEntity}
 use Rattle.bor_links.specs.Rows.{is_entity_info, node_in, nodes_of, link_with, link_in, links_of, shown_of}
 use Rattle.bor_chains.specs.Chains.{AreJoined}
 use Rattle.bor_chains.specs.Promises.{OnNoEntity}
+use Rattle.bor_register.specs.declared.fault.StoreFault.{StoreFault}
 use Rattle.bor_register.specs.Register.{Register}
 use Rattle.bor_register.specs.Rows.{visible}
 use Rattle.bor_machine.specs.Sight.{unnumbered, seen_by}
 use Rattle.bor_desk.specs.declared.refusal.Refusal.TheVariants.{NoEntity}
 use Rattle.bor_desk.specs.declared.refusal.DeskFault.{DeskFault}
-use Rattle.bor_desk.specs.Refusals.{of_chains}
+use Rattle.bor_desk.specs.Refusals.{IsOfChains}
 use Rattle.bor_desk.specs.Step.{report, refused, report_on}
 use Rattle.bor_desk.specs.Outcomes.{AreFound}
 
@@ -97,15 +98,17 @@ persons-found day viewer r rows n persons e entity joined =
     subst (λ (s : Shown). (report_on s n day ≡ report n day s) × AreJoined s n persons) (ap (shown_of day) e ∙ sym (shown-seen day (visible viewer r.day r.members))) (entity-report (shown_of day rows) n day entity, joined)
 
 -- why nothing was
-refusal-found : {P F : Type 0} (items : P → List PersonLine) (day : ℤ) (viewer : List ℕ) (r : Register) (rows : List Row) (n : Node) (fault : ChainFault F) → rows ≡ visible viewer r.day r.members → OnNoEntity fault (IsEntity (shown_of day rows) n → ⊥) →
-    AreFound items (Err (of_chains fault)) (shown_of day (seen_by viewer r)) n day
-refusal-found items day viewer r rows n chains.NoEntity e none =
-    subst (λ (s : Shown). report_on s n day ≡ refused NoEntity) (ap (shown_of day) e ∙ sym (shown-seen day (visible viewer r.day r.members))) (no_entity-refused (shown_of day rows) n day none)
-refusal-found items day viewer r rows n (chains.Source f) e none = tt
-refusal-found items day viewer r rows n chains.Memory e none = tt
+refusal-found : {P F : Type 0} (into : F → StoreFault → Type 0) (items : P → List PersonLine) (day : ℤ) (viewer : List ℕ) (r : Register) (rows : List Row) (n : Node) (fault : ChainFault F) (given : DeskFault) → rows ≡ visible viewer r.day r.members → OnNoEntity fault (IsEntity (shown_of day rows) n → ⊥) → IsOfChains into fault given →
+    AreFound items (Err given) (shown_of day (seen_by viewer r)) n day
+refusal-found into items day viewer r rows n chains.NoEntity given e none is =
+    subst (λ (g : DeskFault). AreFound items (Err g) (shown_of day (seen_by viewer r)) n day) (sym is)
+    (subst (λ (s : Shown). report_on s n day ≡ refused NoEntity) (ap (shown_of day) e ∙ sym (shown-seen day (visible viewer r.day r.members))) (no_entity-refused (shown_of day rows) n day none))
+refusal-found into items day viewer r rows n (chains.Source f) given e none is =
+    subst (λ (g : DeskFault). AreFound items (Err g) (shown_of day (seen_by viewer r)) n day) (sym is.2) tt
+refusal-found into items day viewer r rows n chains.Memory given e none is =
+    subst (λ (g : DeskFault). AreFound items (Err g) (shown_of day (seen_by viewer r)) n day) (sym is) tt
 
-pub persons-refused : {P F : Type 0} (items : P → List PersonLine) (day : ℤ) (viewer : List ℕ) (r : Register) (rows : List Row) (n : Node) (fault : ChainFault F) (made : Result P DeskFault) → rows ≡ visible viewer r.day r.members → OnNoEntity fault (IsEntity (shown_of day rows) n → ⊥) →
-    IsErr made → IsErrAnd made (λ given. given ≡ of_chains fault) → AreFound items made (shown_of day (seen_by viewer r)) n day
-persons-refused items day viewer r rows n fault (Ok persons) e none is_err gives = absurd cc
-persons-refused items day viewer r rows n fault (Err given) e none is_err gives =
-    subst (λ (g : DeskFault). AreFound items (Err g) (shown_of day (seen_by viewer r)) n day) (sym gives) (refusal-found items day viewer r rows n fault e none)
+pub persons-refused : {P F : Type 0} (into : F → StoreFault → Type 0) (items : P → List PersonLine) (day : ℤ) (viewer : List ℕ) (r : Register) (rows : List Row) (n : Node) (fault : ChainFault F) (made : Result P DeskFault) → rows ≡ visible viewer r.day r.members → OnNoEntity fault (IsEntity (shown_of day rows) n → ⊥) →
+    IsErr made → IsErrAnd made (IsOfChains into fault) → AreFound items made (shown_of day (seen_by viewer r)) n day
+persons-refused into items day viewer r rows n fault (Ok persons) e none is_err gives = absurd cc
+persons-refused into items day viewer r rows n fault (Err given) e none is_err gives = refusal-found into items day viewer r rows n fault given e none gives

@@ -1,5 +1,5 @@
 -- What a refusal is told as: its name, the place of a statement, and the member that it is about.
-use Rattle.std.specs.Prelude.{ℕ, List, Option, Some, None, codes}
+use Rattle.std.specs.Prelude.{◌≡◌, ℕ, List, Option, Some, None, codes}
 use Rattle.bods_read.specs.declared.fault.Field.{Field}
 use Rattle.bods_read.specs.Faults.{file_fault_word, file_fault_place, file_fault_field}
 use Rattle.bor_records.specs.Words.{fault_name}
@@ -78,11 +78,11 @@ of_enrolment enrols.NameTaken = Refused NameTaken
 of_enrolment enrols.TokenTaken = Refused TokenTaken
 of_enrolment (enrols.Store fault) = Failed fault
 
--- a report on chains; the one fault of rows in memory is want of memory
-abbrev pub of_chains : {F : Type 0} → ChainFault F → DeskFault
-of_chains chains.NoEntity = Refused NoEntity
-of_chains (chains.Source fault) = Failed stores.Memory
-of_chains chains.Memory = Failed stores.Memory
+-- a report on chains; a fault of the source is told as the store's fault that it is made into
+abbrev pub IsOfChains : {F : Type 0} → (F → StoreFault → Type 0) → ChainFault F → DeskFault → Type 0
+IsOfChains into chains.NoEntity given = given ≡ Refused NoEntity
+IsOfChains into (chains.Source f) given = (fault : StoreFault) × into f fault × (given ≡ Failed fault)
+IsOfChains into chains.Memory given = given ≡ Failed stores.Memory
 
 -- which faults are the store's
 abbrev pub failed : DeskFault → Option StoreFault

@@ -3,7 +3,7 @@
 ghost use Rattle.std.specs.Prelude.{◌≡◌};
 ghost use Rattle.bor_register.specs.declared.fault.StoreFault.TheVariants as stores;
 ghost use Rattle.bor_desk.specs.declared.refusal.DeskFault.TheVariants as faults;
-ghost use Rattle.bor_desk.specs.Refusals.{refusal_name, refusal_place, refusal_field, of_lodging, of_withdrawal, of_advance, of_enrolment, of_chains};
+ghost use Rattle.bor_desk.specs.Refusals.{refusal_name, refusal_place, refusal_field, of_lodging, of_withdrawal, of_advance, of_enrolment, IsOfChains};
 
 use bods_read::{Field, FileFault};
 use bor_chains::ChainFault;
@@ -174,13 +174,14 @@ impl From<EnrolFault> for DeskFault {
     }
 }
 
-impl From<ChainFault<AllocError>> for DeskFault {
-    ghost from_gives = { λ fault given. given ≡ of_chains fault };
+impl<F: Into<StoreFault>> From<ChainFault<F>> for DeskFault {
+    ghost from_gives = { λ fault given. IsOfChains F.converts fault given };
 
-    fn from(fault: ChainFault<AllocError>) -> Self {
+    fn from(fault: ChainFault<F>) -> Self {
         match fault {
             ChainFault::NoEntity => DeskFault::Refused(Refusal::NoEntity),
-            ChainFault::Source(_) | ChainFault::Memory => DeskFault::Failed(StoreFault::Memory),
+            ChainFault::Source(fault) => DeskFault::Failed(fault.into()),
+            ChainFault::Memory => DeskFault::Failed(StoreFault::Memory),
         }
     }
 }
