@@ -1,8 +1,7 @@
 -- The digits of a number below a hundred are read again.
-use Rattle.std.proofs.Common.{◌≡◌, ℕ, ◌+◌, ◌-◌, ◌*◌, ◌/◌, ◌%◌, ◌<◌, Some, refl, ap, arith}
+use Rattle.std.proofs.Common.{◌≡◌, ℕ, ◌+◌, ◌-◌, ◌*◌, ◌/◌, ◌%◌, ◌<◌, Some, ap, arith}
 use Rattle.std.proofs.lemmas.Bool.Decides.{nat_tests}
-use Rattle.std.proofs.Common.{[], ◌∷◌}
-use Rattle.bor_terms.specs.Day.{digit, ◌>>=◌, day_of, has_marks, digits_day, pair_at, number_of}
+use Rattle.bor_terms.specs.Day.{digit, ◌>>=◌, day_of, has_marks, digits_day, pair_at, number_of, civil_text}
 
 digit_back : (n : ℕ) → n < 10 → digit (48 + n) ≡ Some n
 digit_back n lt =
@@ -16,6 +15,11 @@ pair_back n lt =
     let e : 10 * (n / 10) + n % 10 ≡ n = omega arith in
     rw (digit_back (n / 10) t, digit_back (n % 10) o) (ap Some e)
 
-pub spelled : (c r m d : ℕ) → c < 100 → r < 100 → m < 100 → d < 100 → day_of ((48 + c / 10) ∷ (48 + c % 10) ∷ (48 + r / 10) ∷ (48 + r % 10) ∷ 45 ∷ (48 + m / 10) ∷ (48 + m % 10) ∷ 45 ∷ (48 + d / 10) ∷ (48 + d % 10) ∷ []) ≡ number_of (100 * c + r) m d
+-- the text of a date names its day
+pub civil_text-named : (y m d : ℕ) → y < 10000 → m < 100 → d < 100 → day_of (civil_text y m d) ≡ number_of y m d
 unfolding day_of has_marks digits_day pair_at
-spelled c r m d lc lr lm ld = rw (pair_back c lc, pair_back r lr, pair_back m lm, pair_back d ld) refl
+civil_text-named y m d ly lm ld =
+    let century : y / 100 < 100 = omega arith in
+    let rest : y % 100 < 100 = omega arith in
+    let e : 100 * (y / 100) + y % 100 ≡ y = omega arith in
+    rw (pair_back (y / 100) century, pair_back (y % 100) rest, pair_back m lm, pair_back d ld) (ap (λ n. number_of n m d) e)

@@ -6,4 +6,5 @@ pub mod Years
 pub mod Digits
 pub mod Texts
 pub mod Examples
+pub mod DayTexts
 pub mod Spelling

@@ -2,7 +2,7 @@
 
 ghost use Rattle.std.specs.Prelude.{◌≡◌, ◌<◌, ◌≤◌, ◌+◌, ◌/◌, ◌%◌, ◌↔◌, ◌≤ℤ◌, Some, ℕ, ℤ, List, length, pos, IsSome, IfSome, IsTrue};
 ghost use Rattle.jiff_core.specs.Date.{epoch_day};
-ghost use Rattle.bor_terms.specs.Day.{day_of, has_marks, digits_day, pair_at, number_of, digit, IsDay, IsSpelling};
+ghost use Rattle.bor_terms.specs.Day.{day_of, has_marks, digits_day, pair_at, number_of, digit, civil_text, day_text, IsDay, IsSpelling};
 
 use jiff::civil::Date;
 use jiff_core::civil::Date as Plain;
@@ -54,6 +54,7 @@ impl Day {
 
     /// The day as `YYYY-MM-DD`: the one text of ten bytes that names it.
     pub fn text(self) -> [u8; 10]
+        ensures value { result ≡ day_text self }
         ensures spelling { IsSpelling self result }
         ensures only_one { (other : List ℕ) → IsSpelling self other → other ≡ result }
     {
@@ -162,8 +163,7 @@ fn spell(year: u16, month: u8, day: u8) -> [u8; 10]
     requires year { year < 10000 }
     requires month { month < 100 }
     requires day { day < 100 }
-    ensures long { length result ≡ 10 }
-    ensures value { day_of result ≡ number_of year month day }
+    ensures { result ≡ civil_text year month day }
 {
     let century = (year / 100) as u8;
     let rest = (year % 100) as u8;
