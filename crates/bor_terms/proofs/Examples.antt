@@ -1,12 +1,14 @@
 -- The definitions, tried: each equation here computes from the definitions alone.
-use Rattle.std.proofs.Common.{◌≡◌, ℕ, true, false, List, [], ◌∷◌, Some, None, pos, neg_ℤ, refl, map, replicate}
+use Rattle.std.proofs.Common.{◌≡◌, ℕ, true, false, List, [], ◌∷◌, ◌++◌, Some, None, pos, neg_ℤ, refl, map, replicate}
 use Rattle.std.specs.Prelude.{codes, nat_lt, is_some, ⊤}
-use Rattle.std.specs.List.{list_all, list_any}
+use Rattle.std.specs.List.{list_all, list_any, filter, range_with_len}
+use Rattle.std.specs.Str.{is_utf8, chars}
+use lib.Utf8.{encode}
 use Rattle.jiff_core.specs.Calendar.{days_from_civil, day_count, days_of_years, days_of_months}
 use Rattle.bor_terms.specs.Points.{at_least, above, at_most, below, points, has_points}
 use Rattle.bor_terms.specs.Shown.{shown}
 use Rattle.bor_terms.specs.Span.{range}
-use Rattle.bor_terms.specs.Day.{day_of, has_marks, digits_day, pair_at, number_of}
+use Rattle.bor_terms.specs.Day.{day_of, has_marks, digits_day, pair_at, number_of, day_text, year_at, month_at}
 use Rattle.bor_terms.specs.Texts.{is_agent_name, is_lodge_key, is_ident, is_token, is_below}
 
 -- ---- points
@@ -20,6 +22,11 @@ exact = refl
 half_between : points (above 50 ∷ below 51 ∷ []) ≡ 101 ∷ []
 unfolding points
 half_between = refl
+
+-- open ends at 0 and at 100
+open_ends : map points ((above 0 ∷ below 1 ∷ []) ∷ (above 99 ∷ below 100 ∷ []) ∷ []) ≡ (1 ∷ []) ∷ (199 ∷ []) ∷ []
+unfolding points
+open_ends = refl
 
 -- at least 50 and below 50; above 100; below 0
 no_points : map has_points ((at_least 50 ∷ below 50 ∷ []) ∷ (above 100 ∷ []) ∷ (below 0 ∷ []) ∷ []) ≡ false ∷ false ∷ false ∷ []
@@ -47,6 +54,11 @@ equal_lows = refl
 greatest_low : shown (points (at_least 60 ∷ above 50 ∷ [])) ≡ Some (range 60 false 100 false)
 unfolding shown points
 greatest_low = refl
+
+-- {"exclusiveMinimum":0,"exclusiveMaximum":100}
+open_all : shown (points (above 0 ∷ below 100 ∷ [])) ≡ Some (range 0 true 100 true)
+unfolding shown points
+open_all = refl
 
 -- {"minimum":40,"exclusiveMinimum":50,"maximum":51,"exclusiveMaximum":true}
 both_open : shown (points (at_least 40 ∷ above 50 ∷ below 51 ∷ [])) ≡ Some (range 50 true 51 true)
@@ -100,13 +112,45 @@ unfolding calendar
 named_days = refl
 
 unnamed_days : list_any (λ text. is_some (day_of text)) (
-    codes "" ∷ codes "2024-01-1" ∷ codes "2024-1-10" ∷ codes "2024-01-10x" ∷ codes "2024-01-10 " ∷ codes "2024/01/10"
+    codes "" ∷ codes "2024-01-1" ∷ codes "2024-1-10" ∷ codes "2024-01-10x" ∷ codes "2024-01-10 " ∷ codes "2024-01-10t09:00" ∷ codes "2024/01/10" ∷ codes "2024-01/10" ∷ codes "2024/01-10"
     ∷ codes "2023-02-29" ∷ codes "1900-02-29" ∷ codes "2024-04-31" ∷ codes "2024-00-10" ∷ codes "2024-13-10"
     ∷ codes "2024-01-00" ∷ codes "+024-01-10" ∷ []) ≡ false
 unfolding day_of has_marks digits_day pair_at number_of
 unnamed_days = refl
 
+-- the first and the last day of the calendar here, of a month, of a leap year's February and of the day numbers
+day_texts : map day_text (
+    neg_ℤ (pos 719_528) ∷ pos 2_932_896 ∷ pos 19_732 ∷ pos 19_753 ∷ pos 19_754 ∷ pos 19_782 ∷ pos 19_783 ∷ pos 0 ∷ neg_ℤ (pos 1) ∷ [])
+    ≡ codes "0000-01-01" ∷ codes "9999-12-31" ∷ codes "2024-01-10" ∷ codes "2024-01-31" ∷ codes "2024-02-01"
+    ∷ codes "2024-02-29" ∷ codes "2024-03-01" ∷ codes "1970-01-01" ∷ codes "1969-12-31" ∷ []
+unfolding day_text year_at month_at days_of_months
+day_texts = refl
+
 -- ---- texts
+
+-- the bytes that each may have, of all 256: a hyphen, digits and small letters
+name_bytes : filter (λ b. is_agent_name (b ∷ [])) (range_with_len 0 256) ≡ 45 ∷ range_with_len 48 10 ++ range_with_len 97 26
+unfolding is_agent_name
+name_bytes = refl
+
+-- a hyphen, a point, digits, capitals, an underscore, small letters
+key_bytes : filter (λ b. is_lodge_key (b ∷ [])) (range_with_len 0 256) ≡ 45 ∷ 46 ∷ range_with_len 48 10 ++ range_with_len 65 26 ++ 95 ∷ range_with_len 97 26
+unfolding is_lodge_key
+key_bytes = refl
+
+-- from 0x20 to 0x7E alone, and after a first byte of UTF-8 what may follow it
+ident_bytes : filter (λ b. is_ident (b ∷ [])) (range_with_len 0 256) ≡ range_with_len 32 95
+unfolding is_ident is_utf8 chars encode
+ident_bytes = refl
+
+ident_second_bytes : filter (λ b. is_ident (195 ∷ b ∷ [])) (range_with_len 0 256) ≡ range_with_len 128 64
+unfolding is_ident is_utf8 chars encode
+ident_second_bytes = refl
+
+-- from 0x21 to 0x7E
+token_bytes : filter (λ b. is_token (replicate 16 b)) (range_with_len 0 256) ≡ range_with_len 33 94
+unfolding is_token
+token_bytes = refl
 
 agent_names : list_all is_agent_name (codes "a" ∷ codes "acme-2" ∷ replicate 32 122 ∷ []) ≡ true
 unfolding is_agent_name
@@ -126,12 +170,12 @@ no_lodge_keys = refl
 
 -- the second is an e with an acute accent, in UTF-8
 idents : list_all is_ident (codes "GB-COH 1" ∷ (195 ∷ 169 ∷ []) ∷ replicate 255 97 ∷ []) ≡ true
-unfolding is_ident
+unfolding is_ident is_utf8 chars encode
 idents = refl
 
 -- the last two have a control character
 no_idents : list_any is_ident (codes "" ∷ replicate 256 97 ∷ (97 ∷ 31 ∷ []) ∷ (97 ∷ 127 ∷ []) ∷ []) ≡ false
-unfolding is_ident
+unfolding is_ident is_utf8 chars encode
 no_idents = refl
 
 tokens : list_all is_token (codes "registrar-token-1" ∷ replicate 16 33 ∷ replicate 64 126 ∷ []) ≡ true

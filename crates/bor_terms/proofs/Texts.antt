@@ -6,6 +6,7 @@ use Rattle.std.specs.Cmp.Lexicographic.{slice_cmp}
 use Rattle.std.proofs.lemmas.Slice.Eq.{bytes_eq-Decides}
 use Rattle.std.proofs.lemmas.Cmp.{nat_list_cmp_total}
 use Rattle.std.proofs.lemmas.Map.Lookups.{exact_bytes}
+use Rattle.std.proofs.lemmas.Str.{is_utf8-from_IsUtf8}
 use Rattle.bor_terms.specs.Texts.{is_same, is_below}
 
 pub same_is : (a b : List ℕ) → is_same a b ≡ true → a ≡ b
@@ -60,3 +61,6 @@ same_sym_by a b false e = same_no (is_same a b) refl
 
 pub same_sym : (a b : List ℕ) → is_same a b ≡ is_same b a
 same_sym a b = same_sym_by a b (is_same b a) refl
+
+-- a text is UTF-8
+pub ruleset text_rules = (is_utf8-from_IsUtf8)

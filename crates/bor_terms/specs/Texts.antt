@@ -1,7 +1,7 @@
 -- The four texts of the register (this register's profile): which bytes each may have and how many, and how two texts compare.
 use Rattle.std.specs.Prelude.{ℕ, List, length, Bool, not, ◌&&◌, ◌||◌, ◌==◌, nat_le}
 use Rattle.std.specs.List.{list_all}
-use Rattle.std.specs.Str.{bytes_eq}
+use Rattle.std.specs.Str.{bytes_eq, is_utf8}
 use Rattle.std.specs.Ordering.{nat_cmp, is_lt}
 use Rattle.std.specs.Cmp.Lexicographic.{slice_cmp}
 
@@ -29,7 +29,7 @@ is_name_byte b = is_small_letter b || is_digit b || b == 45
 abbrev pub is_key_byte : ℕ → Bool
 is_key_byte b = is_capital_letter b || is_small_letter b || is_digit b || b == 46 || b == 95 || b == 45
 
--- no control character: none below 0x20, and not 0x7F
+-- part of no control character of ASCII: none below 0x20, and not 0x7F; from 0x80 on it is part of a character of UTF-8
 abbrev pub is_printed : ℕ → Bool
 is_printed b = nat_le 32 b && not (b == 127)
 
@@ -45,9 +45,9 @@ is_agent_name bytes = has_length 1 32 bytes && list_all is_name_byte bytes
 unfoldable pub is_lodge_key : List ℕ → Bool
 is_lodge_key bytes = has_length 1 64 bytes && list_all is_key_byte bytes
 
--- an identifier of BODS: of a statement, a record or a declaration
+-- an identifier of BODS: of a statement, a record or a declaration; it is UTF-8
 unfoldable pub is_ident : List ℕ → Bool
-is_ident bytes = has_length 1 255 bytes && list_all is_printed bytes
+is_ident bytes = has_length 1 255 bytes && list_all is_printed bytes && is_utf8 bytes
 
 -- the token by which a caller is known
 unfoldable pub is_token : List ℕ → Bool

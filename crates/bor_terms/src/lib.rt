@@ -24,12 +24,14 @@ mod lodge_key;
 mod span;
 #[cfg(test)]
 mod tests;
+mod text;
 mod token;
 
-pub use agent_name::AgentName;
+pub use agent_name::{AgentName, NameForm};
 pub use day::Day;
-pub use ident::Ident;
+pub use ident::{Ident, IdentForm};
 pub use listed::Listed;
-pub use lodge_key::LodgeKey;
+pub use lodge_key::{KeyForm, LodgeKey};
 pub use span::Span;
-pub use token::Token;
+pub use text::{Form, Text};
+pub use token::{Token, TokenForm};

@@ -38,6 +38,13 @@ impl<T> Listed<T> {
         self.items.as_slice()
     }
 
+    /// The items as a `Vec`, which takes no memory.
+    pub fn into_vec(self) -> Vec<T>
+        ensures { result.items ≡ self }
+    {
+        self.items
+    }
+
     /// The item at this index, counted from 0, to be changed in place.
     pub fn item_mut(&mut self, index: usize) -> &mut T
         requires { index < length self.old }

@@ -1,0 +1,150 @@
+//! Texts of a form.
+
+ghost use Rattle.std.specs.Prelude.{◌≡◌, ℕ, List, Bool, true, false, IsOk, IfOk, Some, None, if◌then◌else◌, string_bytes, refl};
+ghost use Rattle.std.specs.Ordering.{nat_cmp};
+ghost use Rattle.std.specs.Cmp.{partial_equiv_from_equiv};
+ghost use Rattle.std.specs.Cmp.Lexicographic.{slice_cmp, nat_list_eq_equiv, nat_list_cmp_total, texts_ties, texts_po};
+ghost use Rattle.bor_terms.specs.Texts.{is_same};
+
+use std::alloc::{AllocError, Global};
+use std::cmp::Ordering;
+use std::fmt;
+use std::marker::{Model, PhantomData};
+
+/// A form that texts may have.
+pub trait Form {
+    ghost is_form: { List ℕ → Bool };
+
+    ghost shown: { List ℕ → List ℕ };
+
+    /// Whether a text has the form.
+    fn fits(text: &str) -> bool
+        ensures { result ≡ is_form text.now };
+
+    /// What `{:?}` writes of a text of the form.
+    fn shown(text: &str) -> &str
+        ensures { result.now ≡ shown text.now };
+}
+
+/// A text of the form `F`, byte for byte. Texts are compared and ordered by their bytes.
+#[derive(Drop)]
+pub struct Text<F: Form> {
+    text: String,
+    form: PhantomData<F>,
+}
+
+impl<F: Form> Model for Text<F> {
+    ghost use Rattle.std.specs.Prelude.{◌≡◌, List, ℕ, true, string_bytes};
+
+    ghost Value = { List ℕ };
+
+    ghost view = { λ a. string_bytes a.text };
+
+    ghost invariant = { λ a. F.is_form (string_bytes a.text) ≡ true };
+}
+
+impl<F: Form> Text<F> {
+    /// Whether a text has the form.
+    pub fn fits(text: &str) -> bool
+        ensures { result ≡ F.is_form text.now }
+    {
+        F::fits(text)
+    }
+
+    /// The text that it is, byte for byte, or `None` where it does not have the form. Memory is asked
+    /// for only where it has.
+    pub fn read(alloc: Global, text: &str) -> Result<Option<Text<F>>, AllocError>
+        ensures value { IfOk result (λ read. read ≡ (if F.is_form text.now then Some text.now else None)) }
+        ensures refused { F.is_form text.now ≡ false → IsOk result }
+    {
+        if !F::fits(text) {
+            return Ok(None);
+        }
+        Ok(Some(Text {
+            text: String::from_str(alloc, text)?,
+            form: PhantomData,
+        }))
+    }
+
+    /// The text of a `String` that has the form, which takes no memory.
+    pub fn new(text: String) -> Text<F>
+        requires { F.is_form (string_bytes text) ≡ true }
+        ensures { result ≡ string_bytes text }
+    {
+        Text {
+            text,
+            form: PhantomData,
+        }
+    }
+
+    /// The text itself.
+    pub fn as_str(&self) -> &str
+        ensures { result.now ≡ self.now }
+    {
+        self.text.as_str()
+    }
+
+    /// The text as a `String`, which takes no memory.
+    pub fn into_string(self) -> String
+        ensures { string_bytes result ≡ self }
+    {
+        self.text
+    }
+
+    /// Another text that is the same.
+    pub fn copy(&self, alloc: Global) -> Result<Text<F>, AllocError>
+        ensures { IfOk result (λ copied. copied ≡ self.now) }
+    {
+        Ok(Text {
+            text: String::from_str(alloc, self.text.as_str())?,
+            form: PhantomData,
+        })
+    }
+}
+
+impl<F: Form> PartialEq for Text<F> {
+    ghost eq = { is_same };
+
+    ghost laws = { partial_equiv_from_equiv nat_list_eq_equiv };
+
+    fn eq(&self, other: &Text<F>) -> bool {
+        self.text == other.text
+    }
+}
+
+impl<F: Form> Eq for Text<F> {
+    ghost laws = { nat_list_eq_equiv };
+}
+
+impl<F: Form> PartialOrd for Text<F> {
+    ghost partial_cmp = { λ a b. Some (slice_cmp nat_cmp a b) };
+
+    ghost laws = { texts_po };
+
+    fn partial_cmp(&self, other: &Text<F>) -> Option<Ordering> {
+        Some(self.cmp(other))
+    }
+}
+
+impl<F: Form> Ord for Text<F> {
+    ghost cmp = { slice_cmp nat_cmp };
+
+    ghost total = { nat_list_cmp_total };
+
+    ghost matches_partial_cmp = { λ a b. refl };
+
+    ghost matches_eq = { texts_ties };
+
+    fn cmp(&self, other: &Text<F>) -> Ordering {
+        self.text.cmp(&other.text)
+    }
+}
+
+/// Writes the text itself, or what its form shows in its place.
+impl<F: Form> fmt::Debug for Text<F> {
+    ghost debug_output = { λ text. Some (F.shown text) };
+
+    fn fmt<W: fmt::Write>(&self, f: &mut fmt::Formatter<W>) -> fmt::Result {
+        f.write_str(F::shown(self.text.as_str()))
+    }
+}
