@@ -66,8 +66,9 @@ impl PersonKind {
     }
 }
 
-/// An identifier of an entity under a scheme, as a company number under `GB-COH`.
-#[derive(Debug, Drop)]
+/// An identifier of an entity under a scheme, as a company number under `GB-COH`. Identifiers are
+/// ordered by scheme, then by id.
+#[derive(Debug, Drop, PartialEq, Eq, PartialOrd, Ord)]
 pub struct Identifier {
     pub scheme: FreeText,
     pub id: FreeText,

@@ -37,7 +37,7 @@ mod trouble;
 pub use details::{Details, EntityKind, Identifier, PersonKind};
 pub use fault::{Fault, Field, FileFault, ReadFault};
 pub use file::read_file;
-pub use free_text::FreeText;
+pub use free_text::{FreeForm, FreeText};
 pub use interest::{Directness, Interest, InterestKind};
 pub use statement::{RecordType, Statement, Status};
 
