@@ -3,6 +3,7 @@
 use Rattle.std.proofs.Common.{◌≡◌, ℕ, zero, suc, List, [], ◌∷◌, ◌++◌, Option, Some, None, Ok, Err, map, option_map, codes, refl, pos, true, false}
 use Rattle.std.specs.Prelude.{ℤ, Result, unwrap_or, ⊤}
 use Rattle.std.specs.Str.{is_utf8, chars}
+use lib.Utf8.{encode}
 use Rattle.bor_terms.specs.Texts.{is_ident}
 use Rattle.bor_terms.specs.Day.{pair_at, number_of, has_marks, digits_day, day_of}
 use Rattle.bor_terms.specs.Points.{points}
@@ -23,18 +24,38 @@ use Rattle.bods_read.specs.declared.fault.Fault.{Fault}
 use Rattle.bods_read.specs.declared.fault.Fault.TheVariants.{Missing, Bad, Fraction, ShareRange, EmptyShare, TooLong}
 use Rattle.bods_read.specs.declared.fault.FileFault.{FileFault}
 use Rattle.bods_read.specs.declared.fault.FileFault.TheVariants.{NotJson, NotAList, NoStatements, TooMany, At}
+use Rattle.bods_read.specs.declared.file.TheConstants.{STATEMENTS_LIMIT}
+use Rattle.bods_read.specs.declared.member.TheConstants.{ITEMS_LIMIT}
+use Rattle.bods_read.specs.Limits.{statements_limit, items_limit}
+use Rattle.bods_read.specs.Faults.{fault_word, file_fault_word}
 use Rattle.bods_read.specs.Words.{type_word, type_worded, status_word, status_worded, entity_word, entity_worded, person_word, person_worded, interest_word, interest_worded, directness_word, directness_worded, field_word}
 use Rattle.bods_read.specs.Member.{member, ident_in, day_in, type_in, status_in, object_in, end_in, items_in}
-use Rattle.bods_read.specs.Share.{percent_lines, percent_in, numeral, percent, exclusive, exclusive_of, bounds_of, given, member_lines, range_lines, range_of}
-use Rattle.bods_read.specs.Interests.{share_lines, share_of, object_lines as interest_object_lines, interest_lines, interest_of, interests_lines, interests_of}
+use Rattle.bods_read.specs.Share.{percent_lines, percent_in, percent_lines_at, percent_at, exclusive_lines_at, exclusive_at, share_bounds, members_of, member_lines, range_lines, range_of}
+use Rattle.bods_read.specs.Interests.{share_lines, share_of, interest_object_lines, interest_lines, interest_of, interests_lines, interests_of}
 use Rattle.bods_read.specs.Details.{identifier, identifier_in, identifiers_of, entity_lines, entity_of, person_of, relationship_lines, relationship_of}
-use Rattle.bods_read.specs.Statement.{object_lines, statement_lines, statement_of}
+use Rattle.bods_read.specs.Statement.{statement_object_lines, statement_lines, statement_of}
 use Rattle.bods_read.specs.File.{reading, value_of, reading_of, faults, statements}
 
 -- what is opened to compute a reading
 unfoldable pub reader : ⊤
-unfolding is_utf8 chars serde_json_on_literals is_ident pair_at number_of has_marks digits_day day_of points shown type_word type_worded status_word status_worded entity_word entity_worded person_word person_worded interest_word interest_worded directness_word directness_worded field_word member ident_in day_in type_in status_in object_in end_in items_in percent_lines percent_in numeral percent exclusive exclusive_of bounds_of given member_lines range_lines range_of share_lines share_of interest_object_lines interest_lines interest_of interests_lines interests_of identifier_in identifiers_of entity_lines entity_of person_of relationship_lines relationship_of object_lines statement_lines statement_of reading value_of reading_of faults statements
+unfolding is_utf8 chars encode serde_json_on_literals is_ident pair_at number_of has_marks digits_day day_of points shown type_word type_worded status_word status_worded entity_word entity_worded person_word person_worded interest_word interest_worded directness_word directness_worded field_word member ident_in day_in type_in status_in object_in end_in items_in percent_lines percent_in percent_lines_at percent_at exclusive_lines_at exclusive_at share_bounds members_of member_lines range_lines range_of share_lines share_of interest_object_lines interest_lines interest_of interests_lines interests_of identifier_in identifiers_of entity_lines entity_of person_of relationship_lines relationship_of statement_object_lines statement_lines statement_of reading value_of reading_of faults statements
 reader = tt
+
+-- ---- words and limits
+
+-- the ten names of faults
+fault_names : map file_fault_word (NotJson ∷ NotAList ∷ NoStatements ∷ TooMany
+    ∷ map (At 1) (Missing fields.Share ∷ Bad fields.Share ∷ Fraction ∷ ShareRange ∷ EmptyShare ∷ TooLong fields.Share ∷ []))
+    ≡ codes "NotJson" ∷ codes "NotAList" ∷ codes "NoStatements" ∷ codes "TooMany" ∷ codes "Missing" ∷ codes "Bad" ∷ codes "Fraction" ∷ codes "ShareRange" ∷ codes "EmptyShare" ∷ codes "TooLong" ∷ []
+unfolding file_fault_word fault_word
+fault_names = refl
+
+-- the numbers of the code are those of the definitions
+statements_limit-code : STATEMENTS_LIMIT ≡ statements_limit
+statements_limit-code = refl
+
+items_limit-code : ITEMS_LIMIT ≡ items_limit
+items_limit-code = refl
 
 -- ---- files refused whole
 
@@ -378,11 +399,44 @@ shares_are : map (λ c. ranges_read (reading c.0)) shares ≡ map (λ c. c.1) sh
 unfolding reader
 shares_are = refl
 
+-- ---- what members read as
+
+-- the records of the statements that a file reads as, seen by view
+abbrev read_as : {X : Type 0} → (Statement → X) → Result (List Statement) FileFault → Result (List X) FileFault
+read_as view (Ok statements) = Ok (map view statements)
+read_as view (Err fault) = Err fault
+
+-- the three words of recordStatus, null, and none
+statuses_read : map (λ more. read_as (λ s. s.status) (reading (entity_and more)))
+    (codes ",\"recordStatus\":\"new\"" ∷ codes ",\"recordStatus\":\"updated\"" ∷ codes ",\"recordStatus\":\"closed\"" ∷ codes ",\"recordStatus\":null" ∷ codes "" ∷ [])
+    ≡ map (λ status. Ok (status ∷ [])) (Some statuses.New ∷ Some statuses.Updated ∷ Some statuses.Closed ∷ None ∷ None ∷ [])
+unfolding reader
+statuses_read = refl
+
 -- ---- what details read as
 
 abbrev details_read : Result (List Statement) FileFault → Result (List Details) FileFault
 details_read (Ok statements) = Ok (map (λ s. s.details) statements)
 details_read (Err fault) = Err fault
+
+-- the name of an entity is a text, an empty one too; a number, null and nothing are no name
+entity_names : map (λ name. details_read (reading (entity_and (codes ",\"recordDetails\":{" ++ name ++ codes "}"))))
+    (codes "\"name\":\"Alder\"" ∷ codes "\"name\":\"\"" ∷ codes "\"name\":7" ∷ codes "\"name\":null" ∷ codes "" ∷ [])
+    ≡ map (λ name. Ok (Entity entities.Other name [] ∷ [])) (Some (codes "Alder") ∷ Some [] ∷ None ∷ None ∷ None ∷ [])
+unfolding reader
+entity_names = refl
+
+-- a person statement with these names
+abbrev person_named : List ℕ → List ℕ
+person_named names =
+    codes "[{\"statementId\":\"s1\",\"statementDate\":\"2024-01-10\",\"declarationSubject\":\"c1\",\"recordId\":\"p1\",\"recordType\":\"person\",\"recordDetails\":{\"names\":" ++ names ++ codes "}}]"
+
+-- the first of the names counts, one without a full name too
+person_names : map (λ names. details_read (reading (person_named names)))
+    (codes "[{\"fullName\":\"Ann\"},{\"fullName\":\"Bo\"}]" ∷ codes "[{},{\"fullName\":\"Bo\"}]" ∷ codes "[{\"fullName\":7},{\"fullName\":\"Bo\"}]" ∷ codes "[null,{\"fullName\":\"Bo\"}]" ∷ codes "[]" ∷ codes "{\"fullName\":\"Ann\"}" ∷ [])
+    ≡ map (λ name. Ok (Person persons.Other name ∷ [])) (Some (codes "Ann") ∷ None ∷ None ∷ None ∷ None ∷ None ∷ [])
+unfolding reader
+person_names = refl
 
 -- identifiers without both texts are passed over, and so is what is no object
 identifiers_kept : details_read (reading (identifiers_as (codes "7,null,{},[],{\"scheme\":\"GB-COH\",\"id\":\"00000001\"},{\"scheme\":\"GB-COH\"},{\"id\":\"2\"},{\"scheme\":\"\",\"id\":\"3\"},{\"scheme\":\"X\",\"id\":\"\"},{\"scheme\":7,\"id\":\"4\"},{\"scheme\":\"X\",\"id\":null},{\"id\":\"5\",\"scheme\":\"X\",\"uri\":null}")))

@@ -9,7 +9,7 @@ use Rattle.bods_read.specs.declared.details.Details.{Details}
 use Rattle.bods_read.specs.Outcome.{outcome}
 use Rattle.bods_read.specs.Member.{required, required_value, optional, optional_value, ident_in, day_in, type_in, status_in, object_in}
 use Rattle.bods_read.specs.Details.{details_lines, details_of}
-use Rattle.bods_read.specs.Statement.{object_lines, statement_of, further_lines}
+use Rattle.bods_read.specs.Statement.{statement_object_lines, statement_of, further_lines}
 use Rattle.bods_read.proofs.Tables.{ok_lines, ok_is, required_is}
 
 pub statement_read : (d : Data) (id : List ℕ) (day : ℤ) (declaration : List ℕ) (rec : List ℕ) (kind : RecordType) (status : Option Status) (inner : Data) (details : Details)
@@ -21,8 +21,8 @@ pub statement_read : (d : Data) (id : List ℕ) (day : ℤ) (declaration : List 
     → outcome (optional fields.RecordStatus status_in d) (optional_value fields.RecordStatus status_in d) ≡ Ok status
     → outcome (required fields.RecordDetails object_in d) (required_value fields.RecordDetails object_in null d) ≡ Ok inner
     → outcome (details_lines kind inner) (details_of kind inner) ≡ Ok details
-    → outcome (object_lines d) (statement_of d) ≡ Ok (record { id = id; day = day; declaration = declaration; rec = rec; status = status; details = details })
-unfolding object_lines statement_of
+    → outcome (statement_object_lines d) (statement_of d) ≡ Ok (record { id = id; day = day; declaration = declaration; rec = rec; status = status; details = details })
+unfolding statement_object_lines statement_of
 statement_read d id day declaration rec kind status inner details i t s r k u o h =
     let kind_is = required_is fields.RecordType type_in types.Entity d kind k in
     let inner_is = required_is fields.RecordDetails object_in null d inner o in

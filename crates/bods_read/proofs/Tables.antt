@@ -8,7 +8,7 @@ use Rattle.bods_read.specs.declared.trouble.Trouble.{Trouble}
 use Rattle.bods_read.specs.declared.trouble.Trouble.TheVariants as troubles
 use Rattle.bods_read.specs.declared.fault.Fault.TheVariants.{Bad}
 use Rattle.bods_read.specs.Words.{field_word}
-use Rattle.bods_read.specs.Outcome.{outcome, line, Fails}
+use Rattle.bods_read.specs.Outcome.{outcome, unless, Fails}
 use Rattle.bods_read.specs.Member.{member, required, required_lines, required_value, optional_value}
 
 -- the lines before and after one another
@@ -32,7 +32,7 @@ pub fails_later : {A X : Type 0} (e : Trouble) (lines more : List Fault) (a b : 
 fails_later troubles.Memory lines more a b x ok h = tt
 fails_later (troubles.Fault f) lines more a b x ok h = err_later lines more a b x f ok h
 
-from_form : {X : Type 0} (o : Option X) (fault : Fault) (any x : X) → outcome (line (is_some o) fault) (unwrap_or o any) ≡ Ok x → o ≡ Some x
+from_form : {X : Type 0} (o : Option X) (fault : Fault) (any x : X) → outcome (unless (is_some o) fault) (unwrap_or o any) ≡ Ok x → o ≡ Some x
 from_form None fault any x e = absurd cc
 from_form (Some y) fault any x e = cc
 

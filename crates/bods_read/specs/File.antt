@@ -10,6 +10,7 @@ use Rattle.bods_read.specs.declared.fault.ReadFault.TheVariants.{File, Memory}
 use Rattle.bods_read.specs.declared.fault.FileFault.{FileFault}
 use Rattle.bods_read.specs.declared.fault.FileFault.TheVariants.{NotJson, NotAList, NoStatements, TooMany, At}
 use Rattle.bods_read.specs.declared.statement.Statement.{Statement}
+use Rattle.bods_read.specs.Limits.{statements_limit}
 use Rattle.bods_read.specs.Outcome.{outcome, lines_from}
 use Rattle.bods_read.specs.Member.{items_in}
 use Rattle.bods_read.specs.Statement.{statement_lines, statement_of}
@@ -20,12 +21,12 @@ use Rattle.bods_read.specs.Statement.{statement_lines, statement_of}
 abbrev pub lines_at : ℕ → Data → List FileFault
 lines_at place d = map (λ fault. At place fault) (statement_lines d)
 
--- a file is a list of 1 to 1,000 statements (this register's profile)
+-- a file is a list of statements, at least one and at most the limit (this register's profile)
 abbrev pub list_lines : Option (List Data) → List FileFault
 list_lines None = NotAList ∷ []
 list_lines (Some ds) =
     if length ds == 0 then NoStatements ∷ []
-    else (if nat_lt 1000 (length ds) then TooMany ∷ [] else lines_from lines_at 1 ds)
+    else (if nat_lt statements_limit (length ds) then TooMany ∷ [] else lines_from lines_at 1 ds)
 
 -- all lines that fail, in order; places count from 1
 unfoldable pub faults : Data → List FileFault
@@ -51,6 +52,11 @@ value_of bytes = if is_utf8 bytes then read bytes else None
 -- the first of the faults of a value, or its statements
 unfoldable pub reading_of : Data → Result (List Statement) FileFault
 reading_of d = outcome (faults d) (statements d)
+
+-- why bytes have no value: memory was wanting, or they are no JSON
+abbrev pub IsNoValue : Type 0 → ReadFault → Type 0
+IsNoValue wanting (File fault) = ¬ wanting × (fault ≡ NotJson)
+IsNoValue wanting Memory = wanting
 
 -- without a value the bytes are no JSON
 abbrev pub reading_in : Option Data → Result (List Statement) FileFault

@@ -32,26 +32,26 @@ abbrev pub directness_of : Data → Directness
 directness_of d = directness_worded (text_at (codes "directOrIndirect") d)
 
 -- the share has to be an object
-abbrev pub object_lines_on : Option Data → List Fault
-object_lines_on None = []
-object_lines_on (Some d) = if is_some (object_in d) then range_lines d else Bad TheShare ∷ []
+abbrev pub share_object_lines : Option Data → List Fault
+share_object_lines None = []
+share_object_lines (Some d) = if is_some (object_in d) then range_lines d else Bad TheShare ∷ []
 
 -- the lines about the share, where there is one; it is looked at where the kind is named (this
 -- register's profile)
 unfoldable pub share_lines : InterestKind → Data → List Fault
-share_lines kind d = if is_named kind then object_lines_on (member (field_word TheShare) d) else []
+share_lines kind d = if is_named kind then share_object_lines (member (field_word TheShare) d) else []
 
 -- the range that the share gives, where there is one and the kind is named
 unfoldable pub share_of : InterestKind → Data → Option Range
 share_of kind d = if is_named kind then option_and_then range_of (member (field_word TheShare) d) else None
 
 -- the lines about an object
-unfoldable pub object_lines : Data → List Fault
-object_lines d = table (share_lines (interest_kind d) d ∷ [])
+unfoldable pub interest_object_lines : Data → List Fault
+interest_object_lines d = table (share_lines (interest_kind d) d ∷ [])
 
 -- an interest has to be an object
 unfoldable pub interest_lines : Data → List Fault
-interest_lines d = if is_some (object_in d) then object_lines d else Bad Interests ∷ []
+interest_lines d = if is_some (object_in d) then interest_object_lines d else Bad Interests ∷ []
 
 -- the interest
 unfoldable pub interest_of : Data → Interest

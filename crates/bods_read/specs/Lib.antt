@@ -1,4 +1,5 @@
 pub mod Words
+pub mod Limits
 pub mod Faults
 pub mod Outcome
 pub mod Member

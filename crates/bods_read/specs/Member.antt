@@ -10,7 +10,8 @@ use Rattle.bods_read.specs.declared.fault.Fault.TheVariants.{Missing, Bad, TooLo
 use Rattle.bods_read.specs.declared.statement.RecordType.{RecordType}
 use Rattle.bods_read.specs.declared.statement.Status.{Status}
 use Rattle.bods_read.specs.Words.{field_word, type_worded, status_worded}
-use Rattle.bods_read.specs.Outcome.{line}
+use Rattle.bods_read.specs.Limits.{items_limit}
+use Rattle.bods_read.specs.Outcome.{unless}
 
 -- ---- what a member is
 
@@ -58,7 +59,7 @@ end_in d = if is_some (as_object d) then Some None else option_map Some (ident_i
 -- the line about a required member: absent, it is missing; not of the form, it is bad
 abbrev pub required_lines : {X : Type 0} → Field → (Data → Option X) → Option Data → List Fault
 required_lines field form None = Missing field ∷ []
-required_lines field form (Some d) = line (is_some (form d)) (Bad field)
+required_lines field form (Some d) = unless (is_some (form d)) (Bad field)
 
 -- it is missing where it is absent, and bad where it isn't of the form
 abbrev pub required : {X : Type 0} → Field → (Data → Option X) → Data → List Fault
@@ -73,7 +74,7 @@ required_value field form any d = unwrap_or (option_and_then form (member (field
 -- the line about a member that may be absent: not of the form, it is bad
 abbrev pub optional_lines : {X : Type 0} → Field → (Data → Option X) → Option Data → List Fault
 optional_lines field form None = []
-optional_lines field form (Some d) = line (is_some (form d)) (Bad field)
+optional_lines field form (Some d) = unless (is_some (form d)) (Bad field)
 
 -- it is bad where it is present and isn't of the form
 abbrev pub optional : {X : Type 0} → Field → (Data → Option X) → Data → List Fault
@@ -98,12 +99,12 @@ listed (item d ds) = d ∷ listed ds
 unfoldable pub items_in : Data → Option (List Data)
 items_in d = option_map listed (as_array d)
 
--- ---- a member that is an array of at most 100 items (this register's profile)
+-- ---- a member that is an array of so many items at most (this register's profile)
 
 -- a longer array is too long, whatever its items are
 abbrev pub length_lines : Field → Option (List Data) → List Fault
 length_lines field None = Bad field ∷ []
-length_lines field (Some ds) = line (nat_le (length ds) 100) (TooLong field)
+length_lines field (Some ds) = unless (nat_le (length ds) items_limit) (TooLong field)
 
 -- where it is absent, nothing is asked
 abbrev pub array_lines : Field → Option Data → List Fault
@@ -115,9 +116,9 @@ abbrev pub array : Field → Data → List Fault
 array field d = array_lines field (member (field_word field) d)
 
 -- of a longer array no items are looked at
-abbrev pub at_most_100 : List Data → List Data
-at_most_100 ds = if nat_le (length ds) 100 then ds else []
+abbrev pub within_limit : List Data → List Data
+within_limit ds = if nat_le (length ds) items_limit then ds else []
 
 -- the items that are looked at
 abbrev pub array_items : Field → Data → List Data
-array_items field d = at_most_100 (unwrap_or (option_and_then items_in (member (field_word field) d)) [])
+array_items field d = within_limit (unwrap_or (option_and_then items_in (member (field_word field) d)) [])

@@ -11,8 +11,8 @@ outcome [] x = Ok x
 outcome (fault ∷ more) x = Err fault
 
 -- a line of the table: it fails with this fault unless the test holds
-abbrev pub line : Bool → Fault → List Fault
-line holds fault = if holds then [] else fault ∷ []
+abbrev pub unless : Bool → Fault → List Fault
+unless holds fault = if holds then [] else fault ∷ []
 
 -- the failing lines of a table, one line after the other, each looked at whatever the others say
 abbrev pub table : {F : Type 0} → List (List F) → List F

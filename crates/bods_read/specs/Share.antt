@@ -13,7 +13,7 @@ use Rattle.bods_read.specs.declared.numeral.Share.{Share}
 use Rattle.bods_read.specs.declared.numeral.Exclusive.{Exclusive}
 use Rattle.bods_read.specs.declared.numeral.Exclusive.TheVariants.{Absent, Flag, Percent}
 use Rattle.bods_read.specs.Words.{field_word}
-use Rattle.bods_read.specs.Outcome.{line, table}
+use Rattle.bods_read.specs.Outcome.{unless, table}
 use Rattle.bods_read.specs.Member.{member}
 
 -- ---- a numeral of a share
@@ -24,7 +24,7 @@ percent_of n = option_and_then (λ k. if nat_le k 100 then Some k else None) (as
 
 -- a number that isn't a whole number of 64 bits is a fraction; a whole one has to be from 0 to 100
 abbrev pub numeral_lines : Num → List Fault
-numeral_lines n = if is_float n then Fraction ∷ [] else line (is_some (percent_of n)) ShareRange
+numeral_lines n = if is_float n then Fraction ∷ [] else unless (is_some (percent_of n)) ShareRange
 
 -- what is no number is bad
 abbrev pub number_lines : Field → Option Num → List Fault
@@ -42,17 +42,17 @@ percent_in d = option_and_then percent_of (as_number d)
 -- ---- a member of a share that is a numeral
 
 -- the line about a member, where it is there
-abbrev pub given_lines : Field → Option Data → List Fault
-given_lines field None = []
-given_lines field (Some d) = percent_lines field d
+abbrev pub optional_percent_lines : Field → Option Data → List Fault
+optional_percent_lines field None = []
+optional_percent_lines field (Some d) = percent_lines field d
 
 -- where it is absent, nothing is asked
-unfoldable pub numeral : Field → Data → List Fault
-numeral field share = given_lines field (member (field_word field) share)
+unfoldable pub percent_lines_at : Field → Data → List Fault
+percent_lines_at field share = optional_percent_lines field (member (field_word field) share)
 
 -- the percent that a member gives, where it is there
-unfoldable pub percent : Field → Data → Option ℕ
-percent field share = option_and_then percent_in (member (field_word field) share)
+unfoldable pub percent_at : Field → Data → Option ℕ
+percent_at field share = option_and_then percent_in (member (field_word field) share)
 
 -- ---- an exclusive member: a numeral or a truth value (this register's profile)
 
@@ -62,8 +62,8 @@ either_lines field None = []
 either_lines field (Some d) = if is_some (as_bool d) then [] else percent_lines field d
 
 -- where it is absent, nothing is asked
-unfoldable pub exclusive : Field → Data → List Fault
-exclusive field share = either_lines field (member (field_word field) share)
+unfoldable pub exclusive_lines_at : Field → Data → List Fault
+exclusive_lines_at field share = either_lines field (member (field_word field) share)
 
 -- what a number says
 abbrev pub by_number : Option ℕ → Exclusive
@@ -81,8 +81,8 @@ exclusive_in None = Absent
 exclusive_in (Some d) = by_flag (as_bool d) (percent_in d)
 
 -- what the member says
-unfoldable pub exclusive_of : Field → Data → Exclusive
-exclusive_of field share = exclusive_in (member (field_word field) share)
+unfoldable pub exclusive_at : Field → Data → Exclusive
+exclusive_at field share = exclusive_in (member (field_word field) share)
 
 -- ---- the bounds that a share gives
 
@@ -119,26 +119,26 @@ exactly_or None bounds = bounds
 exactly_or (Some x) bounds = at_least x ∷ at_most x ∷ []
 
 -- all the bounds that the members ask for
-unfoldable pub bounds_of : Share → List Bound
-bounds_of s = exactly_or s.exact (lows s.minimum s.exclusive_minimum ++ highs s.maximum s.exclusive_maximum)
+unfoldable pub share_bounds : Share → List Bound
+share_bounds s = exactly_or s.exact (lows s.minimum s.exclusive_minimum ++ highs s.maximum s.exclusive_maximum)
 
 -- ---- the share
 
 -- its members
-unfoldable pub given : Data → Share
-given share = record {
-  exact = percent Exact share;
-  minimum = percent Minimum share;
-  maximum = percent Maximum share;
-  exclusive_minimum = exclusive_of ExclusiveMinimum share;
-  exclusive_maximum = exclusive_of ExclusiveMaximum share;
+unfoldable pub members_of : Data → Share
+members_of share = record {
+  exact = percent_at Exact share;
+  minimum = percent_at Minimum share;
+  maximum = percent_at Maximum share;
+  exclusive_minimum = exclusive_at ExclusiveMinimum share;
+  exclusive_maximum = exclusive_at ExclusiveMaximum share;
 }
 
 -- the lines about its members, in order
 unfoldable pub member_lines : Data → List Fault
 member_lines share =
-    table (numeral Exact share ∷ numeral Minimum share ∷ numeral Maximum share
-    ∷ exclusive ExclusiveMinimum share ∷ exclusive ExclusiveMaximum share ∷ [])
+    table (percent_lines_at Exact share ∷ percent_lines_at Minimum share ∷ percent_lines_at Maximum share
+    ∷ exclusive_lines_at ExclusiveMinimum share ∷ exclusive_lines_at ExclusiveMaximum share ∷ [])
 
 -- lines that are looked at where none of those before them fails
 abbrev pub unless_failed : List Fault → List Fault → List Fault
@@ -149,11 +149,11 @@ unless_failed (fault ∷ more) lines = []
 unfoldable pub range_lines : Data → List Fault
 range_lines share =
     table (member_lines share
-    ∷ unless_failed (member_lines share) (line (has_points (bounds_of (given share))) EmptyShare) ∷ [])
+    ∷ unless_failed (member_lines share) (unless (has_points (share_bounds (members_of share))) EmptyShare) ∷ [])
 
 -- the range from the least to the greatest of its points
 unfoldable pub range_of : Data → Option Range
-range_of share = shown (points (bounds_of (given share)))
+range_of share = shown (points (share_bounds (members_of share)))
 
 -- ---- shares whose numbers are percents
 

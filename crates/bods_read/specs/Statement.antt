@@ -18,8 +18,8 @@ further_lines (Some kind) None = []
 further_lines (Some kind) (Some d) = details_lines kind d
 
 -- the lines about the members of a statement, in order (BODS 0.4; this register's profile)
-unfoldable pub object_lines : Data → List Fault
-object_lines d =
+unfoldable pub statement_object_lines : Data → List Fault
+statement_object_lines d =
     table (required fields.StatementId ident_in d ∷ required fields.StatementDate day_in d
     ∷ required fields.DeclarationSubject ident_in d ∷ required fields.RecordId ident_in d
     ∷ required fields.RecordType type_in d ∷ optional fields.RecordStatus status_in d
@@ -29,7 +29,7 @@ object_lines d =
 
 -- a statement is an object
 unfoldable pub statement_lines : Data → List Fault
-statement_lines d = if is_some (object_in d) then object_lines d else Bad fields.Statement ∷ []
+statement_lines d = if is_some (object_in d) then statement_object_lines d else Bad fields.Statement ∷ []
 
 -- the statement that an object gives, member by member; where a fault stands, anything does
 unfoldable pub statement_of : Data → Statement

@@ -4,7 +4,7 @@ ghost use Rattle.std.specs.Prelude.{◌≡◌, Some, None, map, option_map};
 ghost use Rattle.serde_json.specs.View.{view};
 ghost use Rattle.bods_read.specs.Outcome.{Gives, outcome};
 ghost use Rattle.bods_read.specs.Words.{interest_worded, directness_worded};
-ghost use Rattle.bods_read.specs.Interests.{is_named, share_lines, share_of, object_lines, interest_lines, interest_of, each_lines, interests_lines, interests_of};
+ghost use Rattle.bods_read.specs.Interests.{is_named, share_lines, share_of, interest_object_lines, interest_lines, interest_of, each_lines, interests_lines, interests_of};
 
 use crate::fault::{Fault, Field};
 use crate::interest::{Directness, Interest, InterestKind};
@@ -66,7 +66,7 @@ fn share(kind: InterestKind, interest: &Value) -> Result<Option<Span>, Trouble>
 
 #[tactic(auto, using(crate::proofs::InterestRead::interest_rules))]
 fn of_object(value: &Value) -> Result<Interest, Trouble>
-    ensures { Gives (λ i. i) result (outcome (object_lines (view value.now)) (interest_of (view value.now))) }
+    ensures { Gives (λ i. i) result (outcome (interest_object_lines (view value.now)) (interest_of (view value.now))) }
 {
     let kind = kind_worded(text_at(value, "type"));
     let directness = directness_worded(text_at(value, "directOrIndirect"));

@@ -1,19 +1,24 @@
 //! Reads a BODS 0.4 file to its statements, or tells the first of its faults.
 //!
-//! ```text
-//! match read_file(alloc, bytes) {
-//!     Ok(statements) => ..,    // the statements, in the file's order
-//!     Err(fault) => ..,        // fault.name() "Bad", fault.place() Some(3), fault.field() Some(Field::Exact)
-//! }
+//! ```
+//! let file =
+//!     b"[{\"statementId\":\"s1\",\"statementDate\":\"2024-01-10\",\"declarationSubject\":\"c1\",\"recordId\":\"p1\",\"recordType\":\"person\",\"recordDetails\":{}}]";
+//! let statements = read_file(rt.alloc(), file)?;
+//! assert_eq!(rt; statements[0].record_type(), RecordType::Person);
+//! let fault = FileFault::At {
+//!     place: 1,
+//!     fault: Fault::Missing(Field::StatementDate),
+//! };
+//! let refused = read_file(rt.alloc(), b"[{\"statementId\":\"s1\"}]");
+//! assert_eq!(rt; refused.err(), Some(ReadFault::File(fault)));
 //! ```
 //!
 //! A file is a JSON array of 1 to 1,000 statements, each of an entity, a person or a relationship
 //! between two records. What BODS leaves open is settled in this register's profile: null counts as
 //! absent, unknown members are passed over, and unknown kinds are read as `Other`.
 //!
-//! The first example of the tests reads a file of three statements. Left out: fractions of a percent,
-//! statements without a date, and all that the members of [`Statement`] do not name, the dates of an
-//! interest among them.
+//! Left out: fractions of a percent, statements without a date, and all that the members of
+//! [`Statement`] do not name, the dates of an interest among them.
 #![tactic(auto)]
 
 mod details;
@@ -36,9 +41,10 @@ mod trouble;
 
 pub use details::{Details, EntityKind, Identifier, PersonKind};
 pub use fault::{Fault, Field, FileFault, ReadFault};
-pub use file::read_file;
+pub use file::{STATEMENTS_LIMIT, read_file};
 pub use free_text::{FreeForm, FreeText};
 pub use interest::{Directness, Interest, InterestKind};
+pub use member::ITEMS_LIMIT;
 pub use statement::{RecordType, Statement, Status};
 
 #[cfg(test)]

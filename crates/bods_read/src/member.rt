@@ -15,6 +15,9 @@ use bor_terms::{Day, Ident};
 use serde_json::Value;
 use std::alloc::{AllocError, Global};
 
+/// The items that a member may have that is an array: interests, identifiers.
+pub const ITEMS_LIMIT: usize = 100;
+
 // The member of an object, unless it is absent or null.
 #[tactic(auto, unfolding(crate::specs::Member::member))]
 pub(crate) fn member<'a>(object: &'a Value, name: &str) -> Option<&'a Value>
@@ -159,7 +162,7 @@ pub(crate) fn object(object: &Value, field: Field) -> Result<&Value, Trouble>
     }
 }
 
-// The items of a member that is an array of at most 100; none where it is absent.
+// The items of a member that is an array of so many at most; none where it is absent.
 pub(crate) fn array(object: &Value, field: Field) -> Result<&[Value], Trouble>
     ensures { Gives (λ values. map view values.now) result (outcome (array field (view object.now))
         (array_items field (view object.now))) }
@@ -170,7 +173,7 @@ pub(crate) fn array(object: &Value, field: Field) -> Result<&[Value], Trouble>
     let Some(values) = items_in(value) else {
         return Err(Trouble::Fault(Fault::Bad(field)));
     };
-    if values.len() > 100 {
+    if values.len() > ITEMS_LIMIT {
         return Err(Trouble::Fault(Fault::TooLong(field)));
     }
     Ok(values.as_slice())

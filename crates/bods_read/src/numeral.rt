@@ -3,7 +3,7 @@
 ghost use Rattle.std.specs.Prelude.{◌≡◌, ◌≤◌, Some, IfOk, IfSome};
 ghost use Rattle.serde_json.specs.View.{view};
 ghost use Rattle.bods_read.specs.Outcome.{Gives, outcome};
-ghost use Rattle.bods_read.specs.Share.{percent_lines, percent_in, numeral, percent, exclusive, exclusive_of, member_lines, given, IsSmallExclusive, IsSmallShare};
+ghost use Rattle.bods_read.specs.Share.{percent_lines, percent_in, percent_lines_at, percent_at, exclusive_lines_at, exclusive_at, member_lines, members_of, IsSmallExclusive, IsSmallShare};
 
 use crate::fault::{Fault, Field};
 use crate::member::member;
@@ -48,10 +48,10 @@ fn percent_in(value: &Value, field: Field) -> Result<u8, Trouble>
 }
 
 // The percent that a member of a share is, if it is there.
-#[tactic(auto, unfolding(crate::specs::Share::numeral, crate::specs::Share::percent))]
-fn percent(share: &Value, field: Field) -> Result<Option<u8>, Trouble>
-    ensures value { Gives (λ o. o) result (outcome (numeral field (view share.now))
-        (percent field (view share.now))) }
+#[tactic(auto, unfolding(crate::specs::Share::percent_lines_at, crate::specs::Share::percent_at))]
+fn percent_at(share: &Value, field: Field) -> Result<Option<u8>, Trouble>
+    ensures value { Gives (λ o. o) result (outcome (percent_lines_at field (view share.now))
+        (percent_at field (view share.now))) }
     ensures small { IfOk result (λ o. IfSome o (λ n. n ≤ 100)) }
 {
     match member(share, field.as_str()) {
@@ -60,10 +60,10 @@ fn percent(share: &Value, field: Field) -> Result<Option<u8>, Trouble>
     }
 }
 
-#[tactic(auto, unfolding(crate::specs::Share::exclusive, crate::specs::Share::exclusive_of))]
+#[tactic(auto, unfolding(crate::specs::Share::exclusive_lines_at, crate::specs::Share::exclusive_at))]
 fn exclusive_at(share: &Value, field: Field) -> Result<Exclusive, Trouble>
-    ensures value { Gives (λ e. e) result (outcome (exclusive field (view share.now))
-        (exclusive_of field (view share.now))) }
+    ensures value { Gives (λ e. e) result (outcome (exclusive_lines_at field (view share.now))
+        (exclusive_at field (view share.now))) }
     ensures small { IfOk result IsSmallExclusive }
 {
     let Some(value) = member(share, field.as_str()) else {
@@ -76,14 +76,14 @@ fn exclusive_at(share: &Value, field: Field) -> Result<Exclusive, Trouble>
 }
 
 // The members of the object that a share is.
-#[tactic(auto, using(crate::proofs::Tables::table_rules), unfolding(crate::specs::Share::member_lines, crate::specs::Share::given))]
+#[tactic(auto, using(crate::proofs::Tables::table_rules), unfolding(crate::specs::Share::member_lines, crate::specs::Share::members_of))]
 pub(crate) fn members(share: &Value) -> Result<Share, Trouble>
-    ensures value { Gives (λ s. s) result (outcome (member_lines (view share.now)) (given (view share.now))) }
+    ensures value { Gives (λ s. s) result (outcome (member_lines (view share.now)) (members_of (view share.now))) }
     ensures small { IfOk result IsSmallShare }
 {
-    let exact = percent(share, Field::Exact)?;
-    let minimum = percent(share, Field::Minimum)?;
-    let maximum = percent(share, Field::Maximum)?;
+    let exact = percent_at(share, Field::Exact)?;
+    let minimum = percent_at(share, Field::Minimum)?;
+    let maximum = percent_at(share, Field::Maximum)?;
     let exclusive_minimum = exclusive_at(share, Field::ExclusiveMinimum)?;
     let exclusive_maximum = exclusive_at(share, Field::ExclusiveMaximum)?;
     Ok(Share {

@@ -4,7 +4,7 @@ ghost use Rattle.std.specs.Prelude.{◌≡◌, Ok};
 ghost use Rattle.serde_json.specs.View.{view};
 ghost use Rattle.bods_read.specs.Outcome.{Gives, outcome};
 ghost use Rattle.bods_read.specs.Details.{details_lines, details_of};
-ghost use Rattle.bods_read.specs.Statement.{object_lines, statement_lines, statement_of};
+ghost use Rattle.bods_read.specs.Statement.{statement_object_lines, statement_lines, statement_of};
 
 use crate::details::Details;
 use crate::entity::entity;
@@ -27,9 +27,9 @@ fn details(alloc: Global, kind: RecordType, value: &Value) -> Result<Details, Tr
     }
 }
 
-#[tactic(auto, using(crate::proofs::Tables::table_rules), unfolding(crate::specs::Statement::object_lines, crate::specs::Statement::statement_of))]
+#[tactic(auto, using(crate::proofs::Tables::table_rules), unfolding(crate::specs::Statement::statement_object_lines, crate::specs::Statement::statement_of))]
 fn of_object(alloc: Global, value: &Value) -> Result<Statement, Trouble>
-    ensures { Gives (λ s. s) result (outcome (object_lines (view value.now)) (statement_of (view value.now))) }
+    ensures { Gives (λ s. s) result (outcome (statement_object_lines (view value.now)) (statement_of (view value.now))) }
 {
     let id = ident(alloc, value, Field::StatementId)?;
     let day = day(value, Field::StatementDate)?;

@@ -6,7 +6,7 @@ ghost use Rattle.serde_json.specs.View.{view};
 ghost use Rattle.bor_terms.specs.Points.{meets, low_bound, high_bound, points};
 ghost use Rattle.bor_terms.specs.Shown.{shown};
 ghost use Rattle.bods_read.specs.Outcome.{Gives, outcome};
-ghost use Rattle.bods_read.specs.Share.{lows, highs, bounds_of, range_lines, range_of, IsSmallExclusive, IsSmallShare};
+ghost use Rattle.bods_read.specs.Share.{lows, highs, share_bounds, range_lines, range_of, IsSmallExclusive, IsSmallShare};
 
 use crate::fault::Fault;
 use crate::numeral::{Exclusive, Share, members};
@@ -88,7 +88,7 @@ fn high_end(maximum: Option<u8>, exclusive: Exclusive) -> End
 // The range that the members leave, unless it is empty.
 fn span(share: &Share) -> Option<Span>
     requires { IsSmallShare share.now }
-    ensures { result ≡ shown (points (bounds_of share.now)) }
+    ensures { result ≡ shown (points (share_bounds share.now)) }
 {
     match share.exact {
         Some(exact) => Span::new(exact, false, exact, false),

@@ -1,17 +1,17 @@
 use Rattle.std.proofs.Common.{ap, ◌∙◌}
 use Rattle.bor_terms.specs.Shown.{shown}
-use Rattle.bods_read.specs.Share.{bounds_of, lows, highs}
+use Rattle.bods_read.specs.Share.{share_bounds, lows, highs}
 use Rattle.bods_read.proofs.Bounds.{points-made}
 use Rattle.bods_read.proofs.share.span.Goals as goal
 
 pub returns-in-Some : goal.returns-in-Some
-unfolding bounds_of
+unfolding share_bounds
 returns-in-Some c =
     let small = rw c.in-Some.is at c.requires.exact in
     rw c.in-Some.is (c.new.ensures.shown small small)
 
 pub returns-in-None : goal.returns-in-None
-unfolding bounds_of
+unfolding share_bounds
 returns-in-None c =
     let s = c.args.share.now in
     let low = c.low_end-low.result in
