@@ -4,6 +4,7 @@
 //! let file =
 //!     b"[{\"statementId\":\"s1\",\"statementDate\":\"2024-01-10\",\"declarationSubject\":\"c1\",\"recordId\":\"p1\",\"recordType\":\"person\",\"recordDetails\":{}}]";
 //! let statements = read_file(rt.alloc(), file)?;
+//! assert_eq!(rt; statements.len(), 1);
 //! assert_eq!(rt; statements[0].record_type(), RecordType::Person);
 //! let fault = FileFault::At {
 //!     place: 1,

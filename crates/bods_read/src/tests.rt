@@ -1,7 +1,8 @@
-//! What no clause says: values from outside, and that each call succeeds.
+//! What no clause says: that calls succeed where memory is left, at the largest files too, and what JSON
+//! is, by values from outside.
 
 use super::*;
-use bor_terms::{Listed, Span};
+use bor_terms::Span;
 use std::alloc::Global;
 use std::test::Fail;
 
@@ -14,6 +15,22 @@ const ENTITY: &str =
 
 const PERSON: &str =
     "{\"statementId\":\"s2\",\"statementDate\":\"2024-01-10\",\"declarationSubject\":\"c1\",\"recordId\":\"p1\",\"recordType\":\"person\",\"recordDetails\":{\"personType\":\"knownPerson\"}}";
+
+#[test]
+fn the_example_of_the_root_page(rt: HostRuntime) -> Result<(), Fail> {
+    let file =
+        b"[{\"statementId\":\"s1\",\"statementDate\":\"2024-01-10\",\"declarationSubject\":\"c1\",\"recordId\":\"p1\",\"recordType\":\"person\",\"recordDetails\":{}}]";
+    let statements = read_file(rt.alloc(), file)?;
+    assert_eq!(rt; statements.len(), 1);
+    assert_eq!(rt; statements[0].record_type(), RecordType::Person);
+    let fault = FileFault::At {
+        place: 1,
+        fault: Fault::Missing(Field::StatementDate),
+    };
+    let refused = read_file(rt.alloc(), b"[{\"statementId\":\"s1\"}]");
+    assert_eq!(rt; refused.err(), Some(ReadFault::File(fault)));
+    Ok(())
+}
 
 fn fault_of(alloc: Global, bytes: &[u8]) -> Option<ReadFault> {
     read_file(alloc, bytes).err()
@@ -61,6 +78,10 @@ fn files_are_refused_whole(rt: HostRuntime) {
     assert_eq!(rt; fault_of(alloc, b"[{}]]"), of_file(FileFault::NotJson));
     assert_eq!(rt;
         fault_of(alloc, b"[{\"x\":1e400}]"),
+        of_file(FileFault::NotJson)
+    );
+    assert_eq!(rt;
+        fault_of(alloc, b"[{\"x\":25.}]"),
         of_file(FileFault::NotJson)
     );
     assert_eq!(rt;
@@ -212,48 +233,6 @@ fn a_relationship_is_read(rt: HostRuntime) -> Result<(), Fail> {
     }
 }
 
-// An entity statement with further members; of a member that comes twice the last counts.
-fn entity_and(alloc: Global, more: &str) -> Result<Option<ReadFault>, Fail> {
-    let text = format!(in alloc;
-        "[{ENTITY},{{\"statementId\":\"s1\",\"statementDate\":\"2024-01-10\",\"declarationSubject\":\"c1\",\"recordId\":\"e1\",\"recordType\":\"entity\",\"recordDetails\":{{}}{more}}}]"
-    )?;
-    Ok(fault_of(alloc, text.as_bytes()))
-}
-
-#[test]
-fn members_are_asked_for_in_order(rt: HostRuntime) -> Result<(), Fail> {
-    let alloc = rt.alloc();
-    for (more, want) in [
-        ("", None),
-        (",\"recordStatus\":null,\"recordStatus\":\"closed\"", None),
-        (",\"recordStatus\":null,\"other\":7", None),
-        (
-            ",\"statementId\":null,\"recordId\":7",
-            at(2, Fault::Missing(Field::StatementId)),
-        ),
-        (
-            ",\"statementDate\":\"2023-02-29\"",
-            at(2, Fault::Bad(Field::StatementDate)),
-        ),
-        (",\"statementDate\":\"2024-01-10T09:00:00Z\"", None),
-        (
-            ",\"recordStatus\":\"\"",
-            at(2, Fault::Bad(Field::RecordStatus)),
-        ),
-        (
-            ",\"recordDetails\":{\"identifiers\":{}}",
-            at(2, Fault::Bad(Field::Identifiers)),
-        ),
-        (
-            ",\"recordDetails\":{\"identifiers\":{},\"identifiers\":null}",
-            None,
-        ),
-    ] {
-        assert_eq!(rt; entity_and(alloc, more)?, want, "at {more}");
-    }
-    Ok(())
-}
-
 // A file with an entity, a person, and third a relationship with these details.
 fn relationship(alloc: Global, details: &str) -> Result<String, Fail> {
     Ok(format!(in alloc;
@@ -261,221 +240,56 @@ fn relationship(alloc: Global, details: &str) -> Result<String, Fail> {
     )?)
 }
 
-// What is read of the share of one interest.
-fn share_of(alloc: Global, share: &str) -> Result<Result<Option<Span>, ReadFault>, Fail> {
-    let details = format!(in alloc;
-        "\"subject\":\"e1\",\"interestedParty\":\"p1\",\"interests\":[{{\"type\":\"votingRights\",\"share\":{share}}}]"
-    )?;
-    let file = relationship(alloc, details.as_str())?;
-    let statements = match read_file(alloc, file.as_bytes()) {
-        Ok(statements) => statements,
-        Err(fault) => return Ok(Err(fault)),
-    };
-    match statements.as_slice() {
-        [_, _, statement] => match &statement.details {
-            Details::Relationship { interests, .. } => match interests.as_slice() {
-                [interest] => Ok(Ok(interest.share)),
-                _ => Err("no one interest")?,
-            },
-            _ => Err("no relationship")?,
-        },
-        _ => Err("no three statements")?,
-    }
-}
-
 #[test]
-fn shares_are_whole_percents(rt: HostRuntime) -> Result<(), Fail> {
+fn the_longest_lists_are_read_and_copied(rt: HostRuntime) -> Result<(), Fail> {
     let alloc = rt.alloc();
-    let fraction = at(3, Fault::Fraction);
-    let range = at(3, Fault::ShareRange);
-    for (share, want) in [
-        ("{\"exact\":0}", None),
-        ("{\"exact\":25.0}", fraction),
-        ("{\"exact\":1e2}", fraction),
-        ("{\"exact\":-0}", fraction),
-        ("{\"exact\":18446744073709551616}", fraction),
-        ("{\"exact\":-9223372036854775809}", fraction),
-        ("{\"exact\":101}", range),
-        ("{\"exact\":-1}", range),
-        ("{\"exact\":18446744073709551615}", range),
-        ("{\"exact\":-9223372036854775808}", range),
-        ("{\"exact\":10,\"minimum\":200}", range),
-        ("{\"exact\":\"25\"}", at(3, Fault::Bad(Field::Exact))),
-        ("{\"exact\":1e400}", of_file(FileFault::NotJson)),
-        ("{\"exact\":25.}", of_file(FileFault::NotJson)),
-        ("{\"exact\":101,\"exact\":5}", None),
-        (
-            "{\"minimum\":50,\"exclusiveMaximum\":50}",
-            at(3, Fault::EmptyShare),
-        ),
-        ("{\"exclusiveMaximum\":0}", at(3, Fault::EmptyShare)),
-        ("{\"exclusiveMinimum\":100}", at(3, Fault::EmptyShare)),
-        (
-            "{\"minimum\":50,\"exclusiveMinimum\":true,\"maximum\":50}",
-            at(3, Fault::EmptyShare),
-        ),
-        ("{\"minimum\":true}", at(3, Fault::Bad(Field::Minimum))),
-        ("[]", at(3, Fault::Bad(Field::Share))),
-    ] {
-        assert_eq!(rt; share_of(alloc, share)?.err(), want, "at {share}");
-    }
-    Ok(())
-}
-
-#[test]
-fn both_spellings_of_open_ends_are_read(rt: HostRuntime) -> Result<(), Fail> {
-    let alloc = rt.alloc();
-    for (share, want) in [
-        (
-            "{\"minimum\":50,\"exclusiveMinimum\":50}",
-            Span::new(50, true, 100, false),
-        ),
-        (
-            "{\"minimum\":60,\"exclusiveMinimum\":50}",
-            Span::new(60, false, 100, false),
-        ),
-        (
-            "{\"minimum\":40,\"exclusiveMinimum\":50,\"maximum\":51,\"exclusiveMaximum\":true}",
-            Span::new(50, true, 51, true),
-        ),
-        (
-            "{\"exclusiveMinimum\":true}",
-            Span::new(0, false, 100, false),
-        ),
-        ("{}", Span::new(0, false, 100, false)),
-        (
-            "{\"exact\":10,\"minimum\":60,\"maximum\":20}",
-            Span::new(10, false, 10, false),
-        ),
-        ("null", None),
-    ] {
-        assert_eq!(rt; share_of(alloc, share)?.ok(), Some(want), "at {share}");
-    }
-    Ok(())
-}
-
-#[test]
-fn an_object_at_an_end_makes_no_link(rt: HostRuntime) -> Result<(), Fail> {
-    let alloc = rt.alloc();
-    let file = relationship(
+    let interests = list_of(
         alloc,
-        "\"subject\":\"e1\",\"interestedParty\":{\"reason\":\"noBeneficialOwners\"},\"interests\":[{\"type\":\"votingRights\",\"share\":{\"exact\":100}},{\"type\":\"seniorManagingOfficial\",\"share\":{\"exact\":25.5}}]",
+        "{\"type\":\"shareholding\",\"share\":{\"exact\":1}}",
+        100,
     )?;
-    let statement = statement_of(alloc, file.as_str(), 2)?;
-    match &statement.details {
-        Details::Relationship {
-            subject: Some(subject),
-            party: None,
-            interests,
-        } => {
-            assert!(rt; subject.as_str() == "e1");
-            let interests = interests.as_slice();
-            assert_eq!(rt; interests.len(), 2);
-            assert_eq!(rt; interests[0].share, Span::new(100, false, 100, false));
-            assert_eq!(rt; interests[1].kind, InterestKind::Other);
-            assert_eq!(rt; interests[1].share, None);
-            Ok(())
-        }
-        _ => Err("no relationship without a holder")?,
-    }
-}
-
-// The fault of a file whose third statement has so many interests.
-fn with_interests(alloc: Global, count: u32) -> Result<Option<ReadFault>, Fail> {
-    let interests = list_of(alloc, "{\"type\":\"shareholding\"}", count)?;
     let details = format!(in alloc;
         "\"subject\":\"e1\",\"interestedParty\":\"p1\",\"interests\":{interests}"
     )?;
     let file = relationship(alloc, details.as_str())?;
-    Ok(fault_of(alloc, file.as_bytes()))
-}
-
-// The fault of an entity statement with so many identifiers.
-fn with_identifiers(alloc: Global, count: u32) -> Result<Option<ReadFault>, Fail> {
-    let identifiers = list_of(alloc, "{\"scheme\":\"GB-COH\",\"id\":\"1\"}", count)?;
-    let more = format!(in alloc; ",\"recordDetails\":{{\"identifiers\":{identifiers}}}")?;
-    entity_and(alloc, more.as_str())
-}
-
-#[test]
-fn interests_and_identifiers_are_up_to_a_hundred(rt: HostRuntime) -> Result<(), Fail> {
-    let alloc = rt.alloc();
-    assert_eq!(rt; with_interests(alloc, 100)?, None);
-    assert_eq!(rt;
-        with_interests(alloc, 101)?,
-        at(3, Fault::TooLong(Field::Interests))
-    );
-    assert_eq!(rt; with_identifiers(alloc, 100)?, None);
-    assert_eq!(rt;
-        with_identifiers(alloc, 101)?,
-        at(2, Fault::TooLong(Field::Identifiers))
-    );
-    Ok(())
-}
-
-#[test]
-fn identifiers_without_both_texts_are_passed_over(rt: HostRuntime) -> Result<(), Fail> {
-    let alloc = rt.alloc();
-    let file =
-        "[{\"statementId\":\"s1\",\"statementDate\":\"2024-01-10\",\"declarationSubject\":\"c1\",\"recordId\":\"e1\",\"recordType\":\"entity\",\"recordDetails\":{\"identifiers\":[7,{\"scheme\":\"GB-COH\"},{\"scheme\":\"\",\"id\":\"2\"},{\"scheme\":\"GB-COH\",\"id\":\"00000001\"}]}}]";
-    let statement = statement_of(alloc, file, 0)?;
+    let statement = statement_of(alloc, file.as_str(), 2)?;
     match &statement.details {
-        Details::Entity { identifiers, .. } => match identifiers.as_slice() {
-            [kept] => {
-                assert!(rt; kept.scheme.as_str() == "GB-COH");
-                assert!(rt; kept.id.as_str() == "00000001");
-                Ok(())
-            }
-            _ => Err("no one identifier")?,
-        },
-        _ => Err("no entity")?,
+        Details::Relationship { interests, .. } => {
+            let interests = interests.as_slice();
+            assert_eq!(rt; interests.len(), 100);
+            assert_eq!(rt; interests[99].share, Span::new(1, false, 1, false));
+        }
+        _ => return Err("no relationship")?,
     }
-}
-
-#[test]
-fn faults_say_what_is_printed(rt: HostRuntime) {
-    let fault = FileFault::At {
-        place: 3,
-        fault: Fault::Bad(Field::Exact),
-    };
-    assert_eq!(rt; fault.name(), "Bad");
-    assert_eq!(rt; fault.place(), Some(3));
-    assert_eq!(rt; fault.field(), Some(Field::Exact));
-    assert_eq!(rt; Field::Exact.as_str(), "exact");
-    assert_eq!(rt; Field::Statement.as_str(), "statement");
-    assert_eq!(rt; FileFault::NotAList.name(), "NotAList");
-    assert_eq!(rt; FileFault::NotAList.place(), None);
-    assert_eq!(rt; FileFault::NotAList.field(), None);
-    let long = Fault::TooLong(Field::Interests);
-    assert_eq!(rt; long.name(), "TooLong");
-    assert_eq!(rt; long.field(), Some(Field::Interests));
-    assert_eq!(rt; Fault::EmptyShare.name(), "EmptyShare");
-    assert_eq!(rt; Fault::EmptyShare.field(), None);
-    assert_eq!(rt; Status::Updated.as_str(), "updated");
-}
-
-#[test]
-fn identifiers_are_copied(rt: HostRuntime) -> Result<(), Fail> {
-    let alloc = rt.alloc();
-    let identifier = Identifier {
-        scheme: FreeText::new(String::from_str(alloc, "GB-COH")?),
-        id: FreeText::new(String::from_str(alloc, "00000001")?),
-    };
-    let copied = identifier.copy(alloc)?;
-    assert!(rt; copied.scheme.copy(alloc)?.as_str() == "GB-COH");
-    assert!(rt; copied.id.as_str() == "00000001");
-    let mut items = Vec::new(alloc);
-    items.push(copied)?;
-    let entity = Details::Entity {
-        kind: EntityKind::State,
-        name: None,
-        identifiers: Listed::new(items),
-    };
-    match entity.copy(alloc)? {
+    let identifiers = list_of(alloc, "{\"scheme\":\"GB-COH\",\"id\":\"1\"}", 100)?;
+    let file = format!(in alloc;
+        "[{{\"statementId\":\"s1\",\"statementDate\":\"2024-01-10\",\"declarationSubject\":\"c1\",\"recordId\":\"e1\",\"recordType\":\"entity\",\"recordDetails\":{{\"identifiers\":{identifiers}}}}}]"
+    )?;
+    let statement = statement_of(alloc, file.as_str(), 0)?;
+    match &statement.details {
         Details::Entity { identifiers, .. } => {
-            assert_eq!(rt; identifiers.as_slice().len(), 1);
+            let identifiers = identifiers.as_slice();
+            assert_eq!(rt; identifiers.len(), 100);
+            assert!(rt; identifiers[99].id.as_str() == "1");
             Ok(())
         }
         _ => Err("no entity")?,
     }
+}
+
+fn identifier(alloc: Global, scheme: &str, id: &str) -> Result<Identifier, Fail> {
+    Ok(Identifier {
+        scheme: FreeText::new(String::from_str(alloc, scheme)?),
+        id: FreeText::new(String::from_str(alloc, id)?),
+    })
+}
+
+#[test]
+fn identifiers_are_ordered_by_scheme_and_id(rt: HostRuntime) -> Result<(), Fail> {
+    let alloc = rt.alloc();
+    let low = identifier(alloc, "A", "2")?;
+    assert!(rt; low < identifier(alloc, "B", "1")?);
+    assert!(rt; low < identifier(alloc, "A", "3")?);
+    assert!(rt; low.copy(alloc)? == low);
+    Ok(())
 }
