@@ -1,5 +1,6 @@
 -- A register with three filings: who has a token, what a withdrawal leaves and which filing stands in its way, and what each sees.
-use Rattle.std.proofs.Common.{◌≡◌, ℕ, ℤ, pos, List, [], ◌∷◌, Some, None, codes, refl, ap, map, true, false}
+use Rattle.std.proofs.Common.{◌≡◌, ℕ, ℤ, pos, List, [], ◌∷◌, Some, None, option_map, codes, refl, ap, map, arith, true, false}
+use Rattle.std.specs.List.{IsDistinct}
 use Rattle.bods_read.specs.declared.statement.Statement.{Statement}
 use Rattle.bods_read.specs.declared.statement.Status.TheVariants.{New, Updated}
 use Rattle.bods_read.specs.declared.details.Details.TheVariants.{Entity}
@@ -8,8 +9,13 @@ use Rattle.bor_records.specs.declared.row.Row.{Row}
 use Rattle.bor_register.specs.declared.caller.Caller.TheVariants as callers
 use Rattle.bor_register.specs.declared.member.Member.{Member}
 use Rattle.bor_register.specs.declared.filing.AcceptedFiling.{AcceptedFiling}
-use Rattle.bor_register.specs.Register.{Register, empty_register, new_member, with_member, with_filings, caller_of}
-use Rattle.bor_register.specs.Publication.{published, outward}
+use Rattle.bor_register.specs.Register.{Register, empty_register, new_member, with_member, with_filings, filing_keyed, caller_of}
+use Rattle.bor_register.specs.Live.{live_of, AreNew}
+use Rattle.bor_register.specs.declared.filing.FilingLine.{FilingLine}
+use Rattle.bor_register.specs.declared.filing.Outward.{Outward}
+use Rattle.bor_register.specs.declared.filing.State.{State}
+use Rattle.bor_register.specs.declared.filing.State.TheVariants.{Draft, Published, Withdrawn}
+use Rattle.bor_register.specs.Publication.{published, outward, is_published, state_of, line_of, filing_shown, has_bytes}
 use Rattle.bor_register.specs.Rows.{rows_of, visible}
 use Rattle.bor_register.specs.Withdrawal.{has_successor, with_withdrawn}
 use Rattle.bor_register.specs.Journal.{Agent, JournalEntry, Journal, register_of}
@@ -98,6 +104,45 @@ of_another_declaration = refl
 after_its_successor : has_successor 1 (with_withdrawn 2 (first ∷ second ∷ [])) ≡ false
 after_its_successor = refl
 
+-- ---- a key's filing: published, a draft, withdrawn, and none
+
+abbrev of_alder : List AcceptedFiling
+of_alder = first ∷ second ∷ record second { number = 3; key = codes "f3"; withdrawn = true; statements = [] } ∷ []
+
+lines : map (line_of today) of_alder
+    ≡ record { key = codes "f1"; number = 1; due = today; state = Published } ∷ record { key = codes "f2"; number = 2; due = tomorrow; state = Draft } ∷ record { key = codes "f3"; number = 3; due = tomorrow; state = Withdrawn } ∷ []
+lines = refl
+
+line_of_no_key : option_map (line_of today) (filing_keyed (codes "f4") of_alder) ≡ None
+line_of_no_key = refl
+
+-- the file of a withdrawn filing stays
+withdrawn_file : option_map filing_shown (filing_keyed (codes "f3") of_alder) ≡ Some (record { number = 3; due = tomorrow; withdrawn = true; bytes = codes "two" })
+withdrawn_file = refl
+
+files : map (λ key. has_bytes (codes "two") (filing_keyed key of_alder)) (codes "f1" ∷ codes "f2" ∷ codes "f3" ∷ codes "f4" ∷ []) ≡ false ∷ true ∷ true ∷ false ∷ []
+files = refl
+
+-- the day before the due day, the due day and the day after
+published_from_its_day : map (λ day. is_published day second) (today ∷ tomorrow ∷ pos 19756 ∷ []) ≡ false ∷ true ∷ true ∷ []
+published_from_its_day = refl
+
+-- once it is withdrawn, a filing stays so on its due day
+withdrawn_on_its_day : map (λ day. state_of day (record second { withdrawn = true })) (today ∷ tomorrow ∷ []) ≡ Withdrawn ∷ Withdrawn ∷ []
+withdrawn_on_its_day = refl
+
+-- ---- statements that may not be added
+
+without_status : AreNew [] (record (entity (codes "s1") (codes "e1")) { status = None } ∷ []) → ⊥
+without_status n = let h = n.settled 0 (entity (codes "s1") (codes "e1")) (omega arith) in absurd cc
+
+identifier_twice : AreNew [] (entity (codes "s1") (codes "e1") ∷ entity (codes "s1") (codes "e2") ∷ []) → ⊥
+unfolding IsDistinct
+identifier_twice n = let h = n.distinct.0.0 in absurd cc
+
+identifier_of_a_draft : AreNew (live_of (second ∷ [])) (entity (codes "s3") (codes "e3") ∷ []) → ⊥
+identifier_of_a_draft n = let h = n.free 0 (entity (codes "s3") (codes "e3")) (omega arith) in absurd cc
+
 -- ---- who sees which rows: agent, number and place
 
 abbrev placed : Row → List ℕ × (ℕ × ℕ)
@@ -129,6 +174,29 @@ seen_by_all = refl
 
 seen_the_day_before : published (pos 19753) members ≡ []
 seen_the_day_before = refl
+
+-- ---- five agents, each with a filing that is due today, enrolled in another order
+
+abbrev enrolled : List ℕ → List Member → List Member
+enrolled name ms = with_member (record (new_member name name) { filings = first ∷ [] }) ms
+
+abbrev five : List Member
+five = enrolled (codes "cedar") (enrolled (codes "alder") (enrolled (codes "elm") (enrolled (codes "birch") (enrolled (codes "dogwood") []))))
+
+five_by_name : map (λ (m : Member). m.name) five ≡ codes "alder" ∷ codes "birch" ∷ codes "cedar" ∷ codes "dogwood" ∷ codes "elm" ∷ []
+five_by_name = refl
+
+five_published : map (λ (o : Outward). o.agent) (published today five) ≡ codes "alder" ∷ codes "birch" ∷ codes "cedar" ∷ codes "dogwood" ∷ codes "elm" ∷ []
+five_published = refl
+
+-- the day before, each sees its own draft alone
+five_alone : map placed (visible (codes "cedar") (pos 19753) five) ≡ (codes "cedar", (1, 1)) ∷ (codes "cedar", (1, 2)) ∷ []
+five_alone = refl
+
+-- an agent's own rows stand among the others' at the place of its name
+in_order_of_agents : map (λ (row : Row). row.agent) (visible (codes "cedar") today five)
+    ≡ codes "alder" ∷ codes "alder" ∷ codes "birch" ∷ codes "birch" ∷ codes "cedar" ∷ codes "cedar" ∷ codes "dogwood" ∷ codes "dogwood" ∷ codes "elm" ∷ codes "elm" ∷ []
+in_order_of_agents = refl
 
 -- ---- journals
 

@@ -21,8 +21,9 @@
 //! assert_eq!(rt; keep.filings(&alder)?.len(), 0);
 //! ```
 //!
-//! What it computes of its members is for other keeps that hold them: [`own_filings`], [`all_lines`],
-//! [`rows_seen`], [`all_visible`], [`all_published`], [`is_succeeded`].
+//! What it computes of members stands as calls of their own, for a keep that gets members from
+//! elsewhere: [`own_filings`], [`all_lines`], [`rows_seen`], [`all_visible`], [`all_published`],
+//! [`is_succeeded`].
 //!
 //! A keep answers and changes what it is asked to and tests nothing of it: which lodging, which
 //! withdrawal and which day may be is told by `bor_machine`, which hands all of this on.

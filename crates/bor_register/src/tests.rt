@@ -1,6 +1,9 @@
 //! What no clause says: that calls succeed, and values from outside.
 
-use crate::{Caller, Keep, ListKeep, StoreFault};
+use crate::{
+    AcceptedFiling, Caller, Keep, ListKeep, Member, State, StoreFault, all_lines, all_published,
+    all_visible, is_succeeded, own_filings, rows_seen,
+};
 use bods_read::{Details, EntityKind, Statement, Status};
 use bor_terms::{AgentName, Day, Ident, Listed, LodgeKey, Token};
 use std::alloc::Global;
@@ -58,6 +61,7 @@ fn add<K: Keep>(
     agent: &AgentName,
     key: &LodgeKey,
     due: Day,
+    bytes: &[u8],
     statement: Statement,
 ) -> Result<u32, Fail> {
     if !keep.has_agent(agent)? {
@@ -73,7 +77,7 @@ fn add<K: Keep>(
         return Err(Fail::from("the statement can't be added"));
     }
     let statements = [statement];
-    Ok(keep.add_filing(agent, key, due, b"[]", &statements)?)
+    Ok(keep.add_filing(agent, key, due, bytes, &statements)?)
 }
 
 // The register on 2024-02-01 with the agents birch and alder, enrolled in this order.
@@ -99,7 +103,8 @@ fn file(
     id: &str,
 ) -> Result<u32, Fail> {
     let (agent, lodge_key) = (agent(alloc, name)?, key(alloc, lodge_key)?);
-    add(keep, &agent, &lodge_key, day(due)?, entity(alloc, id)?)
+    let statement = entity(alloc, id)?;
+    add(keep, &agent, &lodge_key, day(due)?, b"[]", statement)
 }
 
 // How many rows the viewer sees of alder's declaration c1, and how many of all agents.
@@ -218,5 +223,93 @@ fn what_is_seen_goes_by_agent(rt: HostRuntime) -> Result<(), Fail> {
         "alder birch f1 published alder birch "
     );
     assert_eq!(rt; keep.faults(), 0);
+    Ok(())
+}
+
+// The number and the state that a key's line tells, and whether its file is `[]`.
+fn told(
+    keep: &mut ListKeep,
+    alloc: Global,
+    lodge_key: &str,
+) -> Result<Option<(u32, State, bool)>, Fail> {
+    let (alder, lodge_key) = (agent(alloc, "alder")?, key(alloc, lodge_key)?);
+    let has_file = keep.has_file(&alder, &lodge_key, b"[]")?;
+    let line = keep.line(&alder, &lodge_key)?;
+    Ok(line.map(|line| (line.number, line.state, has_file)))
+}
+
+#[test]
+fn a_key_tells_its_line_in_each_state(rt: HostRuntime) -> Result<(), Fail> {
+    let alloc = rt.alloc();
+    let mut keep = register(alloc)?;
+    for (lodge_key, due, id) in [
+        ("f1", "2024-02-01", "s1"),
+        ("f2", "2024-02-02", "s2"),
+        ("f3", "2024-02-02", "s3"),
+    ] {
+        file(&mut keep, alloc, "alder", lodge_key, due, id)?;
+    }
+    let alder = agent(alloc, "alder")?;
+    keep.withdraw(&alder, 2)?;
+    for (lodge_key, line) in [
+        ("f1", Some((1, State::Published, true))),
+        ("f2", Some((2, State::Withdrawn, true))),
+        ("f3", Some((3, State::Draft, true))),
+        ("f4", None),
+    ] {
+        assert_eq!(rt; told(&mut keep, alloc, lodge_key)?, line, "{lodge_key}");
+    }
+    assert_eq!(rt; keep.filing_count(&alder)?, 3);
+    Ok(())
+}
+
+#[test]
+fn the_longest_file_is_kept(rt: HostRuntime) -> Result<(), Fail> {
+    let alloc = rt.alloc();
+    let mut keep = register(alloc)?;
+    let (alder, f1) = (agent(alloc, "alder")?, key(alloc, "f1")?);
+    let bytes = vec![in alloc; b' '; 1_048_576]?;
+    let statement = entity(alloc, "s1")?;
+    let due = day("2024-02-02")?;
+    assert_eq!(rt; add(&mut keep, &alder, &f1, due, &bytes, statement)?, 1);
+    assert!(rt; keep.has_file(&alder, &f1, &bytes)?);
+    let filing = keep.filing(&alder, &f1)?.ok_or("no filing")?;
+    assert_eq!(rt; filing.bytes.as_slice().len(), 1_048_576);
+    Ok(())
+}
+
+// An agent with one filing of one statement, due on 2024-02-01.
+fn member(alloc: Global) -> Result<Member, Fail> {
+    let filing = AcceptedFiling {
+        number: 1,
+        key: key(alloc, "f1")?,
+        due: day("2024-02-01")?,
+        withdrawn: false,
+        bytes: Listed::new(Vec::from_slice(alloc, b"[]")?),
+        statements: Listed::new(vec![in alloc; entity(alloc, "s1")?]?),
+    };
+    Ok(Member {
+        name: agent(alloc, "alder")?,
+        token: token(alloc, "alder-token-000001")?,
+        filings: Listed::new(vec![in alloc; filing]?),
+    })
+}
+
+#[test]
+fn members_tell_what_is_theirs(rt: HostRuntime) -> Result<(), Fail> {
+    let alloc = rt.alloc();
+    let members = vec![in alloc; member(alloc)?]?;
+    let (alder, birch) = (agent(alloc, "alder")?, agent(alloc, "birch")?);
+    let today = day("2024-02-01")?;
+    let filings = own_filings(&members, &alder);
+    assert_eq!(rt; all_lines(alloc, filings, today)?.len(), 1);
+    assert!(rt; !is_succeeded(filings, 1));
+    let c1 = ident(alloc, "c1")?;
+    assert_eq!(rt;
+        rows_seen(alloc, &birch, today, &alder, &c1, filings)?.len(),
+        1
+    );
+    assert_eq!(rt; all_visible(alloc, &birch, today, &members)?.len(), 1);
+    assert_eq!(rt; all_published(alloc, &members, today)?.len(), 1);
     Ok(())
 }
