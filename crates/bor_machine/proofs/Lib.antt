@@ -9,6 +9,7 @@ pub mod Legality
 pub mod Forms
 pub mod Prefixes
 pub mod Alone
+pub mod NextEntries
 pub mod Examples
 pub mod LegalRegisters
 pub mod WithdrawalExamples

@@ -166,6 +166,22 @@ addition_room s key due bytes f h = by_test (nat_le FILINGS_LIMIT (length s.own)
     by_test true rest e told = absurd cc
     by_test false rest e told = leb-false FILINGS_LIMIT (length s.own) e
 
+-- what it adds has the statements of the file, settled, and is its next filing
+pub addition_is : (s : Sight) (key : List ℕ) (due : ℤ) (bytes : List ℕ) (f : AcceptedFiling) → addition s key due bytes ≡ Ok f →
+    (settled_reading (live_of s.own) due (reading bytes) ≡ Ok f.statements) × (f ≡ accepted s.own key due bytes f.statements)
+addition_is s key due bytes f h = by_tests (nat_le FILINGS_LIMIT (length s.own)) (int_lt due s.day) (settled_reading (live_of s.own) due (reading bytes)) h
+  where
+    by_tests : (full past : Bool) (read : Result (List Statement) LodgeFault) →
+        (if full then Err FilingsFull else (if past then Err DuePast else filing_of s.own key due bytes read)) ≡ Ok f →
+        (read ≡ Ok f.statements) × (f ≡ accepted s.own key due bytes f.statements)
+    by_tests true past read told = absurd cc
+    by_tests false true read told = absurd cc
+    by_tests false false (Err fault) told = absurd cc
+    by_tests false false (Ok ss) told =
+        let same : accepted s.own key due bytes ss ≡ f = cc in
+        let statements = ap (λ (g : AcceptedFiling). g.statements) same in
+        (ap (λ (xs : List Statement). Ok xs) statements, sym same ∙ ap (accepted s.own key due bytes) statements)
+
 -- a statement that stands for none
 pub no_statement : Statement
 no_statement = record { id = []; day = pos 0; declaration = []; rec = []; status = None; details = Person KnownPerson None }

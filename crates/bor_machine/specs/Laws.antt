@@ -2,12 +2,14 @@
 use Rattle.std.specs.Prelude.{◌≡◌, ℕ, ℤ, List, [], ◌∷◌, ◌++◌, map, filter, true, false, Some, IsSome, Ok, Err}
 use Rattle.std.specs.List.{Contains}
 use Rattle.bor_terms.specs.Texts.{is_same}
+use Rattle.bods_read.specs.File.{reading}
 use Rattle.bor_register.specs.declared.member.Member.{Member}
 use Rattle.bor_records.specs.Admission.{Live, is_of}
 use Rattle.bor_register.specs.declared.filing.AcceptedFiling.{AcceptedFiling}
 use Rattle.bor_register.specs.Register.{Register, empty_register, filings_of, filing_keyed, is_enrolled}
 use Rattle.bor_register.specs.Publication.{is_published}
-use Rattle.bor_register.specs.Live.{live_of}
+use Rattle.bor_register.specs.Live.{live_of, accepted}
+use Rattle.bor_register.specs.Journal.{Journal, token_of, entries_of, register_of, IsInOrder}
 use Rattle.bor_machine.specs.declared.fault.LodgeFault.{LodgeFault}
 use Rattle.bor_machine.specs.declared.fault.WithdrawFault.{WithdrawFault}
 use Rattle.bor_machine.specs.declared.fault.AdvanceFault.{AdvanceFault}
@@ -15,7 +17,7 @@ use Rattle.bor_machine.specs.declared.fault.EnrolFault.{EnrolFault}
 use Rattle.bor_machine.specs.declared.lodging.Lodged.{Lodged}
 use Rattle.bor_machine.specs.Sight.{sight_of}
 use Rattle.bor_machine.specs.Solo.{alone}
-use Rattle.bor_machine.specs.Lodging.{lodge_step}
+use Rattle.bor_machine.specs.Lodging.{settled_reading, lodge_step}
 use Rattle.bor_machine.specs.Withdrawing.{withdraw_step}
 use Rattle.bor_machine.specs.Registrar.{advance_step, enrol_step}
 use Rattle.bor_machine.specs.Legality.{AreRead, IsLegal}
@@ -79,3 +81,22 @@ pub record PublishedPrefix : Type 0 where
 -- An agent of a legal register sees the same as it would alone with what the others have published.
 abbrev pub SightAlone : Type 0
 SightAlone = (r : Register) (name : List ℕ) → IsLegal r → is_enrolled name r.members ≡ true → sight_of name (alone name r) ≡ sight_of name r
+
+-- what was accepted, with one more filing of the agent at the end
+abbrev pub with_entry : Journal → List ℕ → AcceptedFiling → Journal
+with_entry j name f = record j { entries = j.entries ++ record { agent = name; filing = f } ∷ [] }
+
+-- The filing that was lodged and told is the next entry of the journal: live, with the file's statements, settled after its agent's live ones. What is left is the register of the journal with it.
+pub record IsNextEntry (j : Journal) (name key : List ℕ) (due : ℤ) (bytes : List ℕ) (told : Lodged) (left : Register) (f : AcceptedFiling) : Type 0 where
+  pub number : f.number ≡ told.number
+  pub filing : f ≡ accepted (entries_of name j.entries) key due bytes f.statements
+  pub read : settled_reading (live_of (entries_of name j.entries)) due (reading bytes) ≡ Ok f.statements
+  pub in_order : IsInOrder (with_entry j name f)
+  pub register : left ≡ register_of (with_entry j name f)
+
+-- A lodging that is told as fresh adds one filing behind all that was accepted.
+abbrev pub LodgingIsNextEntry : Type 0
+LodgingIsNextEntry =
+    (j : Journal) (name key : List ℕ) (due : ℤ) (bytes : List ℕ) (told : Lodged) → IsInOrder j → IsSome (token_of name j.agents) →
+    (lodge_step (register_of j) name key due bytes).answer ≡ Ok told → told.fresh ≡ true →
+    (f : AcceptedFiling) × IsNextEntry j name key due bytes told (lodge_step (register_of j) name key due bytes).register f

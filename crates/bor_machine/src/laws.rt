@@ -1,6 +1,6 @@
 //! Laws of the operations. Each function does nothing: its contract is the law.
 
-ghost use Rattle.bor_machine.specs.Laws.{OwnFilingsUntouched, RefusalChangesNothing, StaysLegal, PublishedPrefix, SightAlone};
+ghost use Rattle.bor_machine.specs.Laws.{OwnFilingsUntouched, RefusalChangesNothing, StaysLegal, PublishedPrefix, SightAlone, LodgingIsNextEntry};
 
 /// After a lodging and after a withdrawal every other agent's filings are as they were, and so are
 /// the day, and who has which token. After a new day and an enrolment each agent that was there has
@@ -38,4 +38,10 @@ pub fn published_is_a_prefix()
 /// no number, key, byte or draft of another is in it, nor an order of acceptance between agents.
 pub fn sight_is_alone()
     ensures { SightAlone }
+{}
+
+/// A lodging that is told as fresh is the next entry of the journal of all that was accepted: the
+/// register left is the one of the journal with that filing at its end.
+pub fn a_lodging_is_the_next_entry()
+    ensures { LodgingIsNextEntry }
 {}
