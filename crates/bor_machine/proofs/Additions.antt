@@ -10,7 +10,7 @@ use Rattle.bor_register.specs.Live.{live_of, accepted, AreNew}
 use Rattle.bor_register.proofs.Additions.{settled_are_new}
 use Rattle.bor_machine.specs.declared.fault.LodgeFault.{LodgeFault}
 use Rattle.bor_machine.specs.declared.fault.LodgeFault.TheVariants.{FilingsFull, DuePast}
-use Rattle.bor_machine.specs.declared.lodging.TheConstants.{FILINGS_LIMIT}
+use Rattle.bor_register.specs.Limits.{filings_limit}
 use Rattle.bor_machine.specs.Sight.{Sight}
 use Rattle.bor_machine.specs.Lodging.{told_settled, settled_reading, filing_of, addition}
 
@@ -30,7 +30,7 @@ filed own key due bytes (Err fault) ss h = absurd cc
 
 -- the statements of the filing that a lodging adds may be added
 pub addition_new : (s : Sight) (key : List ℕ) (due : ℤ) (bytes : List ℕ) (ss : List Statement) → addition s key due bytes ≡ Ok (accepted s.own key due bytes ss) → AreNew (live_of s.own) ss
-addition_new s key due bytes ss h = by_room (nat_le FILINGS_LIMIT (length s.own)) h
+addition_new s key due bytes ss h = by_room (nat_le filings_limit (length s.own)) h
   where
     by_day : (past : Bool) → (if past then Err DuePast else filing_of s.own key due bytes (settled_reading (live_of s.own) due (reading bytes))) ≡ Ok (accepted s.own key due bytes ss) → AreNew (live_of s.own) ss
     by_day true k = absurd cc

@@ -23,7 +23,7 @@ use Rattle.bor_machine.specs.declared.fault.AdvanceFault.{AdvanceFault}
 use Rattle.bor_machine.specs.declared.fault.AdvanceFault.TheVariants.{DayBack}
 use Rattle.bor_machine.specs.declared.fault.EnrolFault.{EnrolFault}
 use Rattle.bor_machine.specs.declared.fault.EnrolFault.TheVariants.{NameTaken, TokenTaken}
-use Rattle.bor_machine.specs.declared.lodging.TheConstants.{FILINGS_LIMIT}
+use Rattle.bor_register.specs.Limits.{filings_limit}
 use Rattle.bor_machine.specs.Sight.{Sight, sight_of, Outcome}
 use Rattle.bor_machine.specs.Lodging.{settled_reading, filing_of, addition, own_added, own_lodged_at, own_lodged, lodge_step}
 use Rattle.bor_machine.specs.Withdrawing.{own_withdrawn_at, own_withdrawn, withdraw_step}
@@ -169,7 +169,7 @@ legal-with_filings r name fs legal next = record {
 
 -- ---- a lodging
 
-accepted-legal : (own : List AcceptedFiling) (key : List ℕ) (due : ℤ) (bytes : List ℕ) (ss : List Statement) → AreLegal own → length own < 999 → filing_keyed key own ≡ None →
+accepted-legal : (own : List AcceptedFiling) (key : List ℕ) (due : ℤ) (bytes : List ℕ) (ss : List Statement) → AreLegal own → length own < filings_limit → filing_keyed key own ≡ None →
     settled_reading (live_of own) due (reading bytes) ≡ Ok ss → AreLegal (own ++ accepted own key due bytes ss ∷ [])
 accepted-legal own key due bytes ss legal room fresh h =
     let f = accepted own key due bytes ss in
@@ -181,14 +181,14 @@ accepted-legal own key due bytes ss legal room fresh h =
     }
 
 added-legal : (sight : Sight) (key : List ℕ) (due : ℤ) (bytes : List ℕ) → AreLegal sight.own → filing_keyed key sight.own ≡ None → AreLegal (own_added sight.own (addition sight key due bytes))
-added-legal sight key due bytes legal fresh = by_tests (nat_le FILINGS_LIMIT (length sight.own)) (int_lt due sight.day) (settled_reading (live_of sight.own) due (reading bytes)) refl refl
+added-legal sight key due bytes legal fresh = by_tests (nat_le filings_limit (length sight.own)) (int_lt due sight.day) (settled_reading (live_of sight.own) due (reading bytes)) refl refl
   where
-    by_tests : (full past : Bool) (read : Result (List Statement) LodgeFault) → nat_le FILINGS_LIMIT (length sight.own) ≡ full → settled_reading (live_of sight.own) due (reading bytes) ≡ read →
+    by_tests : (full past : Bool) (read : Result (List Statement) LodgeFault) → nat_le filings_limit (length sight.own) ≡ full → settled_reading (live_of sight.own) due (reading bytes) ≡ read →
         AreLegal (own_added sight.own (if full then Err FilingsFull else (if past then Err DuePast else filing_of sight.own key due bytes read)))
     by_tests true past read e f = legal
     by_tests false true read e f = legal
     by_tests false false (Err fault) e f = legal
-    by_tests false false (Ok ss) e f = accepted-legal sight.own key due bytes ss legal (leb-false FILINGS_LIMIT (length sight.own) e) fresh f
+    by_tests false false (Ok ss) e f = accepted-legal sight.own key due bytes ss legal (leb-false filings_limit (length sight.own) e) fresh f
 
 lodged-legal : (sight : Sight) (key : List ℕ) (due : ℤ) (bytes : List ℕ) (at : Option AcceptedFiling) → filing_keyed key sight.own ≡ at → AreLegal sight.own → AreLegal (own_lodged_at sight key due bytes at)
 lodged-legal sight key due bytes (Some f) e legal = legal

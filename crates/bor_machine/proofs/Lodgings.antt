@@ -23,7 +23,7 @@ use Rattle.bor_machine.specs.Sight.{Sight}
 use Rattle.bor_machine.specs.Lodging.{fault_at, told_verdict, told_settled, settled_reading, as_read, repeated, filing_of, addition, lodge_step}
 use Rattle.bor_machine.specs.Outcomes.{of_lodging, ByStore, IsOutcome, Refuses, IsDone}
 use Rattle.bor_machine.specs.declared.lodging.Lodged.{Lodged}
-use Rattle.bor_machine.specs.declared.lodging.TheConstants.{FILINGS_LIMIT}
+use Rattle.bor_register.specs.Limits.{filings_limit}
 use Rattle.bor_machine.proofs.Outcomes.{unless_store, refused}
 use Rattle.bor_register.proofs.Members.{with_filings_same}
 
@@ -158,18 +158,18 @@ repeat_outcome (Err e) shown r name key due bytes f found h is =
 
 -- ---- a key that is new
 
--- an agent that adds a filing has fewer than 999
-pub addition_room : (s : Sight) (key : List ℕ) (due : ℤ) (bytes : List ℕ) (f : AcceptedFiling) → addition s key due bytes ≡ Ok f → length s.own < 999
-addition_room s key due bytes f h = by_test (nat_le FILINGS_LIMIT (length s.own)) _ refl h
+-- an agent that adds a filing has room for it
+pub addition_room : (s : Sight) (key : List ℕ) (due : ℤ) (bytes : List ℕ) (f : AcceptedFiling) → addition s key due bytes ≡ Ok f → length s.own < filings_limit
+addition_room s key due bytes f h = by_test (nat_le filings_limit (length s.own)) _ refl h
   where
-    by_test : (full : Bool) (rest : Result AcceptedFiling LodgeFault) → nat_le FILINGS_LIMIT (length s.own) ≡ full → (if full then Err FilingsFull else rest) ≡ Ok f → length s.own < 999
+    by_test : (full : Bool) (rest : Result AcceptedFiling LodgeFault) → nat_le filings_limit (length s.own) ≡ full → (if full then Err FilingsFull else rest) ≡ Ok f → length s.own < filings_limit
     by_test true rest e told = absurd cc
-    by_test false rest e told = leb-false FILINGS_LIMIT (length s.own) e
+    by_test false rest e told = leb-false filings_limit (length s.own) e
 
 -- what it adds has the statements of the file, settled, and is its next filing
 pub addition_is : (s : Sight) (key : List ℕ) (due : ℤ) (bytes : List ℕ) (f : AcceptedFiling) → addition s key due bytes ≡ Ok f →
     (settled_reading (live_of s.own) due (reading bytes) ≡ Ok f.statements) × (f ≡ accepted s.own key due bytes f.statements)
-addition_is s key due bytes f h = by_tests (nat_le FILINGS_LIMIT (length s.own)) (int_lt due s.day) (settled_reading (live_of s.own) due (reading bytes)) h
+addition_is s key due bytes f h = by_tests (nat_le filings_limit (length s.own)) (int_lt due s.day) (settled_reading (live_of s.own) due (reading bytes)) h
   where
     by_tests : (full past : Bool) (read : Result (List Statement) LodgeFault) →
         (if full then Err FilingsFull else (if past then Err DuePast else filing_of s.own key due bytes read)) ≡ Ok f →

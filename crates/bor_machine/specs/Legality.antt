@@ -5,6 +5,7 @@ use Rattle.bor_records.specs.Admission.{Live}
 use Rattle.bor_records.specs.Settling.{as_live}
 use Rattle.bor_register.specs.declared.member.Member.{Member}
 use Rattle.bor_register.specs.declared.filing.AcceptedFiling.{AcceptedFiling}
+use Rattle.bor_register.specs.Limits.{filings_limit}
 use Rattle.bor_register.specs.Register.{Register, filing_keyed, is_agents_token, IsOrdered}
 use Rattle.bor_machine.specs.Lodging.{settled_reading}
 
@@ -30,7 +31,7 @@ AreRead live (f ∷ fs) = IsRead f.withdrawn live f × AreRead (live ++ map (as_
 -- an agent's filings obey the rules
 pub record AreLegal (filings : List AcceptedFiling) : Type 0 where
   pub numbered : IsNumberedFrom 1 filings
-  pub few : length filings ≤ 999
+  pub few : length filings ≤ filings_limit
   pub keyed : IsKeyedOnce filings
   pub read : AreRead [] filings
 

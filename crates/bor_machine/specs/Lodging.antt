@@ -15,7 +15,7 @@ use Rattle.bor_register.specs.Live.{live_of, accepted}
 use Rattle.bor_machine.specs.declared.fault.LodgeFault.{LodgeFault}
 use Rattle.bor_machine.specs.declared.fault.LodgeFault.TheVariants.{KeyReused, FilingsFull, DuePast, Read, StatementTwice, Record}
 use Rattle.bor_machine.specs.declared.lodging.Lodged.{Lodged}
-use Rattle.bor_machine.specs.declared.lodging.TheConstants.{FILINGS_LIMIT}
+use Rattle.bor_register.specs.Limits.{filings_limit}
 use Rattle.bor_machine.specs.Sight.{Sight, sight_of, Outcome}
 
 -- ---- the statements of a file
@@ -63,7 +63,7 @@ filing_of own key due bytes (Err fault) = Err fault
 -- The filing that is added, or why it is refused: the agent has 999 filings, withdrawn ones included; the due day is before the register's; the file's first fault; the first place that is refused.
 abbrev pub addition : Sight → List ℕ → ℤ → List ℕ → Result AcceptedFiling LodgeFault
 addition sight key due bytes =
-    if nat_le FILINGS_LIMIT (length sight.own) then Err FilingsFull
+    if nat_le filings_limit (length sight.own) then Err FilingsFull
     else (if int_lt due sight.day then Err DuePast
     else filing_of sight.own key due bytes (settled_reading (live_of sight.own) due (reading bytes)))
 

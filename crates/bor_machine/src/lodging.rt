@@ -11,7 +11,7 @@ ghost use Rattle.bor_register.specs.Live.{accepted, live_of};
 ghost use Rattle.bor_register.specs.Publication.{state_of_live, line_of};
 ghost use Rattle.bor_records.specs.Promises.{Kept, Promised, Reads, Sure};
 ghost use Rattle.bor_machine.specs.declared.fault.LodgeFault.TheVariants as lodge_faults;
-ghost use Rattle.bor_machine.specs.declared.lodging.TheConstants.{FILINGS_LIMIT};
+ghost use Rattle.bor_register.specs.Limits.{filings_limit};
 ghost use Rattle.bor_machine.specs.Lodging.{as_read, told_settled, told_verdict, settled_reading, repeated, addition, lodge_step};
 ghost use Rattle.bor_machine.specs.Outcomes.{of_lodging, IsOutcome, IsAccounted, IsDone, IsMade};
 ghost use Rattle.bor_machine.specs.Legality.{IsLegal};
@@ -210,7 +210,7 @@ fn day_for<K: Keep>(keep: &mut K, agent: &AgentName, due: Day) -> Result<Day, Lo
     ensures accounted { IsAccounted of_lodging K.may_tell result (K.fault_count keep.old) (K.fault_count keep.new) }
     ensures answer { Promised K.shows K.is_clean keep.old keep.new (λ r.
         IsDone of_lodging (λ day. day) result
-        (if nat_le FILINGS_LIMIT (length (filings_of agent.now r.members)) then Err lodge_faults.FilingsFull
+        (if nat_le filings_limit (length (filings_of agent.now r.members)) then Err lodge_faults.FilingsFull
         else (if int_lt due r.day then Err lodge_faults.DuePast else Ok r.day))) }
 {
     if keep.filing_count(agent)? >= FILINGS_LIMIT {

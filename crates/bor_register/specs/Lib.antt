@@ -1,3 +1,4 @@
+pub mod Limits
 pub mod Register
 pub mod Journal
 pub mod Live

@@ -2,6 +2,7 @@
 
 ghost use Rattle.std.specs.Prelude.{◌≡◌, ℕ, ◌+◌, ◌<◌, None, IfOk, [], ◌∷◌, ◌++◌, map, option_map, length, true, false};
 ghost use Rattle.bor_register.specs.declared.fault.StoreFault.{StoreFault};
+ghost use Rattle.bor_register.specs.Limits.{filings_limit};
 ghost use Rattle.bor_register.specs.Register.{Register, caller_of, is_enrolled, is_taken, filings_of, with_filings, new_member, with_member, filing_keyed};
 ghost use Rattle.bor_register.specs.Publication.{published, line_of, filing_shown, has_bytes};
 ghost use Rattle.bor_register.specs.Live.{accepted, live_of, AreNew};
@@ -146,7 +147,7 @@ pub trait Keep {
     ) -> Result<u32, StoreFault>
         requires enrolled { Sure shows is_clean self.old (λ r. is_enrolled agent.now r.members ≡ true) }
         requires room { Sure shows is_clean self.old (λ r.
-            length (filings_of agent.now r.members) < 999) }
+            length (filings_of agent.now r.members) < filings_limit) }
         requires fresh { Sure shows is_clean self.old (λ r.
             filing_keyed key.now (filings_of agent.now r.members) ≡ None) }
         requires statements { Sure shows is_clean self.old (λ r.

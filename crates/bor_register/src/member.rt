@@ -1,6 +1,7 @@
 //! Agents with what is theirs.
 
 ghost use Rattle.std.specs.Prelude.{◌≡◌, ◌+◌, ◌<◌, ◌++◌, ◌∷◌, [], length, IfSome, IfNone, IfOk, OnOk, OnErr, option_map, true, false};
+ghost use Rattle.bor_register.specs.Limits.{filings_limit};
 ghost use Rattle.bor_register.specs.Register.{agent_with, is_enrolled, filings_of, new_member, with_member, with_filings};
 ghost use Rattle.bor_register.specs.Live.{accepted};
 ghost use Rattle.bor_register.specs.Withdrawal.{with_withdrawn};
@@ -78,7 +79,7 @@ pub(crate) fn push_filing(
     statements: &[Statement],
 ) -> Result<u32, AllocError>
     requires enrolled { is_enrolled name.now members.old ≡ true }
-    requires room { length (filings_of name.now members.old) < 999 }
+    requires room { length (filings_of name.now members.old) < filings_limit }
     ensures ok { IfOk result (λ number. let own = filings_of name.now members.old in
         (number ≡ length own + 1)
         × (members.new ≡ with_filings name.now (own ++ accepted own key.now due bytes.now statements.now ∷ []) members.old)) }
