@@ -1,10 +1,9 @@
 -- What a loop of reads has taken of known bytes, and a loop of writes has given.
-use Rattle.std.proofs.Common.{◌≡◌, ◌∙◌, ◌≤◌, ◌<◌, ◌-◌, ℕ, List, [], ◌++◌, Option, Some, None, IfSome, Result, Ok, Err, ap, arith, sym, length, take, drop, append-nil, append_assoc, take-append-drop, subst}
+use Rattle.std.proofs.Common.{◌≡◌, ◌∙◌, ◌≤◌, ◌<◌, ◌-◌, ℕ, List, [], ◌++◌, Option, Some, None, IfSome, Result, Ok, Err, ap, arith, sym, length, take, drop, append-nil, append_assoc, take-append-drop, subst, lit≤}
 use Rattle.std.specs.Io.KnownBytes.{Appends, Consumes, IsAtEnd, Keeps, ReadConsumes}
-use Rattle.std.proofs.KnownBytes.{Appends-kept, Appends-trans}
+use Rattle.std.proofs.KnownBytes.{Appends-kept, Appends-trans, Consumes-trans}
 use Rattle.std.proofs.lemmas.List.{length-drop, take-append-le, take_all}
-use Rattle.bor.specs.Failures.{AppendsPart}
-use Rattle.bor.specs.Program.{TakesPart, part_read}
+use Rattle.bor.specs.Streams.{AppendsPart, TakesAtMostPart, TakesPart, part_read}
 
 -- what was read is what is to be read of a file, and no more was taken
 pub record IsPartOf (before after : Option (List ℕ)) (read : List ℕ) : Type 0 where
@@ -34,6 +33,17 @@ read_to_end (Some bytes) (Some rest) (Some last) read within e f end =
     let whole : bytes ≡ read ++ last = e ∙ ap (λ l. read ++ l) left in
     let all : bytes ≡ read = whole ∙ ap (λ l. read ++ l) end ∙ append-nil read in
     whole_part bytes read last (sym (ap (take 1_048_577) all ∙ take_all 1_048_577 read within)) whole
+
+-- some was read, and then some more
+pub took_more : (before middle after : Option (List ℕ)) (read more : List ℕ) → length (read ++ more) ≤ 1_048_577 → Consumes before middle read
+    → Consumes middle after more → TakesAtMostPart before after
+took_more before middle after read more within e f = (read ++ more, within, Consumes-trans before middle after read more e f)
+
+-- nothing was read
+pub took_none : (before after : Option (List ℕ)) → Keeps before after → TakesAtMostPart before after
+took_none None after h = ([], lit≤ tt, tt)
+took_none (Some xs) None h = ([], lit≤ tt, h)
+took_none (Some xs) (Some ys) h = ([], lit≤ tt, sym h)
 
 -- the front of these bytes was written, and these are left
 abbrev pub IsWritten : Option (List ℕ) → Option (List ℕ) → List ℕ → List ℕ → Type 0

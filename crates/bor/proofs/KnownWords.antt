@@ -1,4 +1,4 @@
--- What clap makes of no words, and of the command without a file; what its errors and a failure say of the words.
+-- What clap's errors and a failure say of the words.
 use Rattle.std.proofs.Common.{◌≡◌, ◌≢◌, ◌≤◌, ◌∙◌, ap, arith, ◌⊎◌, ℕ, List, [], ◌∷◌, Option, None, refl, true, codes, subst, sym, inl, inr}
 use Rattle.clap.specs.Words.{is_simple, is_simple_and_free}
 use Rattle.clap.proofs.OnLiterals.{clap_on_literals}
@@ -11,9 +11,10 @@ use Rattle.bor.specs.declared.failure.Failure.{Failure}
 use Rattle.bor.specs.declared.failure.Failure.TheVariants.{Unreadable, Memory, Store, Unwritable}
 use Rattle.bor.specs.declared.status.Status.{Status}
 use Rattle.bor.specs.declared.status.Status.TheVariants.{Done, Refused, Usage, Failed}
-use Rattle.bor.specs.Failures.{AppendsPart, IsFailureOf, IsFailureOn, IsNoReading, IsTold, failure_line}
+use Rattle.bor.specs.Failures.{IsFailureOf, IsFailureOn, IsMetBy, IsMetOn, IsMetUnread, IsNoReading, IsTold, LeavesOutput, failure_line}
+use Rattle.bor.specs.Streams.{AppendsPart}
 use Rattle.bor.specs.Program.{exit_code}
-use Rattle.bor.specs.Words.{IsCommand, IsWrong, MayAskForHelp, NamesNoFile, bor_app, file_of, name_of}
+use Rattle.bor.specs.Words.{IsCommand, IsWrong, MayAskForHelp, bor_app, file_of, name_of}
 
 pub bor_is_simple : is_simple bor_app ≡ true
 unfolding clap_on_literals
@@ -22,23 +23,6 @@ bor_is_simple = refl
 pub bor_is_free : is_simple_and_free bor_app ≡ true
 unfolding clap_on_literals
 bor_is_free = refl
-
--- the words ask for a command, and they name no file
-pub record IsTakenWithoutFile (words : List (List ℕ)) : Type 0 where
-  pub taken : IsCommand words
-  pub no_file : file_of words ≡ None
-
-pub no_words : IsTakenWithoutFile []
-unfolding clap_on_literals
-no_words = record { taken = refl; no_file = refl }
-
-pub check_alone : IsTakenWithoutFile (codes "check" ∷ [])
-unfolding clap_on_literals
-check_alone = record { taken = refl; no_file = refl }
-
-pub without_file : (words : List (List ℕ)) → NamesNoFile words → IsTakenWithoutFile words
-without_file words (inl e) = subst IsTakenWithoutFile (sym e) no_words
-without_file words (inr e) = subst IsTakenWithoutFile (sym e) check_alone
 
 -- an error of words that ask for a command is want of memory
 pub only_memory : (kind : ErrorKind) (kinds : Kinds) → kinds ≡ [] → (kind ≡ OutOfMemory) ⊎ IsAmong kind kinds → kind ≡ OutOfMemory
@@ -84,6 +68,21 @@ failure_of_any_words words (Unreadable unread) h = absurd h
 failure_of_any_words words Memory h = tt
 failure_of_any_words words Store h = tt
 failure_of_any_words words Unwritable h = tt
+
+-- the same, with what was written on standard output
+pub met_by_command : (words : List (List ℕ)) (source : Source) (before after last : Option (List ℕ)) → last ≡ after → IsCommand words
+    → name_of source ≡ file_of words → (failure : Failure) → IsMetOn source before after failure → IsMetBy words before last failure
+met_by_command words source before after last same asked named failure h = record {
+  reading = failure_on_source words source failure asked named h.reading;
+  output = subst (λ (o : Option (List ℕ)). LeavesOutput before o failure) (sym same) h.output;
+}
+
+pub met_by_words : (words : List (List ℕ)) (before after last : Option (List ℕ)) → last ≡ after → (failure : Failure)
+    → IsMetUnread before after failure → IsMetBy words before last failure
+met_by_words words before after last same failure h = record {
+  reading = failure_of_any_words words failure h.reading;
+  output = subst (λ (o : Option (List ℕ)). LeavesOutput before o failure) (sym same) h.output;
+}
 
 -- a failure that was told is told as one of a wider kind
 pub told_as : (Of New : Failure → Type 0) (before after last : Option (List ℕ)) → ((failure : Failure) → Of failure → New failure)

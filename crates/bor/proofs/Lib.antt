@@ -1,2 +1,4 @@
 pub mod KnownWords
 pub mod KnownBytes
+pub mod Ends
+mod Examples

@@ -1,12 +1,13 @@
 -- What is told of a failure.
 use Rattle.std.specs.Prelude.{◌≡◌, ⊤, ℕ, List, [], ◌∷◌, ◌++◌, Option, codes}
-use Rattle.std.specs.Io.KnownBytes.{Appends}
+use Rattle.std.specs.Io.KnownBytes.{Keeps}
 use Rattle.bor_register.specs.declared.fault.StoreFault.{StoreFault}
 use Rattle.bor_register.specs.declared.fault.StoreFault.TheVariants.{Memory as WantOfMemory, Store as StoreFailed, Damaged}
 use Rattle.bor.specs.declared.command.Source.{Source}
 use Rattle.bor.specs.declared.command.Source.TheVariants.{StandardInput, File}
 use Rattle.bor.specs.declared.failure.Failure.{Failure}
 use Rattle.bor.specs.declared.failure.Failure.TheVariants.{Unreadable, Memory, Store, Unwritable}
+use Rattle.bor.specs.Streams.{AppendsPart}
 use Rattle.bor.specs.Words.{IsCommand, file_of, name_of}
 use Rattle.clap.specs.Words.{Text}
 
@@ -21,10 +22,6 @@ failure_line Memory = codes "bor: out of memory" ++ 10 ∷ []
 failure_line Store = codes "bor: store failed" ++ 10 ∷ []
 failure_line Unwritable = []
 
--- the front of these bytes was written: all, some or none of them
-abbrev pub AppendsPart : Option (List ℕ) → Option (List ℕ) → List ℕ → Type 0
-AppendsPart before after bytes = (front : List ℕ) × (rest : List ℕ) × (bytes ≡ front ++ rest) × Appends before after front
-
 -- what a store's fault is to the program
 abbrev pub failure_of : StoreFault → Failure
 failure_of WantOfMemory = Memory
@@ -37,6 +34,13 @@ IsFailureOn source (Unreadable unread) = unread ≡ source
 IsFailureOn source Memory = ⊤
 IsFailureOn source Store = ⊤
 IsFailureOn source Unwritable = ⊤
+
+-- it is reading of this source that failed, or memory was wanting for it
+abbrev pub IsReadingOf : Source → Failure → Type 0
+IsReadingOf source (Unreadable unread) = unread ≡ source
+IsReadingOf source Memory = ⊤
+IsReadingOf source Store = ⊥
+IsReadingOf source Unwritable = ⊥
 
 -- it isn't reading that failed
 abbrev pub IsNoReading : Failure → Type 0
@@ -51,6 +55,28 @@ IsFailureOf words (Unreadable unread) = IsCommand words × (name_of unread ≡ f
 IsFailureOf words Memory = ⊤
 IsFailureOf words Store = ⊤
 IsFailureOf words Unwritable = ⊤
+
+-- a failure that isn't one of standard output leaves that as it was
+abbrev pub LeavesOutput : Option (List ℕ) → Option (List ℕ) → Failure → Type 0
+LeavesOutput before after (Unreadable unread) = Keeps before after
+LeavesOutput before after Memory = Keeps before after
+LeavesOutput before after Store = Keeps before after
+LeavesOutput before after Unwritable = ⊤
+
+-- a failure on this source, or one of standard output, and no other was met
+pub record IsMetOn (source : Source) (before after : Option (List ℕ)) (failure : Failure) : Type 0 where
+  pub reading : IsFailureOn source failure
+  pub output : LeavesOutput before after failure
+
+-- no failure of reading, and where it isn't one of standard output, that is as it was
+pub record IsMetUnread (before after : Option (List ℕ)) (failure : Failure) : Type 0 where
+  pub reading : IsNoReading failure
+  pub output : LeavesOutput before after failure
+
+-- a failure on what the words ask for, or one of standard output, and no other was met
+pub record IsMetBy (words : List Text) (before after : Option (List ℕ)) (failure : Failure) : Type 0 where
+  pub reading : IsFailureOf words failure
+  pub output : LeavesOutput before after failure
 
 -- the front of such a failure's line was written: all of it, some or nothing, and nothing else
 abbrev pub IsTold : (Failure → Type 0) → Option (List ℕ) → Option (List ℕ) → Type 0

@@ -1,3 +1,4 @@
 pub mod Words
+pub mod Streams
 pub mod Program
 pub mod Failures

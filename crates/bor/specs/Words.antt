@@ -1,5 +1,5 @@
 -- The words that the program takes, as clap sees them, and what they ask for.
-use Rattle.std.specs.Prelude.{◌≡◌, ◌≢◌, ◌⊎◌, List, [], ◌∷◌, Option, Some, None, true, codes, option_and_then, if◌then◌else◌}
+use Rattle.std.specs.Prelude.{◌≡◌, ◌≢◌, List, [], Option, Some, None, true, codes, option_and_then, if◌then◌else◌}
 use Rattle.std.specs.Str.{bytes_eq}
 use Rattle.clap.specs.Words.{App, IsAmong, Row, Text, fault_of, first_of, new_app, new_rule, subcommand_of, with_rule, with_subcommand}
 use Rattle.clap.specs.declared.error.kind.ErrorKind.{ErrorKind}
@@ -39,9 +39,13 @@ file_at entered = option_and_then (λ p. if bytes_eq p.0 (codes "check") then fi
 abbrev pub file_of : List Text → Option Text
 file_of words = file_at (subcommand_of bor_app words)
 
--- no words at all, or the command without a file
-abbrev pub NamesNoFile : List Text → Type 0
-NamesNoFile words = (words ≡ []) ⊎ (words ≡ codes "check" ∷ [])
+-- the words ask for a check, which is the one command
+abbrev pub AsksForCheck : List Text → Type 0
+AsksForCheck words = IsCommand words
+
+-- the words ask for a check, and name no file: standard input is read
+abbrev pub ChecksInput : List Text → Type 0
+ChecksInput words = AsksForCheck words × (file_of words ≡ None)
 
 -- the file that is read, unless it is standard input
 abbrev pub name_of : Source → Option Text

@@ -1,12 +1,13 @@
 //! `bor check`.
 
-ghost use Rattle.std.specs.Prelude.{◌≡◌, ℕ, List, IfErr, IfOk, IfSome, OnOk};
-ghost use Rattle.std.specs.Io.KnownBytes.{Appends};
-ghost use Rattle.bor.specs.Failures.{IsFailureOn};
-ghost use Rattle.bor.specs.Program.{IsReported, TakesPart, exit_code, part_read, report_status};
+ghost use Rattle.std.specs.Prelude.{◌≡◌, ◌-◌, ℕ, List, IfErr, IfOk, IfSome, OnOk};
+ghost use Rattle.bor.specs.Failures.{IsMetOn, IsMetUnread, IsReadingOf};
+ghost use Rattle.bor.specs.Program.{EndsReport, exit_code, report_status};
+ghost use Rattle.bor.specs.Streams.{TakesAtMostPart, TakesPart, part_read};
 
 use crate::command::Source;
 use crate::failure::Failure;
+use crate::output::write_text;
 use crate::status::Status;
 use bor_desk::{FILE_LIMIT, Text, check_text};
 use std::alloc::Global;
@@ -16,39 +17,62 @@ use std::io::{self, ErrorKind, Read, Write};
 const PART: usize = 8192;
 
 /// Reads a file from `input`, and prints what becomes of it in an empty register.
+///
+/// # Errors
+///
+/// `Unreadable` of `source`: it can't be read. `Memory`: memory is wanting; nothing is printed then.
+/// `Unwritable`: the text can't be written, or not to its end.
 pub fn check<'a, I: Read, O: Write>(
     alloc: Global,
     source: Source<'a>,
     input: &mut I,
     output: &mut O,
 ) -> Result<Status, Failure<'a>>
-    ensures reported { IfOk result (λ end. (bytes : List ℕ)
-        × IsReported bytes (O.contents output.old) (O.contents output.new) (exit_code end)) }
-    ensures known { IfSome (I.remaining input.old) (λ bytes. IfOk result (λ end.
-        IsReported (part_read bytes) (O.contents output.old) (O.contents output.new) (exit_code end))) }
+    ensures report { (bytes : List ℕ)
+        × EndsReport bytes (O.contents output.old) (O.contents output.new) result }
+    ensures known { IfSome (I.remaining input.old) (λ bytes.
+        EndsReport (part_read bytes) (O.contents output.old) (O.contents output.new) result) }
     ensures taken { OnOk result (TakesPart (I.remaining input.old) (I.remaining input.new)) }
-    ensures err { IfErr result (IsFailureOn source.entry) }
+    ensures at_most { TakesAtMostPart (I.remaining input.old) (I.remaining input.new) }
+    ensures err { IfErr result (IsMetOn source.entry (O.contents output.old) (O.contents output.new)) }
 {
-    let bytes = match read_part(alloc, input) {
-        Ok(bytes) => bytes,
-        Err(error) => return Err(Failure::of_reading(source, &error)),
-    };
+    let bytes = read_source(alloc, source, input)?;
     report(alloc, bytes.as_slice(), output)
 }
 
 // The bytes of a file, up to one more than the greatest that is taken. No more are read.
+fn read_source<'a, I: Read>(
+    alloc: Global,
+    source: Source<'a>,
+    input: &mut I,
+) -> Result<Vec<u8>, Failure<'a>>
+    ensures read { IfSome (I.remaining input.old) (λ bytes. IfOk result
+        (λ read. read.items ≡ part_read bytes)) }
+    ensures taken { OnOk result (TakesPart (I.remaining input.old) (I.remaining input.new)) }
+    ensures at_most { TakesAtMostPart (I.remaining input.old) (I.remaining input.new) }
+    ensures err { IfErr result (IsReadingOf source.entry) }
+{
+    match read_part(alloc, input) {
+        Ok(bytes) => Ok(bytes),
+        Err(error) => Err(Failure::of_reading(source, &error)),
+    }
+}
+
+// The bytes that `read_source` gives.
 fn read_part<I: Read>(alloc: Global, input: &mut I) -> io::Result<Vec<u8>>
     ensures read { IfSome (I.remaining input.old) (λ bytes. IfOk result
         (λ read. read.items ≡ part_read bytes)) }
     ensures taken { OnOk result (TakesPart (I.remaining input.old) (I.remaining input.new)) }
+    ensures at_most { TakesAtMostPart (I.remaining input.old) (I.remaining input.new) }
 {
     let mut bytes = Vec::new(alloc);
     let mut part = [0; PART];
     'turns: for _ in 0..u64::MAX {
-        if bytes.len() > FILE_LIMIT {
+        let room = room_after(bytes.len());
+        if room == 0 {
             return Ok(bytes);
         }
-        let wanted = PART.min(FILE_LIMIT + 1 - bytes.len());
+        let wanted = PART.min(room);
         match input.read(&mut part[..wanted]) {
             Ok(0) => return Ok(bytes),
             Ok(count) => bytes.extend_from_slice(&part[..count])?,
@@ -59,25 +83,21 @@ fn read_part<I: Read>(alloc: Global, input: &mut I) -> io::Result<Vec<u8>>
     Err(io::Error::from(ErrorKind::Interrupted))
 }
 
-// Prints the report on a file of these bytes.
-fn report<'a, O: Write>(alloc: Global, bytes: &[u8], output: &mut O) -> Result<Status, Failure<'a>>
-    ensures ok { IfOk result (λ end.
-        IsReported bytes.now (O.contents output.old) (O.contents output.new) (exit_code end)) }
-    ensures err { (source : Source) → IfErr result (IsFailureOn source) }
+// How many bytes of a file may be read after so many.
+fn room_after(count: usize) -> usize
+    ensures { result ≡ 1_048_577 - count }
 {
-    let text = check_text(alloc, bytes)?;
-    match print(&text, output) {
-        Ok(()) => Ok(end_of(&text)),
-        Err(_) => Err(Failure::Unwritable),
-    }
+    (FILE_LIMIT + 1).saturating_sub(count)
 }
 
-// Writes the whole text.
-fn print<O: Write>(text: &Text, output: &mut O) -> io::Result<()>
-    ensures { OnOk result (Appends (O.contents output.old) (O.contents output.new) text.now.bytes) }
+// Prints the report on a file of these bytes.
+fn report<'a, O: Write>(alloc: Global, bytes: &[u8], output: &mut O) -> Result<Status, Failure<'a>>
+    ensures report { EndsReport bytes.now (O.contents output.old) (O.contents output.new) result }
+    ensures err { IfErr result (IsMetUnread (O.contents output.old) (O.contents output.new)) }
 {
-    output.write_all(text.bytes.as_slice())?;
-    output.flush()
+    let text = check_text(alloc, bytes)?;
+    write_text(output, text.bytes.as_slice())?;
+    Ok(end_of(&text))
 }
 
 // How a command ends that printed this text.

@@ -1,7 +1,7 @@
 //! What the words on the command line ask for.
 
 ghost use Rattle.std.specs.Prelude.{◌≡◌, IfOk, IfErr, OnOk, map, option_map};
-ghost use Rattle.clap.specs.Words.{HasKind, app_of, fault_of, subcommand_rows_of};
+ghost use Rattle.clap.specs.Words.{HasKind, app_of, fault_of, subcommand_of, subcommand_rows_of};
 ghost use Rattle.bor.specs.Failures.{source_text};
 ghost use Rattle.bor.specs.Words.{IsCommand, bor_app, file_at, file_of, name_of, source_of};
 
@@ -25,15 +25,18 @@ pub enum Source<'a> {
 }
 
 impl<'a> Command<'a> {
-    /// The command that the words after the program's name ask for, or clap's answer to a request
-    /// for help or to words that ask for nothing.
+    /// The command that the words after the program's name ask for.
+    ///
+    /// # Errors
+    ///
+    /// Clap's answer to a request for help or to words that ask for nothing, or want of memory.
     pub fn read<S: AsStr>(alloc: Global, words: &'a [S]) -> Result<Self, Error>
         ensures ok { OnOk result (IsCommand (map S.text words.entry.now)) }
         ensures file { IfOk result (λ command.
             name_of (source_of command) ≡ file_of (map S.text words.entry.now)) }
         ensures err { IfErr result (HasKind (fault_of bor_app (map S.text words.entry.now))) }
     {
-        let matches = parser(alloc)?.try_get_matches_from(words)?;
+        let matches = parsed(alloc, words)?;
         Ok(Command::Check(Source::of(file_named(&matches))))
     }
 }
@@ -60,6 +63,16 @@ impl<'a> Source<'a> {
     }
 }
 
+// What clap finds in the words after the program's name.
+fn parsed<'a, S: AsStr>(alloc: Global, words: &'a [S]) -> Result<ArgMatches<'a>, Error>
+    ensures ok { OnOk result (IsCommand (map S.text words.entry.now)) }
+    ensures found { IfOk result (λ matches.
+        subcommand_rows_of matches ≡ subcommand_of bor_app (map S.text words.entry.now)) }
+    ensures err { IfErr result (HasKind (fault_of bor_app (map S.text words.entry.now))) }
+{
+    parser(alloc)?.try_get_matches_from(words)
+}
+
 // The file that the command's words name.
 fn file_named<'a>(matches: &ArgMatches<'a>) -> Option<&'a str>
     ensures { option_map (λ name. name.now) result ≡ file_at (subcommand_rows_of matches.now) }
@@ -67,16 +80,13 @@ fn file_named<'a>(matches: &ArgMatches<'a>) -> Option<&'a str>
     matches.subcommand_matches("check")?.get_str("FILE")
 }
 
-// The words that `bor` takes.
+// The words that `bor` takes. What they mean is told by `HELP`.
 fn parser<'a>(alloc: Global) -> Result<Parser<'a>, AllocError>
     ensures { IfOk result (λ parser. app_of parser ≡ bor_app) }
 {
-    let file = Arg::new(alloc, "FILE").help("The file; without it, standard input is read");
-    let check = Parser::new(alloc, "check")
-        .about("Checks a BODS file, and prints what a register would make of it")
-        .arg(file)?;
+    let file = Arg::new(alloc, "FILE");
+    let check = Parser::new(alloc, "check").arg(file)?;
     Parser::new(alloc, "bor")
-        .about("A register of beneficial ownership")
         .bin_name("bor")?
         .no_binary_name(true)
         .subcommand(check)

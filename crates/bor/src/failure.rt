@@ -1,11 +1,12 @@
 //! Why a command could not be done.
 
-ghost use Rattle.std.specs.Prelude.{◌≡◌, ◌≢◌, ◌↔◌, ◌∷◌, ◌++◌, [], IsTrue, codes};
+ghost use Rattle.std.specs.Prelude.{◌≡◌, ◌≢◌, ◌↔◌, ◌∷◌, ◌++◌, [], codes};
 ghost use Rattle.std.specs.IoError.{error_kind};
-ghost use Rattle.std.specs.Io.KnownBytes.{Appends};
-ghost use Rattle.bor.specs.Failures.{AppendsPart, IsFailureOn, failure_line, failure_of};
+ghost use Rattle.bor.specs.Failures.{IsReadingOf, failure_line, failure_of};
+ghost use Rattle.bor.specs.Streams.{AppendsPart};
 
 use crate::command::Source;
+use crate::output::write_part;
 use crate::status::Status;
 use bor_machine::StoreFault;
 use std::io::{Error, ErrorKind, Write};
@@ -28,7 +29,7 @@ impl<'a> Failure<'a> {
     pub fn of_reading(source: Source<'a>, error: &Error) -> Self
         ensures memory { (result ≡ Failure.Memory) ↔ (error_kind error.now ≡ ErrorKind.OutOfMemory) }
         ensures unreadable { error_kind error.now ≢ ErrorKind.OutOfMemory → result ≡ Failure.Unreadable source.entry }
-        ensures source { IsFailureOn source.entry result }
+        ensures source { IsReadingOf source.entry result }
     {
         match error.kind() {
             ErrorKind::OutOfMemory => Failure::Memory,
@@ -66,26 +67,6 @@ fn write_line<E: Write>(errors: &mut E, text: &str, name: &str)
     if write_part(errors, name.as_bytes()) {
         write_part(errors, b"\n");
     }
-}
-
-// Writes the bytes as far as they can be written, and tells whether all were.
-fn write_part<E: Write>(errors: &mut E, bytes: &[u8]) -> bool
-    ensures part { AppendsPart (E.contents errors.old) (E.contents errors.new) bytes.now }
-    ensures whole { IsTrue result → Appends (E.contents errors.old) (E.contents errors.new) bytes.now }
-{
-    let mut rest = bytes;
-    'turns: for _ in 0..u64::MAX {
-        if rest.is_empty() {
-            return true;
-        }
-        match errors.write(rest) {
-            Ok(0) => return false,
-            Ok(count) => rest = &rest[count..],
-            Err(error) if error.kind() == ErrorKind::Interrupted => {}
-            Err(_) => return false,
-        }
-    }
-    false
 }
 
 impl From<StoreFault> for Failure<'_> {

@@ -4,6 +4,8 @@
 mod check;
 mod command;
 mod failure;
+mod help;
+mod output;
 mod program;
 mod status;
 #[cfg(test)]

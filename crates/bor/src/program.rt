@@ -1,29 +1,32 @@
 //! The program as a function of its words and its streams.
 
-ghost use Rattle.std.specs.Prelude.{◌≡◌, ◌≢◌, ◌≤◌, ◌⊎◌, ℕ, List, None, IfErr, IfOk, IfSome, IsSome, map};
-ghost use Rattle.std.specs.Io.KnownBytes.{Keeps};
+ghost use Rattle.std.specs.Prelude.{◌≡◌, ◌≢◌, ◌≤◌, ◌⊎◌, ℕ, List, None, IfErr, IfSome, IsSome, OnOk, map};
+ghost use Rattle.std.specs.Io.KnownBytes.{Appends, Keeps};
 ghost use Rattle.clap.specs.Words.{kind_of};
-ghost use Rattle.bor.specs.Failures.{IsFailureOf, IsFailureOn, IsNoReading, IsTold};
-ghost use Rattle.bor.specs.Program.{IsReported, IsReportedOrFailed, TakesPart, exit_code, part_read};
-ghost use Rattle.bor.specs.Words.{IsCommand, IsWrong, MayAskForHelp, NamesNoFile, file_of, name_of, source_of};
+ghost use Rattle.bor.specs.Failures.{IsMetBy, IsMetOn, IsMetUnread, IsTold};
+ghost use Rattle.bor.specs.Program.{EndsReport, IsReported, IsReportedOrCutOff, exit_code};
+ghost use Rattle.bor.specs.Streams.{AppendsPart, TakesAtMostPart, TakesPart, part_read};
+ghost use Rattle.bor.specs.Words.{AsksForCheck, ChecksInput, IsCommand, IsWrong, MayAskForHelp, file_of, name_of, source_of};
 
 use crate::check::check;
 use crate::command::{Command, Source};
 use crate::failure::Failure;
+use crate::help::HELP;
+use crate::output::write_text;
 use crate::status::Status;
 use clap::Error;
 use clap::error::ErrorKind;
 use std::convert::AsStr;
 use std::fs;
-use std::io::{self, Read, Write};
+use std::io::{Read, Write};
 use std::rt::Files;
 
 /// Does what the words after the program's name ask for, and gives the exit status.
 ///
 /// 0: done, or help was asked for; 1: refused; 2: the words ask for nothing that there is; 3: a file,
-/// memory or the store failed. Standard output has the text of a command, or the help. Standard error
-/// has what is wrong with the words, or one line on what failed; that line is missing where it was
-/// standard output that failed.
+/// memory or the store failed. Standard output has the text of a command, or the help; with status 3 a
+/// front of it. Standard error has what is wrong with the words, or one line on what failed; that line
+/// is missing where it was standard output that failed.
 pub fn run<R: Files + AllocGlobal, S: AsStr, I: Read, O: Write, E: Write>(
     rt: &R,
     words: &[S],
@@ -33,27 +36,38 @@ pub fn run<R: Files + AllocGlobal, S: AsStr, I: Read, O: Write, E: Write>(
 ) -> u8
     ensures at_most { result ≤ 3 }
 
-    // Words that ask for a command have its text written, or fail.
-    ensures command { IsCommand (map S.text words.now)
-        → IsReportedOrFailed (O.contents output.old) (O.contents output.new) result }
+    // Words that ask for a check have its text written, or the run fails and wrote a front of it.
+    ensures check { AsksForCheck (map S.text words.now) → (bytes : List ℕ)
+        × IsReportedOrCutOff bytes (O.contents output.old) (O.contents output.new) result }
 
-    // Where standard input is read and its bytes are known, the text is the report on them.
-    ensures standard_input { NamesNoFile (map S.text words.now)
-        → IfSome (I.remaining input.old) (λ bytes. (result ≡ 3)
-        ⊎ IsReported (part_read bytes) (O.contents output.old) (O.contents output.new) result) }
+    // Where standard input is checked and its bytes are known, the text is the report on them,
+    ensures check_input { ChecksInput (map S.text words.now) → IfSome (I.remaining input.old) (λ bytes.
+        IsReportedOrCutOff (part_read bytes) (O.contents output.old) (O.contents output.new) result) }
 
-    // Of known bytes that part is taken, unless the run fails, and none where a file is named.
-    ensures taken { NamesNoFile (map S.text words.now) → result ≤ 1
+    // and of known bytes that part is taken, unless the run fails.
+    ensures check_taken { ChecksInput (map S.text words.now) → result ≤ 1
         → TakesPart (I.remaining input.old) (I.remaining input.new) }
-    ensures file { IsSome (file_of (map S.text words.now))
+
+    // Where a file is named, standard input is left alone.
+    ensures check_file { IsSome (file_of (map S.text words.now))
         → Keeps (I.remaining input.old) (I.remaining input.new) }
 
+    // Whatever the end, no more is taken than that part, and nothing where no command is asked for.
+    ensures taken { TakesAtMostPart (I.remaining input.old) (I.remaining input.new) }
+    ensures untaken { ¬ IsCommand (map S.text words.now)
+        → Keeps (I.remaining input.old) (I.remaining input.new) }
+
+    // Where no command is asked for, nothing is written on standard output but the help, or a front of it.
+    ensures help { ¬ IsCommand (map S.text words.now)
+        → AppendsPart (O.contents output.old) (O.contents output.new) HELP.now }
+
     // Whatever the words, status 1 stands for a refusal that was written,
-    ensures refused { result ≡ 1 → IsCommand (map S.text words.now)
+    ensures refused { result ≡ 1 → AsksForCheck (map S.text words.now)
         × ((bytes : List ℕ) × IsReported bytes (O.contents output.old) (O.contents output.new) 1) }
 
-    // status 0 for a command or for help,
-    ensures done { result ≡ 0 → IsCommand (map S.text words.now) ⊎ MayAskForHelp (map S.text words.now) }
+    // status 0 for a command, or for help that was written whole,
+    ensures done { result ≡ 0 → IsCommand (map S.text words.now) ⊎ (MayAskForHelp (map S.text words.now)
+        × Appends (O.contents output.old) (O.contents output.new) HELP.now) }
 
     // and status 2 for words with a fault: nothing was read, and no output written.
     ensures usage { result ≡ 2 → IsWrong (map S.text words.now)
@@ -67,9 +81,10 @@ pub fn run<R: Files + AllocGlobal, S: AsStr, I: Read, O: Write, E: Write>(
     // With status 0 or 1 nothing is added to known bytes on standard error,
     ensures silent { result ≤ 1 → Keeps (E.contents errors.old) (E.contents errors.new) }
 
-    // and with status 3 the front of one failure's line: all of it, some or nothing.
+    // and with status 3 the front of the line of the failure that was met: all of it, some or nothing.
     ensures told { result ≡ 3
-        → IsTold (IsFailureOf (map S.text words.now)) (E.contents errors.old) (E.contents errors.new) }
+        → IsTold (IsMetBy (map S.text words.now) (O.contents output.old) (O.contents output.new))
+        (E.contents errors.old) (E.contents errors.new) }
 {
     let status = match Command::read(rt.alloc(), words) {
         Ok(command) => perform(rt, command, input, output, errors),
@@ -86,26 +101,48 @@ fn perform<R: Files + AllocGlobal, I: Read, O: Write, E: Write>(
     output: &mut O,
     errors: &mut E,
 ) -> Status
-    ensures reported { IsReportedOrFailed (O.contents output.old) (O.contents output.new) (exit_code result) }
-    ensures silent { result ≢ Status.Failed → Keeps (E.contents errors.old) (E.contents errors.new) }
-    ensures told { result ≡ Status.Failed → IsTold (IsFailureOn (source_of command.entry))
-        (E.contents errors.old) (E.contents errors.new) }
+    ensures report { (bytes : List ℕ)
+        × IsReportedOrCutOff bytes (O.contents output.old) (O.contents output.new) (exit_code result) }
+    ensures known { name_of (source_of command.entry) ≡ None → IfSome (I.remaining input.old) (λ bytes.
+        IsReportedOrCutOff (part_read bytes) (O.contents output.old) (O.contents output.new) (exit_code result)) }
     ensures taken { name_of (source_of command.entry) ≡ None → result ≢ Status.Failed
         → TakesPart (I.remaining input.old) (I.remaining input.new) }
+    ensures at_most { TakesAtMostPart (I.remaining input.old) (I.remaining input.new) }
     ensures unread { IsSome (name_of (source_of command.entry))
         → Keeps (I.remaining input.old) (I.remaining input.new) }
-    ensures known { name_of (source_of command.entry) ≡ None
-        → IfSome (I.remaining input.old) (λ bytes. (result ≡ Status.Failed)
-        ⊎ IsReported (part_read bytes) (O.contents output.old) (O.contents output.new) (exit_code result)) }
+    ensures silent { result ≢ Status.Failed → Keeps (E.contents errors.old) (E.contents errors.new) }
+    ensures told { result ≡ Status.Failed
+        → IsTold (IsMetOn (source_of command.entry) (O.contents output.old) (O.contents output.new))
+        (E.contents errors.old) (E.contents errors.new) }
 {
     let Command::Check(source) = command;
-    let end = match source {
-        Source::StandardInput => check(rt.alloc(), source, input, output),
-        Source::File(name) => check_file(rt, name, output),
-    };
-    match end {
+    match check_source(rt, source, input, output) {
         Ok(status) => status,
         Err(failure) => failure.tell(errors),
+    }
+}
+
+// Checks standard input, or the file that is named.
+fn check_source<'a, R: Files + AllocGlobal, I: Read, O: Write>(
+    rt: &R,
+    source: Source<'a>,
+    input: &mut I,
+    output: &mut O,
+) -> Result<Status, Failure<'a>>
+    ensures report { (bytes : List ℕ)
+        × EndsReport bytes (O.contents output.old) (O.contents output.new) result }
+    ensures known { name_of source.entry ≡ None → IfSome (I.remaining input.old) (λ bytes.
+        EndsReport (part_read bytes) (O.contents output.old) (O.contents output.new) result) }
+    ensures taken { name_of source.entry ≡ None
+        → OnOk result (TakesPart (I.remaining input.old) (I.remaining input.new)) }
+    ensures at_most { TakesAtMostPart (I.remaining input.old) (I.remaining input.new) }
+    ensures unread { IsSome (name_of source.entry)
+        → Keeps (I.remaining input.old) (I.remaining input.new) }
+    ensures err { IfErr result (IsMetOn source.entry (O.contents output.old) (O.contents output.new)) }
+{
+    match source {
+        Source::StandardInput => check(rt.alloc(), source, input, output),
+        Source::File(name) => check_file(rt, name, output),
     }
 }
 
@@ -115,9 +152,10 @@ fn check_file<'a, R: Files + AllocGlobal, O: Write>(
     name: &'a str,
     output: &mut O,
 ) -> Result<Status, Failure<'a>>
-    ensures reported { IfOk result (λ end. (bytes : List ℕ)
-        × IsReported bytes (O.contents output.old) (O.contents output.new) (exit_code end)) }
-    ensures err { IfErr result (IsFailureOn (Source.File name.entry)) }
+    ensures report { (bytes : List ℕ)
+        × EndsReport bytes (O.contents output.old) (O.contents output.new) result }
+    ensures err { IfErr result (IsMetOn (Source.File name.entry)
+        (O.contents output.old) (O.contents output.new)) }
 {
     let source = Source::File(name);
     match fs::open(rt, name) {
@@ -126,34 +164,32 @@ fn check_file<'a, R: Files + AllocGlobal, O: Write>(
     }
 }
 
-// Prints clap's answer: help that was asked for on standard output, what is wrong with the words on
+// Prints what clap answers: the help on standard output, or what is wrong with the words on
 // standard error.
 fn explain<O: Write, E: Write>(error: &Error, output: &mut O, errors: &mut E) -> Status
     ensures memory { kind_of error.now ≡ ErrorKind.OutOfMemory → result ≡ Status.Failed }
     ensures never { result ≢ Status.Refused }
-    ensures done { result ≡ Status.Done → kind_of error.now ≡ ErrorKind.DisplayHelp }
+    ensures done { result ≡ Status.Done → (kind_of error.now ≡ ErrorKind.DisplayHelp)
+        × Appends (O.contents output.old) (O.contents output.new) HELP.now }
+    ensures help { AppendsPart (O.contents output.old) (O.contents output.new) HELP.now }
+    ensures kept { kind_of error.now ≢ ErrorKind.DisplayHelp
+        → Keeps (O.contents output.old) (O.contents output.new) }
     ensures silent { result ≡ Status.Done → Keeps (E.contents errors.old) (E.contents errors.new) }
     ensures wrong { result ≡ Status.Usage → (kind_of error.now ≢ ErrorKind.DisplayHelp)
         × (kind_of error.now ≢ ErrorKind.OutOfMemory) }
-    ensures usage { result ≡ Status.Usage → Keeps (O.contents output.old) (O.contents output.new) }
     ensures told { result ≡ Status.Failed
-        → IsTold IsNoReading (E.contents errors.old) (E.contents errors.new) }
+        → IsTold (IsMetUnread (O.contents output.old) (O.contents output.new))
+        (E.contents errors.old) (E.contents errors.new) }
 {
     match error.kind() {
         ErrorKind::OutOfMemory => Failure::Memory.tell(errors),
-        ErrorKind::DisplayHelp => match print_help(error, output) {
+        ErrorKind::DisplayHelp => match write_text(output, HELP.as_bytes()) {
             Ok(()) => Status::Done,
-            Err(_) => Failure::Unwritable.tell(errors),
+            Err(failure) => failure.tell(errors),
         },
         _ => {
             let _ = write!(errors, "{error}");
             Status::Usage
         }
     }
-}
-
-// Writes the whole help.
-fn print_help<O: Write>(help: &Error, output: &mut O) -> io::Result<()> {
-    write!(output, "{help}")?;
-    output.flush()
 }
