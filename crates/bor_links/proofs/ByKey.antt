@@ -17,9 +17,10 @@ use Rattle.bor_links.specs.declared.node.Link.{Link}
 use Rattle.bor_links.specs.Nodes.{same_node}
 use Rattle.bor_links.specs.Orders.{node_equiv}
 use Rattle.bor_links.specs.Series.{series_of, is_of, open_at}
-use Rattle.bor_links.specs.Shown.{listed_at}
+use Rattle.bor_links.specs.Shown.{listed_at, are_alike}
 use Rattle.bor_links.specs.Rows.{node_in, node_with, nodes_of, link_in, links_of}
-use Rattle.bor_links.specs.Laws.{OpenRowsAreTheLatest, OpenRowsAreReadByKey, SnapshotsShowTheOpenRows, NodesAreReadByKey, AliasesAreReadByKey, LinksAreReadByCandidates}
+use Rattle.bor_links.specs.ByKey.{node_at, AreAlikeAt, CoverAliases}
+use Rattle.bor_links.specs.Laws.{OpenRowsAreTheLatest, OpenRowsAreReadByKey, SnapshotsShowTheOpenRows, NodesAreReadByKey, AliasesAreReadByKey, AliasesAreReadByCandidates, LinksAreReadByCandidates}
 use Rattle.bor_links.proofs.SameNode.{same_node_is}
 use Rattle.bor_links.proofs.Found.{none, here, there, cases}
 use Rattle.bor_links.proofs.Series.{has_dated, both_tests, open_are_latest}
@@ -237,3 +238,28 @@ alias_by_key day rows a b = (
   (λ h. record { one = h.one; two = h.two; one_is = sym (listed_by_key day a rows) ∙ h.one_is; two_is = sym (listed_by_key day b rows) ∙ h.two_is; alike = h.alike }),
   (λ h. record { one = h.one; two = h.two; one_is = listed_by_key day a rows ∙ h.one_is; two_is = listed_by_key day b rows ∙ h.two_is; alike = h.alike }),
 )
+
+-- ---- aliases by candidates
+
+same_one : (x y : OpenNode) → Some x ≡ Some y → x ≡ y
+same_one x y h = cc
+
+-- a node that is alike is among candidates that cover those that may be
+alike_covered : (day : ℤ) (rows : List Row) (candidates : List Node) (a b : Node) (one : OpenNode) → node_at day a rows ≡ Some one → CoverAliases rows candidates one → AreAlikeAt day rows a b → Contains candidates b
+alike_covered day rows candidates a b one here cover h = at (open_at day b rows) refl h.two_is
+  where
+    alike : are_alike one h.two ≡ true
+    alike = ap (λ (x : OpenNode). are_alike x h.two) (same_one one h.one (sym here ∙ h.one_is)) ∙ h.alike
+
+    at : (o : Option Row) → open_at day b rows ≡ o → option_and_then node_in o ≡ Some h.two → Contains candidates b
+    at None e k = let no : None ≡ Some h.two = k in absurd cc
+    at (Some r) e k = let m = open_at_in day b rows r e in subst (λ (n : Node). Contains candidates n) m.1 (cover r h.two (open_row_is day rows r m.0).0 k alike)
+
+pub aliases_by_candidates : AliasesAreReadByCandidates
+aliases_by_candidates day rows candidates a one nodes here cover told once = record {
+  each = λ b. (
+    (λ h. (alias_by_key day rows a b).1 ((told b).0 h).1),
+    (λ h. let k = (alias_by_key day rows a b).0 h in (told b).1 (alike_covered day rows candidates a b one here cover k, k)),
+  );
+  once = once;
+}

@@ -37,3 +37,7 @@ pub record IsMade (day : ℤ) (rows : List Row) (candidates : List Node) (l : Li
 -- the candidates have the series of each row that, were it the latest, would make a link into the node
 abbrev pub CoverLinks : List Row → List Node → Node → Type 0
 CoverLinks rows candidates n = (r : Row) (nodes : List OpenNode) (l : Link) → Contains rows r → link_in nodes r ≡ Some l → l.subject ≡ n → Contains candidates (series_of r)
+
+-- the candidates have the series of each row that, were it the latest, would be alike
+abbrev pub CoverAliases : List Row → List Node → OpenNode → Type 0
+CoverAliases rows candidates one = (r : Row) (two : OpenNode) → Contains rows r → node_in r ≡ Some two → IsTrue (are_alike one two) → Contains candidates (series_of r)

@@ -6,6 +6,7 @@ use Rattle.bor_records.specs.declared.row.Row.{Row}
 use Rattle.bor_records.specs.Snapshot.{open_row}
 use Rattle.bor_links.specs.declared.node.Node.{Node}
 use Rattle.bor_links.specs.declared.node.Link.{Link}
+use Rattle.bor_links.specs.declared.node.OpenNode.{OpenNode}
 use Rattle.bor_links.specs.Nodes.{same_node}
 use Rattle.bor_links.specs.Stakes.{HasPointsOfShare, is_stake, is_holding}
 use Rattle.bor_records.specs.OpenRows.{open_rows}
@@ -13,8 +14,8 @@ use Rattle.bor_links.specs.Series.{series_of, is_of, open_at}
 use Rattle.bor_links.specs.Shown.{listed_at}
 use Rattle.bor_links.specs.Aliases.{Alias}
 use Rattle.bor_links.specs.Rows.{nodes_of, shown_of}
-use Rattle.bor_links.specs.Answers.{AreLinksInto}
-use Rattle.bor_links.specs.ByKey.{rows_by, node_at, AreAlikeAt, IsMade, CoverLinks}
+use Rattle.bor_links.specs.Answers.{AreAliases, AreLinksInto}
+use Rattle.bor_links.specs.ByKey.{rows_by, node_at, AreAlikeAt, IsMade, CoverLinks, CoverAliases}
 
 -- the open rows of a series are its latest statement where it is open, and no others
 abbrev pub OpenRowsAreTheLatest : Type 0
@@ -35,6 +36,11 @@ NodesAreReadByKey = (day : ℤ) (n : Node) (rows : List Row) → listed_at (node
 -- and its aliases are those that are alike by the latest statements
 abbrev pub AliasesAreReadByKey : Type 0
 AliasesAreReadByKey = (day : ℤ) (rows : List Row) (a b : Node) → Alias (shown_of day rows) a b ↔ AreAlikeAt day rows a b
+
+-- where the candidates have the series of each row that may be alike, they are the candidates that are
+abbrev pub AliasesAreReadByCandidates : Type 0
+AliasesAreReadByCandidates = (day : ℤ) (rows : List Row) (candidates : List Node) (a : Node) (one : OpenNode) (nodes : List Node) → node_at day a rows ≡ Some one → CoverAliases rows candidates one
+    → ((b : Node) → Contains nodes b ↔ (Contains candidates b × AreAlikeAt day rows a b)) → IsDistinct same_node nodes → AreAliases (shown_of day rows) a nodes
 
 -- the links into a node are those that candidates make, where the candidates have the series of each row that may make one
 abbrev pub LinksAreReadByCandidates : Type 0

@@ -1,7 +1,7 @@
 //! Laws of nodes and links. Each function does nothing: its contract is the law, and it is proved for
 //! all lists.
 
-ghost use Rattle.bor_links.specs.Laws.{EveryStakeIsAHolding, OpenRowsAreTheLatest, OpenRowsAreReadByKey, SnapshotsShowTheOpenRows, NodesAreReadByKey, AliasesAreReadByKey, LinksAreReadByCandidates, NodesAreDistinct};
+ghost use Rattle.bor_links.specs.Laws.{EveryStakeIsAHolding, OpenRowsAreTheLatest, OpenRowsAreReadByKey, SnapshotsShowTheOpenRows, NodesAreReadByKey, AliasesAreReadByKey, AliasesAreReadByCandidates, LinksAreReadByCandidates, NodesAreDistinct};
 
 /// The interests of a majority stake are a holding, where each share has points: a chain of stakes
 /// alone is a chain.
@@ -33,6 +33,12 @@ pub fn nodes_are_read_by_key()
 /// The aliases of a node are those that are alike by the latest statements.
 pub fn aliases_are_read_by_key()
     ensures { AliasesAreReadByKey }
+{}
+
+/// The aliases of a node are the candidates that are alike by the latest statements, where the
+/// candidates have the series of each row that, were it the latest, would be alike.
+pub fn aliases_are_read_by_candidates()
+    ensures { AliasesAreReadByCandidates }
 {}
 
 /// The links into a node are those that candidates make, where the candidates have the series of
