@@ -1,7 +1,6 @@
-use Rattle.std.proofs.Common.{ap}
 use Rattle.serde_json.specs.View.{view}
 use Rattle.serde_json.specs.Errors.{IsMemory}
-use Rattle.bods_read.specs.File.{reading, reading_in}
+use Rattle.bods_read.specs.File.{reading}
 use Rattle.bods_read.proofs.Bytes.{value_of-read, value_of-unread, unread-no_value}
 use Rattle.bods_read.proofs.file.read_file.Goals as goal
 
