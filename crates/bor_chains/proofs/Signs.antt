@@ -3,7 +3,7 @@ use Rattle.std.proofs.Common.{◌≡◌, ◌↔◌, ◌⊎◌, ◌+◌, ◌<◌,
 use Rattle.std.specs.Prelude.{nat_lt}
 use Rattle.std.specs.declared.cmp.Ordering.{Ordering}
 use Rattle.std.specs.declared.cmp.Ordering.TheVariants.{Less, Equal, Greater}
-use Rattle.std.specs.Ordering.{is_eq, ordering_then}
+use Rattle.std.specs.Ordering.{is_eq, ordering_then, bool_cmp}
 use Rattle.std.specs.List.{filter, slice_get, list_any, IsDistinct}
 use Rattle.std.specs.BTreeMap.{BTreeMap, get}
 use Rattle.std.proofs.lemmas.Map.Lookups.{CmpEqualImpliesEq, exact_bytes}
@@ -33,11 +33,23 @@ parts Less q h = absurd (cc)
 parts Equal q h = (cc, h)
 parts Greater q h = absurd (cc)
 
-sign_is : (a b : Sign) → a.group ≡ b.group → a.name ≡ b.name → a ≡ b
-sign_is a b e f = ap (λ (t : List ℕ). let k : Sign = record { group = t; name = a.name } in k) e ∙ ap (λ (t : List ℕ). let k : Sign = record { group = b.group; name = t } in k) f
+sign_is : (a b : Sign) → a.of_record ≡ b.of_record → a.group ≡ b.group → a.name ≡ b.name → a ≡ b
+sign_is a b d e f =
+    ap (λ (t : Bool). let k : Sign = record { of_record = t; group = a.group; name = a.name } in k) d
+    ∙ ap (λ (t : List ℕ). let k : Sign = record { of_record = b.of_record; group = t; name = a.name } in k) e
+    ∙ ap (λ (t : List ℕ). let k : Sign = record { of_record = b.of_record; group = b.group; name = t } in k) f
 
-exact_sign : CmpEqualImpliesEq sign_cmp
-exact_sign a b h = let p = parts (text_cmp a.group b.group) (text_cmp a.name b.name) h in sign_is a b (exact_bytes a.group b.group p.0) (exact_bytes a.name b.name p.1)
+exact_bool : (x y : Bool) → bool_cmp x y ≡ Equal → x ≡ y
+exact_bool true true h = refl
+exact_bool true false h = absurd (cc)
+exact_bool false true h = absurd (cc)
+exact_bool false false h = refl
+
+pub exact_sign : CmpEqualImpliesEq sign_cmp
+exact_sign a b h =
+    let one = parts (bool_cmp a.of_record b.of_record) (ordering_then (text_cmp a.group b.group) (text_cmp a.name b.name)) h in
+    let two = parts (text_cmp a.group b.group) (text_cmp a.name b.name) one.1 in
+    sign_is a b (exact_bool a.of_record b.of_record one.0) (exact_bytes a.group b.group two.0) (exact_bytes a.name b.name two.1)
 
 abbrev pub under : BTreeMap Sign (Vec ℕ Global) → Sign → List ℕ
 under m k = items_of (λ v. v.items) (get sign_cmp m k)
@@ -93,7 +105,7 @@ under_first x key place was now is at stays rest k h = elim (cases (by_record x.
 pub nodes_none : (nodes : List OpenNode) (places : Sign → List ℕ) → AreUnder 0 nodes places
 nodes_none nodes places i x lt at = absurd (omega (arith, lt))
 
-some_is : (x y : OpenNode) → Some x ≡ Some y → x ≡ y
+pub some_is : (x y : OpenNode) → Some x ≡ Some y → x ≡ y
 some_is x y h = cc
 
 pub nodes_more : (nodes : List OpenNode) (n : ℕ) (one : OpenNode) (was now : Sign → List ℕ) → n < length nodes → one ≡ get_or nodes n one → AreUnder n nodes was → Stays was now → IsUnder (signs one) n now → AreUnder (n + 1) nodes now
@@ -141,7 +153,7 @@ or_cases : (a b : Bool) → (a || b) ≡ true → (a ≡ true) ⊎ (b ≡ true)
 or_cases true b e = inl refl
 or_cases false b e = inr e
 
-abbrev InCommon : OpenNode → OpenNode → Type 0
+abbrev pub InCommon : OpenNode → OpenNode → Type 0
 InCommon a b = (k : Sign) × Contains (signs a) k × Contains (signs b) k
 
 same_any : {X : Type 0} (p : X → Bool) (xs : List X) → list_any p xs ≡ true → (x : X) × Contains xs x × (p x ≡ true)
@@ -155,7 +167,7 @@ by_same_record : (a b : OpenNode) → same_record a.node b.node ≡ true → InC
 by_same_record a b h =
     let p = and_parts (is_same a.node.agent b.node.agent) (is_same a.node.rec b.node.rec && not (is_same a.node.declaration b.node.declaration)) h in
     let q = and_parts (is_same a.node.rec b.node.rec) (not (is_same a.node.declaration b.node.declaration)) p.1 in
-    let e = sign_is (by_record a.node) (by_record b.node) (same_is a.node.agent b.node.agent p.0) (same_is a.node.rec b.node.rec q.0) in
+    let e = sign_is (by_record a.node) (by_record b.node) refl (same_is a.node.agent b.node.agent p.0) (same_is a.node.rec b.node.rec q.0) in
     (by_record a.node, here (by_record a.node) (map by_identifier a.identifiers), subst (λ (z : Sign). Contains (signs b) z) (sym e) (here (by_record b.node) (map by_identifier b.identifiers)))
 
 by_same_identifier : (a b : OpenNode) → share_identifier a.identifiers b.identifiers ≡ true → InCommon a b
@@ -163,13 +175,13 @@ by_same_identifier a b h =
     let x = same_any (λ i. list_any (λ j. same_identifier i j) b.identifiers) a.identifiers h in
     let y = same_any (λ j. same_identifier x.0 j) b.identifiers x.2 in
     let p = and_parts (is_same (x.0).scheme (y.0).scheme) (is_same (x.0).id (y.0).id) y.2 in
-    let e = sign_is (by_identifier x.0) (by_identifier y.0) (same_is (x.0).scheme (y.0).scheme p.0) (same_is (x.0).id (y.0).id p.1) in (
+    let e = sign_is (by_identifier x.0) (by_identifier y.0) refl (same_is (x.0).scheme (y.0).scheme p.0) (same_is (x.0).id (y.0).id p.1) in (
       by_identifier x.0,
       there (by_record a.node) (map by_identifier a.identifiers) (by_identifier x.0) (Contains-map by_identifier a.identifiers x.0 x.1),
       subst (λ (z : Sign). Contains (signs b) z) (sym e) (there (by_record b.node) (map by_identifier b.identifiers) (by_identifier y.0) (Contains-map by_identifier b.identifiers y.0 y.1)),
     )
 
-in_common : (a b : OpenNode) → are_alike a b ≡ true → InCommon a b
+pub in_common : (a b : OpenNode) → are_alike a b ≡ true → InCommon a b
 in_common a b h =
     let q = and_parts (is_entity a.info && is_entity b.info) (same_record a.node b.node || (share_identifier a.identifiers b.identifiers && not (same_node a.node b.node))) h in
     elim (or_cases (same_record a.node b.node) (share_identifier a.identifiers b.identifiers && not (same_node a.node b.node)) q.1) [
@@ -179,10 +191,10 @@ in_common a b h =
 
 -- ---- the aliases
 
-placed_in : (nodes : List OpenNode) (y : OpenNode) → Contains nodes y → (i : ℕ) × (i < length nodes) × (slice_get nodes i ≡ Some y)
+pub placed_in : (nodes : List OpenNode) (y : OpenNode) → Contains nodes y → (i : ℕ) × (i < length nodes) × (slice_get nodes i ≡ Some y)
 placed_in nodes y h = (h.0, h.1, slice_get-get_or nodes h.0 y h.1 ∙ ap (λ (z : OpenNode). Some z) h.2)
 
-in_place : (nodes : List OpenNode) (y : OpenNode) (i : ℕ) → slice_get nodes i ≡ Some y → Contains nodes y
+pub in_place : (nodes : List OpenNode) (y : OpenNode) (i : ℕ) → slice_get nodes i ≡ Some y → Contains nodes y
 in_place nodes y i e = (i, slice_get_within nodes i y e, get_or_from_slice_get nodes i y y e)
 
 node_some : (m n : Node) → Some m ≡ Some n → m ≡ n

@@ -5,11 +5,16 @@ use Rattle.bor_links.specs.declared.node.Node.{Node}
 use Rattle.bor_links.specs.declared.node.Link.{Link}
 use Rattle.bor_links.specs.Nodes.{same_node}
 use Rattle.bor_links.specs.Shown.{Shown}
-use Rattle.bor_links.specs.Aliases.{Alias}
+use Rattle.bor_links.specs.Aliases.{Alias, Same}
 
 -- exactly the nodes one alias away, each once
 pub record AreAliases (s : Shown) (a : Node) (nodes : List Node) : Type 0 where
   pub each : (b : Node) → Contains nodes b ↔ Alias s a b
+  pub once : IsDistinct same_node nodes
+
+-- exactly the nodes that stand for one entity with it, each once; it is one of them, listed or not
+pub record AreSame (s : Shown) (a : Node) (nodes : List Node) : Type 0 where
+  pub each : (b : Node) → Contains nodes b ↔ Same s a b
   pub once : IsDistinct same_node nodes
 
 -- exactly the links with this subject

@@ -70,7 +70,8 @@ impl NodeInfo {
         }
     }
 
-    fn is_entity(&self) -> bool
+    /// Whether the node is an entity, of whatever kind.
+    pub fn is_entity(&self) -> bool
         ensures { result ≡ is_entity self.now }
     {
         matches!(self, NodeInfo::Entity { .. })

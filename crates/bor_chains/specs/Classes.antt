@@ -1,0 +1,67 @@
+-- All nodes that are the same as one, while they are looked for sign by sign.
+use Rattle.std.specs.Prelude.{◌≡◌, ◌⊎◌, ◌++◌, ℕ, Bool, true, false, List, Contains, IsTrue, Option, Some, None, option_map, if◌then◌else◌}
+use Rattle.std.specs.List.{slice_get}
+use Rattle.bor_links.specs.declared.node.Node.{Node}
+use Rattle.bor_links.specs.declared.node.OpenNode.{OpenNode}
+use Rattle.bor_chains.specs.declared.alike.Sign.{Sign}
+use Rattle.bor_links.specs.Shown.{Shown, is_entity, are_alike}
+use Rattle.bor_links.specs.Aliases.{Same}
+use Rattle.bor_chains.specs.Likeness.{signs}
+
+-- an open node is there, and is one step away
+abbrev pub is_like : OpenNode → Option OpenNode → Bool
+is_like one None = false
+is_like one (Some x) = are_alike one x
+
+abbrev pub node_at : Option OpenNode → Option Node
+node_at None = None
+node_at (Some x) = Some x.node
+
+-- an entity, where there is one
+abbrev pub entity_in : Option OpenNode → Option OpenNode
+entity_in None = None
+entity_in (Some x) = if is_entity x.info then Some x else None
+
+-- the place, where a node stands there
+abbrev pub place_in : List OpenNode → Option ℕ → Option ℕ
+place_in nodes None = None
+place_in nodes (Some i) = option_map (λ x. i) (slice_get nodes i)
+
+-- the node stands at one of these places
+pub record IsAmong (nodes : List OpenNode) (found : List ℕ) (n : Node) : Type 0 where
+  pub place : ℕ
+  pub there : Contains found place
+  pub one : OpenNode
+  pub at : slice_get nodes place ≡ Some one
+  pub is : one.node ≡ n
+
+-- an entity has the sign
+abbrev pub HasSign : OpenNode → Sign → Type 0
+HasSign x k = IsTrue (is_entity x.info) × Contains (signs x) k
+
+-- Places under these signs of an entity are added: those of nodes that are alike, unless the sign was seen.
+pub record Expands (nodes : List OpenNode) (places : Sign → List ℕ) (one : OpenNode) (ks : List Sign) (old_found new_found : List ℕ) (old_seen new_seen : Sign → Bool) : Type 0 where
+  pub rest : List ℕ
+  pub begins : new_found ≡ old_found ++ rest
+  pub alike : (i : ℕ) → Contains rest i → is_like one (slice_get nodes i) ≡ true
+  pub stays : (k : Sign) → old_seen k ≡ true → new_seen k ≡ true
+  pub seen : (k : Sign) → Contains ks k → new_seen k ≡ true
+  pub fresh : (k : Sign) → new_seen k ≡ true → (old_seen k ≡ true) ⊎ (Contains ks k × ((i : ℕ) → Contains (places k) i → is_like one (slice_get nodes i) ≡ true → Contains rest i))
+
+-- The places found are of nodes that are the same as the first. All that has a seen sign is found, and the signs of each place that is done are seen.
+pub record AreGathered (s : Shown) (first : Node) (found : List ℕ) (seen : Sign → Bool) (done : ℕ → Bool) : Type 0 where
+  pub sound : (i : ℕ) → Contains found i → (x : OpenNode) × (slice_get s.nodes i ≡ Some x) × Same s first x.node
+  pub covered : (k : Sign) (y : OpenNode) → seen k ≡ true → Contains s.nodes y → HasSign y k → IsAmong s.nodes found y.node
+  pub signed : (i : ℕ) (x : OpenNode) (k : Sign) → done i ≡ true → slice_get s.nodes i ≡ Some x → HasSign x k → seen k ≡ true
+
+-- a place more is done
+pub record Visits (s : Shown) (first : Node) (place : ℕ) (old_found new_found : List ℕ) (old_seen new_seen : Sign → Bool) (old_done new_done : ℕ → Bool) : Type 0 where
+  pub rest : List ℕ
+  pub begins : new_found ≡ old_found ++ rest
+  pub stays : (i : ℕ) → old_done i ≡ true → new_done i ≡ true
+  pub done : new_done place ≡ true
+  pub gathered : AreGathered s first old_found old_seen old_done → Contains old_found place → AreGathered s first new_found new_seen new_done
+
+-- all that are the same as the first, and no others
+abbrev pub AreAllSame : Shown → Node → List ℕ → Type 0
+AreAllSame s first found = (n : Node) → (IsAmong s.nodes found n → Same s first n) × (Same s first n → IsAmong s.nodes found n)
