@@ -11,7 +11,7 @@ pub fn own_filings_untouched()
 
 /// A refusal leaves the register exactly as it was, and so do a lodging that isn't fresh and the
 /// withdrawal of a filing that is withdrawn already. This holds of every register.
-pub fn a_refusal_changes_nothing()
+pub fn refusal_changes_nothing()
     ensures { RefusalChangesNothing }
 {}
 

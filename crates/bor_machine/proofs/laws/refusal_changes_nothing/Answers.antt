@@ -1,5 +1,5 @@
 use Rattle.bor_machine.proofs.Refusals.{refused_lodging, repeated_lodging, refused_withdrawal, repeated_withdrawal, refused_advance, refused_enrolment}
-use Rattle.bor_machine.proofs.laws.a_refusal_changes_nothing.Goals as goal
+use Rattle.bor_machine.proofs.laws.refusal_changes_nothing.Goals as goal
 
 pub returns : goal.returns
 returns c = record {
