@@ -2,6 +2,7 @@
 
 ghost use Rattle.std.specs.Prelude.{◌≡◌, ◌<◌, ◌≤◌, ◌+◌, ◌++◌, take, slice_index_or, ℕ, List, Some, None, IfOk, map, length, true, nat_le, int_lt, Ok, Err, if◌then◌else◌};
 ghost use Rattle.bods_read.specs.File.{reading};
+ghost use Rattle.bods_read.specs.Limits.{statements_limit};
 ghost use Rattle.bods_read.specs.declared.statement.Statement.{Statement};
 ghost use Rattle.bor_records.specs.Admission.{last_of};
 ghost use Rattle.bor_records.specs.Settling.{as_live, has_id, settled, verdict};
@@ -38,7 +39,7 @@ pub struct Lodged {
 }
 
 fn read(alloc: Global, bytes: &[u8]) -> Result<Vec<Statement>, LodgeFault>
-    ensures few { IfOk result (λ statements. length statements.items ≤ 1000) }
+    ensures few { IfOk result (λ statements. length statements.items ≤ statements_limit) }
     ensures read { IsMade (λ statements. statements.items) result (as_read (reading bytes.now)) }
 {
     match read_file(alloc, bytes) {
@@ -119,7 +120,7 @@ fn status_at<K: Keep>(
     i: usize,
 ) -> Result<Status, LodgeFault>
     requires within { i < length statements.now }
-    requires few { length statements.now ≤ 1000 }
+    requires few { length statements.now ≤ statements_limit }
     ensures kept { Kept K.shows K.is_clean keep.old keep.new }
     ensures accounted { IsAccounted of_lodging K.may_tell result (K.fault_count keep.old) (K.fault_count keep.new) }
     ensures answer { Promised K.shows K.is_clean keep.old keep.new (λ r.
@@ -144,7 +145,7 @@ fn settle<K: Keep>(
     due: Day,
     statements: &mut [Statement],
 ) -> Result<(), LodgeFault>
-    requires few { length statements.old ≤ 1000 }
+    requires few { length statements.old ≤ statements_limit }
     ensures kept { Kept K.shows K.is_clean keep.old keep.new }
     ensures accounted { IsAccounted of_lodging K.may_tell result (K.fault_count keep.old) (K.fault_count keep.new) }
     ensures answer { Promised K.shows K.is_clean keep.old keep.new (λ r.
