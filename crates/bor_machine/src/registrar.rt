@@ -1,13 +1,14 @@
 //! What the registrar does: the day goes on, and agents are enrolled.
 
-ghost use Rattle.bor_register.specs.Register.{Register};
-ghost use Rattle.bor_records.specs.Promises.{Promised};
+ghost use Rattle.std.specs.Prelude.{◌≡◌};
+ghost use Rattle.bor_register.specs.Register.{Register, is_taken};
+ghost use Rattle.bor_records.specs.Promises.{Promised, Reads};
 ghost use Rattle.bor_machine.specs.Registrar.{advance_step, enrol_step};
 ghost use Rattle.bor_machine.specs.Outcomes.{of_advance, of_enrolment, IsOutcome, IsAccounted};
 ghost use Rattle.bor_machine.specs.Legality.{IsLegal};
 
 use crate::fault::{AdvanceFault, EnrolFault};
-use bor_register::Keep;
+use bor_register::{Keep, StoreFault};
 use bor_terms::{AgentName, Day, Token};
 
 /// Moves the register's day to this one, and hands it back. What is due by then is published.
@@ -29,6 +30,15 @@ pub fn advance<K: Keep>(keep: &mut K, day: Day) -> Result<Day, AdvanceFault>
     Ok(day)
 }
 
+// Whether an agent or the registrar has the token.
+#[tactic(auto, using(bor_register::proofs::Callers::callers))]
+fn is_taken<K: Keep>(keep: &mut K, token: &Token) -> Result<bool, StoreFault>
+    ensures { Reads K.shows K.is_clean K.fault_count K.may_tell keep.old keep.new result (λ r taken.
+        taken ≡ is_taken token.now r) }
+{
+    Ok(keep.who(token)?.is_some())
+}
+
 /// Enrols an agent under a name and a token, and hands the name back.
 ///
 /// The refusals are, in their order: `NameTaken` where an agent has the name, and `TokenTaken` where
@@ -45,7 +55,7 @@ pub fn enrol<K: Keep>(keep: &mut K, name: AgentName, token: Token) -> Result<Age
     if keep.has_agent(&name)? {
         return Err(EnrolFault::NameTaken);
     }
-    if keep.who(&token)?.is_some() {
+    if is_taken(keep, &token)? {
         return Err(EnrolFault::TokenTaken);
     }
     keep.add_agent(&name, &token)?;
