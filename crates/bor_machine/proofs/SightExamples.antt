@@ -1,5 +1,5 @@
 -- What agents see of a register, and alone: no number of another's filing, and nothing of another's draft.
-use Rattle.std.proofs.Common.{◌≡◌, ℕ, List, [], ◌∷◌, codes, refl, map}
+use Rattle.std.proofs.Common.{◌≡◌, ℕ, ℤ, pos, List, [], ◌∷◌, ◌++◌, codes, refl, map}
 use Rattle.std.specs.Prelude.{filter}
 use Rattle.std.specs.Fmt.{digits}
 use Rattle.bods_read.specs.declared.statement.Statement.{Statement}
@@ -8,11 +8,13 @@ use Rattle.bor_records.specs.Admission.{Live}
 use Rattle.bor_register.specs.declared.filing.AcceptedFiling.{AcceptedFiling}
 use Rattle.bor_register.specs.Live.{live_of}
 use Rattle.bor_register.specs.Publication.{is_published}
-use Rattle.bor_register.specs.Register.{filings_of}
+use Rattle.bor_register.specs.declared.member.Member.{Member}
+use Rattle.bor_register.specs.declared.filing.Outward.{Outward}
+use Rattle.bor_register.specs.Register.{Register, filings_of, new_member}
 use Rattle.bor_register.specs.Withdrawal.{as_withdrawn}
-use Rattle.bor_register.proofs.Examples.{first, second, today, tomorrow}
+use Rattle.bor_register.proofs.Examples.{first, second, today, tomorrow, two_agents}
 use Rattle.bor_machine.specs.Sight.{seen_by, sight_of}
-use Rattle.bor_machine.specs.Solo.{alone}
+use Rattle.bor_machine.specs.Solo.{published_beside, alone}
 use Rattle.bor_machine.specs.Laws.{series}
 use Rattle.bor_machine.proofs.Examples.{with_own}
 
@@ -68,3 +70,39 @@ published_of_e1 = refl
 
 all_published_of_e1 : ids (series (codes "c1") (codes "e1") (live_of (filter (is_published tomorrow) (first ∷ second ∷ [])))) ≡ codes "s1" ∷ codes "s3" ∷ []
 all_published_of_e1 = refl
+
+-- ---- five agents: alder and birch have published, alder two filings; dogwood has withdrawn its one, and elm has none
+
+abbrev lodging : List ℕ → List AcceptedFiling → Member
+lodging name filings = record (new_member name (name ++ codes "-token-000001")) { filings = filings }
+
+-- 2024-02-03
+abbrev later : ℤ
+later = pos 19756
+
+abbrev five_agents : Register
+five_agents = record (two_agents tomorrow) {
+  members = lodging (codes "alder") (first ∷ second ∷ []) ∷ lodging (codes "birch") (first ∷ [])
+      ∷ lodging (codes "cedar") (second ∷ record first { number = 2; due = later } ∷ []) ∷ lodging (codes "dogwood") (as_withdrawn first ∷ []) ∷ lodging (codes "elm") [] ∷ [];
+}
+
+abbrev by_agent : Outward → List ℕ × List (List ℕ)
+by_agent o = (o.agent, map (λ (s : Statement). s.id) o.statements)
+
+beside_cedar : map by_agent (published_beside (codes "cedar") tomorrow five_agents.members)
+    ≡ (codes "alder", codes "s1" ∷ codes "s2" ∷ []) ∷ (codes "alder", codes "s3" ∷ []) ∷ (codes "birch", codes "s1" ∷ codes "s2" ∷ []) ∷ []
+beside_cedar = refl
+
+beside_alder : map by_agent (published_beside (codes "alder") tomorrow five_agents.members)
+    ≡ (codes "birch", codes "s1" ∷ codes "s2" ∷ []) ∷ (codes "cedar", codes "s3" ∷ []) ∷ []
+beside_alder = refl
+
+-- alone, cedar stands with its own two filings beside alder's two and birch's one; those who have published nothing aren't there
+members_alone : map {B = List ℕ × List ℕ} (λ (m : Member). (m.name, map (λ (f : AcceptedFiling). f.number) m.filings)) (alone (codes "cedar") five_agents).members
+    ≡ (codes "alder", 1 ∷ 2 ∷ []) ∷ (codes "birch", 1 ∷ []) ∷ (codes "cedar", 2 ∷ 2 ∷ []) ∷ []
+unfolding digits
+members_alone = refl
+
+cedar_alone : sight_of (codes "cedar") (alone (codes "cedar") five_agents) ≡ sight_of (codes "cedar") five_agents
+unfolding digits
+cedar_alone = refl
