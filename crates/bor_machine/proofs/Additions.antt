@@ -35,6 +35,7 @@ addition_new s key due bytes ss h = by_room (nat_le filings_limit (length s.own)
     by_day : (past : Bool) → (if past then Err DuePast else filing_of s.own key due bytes (settled_reading (live_of s.own) due (reading bytes))) ≡ Ok (accepted s.own key due bytes ss) → AreNew (live_of s.own) ss
     by_day true k = absurd cc
     by_day false k = read_are_new (live_of s.own) due (reading bytes) ss (filed s.own key due bytes (settled_reading (live_of s.own) due (reading bytes)) ss k)
+
     by_room : (full : Bool) → (if full then Err FilingsFull else (if int_lt due s.day then Err DuePast else filing_of s.own key due bytes (settled_reading (live_of s.own) due (reading bytes)))) ≡ Ok (accepted s.own key due bytes ss) → AreNew (live_of s.own) ss
     by_room true k = absurd cc
     by_room false k = by_day (int_lt due s.day) k

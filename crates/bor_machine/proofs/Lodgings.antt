@@ -13,15 +13,13 @@ use Rattle.bor_records.specs.Settling.{Refusal, by_record, PlacedRefusal, has_id
 use Rattle.bor_machine.specs.declared.fault.LodgeFault.{LodgeFault}
 use Rattle.bor_machine.specs.declared.fault.LodgeFault.TheVariants.{FilingsFull, DuePast, StatementTwice, Record}
 use Rattle.bor_register.specs.declared.filing.AcceptedFiling.{AcceptedFiling}
-use Rattle.bor_register.specs.Register.{Register, filings_of, filing_keyed, with_filings}
+use Rattle.bor_register.specs.Register.{Register, filings_of, filing_keyed}
 use Rattle.bods_read.specs.declared.details.Details.TheVariants.{Person}
 use Rattle.bods_read.specs.declared.details.PersonKind.TheVariants.{KnownPerson}
-use Rattle.bor_register.specs.declared.filing.State.{State}
-use Rattle.bor_register.specs.Publication.{state_of_live}
 use Rattle.bor_register.specs.Live.{accepted, live_of}
 use Rattle.bor_machine.specs.Sight.{Sight}
 use Rattle.bor_machine.specs.Lodging.{fault_at, told_verdict, told_settled, settled_reading, as_read, repeated, filing_of, addition, lodge_step}
-use Rattle.bor_machine.specs.Outcomes.{of_lodging, ByStore, IsOutcome, Refuses, IsDone}
+use Rattle.bor_machine.specs.Outcomes.{of_lodging, IsOutcome, Refuses, IsDone}
 use Rattle.bor_machine.specs.declared.lodging.Lodged.{Lodged}
 use Rattle.bor_register.specs.Limits.{filings_limit}
 use Rattle.bor_machine.proofs.Outcomes.{unless_store, refused}

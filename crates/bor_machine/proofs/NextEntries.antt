@@ -1,12 +1,12 @@
 -- A lodging that adds a filing adds the journal's next entry.
-use Rattle.std.proofs.Common.{◌≡◌, ℕ, ℤ, List, [], ◌∷◌, ◌++◌, Bool, true, false, Result, Ok, Err, refl, ◌∙◌, sym, ap, subst, arith}
+use Rattle.std.proofs.Common.{◌≡◌, ℕ, ℤ, List, [], ◌∷◌, ◌++◌, Bool, true, false, Result, Ok, Err, refl, ◌∙◌, sym, ap, subst}
 use Rattle.std.specs.Prelude.{Option, Some, None, IsSome, ◌&&◌, if◌then◌else◌}
 use Rattle.std.specs.Ordering.{int_eq}
 use Rattle.bor_terms.specs.Texts.{is_same, is_below}
 use Rattle.bor_terms.proofs.Texts.{same_is, same_refl, same_sym, below_differs}
 use Rattle.bor_register.specs.declared.member.Member.{Member}
 use Rattle.bor_register.specs.declared.filing.AcceptedFiling.{AcceptedFiling}
-use Rattle.bor_register.specs.Register.{Register, filings_of, filing_keyed, with_filings, with_member}
+use Rattle.bor_register.specs.Register.{filing_keyed, with_filings, with_member}
 use Rattle.bor_register.specs.Live.{live_of, accepted}
 use Rattle.bor_register.specs.Journal.{Agent, JournalEntry, Journal, token_of, entries_of, members_from, register_of, AreNamedOnce, AreOfAgents, IsInOrder}
 use Rattle.bor_register.proofs.Journals.{filings_stay}
@@ -14,9 +14,9 @@ use Rattle.bor_machine.specs.declared.fault.LodgeFault.{LodgeFault}
 use Rattle.bor_machine.specs.declared.fault.LodgeFault.TheVariants.{KeyReused}
 use Rattle.bor_machine.specs.declared.lodging.Lodged.{Lodged}
 use Rattle.bor_machine.specs.Sight.{Sight, sight_of}
-use Rattle.bor_machine.specs.Lodging.{told_of, repeated, told_added, addition, lodging_at, own_lodged_at, lodging, own_lodged, settled_reading, lodge_step}
+use Rattle.bor_machine.specs.Lodging.{told_of, told_added, addition, lodging_at, own_lodged_at, lodging, settled_reading, lodge_step}
 use Rattle.bods_read.specs.File.{reading}
-use Rattle.bor_machine.specs.Laws.{with_entry, IsNextEntry}
+use Rattle.bor_machine.specs.Laws.{IsNextEntry}
 use Rattle.bor_machine.proofs.Lodgings.{addition_is}
 
 -- ---- a lodging that is told as fresh
