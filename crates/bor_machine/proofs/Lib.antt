@@ -10,6 +10,7 @@ pub mod Forms
 pub mod Prefixes
 pub mod Alone
 pub mod NextEntries
+pub mod SeenLinks
 pub mod Examples
 pub mod LegalRegisters
 pub mod WithdrawalExamples

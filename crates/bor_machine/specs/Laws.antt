@@ -9,13 +9,15 @@ use Rattle.bor_register.specs.declared.filing.AcceptedFiling.{AcceptedFiling}
 use Rattle.bor_register.specs.Register.{Register, empty_register, filings_of, filing_keyed, is_enrolled}
 use Rattle.bor_register.specs.Publication.{is_published}
 use Rattle.bor_register.specs.Live.{live_of, accepted}
+use Rattle.bor_register.specs.Rows.{visible}
+use Rattle.bor_links.specs.Rows.{shown_of}
 use Rattle.bor_register.specs.Journal.{Journal, token_of, entries_of, register_of, IsInOrder}
 use Rattle.bor_machine.specs.declared.fault.LodgeFault.{LodgeFault}
 use Rattle.bor_machine.specs.declared.fault.WithdrawFault.{WithdrawFault}
 use Rattle.bor_machine.specs.declared.fault.AdvanceFault.{AdvanceFault}
 use Rattle.bor_machine.specs.declared.fault.EnrolFault.{EnrolFault}
 use Rattle.bor_machine.specs.declared.lodging.Lodged.{Lodged}
-use Rattle.bor_machine.specs.Sight.{sight_of}
+use Rattle.bor_machine.specs.Sight.{seen_by, sight_of}
 use Rattle.bor_machine.specs.Solo.{alone}
 use Rattle.bor_machine.specs.Lodging.{settled_reading, lodge_step}
 use Rattle.bor_machine.specs.Withdrawing.{withdraw_step}
@@ -81,6 +83,10 @@ pub record PublishedPrefix : Type 0 where
 -- An agent of a legal register sees the same as it would alone with what the others have published.
 abbrev pub SightAlone : Type 0
 SightAlone = (r : Register) (name : List ℕ) → IsLegal r → is_enrolled name r.members ≡ true → sight_of name (alone name r) ≡ sight_of name r
+
+-- The numbers of filings make no node and no link: on every day, what a viewer sees shows the same with them and without.
+abbrev pub NumbersMakeNoLinks : Type 0
+NumbersMakeNoLinks = (day : ℤ) (viewer : List ℕ) (r : Register) → shown_of day (seen_by viewer r) ≡ shown_of day (visible viewer r.day r.members)
 
 -- what was accepted, with one more filing of the agent at the end
 abbrev pub with_entry : Journal → List ℕ → AcceptedFiling → Journal

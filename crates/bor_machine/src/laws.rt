@@ -1,6 +1,6 @@
 //! Laws of the operations. Each function does nothing: its contract is the law.
 
-ghost use Rattle.bor_machine.specs.Laws.{OwnFilingsUntouched, RefusalChangesNothing, StaysLegal, PublishedPrefix, SightAlone, LodgingIsNextEntry};
+ghost use Rattle.bor_machine.specs.Laws.{OwnFilingsUntouched, RefusalChangesNothing, StaysLegal, PublishedPrefix, SightAlone, NumbersMakeNoLinks, LodgingIsNextEntry};
 
 /// After a lodging and after a withdrawal every other agent's filings are as they were, and so are
 /// the day, and who has which token. After a new day and an enrolment each agent that was there has
@@ -38,6 +38,13 @@ pub fn published_is_a_prefix()
 /// no number, key, byte or draft of another is in it, nor an order of acceptance between agents.
 pub fn sight_is_alone()
     ensures { SightAlone }
+{}
+
+/// What a viewer sees shows the same nodes and links with the numbers of the filings and without, on
+/// every day. So a chain report tells nothing of another agent's numbers. This holds of every
+/// register.
+pub fn numbers_make_no_links()
+    ensures { NumbersMakeNoLinks }
 {}
 
 /// A lodging that is told as fresh is the next entry of the journal of all that was accepted: the
