@@ -1,6 +1,7 @@
 //! `bor check`.
 
-ghost use Rattle.std.specs.Prelude.{◌≡◌, ◌-◌, ℕ, List, IfErr, IfOk, IfSome, OnOk};
+ghost use Rattle.std.specs.Prelude.{◌≡◌, ◌+◌, ◌-◌, ℕ, List, IfErr, IfOk, IfSome, OnOk};
+ghost use Rattle.bor_desk.specs.Limits.{file_limit};
 ghost use Rattle.bor.specs.Failures.{IsMetOn, IsMetUnread, IsReadingOf};
 ghost use Rattle.bor.specs.Program.{EndsReport, exit_code, report_status};
 ghost use Rattle.bor.specs.Streams.{TakesAtMostPart, TakesPart, part_read};
@@ -85,7 +86,7 @@ fn read_part<I: Read>(alloc: Global, input: &mut I) -> io::Result<Vec<u8>>
 
 // How many bytes of a file may be read after so many.
 fn room_after(count: usize) -> usize
-    ensures { result ≡ 1_048_577 - count }
+    ensures { result ≡ file_limit + 1 - count }
 {
     (FILE_LIMIT + 1).saturating_sub(count)
 }
