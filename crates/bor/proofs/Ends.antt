@@ -1,12 +1,12 @@
 -- How the end of a check is told of a run.
-use Rattle.std.proofs.Common.{◌≡◌, ◌≢◌, ◌∙◌, ap, ℕ, List, [], ◌++◌, Option, Some, None, IfSome, Result, Ok, Err, refl, sym, subst, inl, inr, append-nil, true}
+use Rattle.std.proofs.Common.{◌≡◌, ◌≢◌, ◌∙◌, ℕ, List, [], Option, Some, None, IfSome, Result, Ok, Err, refl, sym, subst, inr, append-nil, true}
 use Rattle.std.specs.Io.KnownBytes.{Appends, Keeps}
 use Rattle.std.specs.Result.{is_err}
 use Rattle.bor_desk.specs.CheckReport.{check_report}
 use Rattle.clap.specs.declared.error.kind.ErrorKind.{ErrorKind}
 use Rattle.clap.specs.declared.error.kind.ErrorKind.TheVariants.{DisplayHelp, OutOfMemory}
 use Rattle.bor.specs.declared.status.Status.{Status}
-use Rattle.bor.specs.Program.{EndsReport, IsCutOff, IsReportedOrCutOff}
+use Rattle.bor.specs.Program.{EndsReport, IsReportedOrCutOff}
 use Rattle.bor.specs.Streams.{AppendsPart, TakesAtMostPart, part_read}
 
 -- what holds of every value holds of the one that is there

@@ -1,7 +1,7 @@
 -- What a loop of reads has taken of known bytes, and a loop of writes has given.
 use Rattle.std.proofs.Common.{◌≡◌, ◌∙◌, ◌≤◌, ◌<◌, ◌-◌, ℕ, List, [], ◌++◌, Option, Some, None, IfSome, Result, Ok, Err, ap, arith, sym, length, take, drop, append-nil, append_assoc, take-append-drop, subst, lit≤}
 use Rattle.std.specs.Io.KnownBytes.{Appends, Consumes, IsAtEnd, Keeps, ReadConsumes}
-use Rattle.std.proofs.KnownBytes.{Appends-kept, Appends-trans, Consumes-trans}
+use Rattle.std.proofs.KnownBytes.{Appends-trans, Consumes-trans}
 use Rattle.std.proofs.lemmas.List.{length-drop, take-append-le, take_all}
 use Rattle.bor.specs.Streams.{AppendsPart, TakesAtMostPart, TakesPart, part_read}
 
@@ -56,11 +56,6 @@ written_more before middle after bytes rest count h e =
     let split : bytes ≡ (h.0 ++ take count rest) ++ drop count rest =
     h.1 ∙ ap (λ l. h.0 ++ l) (sym (take-append-drop count rest)) ∙ sym (append_assoc h.0 (take count rest) (drop count rest)) in
     (h.0 ++ take count rest, split, Appends-trans before middle after h.0 (take count rest) h.2 e)
-
--- a write took nothing
-pub written_none : (before middle after : Option (List ℕ)) (bytes rest : List ℕ) → IsWritten before middle bytes rest
-    → Keeps middle after → IsWritten before after bytes rest
-written_none before middle after bytes rest h e = (h.0, h.1, Appends-kept before middle after h.0 h.2 e)
 
 -- what is written first, where the rest wasn't tried
 pub part_first : (before after : Option (List ℕ)) (xs ys : List ℕ) → AppendsPart before after xs → AppendsPart before after (xs ++ ys)

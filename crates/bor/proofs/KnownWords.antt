@@ -1,5 +1,5 @@
 -- What clap's errors and a failure say of the words.
-use Rattle.std.proofs.Common.{◌≡◌, ◌≢◌, ◌≤◌, ◌∙◌, ap, arith, ◌⊎◌, ℕ, List, [], ◌∷◌, Option, None, refl, true, codes, subst, sym, inl, inr}
+use Rattle.std.proofs.Common.{◌≡◌, ◌≢◌, ◌∙◌, ap, ◌⊎◌, ℕ, List, [], Option, refl, true, subst, sym, inl, inr}
 use Rattle.clap.specs.Words.{is_simple, is_simple_and_free}
 use Rattle.clap.proofs.OnLiterals.{clap_on_literals}
 use Rattle.clap.specs.Words.{HasKind, IsAmong, Kinds, fault_of, kind_of}
@@ -14,7 +14,7 @@ use Rattle.bor.specs.declared.status.Status.TheVariants.{Done, Refused, Usage, F
 use Rattle.bor.specs.Failures.{IsFailureOf, IsFailureOn, IsMetBy, IsMetOn, IsMetUnread, IsNoReading, IsTold, LeavesOutput, failure_line}
 use Rattle.bor.specs.Streams.{AppendsPart}
 use Rattle.bor.specs.Program.{exit_code}
-use Rattle.bor.specs.Words.{IsCommand, IsWrong, MayAskForHelp, bor_app, file_of, name_of}
+use Rattle.bor.specs.Words.{IsCommand, IsWrong, bor_app, file_of, name_of}
 
 pub bor_is_simple : is_simple bor_app ≡ true
 unfolding clap_on_literals
@@ -35,11 +35,6 @@ pub wrong_words : (words : List (List ℕ)) (error : Error) → HasKind (fault_o
 wrong_words words error (inl h) no_help memory_left = absurd (memory_left h)
 wrong_words words error (inr h) no_help memory_left = (kind_of error, h, no_help)
 
--- an error that is help comes where the words may ask for it
-pub help_words : (words : List (List ℕ)) (error : Error) → HasKind (fault_of bor_app words) error → kind_of error ≡ DisplayHelp → MayAskForHelp words
-help_words words error (inl h) help = let none : DisplayHelp ≡ OutOfMemory = sym help ∙ h in cc
-help_words words error (inr h) help = let P : ErrorKind → Type 0 = λ kind. IsAmong kind (fault_of bor_app words) in subst P help h
-
 pub usage_of : (status : Status) → exit_code status ≡ 2 → status ≡ Usage
 usage_of Done e = cc
 usage_of Refused e = cc
@@ -51,9 +46,6 @@ failed_of Done e = cc
 failed_of Refused e = cc
 failed_of Usage e = cc
 failed_of Failed e = refl
-
-pub not_three : (n : ℕ) → n ≤ 1 → n ≡ 3 → ⊥
-not_three n low e = let bad : 3 ≤ 1 = subst (λ k. k ≤ 1) e low in omega arith
 
 -- a failure on the source that a command reads is one of the words that ask for the command
 pub failure_on_source : (words : List (List ℕ)) (source : Source) (failure : Failure) → IsCommand words → name_of source ≡ file_of words

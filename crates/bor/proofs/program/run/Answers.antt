@@ -1,6 +1,6 @@
-use Rattle.std.proofs.Common.{rules, ◌≡◌, ◌≢◌, ◌∙◌, ap, map, sym, []}
+use Rattle.std.proofs.Common.{rules, ◌≡◌, ◌∙◌, ap, map, sym, []}
 use Rattle.clap.specs.Words.{kind_of}
-use Rattle.clap.specs.declared.error.kind.ErrorKind.TheVariants.{DisplayHelp, OutOfMemory}
+use Rattle.clap.specs.declared.error.kind.ErrorKind.TheVariants.{OutOfMemory}
 use Rattle.bor.specs.declared.status.Status.TheVariants.{Failed, Usage}
 use Rattle.bor.specs.Program.{exit_code}
 use Rattle.bor.specs.Words.{IsCommand, IsWrong, source_of}
