@@ -1,5 +1,8 @@
 //! What no clause says: values from outside, and that each call succeeds.
 
+mod failing;
+mod largest;
+
 use super::*;
 use bods_read::{FileFault, RecordType, Status};
 use bor_records::RecordFault;
