@@ -5,15 +5,13 @@ mod callers;
 mod calls;
 mod chains;
 mod lodging;
-mod notation;
 mod reports;
 mod sight;
 mod spelled;
 mod withdrawing;
 
 use super::*;
-use crate::tests::asking::FIRST;
-use crate::tests::notation::file;
+use bor_rows::{FIRST, file};
 use std::alloc::Global;
 use std::test::Fail;
 

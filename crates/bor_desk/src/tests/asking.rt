@@ -1,41 +1,14 @@
 //! A desk that is asked in words, for the tests.
-//!
-//! An ask is the caller's name and what it asks for:
-//!
-//! ```text
-//! alder lodge f1 2024-02-01 E s1 e1; P s2 p1
-//! alder withdraw f1
-//! alder filings
-//! alder file f1
-//! alder published
-//! alder snapshot alder c1 2024-02-01
-//! alder chains alder c1 e1 2024-02-01
-//! registrar day 2024-03-01
-//! registrar enrol cedar cedar-token-000001
-//! ```
-//!
-//! The dates of a snapshot and of chains may be left out. What is lodged is in the notation, or a
-//! list of JSON as it stands, or `FIRST`.
 
-use crate::tests::notation::file;
 use crate::tests::spelled::spelled;
 use crate::{DeskReply, Request, Text, answer, report_text};
 use bor_chains::Node;
-use bor_machine::ListKeep;
+use bor_machine::{Keep, ListKeep};
+use bor_rows::{Ask, Wish, body_of};
 use bor_terms::{AgentName, Day, Ident, Listed, LodgeKey, Token};
 use std::alloc::Global;
 use std::process::Abort;
 use std::test::Fail;
-
-/// An entity, a person, and the person's voting rights in the entity.
-pub(crate) const FIRST: &str =
-    r#"[{"statementId":"s1","statementDate":"2024-01-10","declarationSubject":"c1","recordId":"e1","recordType":"entity","recordDetails":{"entityType":{"type":"registeredEntity"},"name":"Alder Ltd"}},{"statementId":"s2","statementDate":"2024-01-10","declarationSubject":"c1","recordId":"p1","recordType":"person","recordDetails":{"personType":"knownPerson","names":[{"fullName":"Ann Moss"}]}},{"statementId":"s3","statementDate":"2024-01-10","declarationSubject":"c1","recordId":"r1","recordType":"relationship","recordDetails":{"subject":"e1","interestedParty":"p1","interests":[{"type":"votingRights","share":{"exact":100}}]}}]"#;
-
-/// The reply that tells of an agent's first filing, due on the first day of [`Desk::new`].
-pub(crate) const PUBLISHED: &str = r#"{"due":"2024-02-01","filing":1,"state":"published"}"#;
-
-/// The reply that tells of an agent's first filing, due a month later.
-pub(crate) const DRAFT: &str = r#"{"due":"2024-03-01","filing":1,"state":"draft"}"#;
 
 fn day(text: &str) -> Result<Day, Fail> {
     Ok(Day::read(text).ok_or("no day")?)
@@ -57,18 +30,10 @@ fn token(alloc: Global, text: &str) -> Result<Token, Fail> {
     Ok(Token::read(alloc, text)?.ok_or("no token")?)
 }
 
-/// The token of the registrar, or of the agent with this name.
-pub(crate) fn token_of(alloc: Global, caller: &str) -> Result<Token, Fail> {
-    if caller == "registrar" {
-        return token(alloc, "registrar-token-0001");
-    }
-    let text = format!(in alloc; "{caller}-token-000001")?;
+// The token of the registrar, or of the agent with this name.
+fn token_of(alloc: Global, caller: &str) -> Result<Token, Fail> {
+    let text = bor_rows::token_of(alloc, caller)?;
     token(alloc, text.as_str())
-}
-
-// The first word and what follows it.
-fn first_word(words: &str) -> (&str, &str) {
-    words.split_once(' ').unwrap_or((words, ""))
 }
 
 fn optional_day(text: &str) -> Result<Option<Day>, Fail> {
@@ -78,84 +43,72 @@ fn optional_day(text: &str) -> Result<Option<Day>, Fail> {
     Ok(Some(day(text)?))
 }
 
-fn bytes_of(alloc: Global, words: &str) -> Result<String, Fail> {
-    if words == "FIRST" {
-        return Ok(String::from_str(alloc, FIRST)?);
-    }
-    if words.starts_with("[") {
-        return Ok(String::from_str(alloc, words)?);
-    }
-    file(alloc, words)
-}
-
-fn lodging(alloc: Global, words: &str) -> Result<Request, Fail> {
-    let (lodged, words) = first_word(words);
-    let (due, words) = first_word(words);
-    Ok(Request::Lodge {
-        key: key(alloc, lodged)?,
-        due: day(due)?,
-        file: Listed::new(bytes_of(alloc, words)?.into_bytes()),
-    })
-}
-
-fn snapshot_request(alloc: Global, words: &str) -> Result<Request, Fail> {
-    let (name, words) = first_word(words);
-    let (declaration, date) = first_word(words);
-    Ok(Request::Snapshot {
-        agent: agent(alloc, name)?,
-        declaration: ident(alloc, declaration)?,
-        date: optional_day(date)?,
-    })
-}
-
-// The node of the first three words, and what follows them.
-fn first_node<'a>(alloc: Global, words: &'a str) -> Result<(Node, &'a str), Fail> {
-    let (name, words) = first_word(words);
-    let (declaration, words) = first_word(words);
-    let (rec, words) = first_word(words);
-    let node = Node {
+fn node(alloc: Global, name: &str, declaration: &str, rec: &str) -> Result<Node, Fail> {
+    Ok(Node {
         agent: agent(alloc, name)?,
         declaration: ident(alloc, declaration)?,
         rec: ident(alloc, rec)?,
-    };
-    Ok((node, words))
-}
-
-fn chains_request(alloc: Global, words: &str) -> Result<Request, Fail> {
-    let (entity, date) = first_node(alloc, words)?;
-    Ok(Request::Chains {
-        entity,
-        date: optional_day(date)?,
     })
 }
 
-fn enrolment(alloc: Global, words: &str) -> Result<Request, Fail> {
-    let (name, text) = first_word(words);
-    Ok(Request::Enrol {
-        name: agent(alloc, name)?,
-        token: token(alloc, text)?,
+fn lodging(alloc: Global, lodged: &str, due: &str, file: &str) -> Result<Request, Fail> {
+    Ok(Request::Lodge {
+        key: key(alloc, lodged)?,
+        due: day(due)?,
+        file: Listed::new(body_of(alloc, file)?.into_bytes()),
     })
 }
 
-/// The request that the words ask for.
-pub(crate) fn request(alloc: Global, words: &str) -> Result<Request, Fail> {
-    let (verb, words) = first_word(words);
-    match verb {
-        "lodge" => lodging(alloc, words),
-        "withdraw" => Ok(Request::Withdraw {
-            key: key(alloc, words)?,
+// The request for what is wished.
+fn request(alloc: Global, wish: Wish<'_>) -> Result<Request, Fail> {
+    match wish {
+        Wish::Lodge { key, due, file } => lodging(alloc, key, due, file),
+        Wish::Withdraw { key: lodged } => Ok(Request::Withdraw {
+            key: key(alloc, lodged)?,
         }),
-        "filings" => Ok(Request::Filings),
-        "file" => Ok(Request::File {
-            key: key(alloc, words)?,
+        Wish::Filings => Ok(Request::Filings),
+        Wish::File { key: lodged } => Ok(Request::File {
+            key: key(alloc, lodged)?,
         }),
-        "published" => Ok(Request::Published),
-        "snapshot" => snapshot_request(alloc, words),
-        "chains" => chains_request(alloc, words),
-        "day" => Ok(Request::Day { date: day(words)? }),
-        "enrol" => enrolment(alloc, words),
-        _ => Err(Fail::from("no request")),
+        Wish::Published => Ok(Request::Published),
+        Wish::Snapshot {
+            agent: name,
+            declaration,
+            date,
+        } => Ok(Request::Snapshot {
+            agent: agent(alloc, name)?,
+            declaration: ident(alloc, declaration)?,
+            date: optional_day(date)?,
+        }),
+        Wish::Chains {
+            agent,
+            declaration,
+            rec,
+            date,
+        } => Ok(Request::Chains {
+            entity: node(alloc, agent, declaration, rec)?,
+            date: optional_day(date)?,
+        }),
+        Wish::Day { date } => Ok(Request::Day { date: day(date)? }),
+        Wish::Enrol { name, token: text } => Ok(Request::Enrol {
+            name: agent(alloc, name)?,
+            token: token(alloc, text)?,
+        }),
     }
+}
+
+/// The reply of the keep to an ask.
+pub(crate) fn reply<K: Keep>(alloc: Global, keep: &mut K, ask: &str) -> Result<DeskReply, Fail> {
+    let ask = Ask::read(ask).ok_or("no ask")?;
+    let token = token_of(alloc, ask.caller)?;
+    let request = request(alloc, ask.wish)?;
+    Ok(answer(alloc, keep, &token, &request))
+}
+
+/// A new register on 2024-02-01, with no agents.
+pub(crate) fn new_keep(alloc: Global) -> Result<ListKeep, Fail> {
+    let registrar = token_of(alloc, "registrar")?;
+    Ok(ListKeep::new(alloc, registrar, day("2024-02-01")?))
 }
 
 /// A desk over a register in memory.
@@ -168,10 +121,9 @@ pub(crate) struct Desk {
 impl Desk {
     /// The desk on 2024-02-01 with the agents alder and birch and no filings.
     pub(crate) fn new(alloc: Global) -> Result<Desk, Fail> {
-        let registrar = token_of(alloc, "registrar")?;
         let mut desk = Desk {
             alloc,
-            keep: ListKeep::new(alloc, registrar, day("2024-02-01")?),
+            keep: new_keep(alloc)?,
         };
         let _ = desk.ask("registrar enrol alder alder-token-000001")?;
         let _ = desk.ask("registrar enrol birch birch-token-000001")?;
@@ -180,10 +132,7 @@ impl Desk {
 
     /// The reply to an ask.
     pub(crate) fn reply(&mut self, ask: &str) -> Result<DeskReply, Fail> {
-        let (caller, words) = first_word(ask);
-        let token = token_of(self.alloc, caller)?;
-        let request = request(self.alloc, words)?;
-        Ok(answer(self.alloc, &mut self.keep, &token, &request))
+        reply(self.alloc, &mut self.keep, ask)
     }
 
     /// The reply to an ask, spelled out.
@@ -202,7 +151,10 @@ impl Desk {
 
     /// The report that the viewer is shown, by words as `alder c1 e1 2024-02-01`.
     pub(crate) fn report(&mut self, viewer: &str, words: &str) -> Result<Text, Fail> {
-        let (entity, date) = first_node(self.alloc, words)?;
+        let (name, words) = words.split_once(' ').ok_or("no agent")?;
+        let (declaration, words) = words.split_once(' ').ok_or("no declaration")?;
+        let (rec, date) = words.split_once(' ').ok_or("no record")?;
+        let entity = node(self.alloc, name, declaration, rec)?;
         let viewer = agent(self.alloc, viewer)?;
         let date = day(date)?;
         Ok(report_text(self.alloc, &mut self.keep, &viewer, &entity, date)?)

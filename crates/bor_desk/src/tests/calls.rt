@@ -2,8 +2,7 @@
 
 ghost use Rattle.std.specs.Prelude.{◌≡◌};
 
-use crate::answer;
-use crate::tests::asking::{request, token_of};
+use crate::tests::asking::{new_keep, reply};
 use bods_read::Statement;
 use bor_machine::{Caller, Filing, FilingLine, Keep, ListKeep, Outward, StoreFault};
 use bor_records::{Last, Row};
@@ -159,11 +158,9 @@ impl<K: Keep> Keep for Noting<K> {
 
 // The calls that the keep gets for an ask, in order.
 fn calls(alloc: Global, keep: &mut Noting<ListKeep>, ask: &str) -> Result<String, Fail> {
-    let (caller, words) = ask.split_once(' ').ok_or("no words")?;
-    let token = token_of(alloc, caller)?;
-    let request = request(alloc, words)?;
+    let (caller, _) = ask.split_once(' ').ok_or("no words")?;
     keep.calls = String::from_str(alloc, caller)?;
-    let _ = answer(alloc, keep, &token, &request);
+    let _ = reply(alloc, keep, ask)?;
     Ok(keep.calls.clone()?)
 }
 
@@ -224,10 +221,8 @@ const CALLS: [(&str, &str); 23] = [
 #[test]
 fn a_keep_is_asked_for_no_more_than_is_needed(rt: HostRuntime) -> Result<(), Fail> {
     let alloc = rt.alloc();
-    let registrar = token_of(alloc, "registrar")?;
-    let today = Day::read("2024-02-01").ok_or("no day")?;
     let mut keep = Noting {
-        keep: ListKeep::new(alloc, registrar, today),
+        keep: new_keep(alloc)?,
         calls: String::new(alloc),
     };
     for (ask, wanted) in CALLS {

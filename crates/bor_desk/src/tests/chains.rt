@@ -1,6 +1,7 @@
 //! Who stands behind an entity.
 
-use crate::tests::asking::{Desk, PUBLISHED};
+use crate::tests::asking::Desk;
+use bor_rows::PUBLISHED;
 use std::alloc::Global;
 use std::process::Abort;
 use std::test::Fail;

@@ -1,22 +1,15 @@
 //! What is lodged, told again, refused and withdrawn.
 
 use crate::DeskReply;
-use crate::tests::asking::{DRAFT, Desk, FIRST, PUBLISHED};
+use crate::tests::asking::Desk;
+use bor_rows::{FIRST, lodging as rows};
 use std::process::Abort;
 use std::test::Fail;
 
 #[test]
 fn the_first_lodging_is_published_and_told(rt: HostRuntime) -> Result<(), Fail> {
     let mut desk = Desk::new(rt.alloc())?;
-    let asks = [
-        ("alder lodge f1 2024-02-01 FIRST", PUBLISHED),
-        (
-            "alder chains alder c1 e1",
-            r#"{"agent":"alder","date":"2024-02-01","declaration":"c1","persons":[{"agent":"alder","declaration":"c1","name":"Ann Moss","record":"p1"}],"record":"e1"}"#,
-        ),
-        ("alder file f1", FIRST),
-    ];
-    desk.talk(&rt, &asks)?;
+    desk.talk(&rt, &rows::THE_FIRST_LODGING_IS_PUBLISHED_AND_TOLD)?;
     assert_eq!(rt; FIRST.len(), 622);
     Ok(())
 }
@@ -36,17 +29,7 @@ fn a_repeat_tells_the_filing_that_is_there(rt: HostRuntime) -> Result<(), Fail> 
     for fresh in [true, false, false] {
         assert_eq!(rt; is_fresh(&desk.reply(first)?), Some(fresh));
     }
-    let reused = r#"{"refusal":"KeyReused"}"#;
-    let asks = [
-        (first, PUBLISHED),
-        ("alder lodge f1 2024-02-01 []", reused),
-        ("alder lodge f1 2024-02-02 FIRST", reused),
-        (
-            "alder filings",
-            r#"[{"due":"2024-02-01","filing":1,"key":"f1","state":"published"}]"#,
-        ),
-    ];
-    desk.talk(&rt, &asks)?;
+    desk.talk(&rt, &rows::A_REPEAT_TELLS_THE_FILING_THAT_IS_THERE)?;
     let second = "alder lodge f2 2024-03-01 E s4 e2";
     for (ask, fresh) in [
         (second, Some(true)),
@@ -88,49 +71,14 @@ fn a_statement_that_may_not_follow_leaves_no_filing(rt: HostRuntime) -> Result<(
         assert_eq!(rt; desk.ask(ask.as_str())?.as_str(), reply, "{file}");
         assert_eq!(rt; desk.ask("alder filings")?.as_str(), "[]", "{file}");
     }
-    let asks = [
-        ("alder lodge f1 2024-03-01 E s1 e1", DRAFT),
-        (
-            "alder lodge f2 2024-02-15 E s2 e1",
-            r#"{"place":1,"refusal":"DueBeforeRecord"}"#,
-        ),
-        (
-            "alder filings",
-            r#"[{"due":"2024-03-01","filing":1,"key":"f1","state":"draft"}]"#,
-        ),
-    ];
-    desk.talk(&rt, &asks)
+    desk.talk(&rt, &rows::A_STATEMENT_THAT_MAY_NOT_FOLLOW_LEAVES_NO_FILING)
 }
 
 // A file that isn't read is refused with the place and the member that the fault is of.
 #[test]
 fn a_file_that_is_not_read_is_refused_whole(rt: HostRuntime) -> Result<(), Fail> {
     let mut desk = Desk::new(rt.alloc())?;
-    let asks = [
-        (
-            "alder lodge f1 2024-02-01 []",
-            r#"{"refusal":"NoStatements"}"#,
-        ),
-        (
-            "alder lodge f1 2024-02-01 [{}]",
-            r#"{"field":"statementId","place":1,"refusal":"Missing"}"#,
-        ),
-        (
-            "alder lodge f1 2024-02-01 E s1 e1; P s2 p1; R s3 r1 e1<-p1 V101",
-            r#"{"place":3,"refusal":"ShareRange"}"#,
-        ),
-        (
-            r#"alder lodge f1 2024-02-01 E s1 e1; P s2 p1; R s3 r1 e1<-p1 V{"exact":"25"}"#,
-            r#"{"field":"exact","place":3,"refusal":"Bad"}"#,
-        ),
-        (
-            "alder lodge f1 2024-01-31 FIRST",
-            r#"{"refusal":"DuePast"}"#,
-        ),
-        ("alder lodge f1 2024-01-31 []", r#"{"refusal":"DuePast"}"#),
-        ("alder filings", "[]"),
-    ];
-    desk.talk(&rt, &asks)
+    desk.talk(&rt, &rows::A_FILE_THAT_IS_NOT_READ_IS_REFUSED_WHOLE)
 }
 
 // Lodges so many entities, each in a filing of its own that is published at once.
@@ -149,19 +97,5 @@ fn lodge_entities(rt: &(impl Abort + Alloc), desk: &mut Desk, count: u32) -> Res
 fn an_agent_has_at_most_999_filings(rt: HostRuntime) -> Result<(), Fail> {
     let mut desk = Desk::new(rt.alloc())?;
     lodge_entities(&rt, &mut desk, 999)?;
-    let full = r#"{"refusal":"FilingsFull"}"#;
-    let asks = [
-        ("alder lodge k1000 2024-02-01 E s1000 e1000", full),
-        ("alder lodge k1000 2024-01-31 []", full),
-        (
-            "alder lodge k1 2024-02-01 E s1000 e1000",
-            r#"{"refusal":"KeyReused"}"#,
-        ),
-        (
-            "alder lodge k999 2024-02-01 E s999 e999",
-            r#"{"due":"2024-02-01","filing":999,"state":"published"}"#,
-        ),
-        ("birch lodge k1 2024-02-01 E s1 e1", PUBLISHED),
-    ];
-    desk.talk(&rt, &asks)
+    desk.talk(&rt, &rows::AN_AGENT_HAS_AT_MOST_999_FILINGS)
 }

@@ -1,6 +1,7 @@
 //! The report on who stands behind an entity, letter by letter.
 
-use crate::tests::asking::{Desk, FIRST};
+use crate::tests::asking::Desk;
+use bor_rows::FIRST;
 use std::process::Abort;
 use std::test::Fail;
 

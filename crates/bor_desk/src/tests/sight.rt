@@ -1,93 +1,31 @@
 //! What each agent sees of the others' filings, and when.
 
-use crate::tests::asking::{DRAFT, Desk, PUBLISHED};
+use crate::tests::asking::Desk;
+use bor_rows::{DRAFT, PUBLISHED, sight as rows};
 use std::test::Fail;
 
 #[test]
 fn published_statements_have_their_settled_statuses(rt: HostRuntime) -> Result<(), Fail> {
     let mut desk = Desk::new(rt.alloc())?;
-    let asks = [
-        ("alder lodge f1 2024-02-01 E s1 e1; E s2 e1", PUBLISHED),
-        (
-            "alder published",
-            r#"[{"agent":"alder","due":"2024-02-01","statements":[{"date":"2024-01-10","declaration":"c1","id":"s1","record":"e1","status":"new","type":"entity"},{"date":"2024-01-10","declaration":"c1","id":"s2","record":"e1","status":"updated","type":"entity"}]}]"#,
-        ),
-    ];
-    desk.talk(&rt, &asks)
+    desk.talk(&rt, &rows::PUBLISHED_STATEMENTS_HAVE_THEIR_SETTLED_STATUSES)
 }
 
 #[test]
 fn a_snapshot_shows_what_is_open_on_its_date(rt: HostRuntime) -> Result<(), Fail> {
     let mut desk = Desk::new(rt.alloc())?;
-    let no_entity = r#"{"refusal":"NoEntity"}"#;
-    let asks = [
-        (
-            "alder lodge f1 2024-02-01 E s1 e1; E s2 e1 @2024-01-12 +closed",
-            PUBLISHED,
-        ),
-        (
-            "alder snapshot alder c1 2024-01-11",
-            r#"{"date":"2024-01-11","records":[{"date":"2024-01-10","details":{"identifiers":[],"kind":"registeredEntity","name":null},"id":"s1","record":"e1","status":"new","type":"entity"}]}"#,
-        ),
-        (
-            "alder snapshot alder c1 2024-01-09",
-            r#"{"date":"2024-01-09","records":[]}"#,
-        ),
-        (
-            "alder snapshot alder c1 2024-01-12",
-            r#"{"date":"2024-01-12","records":[]}"#,
-        ),
-        (
-            "alder snapshot alder c1 2024-01-13",
-            r#"{"date":"2024-01-13","records":[]}"#,
-        ),
-        ("alder chains alder c1 e1 2024-01-09", no_entity),
-        ("alder chains alder c1 e1 2024-01-12", no_entity),
-        ("alder chains alder c1 e1 2024-01-13", no_entity),
-    ];
-    desk.talk(&rt, &asks)
+    desk.talk(&rt, &rows::A_SNAPSHOT_SHOWS_WHAT_IS_OPEN_ON_ITS_DATE)
 }
 
 #[test]
 fn a_snapshot_shows_the_latest_statement(rt: HostRuntime) -> Result<(), Fail> {
     let mut desk = Desk::new(rt.alloc())?;
-    let asks = [
-        (
-            "alder lodge f1 2024-02-01 E s1 e1; E s2 e1 arrangement",
-            PUBLISHED,
-        ),
-        (
-            "alder snapshot alder c1",
-            r#"{"date":"2024-02-01","records":[{"date":"2024-01-10","details":{"identifiers":[],"kind":"arrangement","name":null},"id":"s2","record":"e1","status":"updated","type":"entity"}]}"#,
-        ),
-    ];
-    desk.talk(&rt, &asks)
+    desk.talk(&rt, &rows::A_SNAPSHOT_SHOWS_THE_LATEST_STATEMENT)
 }
-
-const JOINED: &str =
-    "birch lodge x3 2024-02-01 E s1 b1 #GB-COH/00000001; P s2 bp; R s3 br b1<-bp V100 in c9";
-
-const JOINING: &str =
-    "alder lodge g1 2024-03-01 E s1 e1; E s2 a1 #GB-COH/00000001; R s3 r1 e1<-a1 S10";
 
 #[test]
 fn a_draft_joins_chains_for_its_own_agent_alone(rt: HostRuntime) -> Result<(), Fail> {
     let mut desk = Desk::new(rt.alloc())?;
-    let asks = [
-        (JOINED, PUBLISHED),
-        (JOINING, DRAFT),
-        (
-            "alder chains alder c1 e1",
-            r#"{"agent":"alder","date":"2024-02-01","declaration":"c1","persons":[{"agent":"birch","declaration":"c9","name":null,"record":"bp"}],"record":"e1"}"#,
-        ),
-        ("birch chains alder c1 e1", r#"{"refusal":"NoEntity"}"#),
-        ("registrar day 2024-03-01", r#"{"day":"2024-03-01"}"#),
-        (
-            "birch chains alder c1 e1",
-            r#"{"agent":"alder","date":"2024-03-01","declaration":"c1","persons":[{"agent":"birch","declaration":"c9","name":null,"record":"bp"}],"record":"e1"}"#,
-        ),
-    ];
-    desk.talk(&rt, &asks)
+    desk.talk(&rt, &rows::A_DRAFT_JOINS_CHAINS_FOR_ITS_OWN_AGENT_ALONE)
 }
 
 // In one world birch has two drafts besides, one of them withdrawn.
@@ -108,20 +46,20 @@ fn anothers_drafts_change_no_reply(rt: HostRuntime) -> Result<(), Fail> {
             r#"{"due":"2024-12-01","filing":2,"state":"withdrawn"}"#,
         ),
         (
-            JOINED,
+            rows::JOINED,
             r#"{"due":"2024-02-01","filing":3,"state":"published"}"#,
         ),
     ];
     first.talk(&rt, &asks)?;
     let mut second = Desk::new(rt.alloc())?;
-    second.talk(&rt, &[(JOINED, PUBLISHED)])?;
+    second.talk(&rt, &[(rows::JOINED, PUBLISHED)])?;
     first.talk(&rt, &ALIKE)?;
     second.talk(&rt, &ALIKE)
 }
 
 // What alder asks in both worlds, and is replied.
 const ALIKE: [(&str, &str); 7] = [
-    (JOINING, DRAFT),
+    (rows::JOINING, DRAFT),
     (
         "alder filings",
         r#"[{"due":"2024-03-01","filing":1,"key":"g1","state":"draft"}]"#,
@@ -142,74 +80,20 @@ const ALIKE: [(&str, &str); 7] = [
         "alder chains alder c1 e1",
         r#"{"agent":"alder","date":"2024-02-01","declaration":"c1","persons":[{"agent":"birch","declaration":"c9","name":null,"record":"bp"}],"record":"e1"}"#,
     ),
-    (JOINING, DRAFT),
+    (rows::JOINING, DRAFT),
 ];
-
-const BY_AGENT: &str =
-    r#"[{"agent":"alder","due":"2024-02-01","statements":[{"date":"2024-01-10","declaration":"c1","id":"s1","record":"e1","status":"new","type":"entity"}]},{"agent":"birch","due":"2024-02-01","statements":[{"date":"2024-01-10","declaration":"c9","id":"s7","record":"z","status":"new","type":"person"}]},{"agent":"birch","due":"2024-02-01","statements":[{"date":"2024-01-10","declaration":"c9","id":"s1","record":"a","status":"new","type":"person"}]}]"#;
 
 // What cedar sees, that was enrolled after alder and birch had lodged: alder's first, though it was
 // accepted last.
 #[test]
 fn published_filings_go_by_agent_for_whoever_asks(rt: HostRuntime) -> Result<(), Fail> {
     let mut desk = Desk::new(rt.alloc())?;
-    let asks = [
-        ("birch lodge x1 2024-02-01 P s7 z in c9", PUBLISHED),
-        (
-            "birch lodge x2 2024-02-01 P s1 a in c9",
-            r#"{"due":"2024-02-01","filing":2,"state":"published"}"#,
-        ),
-        (
-            "birch lodge x3 2024-02-02 P s2 b in c9",
-            r#"{"due":"2024-02-02","filing":3,"state":"draft"}"#,
-        ),
-        ("alder lodge x1 2024-02-01 E s1 e1", PUBLISHED),
-        (
-            "registrar enrol cedar cedar-token-000001",
-            r#"{"agent":"cedar"}"#,
-        ),
-        ("cedar published", BY_AGENT),
-        ("birch published", BY_AGENT),
-        (
-            "cedar chains alder c1 e1",
-            r#"{"agent":"alder","date":"2024-02-01","declaration":"c1","persons":[],"record":"e1"}"#,
-        ),
-        ("cedar filings", "[]"),
-    ];
-    desk.talk(&rt, &asks)
+    desk.talk(&rt, &rows::PUBLISHED_FILINGS_GO_BY_AGENT_FOR_WHOEVER_ASKS)
 }
 
 // Three drafts of two agents, of which one day publishes two.
 #[test]
 fn a_day_publishes_all_that_is_due_by_then(rt: HostRuntime) -> Result<(), Fail> {
     let mut desk = Desk::new(rt.alloc())?;
-    let asks = [
-        (
-            "alder lodge f1 2024-02-10 E s1 e1",
-            r#"{"due":"2024-02-10","filing":1,"state":"draft"}"#,
-        ),
-        (
-            "alder lodge f2 2024-02-21 E s2 e2",
-            r#"{"due":"2024-02-21","filing":2,"state":"draft"}"#,
-        ),
-        (
-            "birch lodge f1 2024-02-20 P s1 p1",
-            r#"{"due":"2024-02-20","filing":1,"state":"draft"}"#,
-        ),
-        ("registrar day 2024-02-20", r#"{"day":"2024-02-20"}"#),
-        (
-            "birch published",
-            r#"[{"agent":"alder","due":"2024-02-10","statements":[{"date":"2024-01-10","declaration":"c1","id":"s1","record":"e1","status":"new","type":"entity"}]},{"agent":"birch","due":"2024-02-20","statements":[{"date":"2024-01-10","declaration":"c1","id":"s1","record":"p1","status":"new","type":"person"}]}]"#,
-        ),
-        (
-            "alder filings",
-            r#"[{"due":"2024-02-10","filing":1,"key":"f1","state":"published"},{"due":"2024-02-21","filing":2,"key":"f2","state":"draft"}]"#,
-        ),
-        ("birch withdraw f1", r#"{"refusal":"Published"}"#),
-        (
-            "alder lodge f1 2024-02-10 E s1 e1",
-            r#"{"due":"2024-02-10","filing":1,"state":"published"}"#,
-        ),
-    ];
-    desk.talk(&rt, &asks)
+    desk.talk(&rt, &rows::A_DAY_PUBLISHES_ALL_THAT_IS_DUE_BY_THEN)
 }
