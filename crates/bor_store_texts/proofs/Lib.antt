@@ -1,0 +1,3 @@
+pub mod TableMeanings
+pub mod QueryMeanings
+pub mod ChangeMeanings

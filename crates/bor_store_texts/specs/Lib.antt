@@ -1,0 +1,4 @@
+pub mod Tables
+pub mod Queries
+pub mod Changes
+pub mod Meanings

@@ -1,0 +1,44 @@
+//! What changes the tables.
+
+/// Adds the register's row, of version 1: its day and the registrar's token.
+pub const INSERT_REGISTER: &str = "INSERT INTO register (one, version, day, registrar) \
+     VALUES (1, 1, ?1, ?2)";
+
+/// Adds an agent: its name and its token.
+pub const INSERT_AGENT: &str = "INSERT INTO agent (name, token) VALUES (?1, ?2)";
+
+/// Adds a live filing: its agent, number, key, due day and file.
+pub const INSERT_FILING: &str =
+    "INSERT INTO filing (agent, number, lodge_key, due, withdrawn, bytes) \
+     VALUES (?1, ?2, ?3, ?4, 0, ?5)";
+
+/// Adds a statement, column by column.
+pub const INSERT_STATEMENT: &str =
+    "INSERT INTO statement (agent, filing, place, id, day, declaration, rec, kind, status, \
+     sub_kind, name, subject, party) \
+     VALUES (?1, ?2, ?3, ?4, ?5, ?6, ?7, ?8, ?9, ?10, ?11, ?12, ?13)";
+
+/// Adds an interest, column by column.
+pub const INSERT_INTEREST: &str =
+    "INSERT INTO interest (agent, filing, place, item, kind, directness, low, low_open, high, \
+     high_open) VALUES (?1, ?2, ?3, ?4, ?5, ?6, ?7, ?8, ?9, ?10)";
+
+/// Adds an identifier, column by column.
+pub const INSERT_IDENTIFIER: &str =
+    "INSERT INTO identifier (agent, filing, place, item, scheme, id) \
+     VALUES (?1, ?2, ?3, ?4, ?5, ?6)";
+
+/// Deletes the identifiers of a filing, by agent and number.
+pub const DELETE_IDENTIFIERS: &str = "DELETE FROM identifier WHERE agent = ?1 AND filing = ?2";
+
+/// Deletes the interests of a filing, by agent and number.
+pub const DELETE_INTERESTS: &str = "DELETE FROM interest WHERE agent = ?1 AND filing = ?2";
+
+/// Deletes the statements of a filing, by agent and number.
+pub const DELETE_STATEMENTS: &str = "DELETE FROM statement WHERE agent = ?1 AND filing = ?2";
+
+/// Marks a filing as withdrawn, by agent and number.
+pub const MARK_WITHDRAWN: &str = "UPDATE filing SET withdrawn = 1 WHERE agent = ?1 AND number = ?2";
+
+/// Sets the register's day.
+pub const UPDATE_DAY: &str = "UPDATE register SET day = ?1 WHERE one = 1";
