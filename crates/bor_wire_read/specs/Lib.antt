@@ -1,0 +1,5 @@
+pub mod Words
+pub mod Counted
+pub mod Head
+pub mod Message
+pub mod Reading

@@ -1,0 +1,63 @@
+//! A reader or a writer that counts its faults.
+ghost use Rattle.std.specs.Prelude.{◌≡◌, ◌+◌, ◌%◌, ◌^◌, ◌<◌, ◌==◌, ◌&&◌, nat_lt, length, if◌then◌else◌, is_ok, IfOk, IfErr};
+ghost use Rattle.std.specs.Io.{ReadsAtMost, WritesAtMost};
+ghost use Rattle.std.specs.Io.KnownBytes.{ReadConsumes, WriteAppends};
+ghost use Rattle.bor_wire_read.specs.Counted.{after_fault, takes_nothing};
+
+use std::io;
+use std::io::{Read, Write};
+
+/// A reader or a writer, with the number of its faults so far, modulo 2^64.
+#[derive(Drop)]
+pub struct Counted<T> {
+    inner: T,
+    faults: u64,
+}
+
+impl<T> Counted<T> {
+    pub fn new(inner: T) -> Counted<T>
+        ensures inner { result.inner ≡ inner }
+        ensures faults { result.faults ≡ 0 }
+    {
+        Counted { inner, faults: 0 }
+    }
+
+    pub fn faults(&self) -> u64
+        ensures { result ≡ self.now.faults }
+    {
+        self.faults
+    }
+}
+
+impl<R: Read> Counted<R> {
+    pub fn read(&mut self, buf: &mut [u8]) -> io::Result<usize>
+        ensures bound { ReadsAtMost result buf.new }
+        ensures bytes { ReadConsumes (R.remaining self.old.inner) (R.remaining self.new.inner) result buf.new }
+        ensures faults { self.new.faults ≡ (if is_ok result then self.old.faults else after_fault self.old.faults) }
+    {
+        let result = self.inner.read(buf);
+        if result.is_err() {
+            self.faults = self.faults.wrapping_add(1);
+        }
+        result
+    }
+}
+
+impl<W: Write> Counted<W> {
+    pub fn write(&mut self, buf: &[u8]) -> io::Result<usize>
+        ensures bound { WritesAtMost result buf.now }
+        ensures bytes { WriteAppends (W.contents self.old.inner) (W.contents self.new.inner) result buf.now }
+        ensures faults { self.new.faults
+            ≡ (if takes_nothing result buf.now then after_fault self.old.faults else self.old.faults) }
+    {
+        let result = self.inner.write(buf);
+        let fault = match &result {
+            Ok(n) => *n == 0 && !buf.is_empty(),
+            Err(_) => true,
+        };
+        if fault {
+            self.faults = self.faults.wrapping_add(1);
+        }
+        result
+    }
+}
