@@ -4,6 +4,7 @@ mod asking;
 mod callers;
 mod calls;
 mod chains;
+mod failing;
 mod lodging;
 mod reports;
 mod sight;

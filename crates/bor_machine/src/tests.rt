@@ -6,13 +6,10 @@ mod largest;
 use super::*;
 use bods_read::{FileFault, RecordType, Status};
 use bor_records::RecordFault;
+use bor_rows::FIRST;
 use bor_terms::{AgentName, Day, LodgeKey, Token};
 use std::alloc::Global;
 use std::test::Fail;
-
-// An entity, a person, and the person's voting rights in the entity.
-const FILE: &[u8] =
-    b"[{\"statementId\":\"s1\",\"statementDate\":\"2024-01-10\",\"declarationSubject\":\"c1\",\"recordId\":\"e1\",\"recordType\":\"entity\",\"recordDetails\":{\"entityType\":{\"type\":\"registeredEntity\"},\"name\":\"Alder Ltd\"}},{\"statementId\":\"s2\",\"statementDate\":\"2024-01-10\",\"declarationSubject\":\"c1\",\"recordId\":\"p1\",\"recordType\":\"person\",\"recordDetails\":{\"personType\":\"knownPerson\",\"names\":[{\"fullName\":\"Ann Moss\"}]}},{\"statementId\":\"s3\",\"statementDate\":\"2024-01-10\",\"declarationSubject\":\"c1\",\"recordId\":\"r1\",\"recordType\":\"relationship\",\"recordDetails\":{\"subject\":\"e1\",\"interestedParty\":\"p1\",\"interests\":[{\"type\":\"votingRights\",\"share\":{\"exact\":100}}]}}]";
 
 // A later statement of the entity.
 const LATER: &[u8] =
@@ -82,7 +79,10 @@ fn the_example_of_the_root_page(rt: HostRuntime) -> Result<(), Fail> {
         state: State::Draft,
         fresh: true,
     };
-    assert_eq!(rt; file(alloc, &mut keep, "f1", tomorrow, FILE)?, Ok(told));
+    assert_eq!(rt;
+        file(alloc, &mut keep, "f1", tomorrow, FIRST.as_bytes())?,
+        Ok(told)
+    );
     assert_eq!(rt; advance(&mut keep, tomorrow), Ok(tomorrow));
     assert_eq!(rt; keep.published()?.len(), 1);
     Ok(())
@@ -100,7 +100,10 @@ fn a_filing_due_today_is_published(rt: HostRuntime) -> Result<(), Fail> {
             state: State::Published,
             fresh,
         };
-        assert_eq!(rt; file(alloc, &mut keep, "f1", today, FILE)?, Ok(told));
+        assert_eq!(rt;
+            file(alloc, &mut keep, "f1", today, FIRST.as_bytes())?,
+            Ok(told)
+        );
     }
     let outwards = keep.published()?;
     let [outward] = outwards.as_slice() else {
@@ -121,7 +124,7 @@ fn a_refused_lodging_leaves_the_register(rt: HostRuntime) -> Result<(), Fail> {
     let alloc = rt.alloc();
     let mut keep = register(alloc)?;
     let (tomorrow, later) = (day("2024-02-02")?, day("2024-03-01")?);
-    assert!(rt; file(alloc, &mut keep, "f1", later, FILE)?.is_ok());
+    assert!(rt; file(alloc, &mut keep, "f1", later, FIRST.as_bytes())?.is_ok());
     let no_list = LodgeFault::Read(FileFault::NotAList);
     let early = LodgeFault::Record {
         place: 1,
@@ -145,7 +148,7 @@ fn a_draft_is_withdrawn(rt: HostRuntime) -> Result<(), Fail> {
     let alloc = rt.alloc();
     let mut keep = register(alloc)?;
     let tomorrow = day("2024-02-02")?;
-    for (key, bytes) in [("f1", FILE), ("f2", LATER)] {
+    for (key, bytes) in [("f1", FIRST.as_bytes()), ("f2", LATER)] {
         assert!(rt; file(alloc, &mut keep, key, tomorrow, bytes)?.is_ok());
     }
     let withdrawn = Ok((2, State::Withdrawn));
@@ -166,7 +169,7 @@ fn a_published_filing_stays(rt: HostRuntime) -> Result<(), Fail> {
     let alloc = rt.alloc();
     let mut keep = register(alloc)?;
     let today = day("2024-02-01")?;
-    assert!(rt; file(alloc, &mut keep, "f1", today, FILE)?.is_ok());
+    assert!(rt; file(alloc, &mut keep, "f1", today, FIRST.as_bytes())?.is_ok());
     assert_eq!(rt;
         undo(alloc, &mut keep, "f1")?,
         Err(WithdrawFault::Published)

@@ -1,0 +1,99 @@
+//! Each kind of fault at each call that an answer makes of a keep: it is told as what it is, and the
+//! register is as before.
+
+use crate::DeskReply;
+use crate::tests::asking::{new_keep, reply};
+use crate::tests::spelled::spelled;
+use bor_failing::FailingKeep;
+use bor_machine::{Keep, ListKeep, StoreFault};
+use std::alloc::Global;
+use std::process::Abort;
+use std::test::Fail;
+
+// What is asked for in turn, of a register in which the asks before have been answered.
+const ASKS: [&str; 14] = [
+    "registrar enrol alder alder-token-000001",
+    "registrar enrol birch birch-token-000001",
+    "alder lodge f1 2024-02-01 FIRST",
+    "alder lodge f1 2024-02-01 FIRST",
+    "alder lodge f2 2024-03-01 E s4 e1; E s5 e2",
+    "alder withdraw f2",
+    "alder filings",
+    "alder file f1",
+    "birch published",
+    "birch snapshot alder c1",
+    "birch chains alder c1 e1",
+    "birch chains alder c1 e1 2024-01-10",
+    "registrar day 2024-03-01",
+    "alder filings",
+];
+
+// What tells of the register.
+const LOOKS: [&str; 4] = [
+    "alder filings",
+    "birch published",
+    "birch snapshot alder c1",
+    "alder chains alder c1 e1 2024-02-01",
+];
+
+fn seen(alloc: Global, keep: &mut ListKeep) -> Result<String, Fail> {
+    let mut text = String::new(alloc);
+    for ask in LOOKS {
+        let told = reply(alloc, keep, ask)?;
+        text.push_str(spelled(alloc, &told)?.as_str())?;
+        text.push(' ')?;
+    }
+    Ok(text)
+}
+
+// The register after the first so many asks.
+fn keep_after(alloc: Global, count: usize) -> Result<ListKeep, Fail> {
+    let mut keep = new_keep(alloc)?;
+    for ask in ASKS.iter().take(count) {
+        let _ = reply(alloc, &mut keep, ask)?;
+    }
+    Ok(keep)
+}
+
+// How many calls of the keep an ask makes: each of them was made to answer the fault in turn.
+fn failed_calls(
+    rt: &impl Abort,
+    alloc: Global,
+    place: usize,
+    ask: &str,
+    fault: StoreFault,
+) -> Result<u32, Fail> {
+    let mut before = keep_after(alloc, place)?;
+    let before = seen(alloc, &mut before)?;
+    for calls in 0..100 {
+        let mut failing = FailingKeep::new(keep_after(alloc, place)?, fault);
+        failing.left = calls;
+        let told = reply(alloc, &mut failing, ask)?;
+        if failing.faults() == 0 {
+            return Ok(calls);
+        }
+        assert!(rt;
+            matches!(&told, DeskReply::Failed(met) if *met == fault),
+            "{ask} {calls}"
+        );
+        assert_eq!(rt; failing.faults(), 1);
+        assert!(rt;
+            seen(alloc, &mut failing.keep)?.as_str() == before.as_str(),
+            "{ask} {calls}"
+        );
+    }
+    Err(Fail::from("too many calls"))
+}
+
+#[test]
+fn each_call_that_fails_is_told_and_leaves_the_register(rt: HostRuntime) -> Result<(), Fail> {
+    for fault in [StoreFault::Memory, StoreFault::Store, StoreFault::Damaged] {
+        for (place, ask) in ASKS.iter().enumerate() {
+            assert!(rt;
+                failed_calls(&rt, rt.alloc(), place, ask, fault)? > 1,
+                "{ask}"
+            );
+        }
+    }
+    Ok(())
+}
