@@ -2,13 +2,10 @@
 //! is, by values from outside.
 
 use super::*;
+use bor_rows::FIRST;
 use bor_terms::Span;
 use std::alloc::Global;
 use std::test::Fail;
-
-// An entity, a person, and the person's voting rights in the entity.
-const WHOLE: &str =
-    "[{\"statementId\":\"s1\",\"statementDate\":\"2024-01-10\",\"declarationSubject\":\"c1\",\"recordId\":\"e1\",\"recordType\":\"entity\",\"recordDetails\":{\"entityType\":{\"type\":\"registeredEntity\"},\"name\":\"Alder Ltd\"}},{\"statementId\":\"s2\",\"statementDate\":\"2024-01-10\",\"declarationSubject\":\"c1\",\"recordId\":\"p1\",\"recordType\":\"person\",\"recordDetails\":{\"personType\":\"knownPerson\",\"names\":[{\"fullName\":\"Ann Moss\"}]}},{\"statementId\":\"s3\",\"statementDate\":\"2024-01-10\",\"declarationSubject\":\"c1\",\"recordId\":\"r1\",\"recordType\":\"relationship\",\"recordDetails\":{\"subject\":\"e1\",\"interestedParty\":\"p1\",\"interests\":[{\"type\":\"votingRights\",\"share\":{\"exact\":100}}]}}]";
 
 const ENTITY: &str =
     "{\"statementId\":\"s1\",\"statementDate\":\"2024-01-10\",\"declarationSubject\":\"c1\",\"recordId\":\"e1\",\"recordType\":\"entity\",\"recordDetails\":{\"entityType\":{\"type\":\"registeredEntity\"}}}";
@@ -159,14 +156,14 @@ fn statement_of(alloc: Global, file: &str, i: usize) -> Result<Statement, Fail> 
 #[test]
 fn a_whole_file_is_read(rt: HostRuntime) -> Result<(), Fail> {
     let alloc = rt.alloc();
-    assert_eq!(rt; WHOLE.len(), 622);
-    assert_eq!(rt; read_file(alloc, WHOLE.as_bytes())?.len(), 3);
+    assert_eq!(rt; FIRST.len(), 622);
+    assert_eq!(rt; read_file(alloc, FIRST.as_bytes())?.len(), 3);
     for (i, id, rec, kind) in [
         (0, "s1", "e1", "entity"),
         (1, "s2", "p1", "person"),
         (2, "s3", "r1", "relationship"),
     ] {
-        let statement = statement_of(alloc, WHOLE, i)?;
+        let statement = statement_of(alloc, FIRST, i)?;
         assert!(rt; statement.id.as_str() == id);
         assert!(rt; statement.rec.as_str() == rec);
         assert!(rt; statement.declaration.as_str() == "c1");
@@ -179,7 +176,7 @@ fn a_whole_file_is_read(rt: HostRuntime) -> Result<(), Fail> {
 
 #[test]
 fn an_entity_is_read(rt: HostRuntime) -> Result<(), Fail> {
-    let statement = statement_of(rt.alloc(), WHOLE, 0)?;
+    let statement = statement_of(rt.alloc(), FIRST, 0)?;
     match &statement.details {
         Details::Entity {
             kind,
@@ -197,7 +194,7 @@ fn an_entity_is_read(rt: HostRuntime) -> Result<(), Fail> {
 
 #[test]
 fn a_person_is_read(rt: HostRuntime) -> Result<(), Fail> {
-    let statement = statement_of(rt.alloc(), WHOLE, 1)?;
+    let statement = statement_of(rt.alloc(), FIRST, 1)?;
     match &statement.details {
         Details::Person {
             kind,
@@ -213,7 +210,7 @@ fn a_person_is_read(rt: HostRuntime) -> Result<(), Fail> {
 
 #[test]
 fn a_relationship_is_read(rt: HostRuntime) -> Result<(), Fail> {
-    let statement = statement_of(rt.alloc(), WHOLE, 2)?;
+    let statement = statement_of(rt.alloc(), FIRST, 2)?;
     match &statement.details {
         Details::Relationship {
             subject: Some(subject),
