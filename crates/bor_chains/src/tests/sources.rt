@@ -1,0 +1,367 @@
+//! Sources that count, fail, lie and are borrowed.
+
+ghost use Rattle.std.specs.Prelude.{◌≡◌, IfOk};
+ghost use Rattle.std.specs.Borrow.{GName};
+ghost use Rattle.bor_records.specs.Promises.{Kept, Promised, counted};
+ghost use Rattle.bor_links.specs.Shown.{Shown};
+ghost use Rattle.bor_chains.specs.Chains.{AreJoined};
+
+use crate::rounds::told;
+use crate::tests::filed::{
+    Filed, day, held, name_of, node, numbered, over_a1, shares, told_lines, votes,
+};
+use crate::{ChainFault, Link, LinkSource, ListSource, Node, NodeInfo, PersonLine, persons_of};
+use bor_records::Row;
+use std::alloc::{AllocError, Global};
+use std::test::Fail;
+
+// Which call failed.
+#[derive(Clone, Copy, Debug, PartialEq, Eq)]
+enum Trouble {
+    Call(u64),
+    Memory,
+}
+
+// A source that counts its calls and fails at one of them. It promises nothing of what it shows.
+#[derive(Drop)]
+struct Counting {
+    alloc: Global,
+    source: ListSource,
+    fails_at: u64,
+    calls: u64,
+    faults: u64,
+    asked: Vec<Node>,
+}
+
+impl Counting {
+    fn fails(&mut self) -> bool
+        ensures { self.new.faults ≡ self.old.faults }
+    {
+        self.calls = self.calls.wrapping_add(1);
+        self.calls == self.fails_at
+    }
+
+    fn told<T>(&mut self, answer: Result<T, Trouble>) -> Result<T, Trouble>
+    where
+        T: Drop,
+        ensures { self.new.faults ≡ counted result self.old.faults }
+    {
+        if answer.is_err() {
+            self.faults = self.faults.wrapping_add(1);
+        }
+        answer
+    }
+}
+
+impl LinkSource for Counting {
+    type Fault = Trouble;
+
+    ghost Meaning = { Shown };
+
+    ghost shown = { λ s. s };
+
+    ghost shows = { λ x s. ⊥ };
+
+    ghost is_clean = { λ x. Unit {0} };
+
+    ghost fault_count = { λ x. x.faults };
+
+    ghost may_tell = { λ f. Unit {0} };
+
+    ghost Lender = { Unit {0} };
+
+    ghost lender = { λ x. tt };
+
+    fn faults(&self) -> u64 {
+        self.faults
+    }
+
+    fn node(&mut self, node: &Node) -> Result<Option<NodeInfo>, Trouble> {
+        let answer = if self.fails() {
+            Err(Trouble::Call(self.calls))
+        } else {
+            self.source.node(node).map_err(|_| Trouble::Memory)
+        };
+        self.told(answer)
+    }
+
+    fn aliases(&mut self, node: &Node) -> Result<Vec<Node>, Trouble> {
+        let answer = if self.fails() {
+            Err(Trouble::Call(self.calls))
+        } else {
+            self.source.aliases(node).map_err(|_| Trouble::Memory)
+        };
+        self.told(answer)
+    }
+
+    fn same(&mut self, node: &Node) -> Result<Vec<Node>, Trouble> {
+        let answer = if self.fails() {
+            Err(Trouble::Call(self.calls))
+        } else {
+            self.source.same(node).map_err(|_| Trouble::Memory)
+        };
+        self.told(answer)
+    }
+
+    fn links_into(&mut self, node: &Node) -> Result<Vec<Link>, Trouble> {
+        let answer = if self.fails() {
+            Err(Trouble::Call(self.calls))
+        } else {
+            let copied = node.copy(self.alloc).ok();
+            if let Some(copied) = copied {
+                let _ = self.asked.push(copied);
+            }
+            self.source.links_into(node).map_err(|_| Trouble::Memory)
+        };
+        self.told(answer)
+    }
+}
+
+// A source over another one that it borrows, as a source over a keep does.
+#[derive(Drop)]
+struct Borrowing<'a, S> {
+    source: &'a mut S,
+}
+
+impl<'a, S: LinkSource> LinkSource for Borrowing<'a, S> {
+    type Fault = S::Fault;
+
+    ghost Meaning = { S.Meaning };
+
+    ghost shown = { S.shown };
+
+    ghost shows = { λ x m. S.shows x.source.now m };
+
+    ghost is_clean = { λ x. S.is_clean x.source.now };
+
+    ghost fault_count = { λ x. S.fault_count x.source.now };
+
+    ghost may_tell = { S.may_tell };
+
+    ghost Lender = { GName };
+
+    ghost lender = { λ x. x.source.ghost_name };
+
+    fn faults(&self) -> u64 {
+        self.source.faults()
+    }
+
+    fn node(&mut self, node: &Node) -> Result<Option<NodeInfo>, S::Fault> {
+        self.source.node(node)
+    }
+
+    fn aliases(&mut self, node: &Node) -> Result<Vec<Node>, S::Fault> {
+        self.source.aliases(node)
+    }
+
+    fn same(&mut self, node: &Node) -> Result<Vec<Node>, S::Fault> {
+        self.source.same(node)
+    }
+
+    fn links_into(&mut self, node: &Node) -> Result<Vec<Link>, S::Fault> {
+        self.source.links_into(node)
+    }
+}
+
+impl<'a, S: LinkSource> Borrowing<'a, S> {
+    fn new(source: &'a mut S) -> Borrowing<'a, S>
+        ensures source { result.source.now ≡ source.entry.now }
+        ensures same_reference { result.source.ghost_name ≡ source.entry.ghost_name }
+    {
+        Borrowing { source }
+    }
+}
+
+// The report of a source that is borrowed: what it showed, it shows.
+fn persons_behind<S: LinkSource>(
+    alloc: Global,
+    source: &mut S,
+    target: &Node,
+) -> Result<Vec<PersonLine>, ChainFault<S::Fault>>
+    ensures kept { Kept S.shows S.is_clean source.old source.new }
+    ensures joined { Promised S.shows S.is_clean source.old source.new (λ m.
+        IfOk result (λ lines. AreJoined (S.shown m) target.now lines.items)) }
+{
+    let mut borrowing = Borrowing::new(source);
+    persons_of(alloc, &mut borrowing, target)
+}
+
+fn source_of(alloc: Global, rows: &[Row], fails_at: u64) -> Result<Counting, Fail> {
+    Ok(Counting {
+        alloc,
+        source: ListSource::from_rows(alloc, rows, day("2024-02-01")?)?,
+        fails_at,
+        calls: 0,
+        faults: 0,
+        asked: Vec::new(alloc),
+    })
+}
+
+#[test]
+fn a_fault_of_the_source_is_handed_on(rt: HostRuntime) -> Result<(), Fail> {
+    let alloc = rt.alloc();
+    let filed = over_a1(alloc, &[votes(60)])?;
+    let target = node(alloc, "alder", "c1", "e1")?;
+    let mut whole = source_of(alloc, &filed.rows, 0)?;
+    let lines = persons_of(alloc, &mut whole, &target)
+        .ok()
+        .ok_or("a fault")?;
+    assert_eq!(rt; lines.len(), 1);
+    assert_eq!(rt; whole.faults(), 0);
+    for call in 1..whole.calls.wrapping_add(1) {
+        let mut source = source_of(alloc, &filed.rows, call)?;
+        let told = match persons_of(alloc, &mut source, &target) {
+            Err(ChainFault::Source(trouble)) => Some(trouble),
+            _ => None,
+        };
+        assert_eq!(rt; told, Some(Trouble::Call(call)));
+        assert_eq!(rt; source.calls, call);
+        assert_eq!(rt; source.faults(), 1);
+    }
+    Ok(())
+}
+
+// A source that answers each call with the same nodes: whatever is asked for is an entity, the same
+// as all of them, and held by each. It shows nothing.
+#[derive(Drop)]
+struct Lying {
+    alloc: Global,
+    nodes: Vec<Node>,
+}
+
+impl Lying {
+    fn copied(&self) -> Result<Vec<Node>, AllocError> {
+        let mut copied = Vec::new(self.alloc);
+        for _ in 0..2 {
+            for node in &self.nodes {
+                copied.push(node.copy(self.alloc)?)?;
+            }
+        }
+        Ok(copied)
+    }
+
+    fn held(&self, subject: &Node) -> Result<Vec<Link>, AllocError> {
+        let mut links = Vec::new(self.alloc);
+        for party in &self.nodes {
+            links.push(Link {
+                party: party.copy(self.alloc)?,
+                subject: subject.copy(self.alloc)?,
+                stake: true,
+                holding: true,
+            })?;
+        }
+        Ok(links)
+    }
+}
+
+impl LinkSource for Lying {
+    type Fault = AllocError;
+
+    ghost Meaning = { Shown };
+
+    ghost shown = { λ s. s };
+
+    ghost shows = { λ x s. ⊥ };
+
+    ghost is_clean = { λ x. ⊥ };
+
+    ghost fault_count = { λ x. 0 };
+
+    ghost may_tell = { λ f. Unit {0} };
+
+    ghost Lender = { Unit {0} };
+
+    ghost lender = { λ x. tt };
+
+    fn faults(&self) -> u64 {
+        0
+    }
+
+    fn node(&mut self, _node: &Node) -> Result<Option<NodeInfo>, AllocError> {
+        Ok(Some(NodeInfo::Entity { legal: true }))
+    }
+
+    fn aliases(&mut self, _node: &Node) -> Result<Vec<Node>, AllocError> {
+        Ok(Vec::new(self.alloc))
+    }
+
+    fn same(&mut self, _node: &Node) -> Result<Vec<Node>, AllocError> {
+        Ok(self.copied().unwrap_or(Vec::new(self.alloc)))
+    }
+
+    fn links_into(&mut self, node: &Node) -> Result<Vec<Link>, AllocError> {
+        Ok(self.held(node).unwrap_or(Vec::new(self.alloc)))
+    }
+}
+
+#[test]
+fn a_walk_over_a_lying_source_ends(rt: HostRuntime) -> Result<(), Fail> {
+    let alloc = rt.alloc();
+    let target = node(alloc, "alder", "c1", "e1")?;
+    let mut nodes = Vec::new(alloc);
+    for rec in ["a1", "a2", "a3"] {
+        nodes.push(node(alloc, "alder", "c1", rec)?)?;
+    }
+    let mut source = Lying { alloc, nodes };
+    let lines = persons_of(alloc, &mut source, &target)
+        .ok()
+        .ok_or("a fault")?;
+    assert_eq!(rt; lines.len(), 0);
+    Ok(())
+}
+
+// A thousand entities under one identifier: the class is asked for once, and so are links into each.
+#[test]
+fn a_class_of_a_thousand_is_asked_for_once(rt: HostRuntime) -> Result<(), Fail> {
+    let alloc = rt.alloc();
+    let mut filed = Filed::new(alloc);
+    for i in 0..1000_u32 {
+        let rec = name_of(alloc, "e", i)?;
+        filed.with(rec.as_str(), numbered(alloc, &[("X", "1")])?)?;
+    }
+    filed.records(&["p"])?;
+    filed.link("e999", "p", &[shares(1)])?;
+    let target = node(alloc, "alder", "c1", "e0")?;
+    let mut source = source_of(alloc, &filed.rows, 0)?;
+    let lines = persons_of(alloc, &mut source, &target)
+        .ok()
+        .ok_or("a fault")?;
+    assert_eq!(rt; lines.len(), 1);
+    // the target and the person, the class, and the links into each of it
+    assert_eq!(rt; source.calls, 1003);
+    Ok(())
+}
+
+#[test]
+fn a_source_may_be_borrowed(rt: HostRuntime) -> Result<(), Fail> {
+    let alloc = rt.alloc();
+    let filed = over_a1(alloc, &[votes(60)])?;
+    let target = node(alloc, "alder", "c1", "e1")?;
+    let mut source = ListSource::from_rows(alloc, &filed.rows, day("2024-02-01")?)?;
+    for _ in 0..2 {
+        let lines = persons_behind(alloc, &mut source, &target)
+            .ok()
+            .ok_or("a fault")?;
+        assert_eq!(rt; told_lines(alloc, &lines)?.as_str(), "p1");
+    }
+    Ok(())
+}
+
+#[test]
+fn links_are_asked_for_at_most_twice(rt: HostRuntime) -> Result<(), Fail> {
+    let alloc = rt.alloc();
+    let mut filed = Filed::new(alloc);
+    filed.records(&["e1", "a1", "p1"])?;
+    filed.link("e1", "a1", &[votes(60)])?;
+    filed.link("a1", "e1", &[votes(60)])?;
+    filed.link("a1", "p1", &[votes(60)])?;
+    let target = node(alloc, "alder", "c1", "e1")?;
+    let mut source = source_of(alloc, &filed.rows, 0)?;
+    let lines = persons_of(alloc, &mut source, &target)
+        .ok()
+        .ok_or("a fault")?;
+    assert_eq!(rt; lines.len(), 1);
+    let asked = told(alloc, &source.asked)?;
+    assert_eq!(rt; asked.as_str(), "e1 a1 e1");
+    Ok(())
+}
