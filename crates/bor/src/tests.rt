@@ -1,7 +1,11 @@
 //! What no clause says: the texts on standard error, help, files, and faults in mid-stream.
 
+use crate::failure::Failure;
+use crate::help::HELP;
 use crate::program::run;
+use crate::status::Status;
 use bor_desk::check_text;
+use bor_rows::FIRST;
 use std::fs;
 use std::io::{self, ErrorKind, Read, Write};
 use std::test::Fail;
@@ -27,16 +31,17 @@ fn run_on(rt: &HostRuntime, words: &[&str], input: &[u8]) -> Ran {
     }
 }
 
-// Gives one part, and fails at the next read.
+// Gives some bytes one by one, and then fails.
 #[derive(Drop)]
 struct Broken {
     parts: u8,
+    kind: ErrorKind,
 }
 
 impl Read for Broken {
     fn read(&mut self, buf: &mut [u8]) -> io::Result<usize> {
         if self.parts == 0 || buf.is_empty() {
-            return Err(io::Error::from(ErrorKind::ConnectionReset));
+            return Err(io::Error::from(self.kind));
         }
         self.parts -= 1;
         buf[0] = b'[';
@@ -55,6 +60,23 @@ impl Write for Closed {
 
     fn flush(&mut self) -> io::Result<()> {
         Err(io::Error::from(ErrorKind::BrokenPipe))
+    }
+}
+
+// Takes all bytes, and can't hand them on.
+#[derive(Drop)]
+struct Unflushed {
+    taken: Vec<u8>,
+}
+
+impl Write for Unflushed {
+    fn write(&mut self, buf: &[u8]) -> io::Result<usize> {
+        self.taken.extend_from_slice(buf)?;
+        Ok(buf.len())
+    }
+
+    fn flush(&mut self) -> io::Result<()> {
+        Err(io::Error::from(ErrorKind::StorageFull))
     }
 }
 
@@ -122,29 +144,25 @@ fn help_is_printed_where_it_is_asked_for(rt: HostRuntime) {
     }
 }
 
-#[test]
-fn a_file_that_is_named_is_read(rt: HostRuntime) -> Result<(), Fail> {
-    let report = check_text(rt.alloc(), b"").ok().ok_or("a report")?;
-    let ran = run_on(&rt, &["check", "/dev/null"], b"[]");
-    assert_eq!(rt; ran.status, u8::from(report.refused));
-    assert!(rt; ran.output.as_slice() == report.bytes.as_slice());
-    assert!(rt; ran.errors.is_empty());
-    Ok(())
-}
+// The report on the first lodging.
+const LISTED: &str =
+    "filing 1 published\n1\tentity\tnew\tc1\te1\n2\tperson\tnew\tc1\tp1\n3\trelationship\tnew\tc1\tr1\n";
 
 #[test]
-fn a_file_with_contents_is_checked(rt: HostRuntime) -> Result<(), Fail> {
+fn a_named_file_is_checked_and_stays_as_it_is(rt: HostRuntime) -> Result<(), Fail> {
     let name = "worked-file.json";
-    let file =
-        br#"[{"statementId":"s1","statementDate":"2024-01-10","declarationSubject":"c1","recordId":"e1","recordType":"entity","recordDetails":{"entityType":{"type":"registeredEntity"},"name":"Alder Ltd"}},{"statementId":"s2","statementDate":"2024-01-10","declarationSubject":"c1","recordId":"p1","recordType":"person","recordDetails":{"personType":"knownPerson","names":[{"fullName":"Ann Moss"}]}},{"statementId":"s3","statementDate":"2024-01-10","declarationSubject":"c1","recordId":"r1","recordType":"relationship","recordDetails":{"subject":"e1","interestedParty":"p1","interests":[{"type":"votingRights","share":{"exact":100}}]}}]"#;
-    fs::write(&rt, name, file.as_slice())?;
-    let ran = run_on(&rt, &["check", name], b"");
-    fs::remove_file(&rt, name)?;
-    assert_eq!(rt; ran.status, 0);
-    let lines =
-        "filing 1 published\n1\tentity\tnew\tc1\te1\n2\tperson\tnew\tc1\tp1\n3\trelationship\tnew\tc1\tr1\n";
-    assert!(rt; ran.output.as_slice() == lines.as_bytes());
-    assert!(rt; ran.errors.is_empty());
+    for spaces in [0, 10_000] {
+        let mut file = vec![in rt.alloc(); b' '; spaces]?;
+        file.extend_from_slice(FIRST.as_bytes())?;
+        fs::write(&rt, name, file.as_slice())?;
+        let ran = run_on(&rt, &["check", name], b"[]");
+        let after = fs::read(&rt, name)?;
+        fs::remove_file(&rt, name)?;
+        assert_eq!(rt; ran.status, 0);
+        assert!(rt; ran.output.as_slice() == LISTED.as_bytes());
+        assert!(rt; ran.errors.is_empty());
+        assert!(rt; after.as_slice() == file.as_slice());
+    }
     Ok(())
 }
 
@@ -164,19 +182,46 @@ fn a_file_that_cannot_be_read_is_told(rt: HostRuntime) {
 
 #[test]
 fn an_input_that_breaks_off_is_told(rt: HostRuntime) {
-    let mut output = Vec::new(rt.alloc());
+    let cases: [(ErrorKind, &str); 2] = [
+        (
+            ErrorKind::ConnectionReset,
+            "bor: cannot read standard input\n",
+        ),
+        (ErrorKind::OutOfMemory, "bor: out of memory\n"),
+    ];
+    for (kind, line) in cases {
+        let mut output = Vec::new(rt.alloc());
+        let mut errors = Vec::new(rt.alloc());
+        let words: &[&str] = &[];
+        let mut input = Broken { parts: 2, kind };
+        let status = run(&rt, words, &mut input, &mut output, &mut errors);
+        assert_eq!(rt; status, 3);
+        assert!(rt; output.is_empty());
+        assert!(rt; errors.as_slice() == line.as_bytes());
+    }
+}
+
+#[test]
+fn a_failed_store_is_told(rt: HostRuntime) {
     let mut errors = Vec::new(rt.alloc());
-    let words: &[&str] = &[];
-    let status = run(
-        &rt,
-        words,
-        &mut Broken { parts: 2 },
-        &mut output,
-        &mut errors,
-    );
-    assert_eq!(rt; status, 3);
-    assert!(rt; output.is_empty());
-    assert!(rt; errors.as_slice() == b"bor: cannot read standard input\n".as_slice());
+    assert_eq!(rt; Failure::Store.tell(&mut errors), Status::Failed);
+    assert!(rt; errors.as_slice() == b"bor: store failed\n".as_slice());
+}
+
+#[test]
+fn an_output_that_does_not_hand_on_is_not_told(rt: HostRuntime) {
+    let cases: [(&[&str], &str); 2] = [(&[], "refused NoStatements\n"), (&["--help"], HELP)];
+    for (words, text) in cases {
+        let mut output = Unflushed {
+            taken: Vec::new(rt.alloc()),
+        };
+        let mut errors = Vec::new(rt.alloc());
+        let mut input: &[u8] = b"[]";
+        let status = run(&rt, words, &mut input, &mut output, &mut errors);
+        assert_eq!(rt; status, 3);
+        assert!(rt; output.taken.as_slice() == text.as_bytes());
+        assert!(rt; errors.is_empty());
+    }
 }
 
 #[test]
@@ -211,20 +256,6 @@ fn a_line_that_cannot_be_written_whole_is_cut_off(rt: HostRuntime) {
         assert_eq!(rt; status, 3);
         assert!(rt; errors.taken.as_slice() == &line[..room]);
     }
-}
-
-#[test]
-fn an_input_is_read_no_further_than_it_is_taken(rt: HostRuntime) -> Result<(), Fail> {
-    let bytes = vec![in rt.alloc(); b' '; 1_048_600]?;
-    let mut output = Vec::new(rt.alloc());
-    let mut errors = Vec::new(rt.alloc());
-    let words: &[&str] = &[];
-    let mut input = bytes.as_slice();
-    let status = run(&rt, words, &mut input, &mut output, &mut errors);
-    assert_eq!(rt; status, 1);
-    assert!(rt; output.as_slice() == b"refused BodyTooLarge\n".as_slice());
-    assert_eq!(rt; input.len(), 23);
-    Ok(())
 }
 
 #[test]
