@@ -24,12 +24,11 @@ use Rattle.bor_chains.specs.Tables.{placed}
 use Rattle.bor_chains.specs.Likeness.{sign_cmp, by_record, by_identifier, signs, AreUnder}
 use Rattle.bor_chains.specs.Classes.{is_like, node_at, entity_in, place_in, IsAmong, HasSign, Expands, AreGathered, Visits, AreAllSame}
 use Rattle.bor_links.proofs.SameNode.{same_node_is}
-use Rattle.bor_links.proofs.Found.{none, here, cases, Contains-filter, Contains-from_filter, Contains-from_map}
-use Rattle.bor_links.proofs.ByKey.{Contains-filter_map, Contains-from_filter_map}
+use Rattle.bor_links.proofs.Found.{Contains-filter_map, Contains-from_filter_map, none, here, cases, Contains-filter, Contains-from_filter, Contains-from_map}
 use Rattle.bor_chains.proofs.Lists.{AreDistinct, found_is, listed_is}
 use Rattle.bor_chains.proofs.Signs.{exact_sign, identifiers_more, in_common, placed_in, in_place, some_is}
 use Rattle.bor_chains.proofs.Growing.{Contains-take_more}
-use Rattle.bor_chains.proofs.Sames.{same_more, same_reached, same_alone}
+use Rattle.bor_links.proofs.Sames.{same_more, same_reached, same_alone}
 
 -- ---- signs looked up
 

@@ -24,8 +24,7 @@ use Rattle.bor_chains.specs.Listing.{aliases_to, aliases_in}
 use Rattle.bor_links.specs.Answers.{AreAliases}
 use Rattle.bor_chains.specs.Tables.{items_of}
 use Rattle.bor_chains.specs.Likeness.{sign_cmp, by_record, by_identifier, signs, Stays, IsUnder, AreUnder, AreAll, alike_node, alike_at}
-use Rattle.bor_links.proofs.Found.{none, here, there, cases, Contains-filter, Contains-from_filter, Contains-map, Contains-from_map}
-use Rattle.bor_links.proofs.ByKey.{Contains-filter_map, Contains-from_filter_map}
+use Rattle.bor_links.proofs.Found.{Contains-filter_map, Contains-from_filter_map, none, here, there, cases, Contains-filter, Contains-from_filter, Contains-map, Contains-from_map}
 use Rattle.bor_chains.proofs.Lists.{aliases_told}
 
 parts : (p q : Ordering) → ordering_then p q ≡ Equal → (p ≡ Equal) × (q ≡ Equal)

@@ -22,7 +22,7 @@ use Rattle.bor_links.specs.Rows.{node_in, node_with, nodes_of, link_in, links_of
 use Rattle.bor_links.specs.ByKey.{node_at, AreAlikeAt, CoverAliases}
 use Rattle.bor_links.specs.Laws.{OpenRowsAreTheLatest, OpenRowsAreReadByKey, SnapshotsShowTheOpenRows, NodesAreReadByKey, AliasesAreReadByKey, AliasesAreReadByCandidates, LinksAreReadByCandidates}
 use Rattle.bor_links.proofs.SameNode.{same_node_is}
-use Rattle.bor_links.proofs.Found.{none, here, there, cases}
+use Rattle.bor_links.proofs.Found.{Contains-from_filter_map, Contains-filter_map, none, here, there, cases}
 use Rattle.bor_links.proofs.Series.{has_dated, both_tests, open_are_latest}
 
 -- ---- tests
@@ -190,28 +190,6 @@ pub listed_by_key : NodesAreReadByKey
 listed_by_key day n rows = listed_found day n rows ∙ ap (λ (o : Option Row). option_and_then node_in o) (open_are_latest day n rows)
 
 -- ---- links by candidates
-
-pub Contains-from_filter_map : {X Y : Type 0} (h : X → Option Y) (xs : List X) (y : Y) → Contains (filter_map h xs) y → (x : X) × Contains xs x × (h x ≡ Some y)
-Contains-from_filter_map h [] y k = absurd (none y k)
-Contains-from_filter_map {X} {Y} h (x ∷ xs) y k = at (λ j. Contains-from_filter_map h xs y j) (h x) refl k
-  where
-    at : (Contains (filter_map h xs) y → (z : X) × Contains xs z × (h z ≡ Some y)) → (o : Option Y) → h x ≡ o → Contains (cons_option o (filter_map h xs)) y → (z : X) × Contains (x ∷ xs) z × (h z ≡ Some y)
-    at more None e j = let m = more j in (m.0, there x xs m.0 m.1, m.2)
-    at more (Some v) e j = elim (cases v (filter_map h xs) y j) [
-      | inl q ↦ (x, here x xs, e ∙ ap (λ (w : Y). Some w) q)
-      | inr q ↦ let m = more q in (m.0, there x xs m.0 m.1, m.2)
-    ]
-
-pub Contains-filter_map : {X Y : Type 0} (h : X → Option Y) (xs : List X) (x : X) (y : Y) → Contains xs x → h x ≡ Some y → Contains (filter_map h xs) y
-Contains-filter_map h [] x y k e = absurd (none x k)
-Contains-filter_map {X} {Y} h (z ∷ zs) x y k e = elim (cases z zs x k) [
-  | inl q ↦ subst (λ (o : Option Y). Contains (cons_option o (filter_map h zs)) y) (sym (ap h q ∙ e)) (here y (filter_map h zs))
-  | inr q ↦ at (h z) (Contains-filter_map h zs x y q e)
-]
-  where
-    at : (o : Option Y) → Contains (filter_map h zs) y → Contains (cons_option o (filter_map h zs)) y
-    at None m = m
-    at (Some v) m = there v (filter_map h zs) y m
 
 -- a link is made by the latest statement of an open series
 pub link_found : (day : ℤ) (rows : List Row) (l : Link) → Contains (links_of day rows) l

@@ -5,3 +5,4 @@ pub mod Series
 pub mod EveryStake
 pub mod ByKey
 pub mod Examples
+pub mod Sames
