@@ -1,13 +1,8 @@
 -- Fields by name, and the test of names.
-use Rattle.std.proofs.Common.{◌≡◌, ◌≤◌, ◌<◌, length, drop, take, map, ℕ, ◌+◌, List, [], ◌∷◌, ◌++◌, Some, None, Option, refl, sym, ap, ◌∙◌, arith, false, true, Bool, cond, get_or, drop-cons, add-one, nat_eq, IsTrue, ◌↔◌}
+use Rattle.std.proofs.Common.{◌≡◌, ◌<◌, length, drop, map, ℕ, ◌+◌, List, [], ◌∷◌, Some, refl, sym, ap, ◌∙◌, arith, false, true, Bool, cond, get_or, drop-cons, add-one, nat_eq, IsTrue, ◌↔◌}
 use Rattle.std.specs.Prelude.{find, count_by}
-use Rattle.std.specs.Option.{option_map}
 use Rattle.std.specs.Cmp.Lexicographic.{pointwise, bytes_decides}
-use Rattle.std.proofs.lemmas.Grind.{common_steps}
 use Rattle.std.proofs.lemmas.List.Sums.{sum_by-append}
-use Rattle.httparse.specs.declared.spans.HeaderSpan.{HeaderSpan}
-use Rattle.httparse.specs.Spans.{header_bytes}
-use Rattle.bor_wire_read.specs.Message.{FieldText, is_named, how_many, first_value}
 
 pub names_from_test : (a b : List ℕ) (r : Bool) → (IsTrue r ↔ (a ≡ b)) → r ≡ pointwise nat_eq a b
 names_from_test a b true h = sym ((bytes_decides a b).1 (h.0 refl))

@@ -1,7 +1,6 @@
 -- Where a head ends, step by step and whatever follows.
-use Rattle.std.proofs.Common.{◌≡◌, ◌≤◌, length, drop, ℕ, ◌+◌, ◌-◌, ◌*◌, ◌<◌, List, [], ◌∷◌, ◌++◌, Some, None, Option, get_or, refl, sym, ap, ◌∙◌, arith, suc, ◌==◌, ◌&&◌, false, true, Bool, cond, ◌⊎◌, inl, inr, drop-cons, add-one, nat_lt, drop}
+use Rattle.std.proofs.Common.{◌≡◌, ◌≤◌, length, drop, ℕ, ◌+◌, ◌-◌, ◌<◌, List, [], ◌∷◌, ◌++◌, Some, None, Option, get_or, refl, sym, ap, ◌∙◌, arith, suc, ◌==◌, ◌&&◌, false, true, Bool, cond, ◌⊎◌, inl, inr, drop-cons, add-one, nat_lt, drop}
 use Rattle.std.specs.Option.{option_map}
-use Rattle.std.proofs.lemmas.Grind.{common_steps}
 use Rattle.std.proofs.lemmas.Bool.Decides.{nat_tests}
 use Rattle.std.proofs.lemmas.List.{at_drop_all}
 use Rattle.bor_wire_read.specs.Head.{blank_len, head_len}

@@ -1,9 +1,9 @@
 -- An input spells one thing.
-use Rattle.std.proofs.Common.{◌≡◌, ℕ, List, [], ◌∷◌, Result, Ok, Err, refl, sym, ap, ◌∙◌, take, drop}
+use Rattle.std.proofs.Common.{◌≡◌, ℕ, List, [], Result, Ok, Err, sym, ap, ◌∙◌, take, drop}
 use Rattle.httparse.proofs.GrammarLemmas.{request_unique}
 use Rattle.bor_wire_read.specs.declared.fault.Refusal.{Refusal}
 use Rattle.bor_wire_read.specs.Head.{head_at}
-use Rattle.bor_wire_read.specs.Message.{Parts, Message, HasParts, IsMessage, IsAt, IsBehind, and_then, with_body, parts_of}
+use Rattle.bor_wire_read.specs.Message.{Parts, Message, HasParts, IsMessage, IsAt, and_then, with_body, parts_of}
 
 parts_unique : (head : List ℕ) (a b : Result Parts Refusal) → HasParts head a → HasParts head b → a ≡ b
 parts_unique head (Ok a) (Ok b) x y =

@@ -1,3 +1,4 @@
+pub mod BufferLemmas
 pub mod FieldLemmas
 pub mod HeadLemmas
 pub mod Laws

@@ -1,20 +1,18 @@
 -- What the whole input is, from what was read of it.
-use Rattle.std.proofs.Common.{◌≡◌, ◌≤◌, ◌<◌, length, drop, take, map, ℕ, ◌+◌, ◌-◌, List, [], ◌∷◌, ◌++◌, refl, sym, ap, ◌∙◌, arith, false, true, Bool, cond, subst, append_assoc, Option, Some, None, IfSome, Result, Ok, Err, nat_lt, nat_le, max, length-append, codes}
+use Rattle.std.proofs.Common.{◌≡◌, ◌≤◌, ◌<◌, length, drop, take, ℕ, ◌-◌, List, [], ◌++◌, refl, sym, ap, ◌∙◌, arith, false, true, Bool, cond, subst, append_assoc, Option, Some, None, IfSome, Result, Ok, Err, nat_lt, nat_le, length-append, codes}
 use Rattle.std.specs.Prelude.{⊤}
 use Rattle.std.specs.Option.{option_map_or}
-use Rattle.std.specs.Io.KnownBytes.{Consumes, IsAtEnd}
 use Rattle.std.specs.Str.Parse.{digits_value}
 use Rattle.std.proofs.lemmas.List.{take-append-le, length-take-le, length-drop, take-append-drop, take_all}
 use Rattle.std.proofs.lemmas.Bool.Decides.{nat_tests}
 use Rattle.std.proofs.Math.Seq.{take-append_seam, drop-append_seam}
 use Rattle.bor_wire_read.specs.declared.fault.Refusal.{Refusal}
-use Rattle.bor_wire_read.specs.declared.fault.Refusal.TheVariants.{BadHead, BadLength, BodyTooLarge, CutShort}
+use Rattle.bor_wire_read.specs.declared.fault.Refusal.TheVariants.{BadLength, BodyTooLarge, CutShort}
 use Rattle.bor_wire_read.specs.declared.fault.WireFault.{WireFault}
 use Rattle.bor_wire_read.specs.declared.fault.WireFault.TheVariants.{Refused, Read, Memory}
 use Rattle.bor_wire_read.specs.Head.{head_at}
-use Rattle.bor_wire_read.specs.Reading.{Grows, FaultFits, FillsUp, TakesAtMost}
+use Rattle.bor_wire_read.specs.Reading.{Grows, FaultFits, EndsBefore, IsBody, ReadsBody, Tells, TakesAtMost}
 use Rattle.bor_wire_read.specs.Message.{Parts, Message, FieldText, HasParts, HeadFault, IsMessage, IsAt, IsBehind, and_then, with_body, body_of, body_len, length_of, is_numeral, how_many, first_value}
-use Rattle.bor_wire_read.proofs.HeadLemmas.{chosen}
 use Rattle.bor_wire_read.proofs.ReadingLemmas.{from_whole_with, from_end_with, grows_behind}
 
 -- with its head and what stands behind it, an input is what its parts make of it
@@ -77,10 +75,10 @@ body_whole parts body rest len le =
     rw (f, take-append-le len body rest le) refl
 
 -- how an input is cut short in its body
-pub cut_short : {known middle left : Option (List ℕ)} {buffer body : List ℕ} (n len : ℕ) (parts : Parts) (e : WireFault)
+cut_short : {known middle left : Option (List ℕ)} {buffer body : List ℕ} (n len : ℕ) (parts : Parts) (e : WireFault)
     → Grows known middle [] buffer → Grows middle left (drop n buffer) body → n ≤ length buffer
     → IfSome known (Found n) → HasParts (take n buffer) (Ok parts) → body_len parts.fields ≡ Ok len
-    → FillsUp left body len (Err e) → IfSome known (λ input. FaultFits e (IsMessage input))
+    → EndsBefore left body len e → IfSome known (λ input. FaultFits e (IsMessage input))
 cut_short {known} {middle} {left} {buffer} {body} n len parts (Refused r) g h le found has is short =
     from_end_with (Found n) (λ input. IsMessage input (Err r)) (grows_behind n g h) short.2 found (λ at.
     subst (IsMessage (take n buffer ++ body)) (with_length parts body len is ∙ body_short parts body len short.1 ∙ ap Err (sym short.0))
@@ -97,14 +95,28 @@ cut_short {known} {middle} {left} {buffer} {body} n len parts Memory g h le foun
     unknown (Some input) = tt
 
 -- what an input is whose body came
-pub whole_request : {known middle left : Option (List ℕ)} {buffer body : List ℕ} (n len : ℕ) (parts : Parts)
+whole : {known middle left : Option (List ℕ)} {buffer body : List ℕ} (n len : ℕ) (parts : Parts)
     → Grows known middle [] buffer → Grows middle left (drop n buffer) body → n ≤ length buffer
     → IfSome known (Found n) → HasParts (take n buffer) (Ok parts) → body_len parts.fields ≡ Ok len
     → len ≤ length body → IfSome known (λ input. IsMessage input (Ok (record { parts = parts; body = take len body })))
-whole_request {known} {middle} {left} {buffer} {body} n len parts g h le found has is full =
+whole {known} {middle} {left} {buffer} {body} n len parts g h le found has is full =
     from_whole_with (Found n) (λ input. IsMessage input (Ok (record { parts = parts; body = take len body }))) (grows_behind n g h) found (λ rest at.
     subst (IsMessage (take n buffer ++ body ++ rest)) (with_length parts (body ++ rest) len is ∙ body_whole parts body rest len full)
     (message (take n buffer ++ body ++ rest) (take n buffer) (body ++ rest) n (Ok parts) at (append_assoc (take n buffer) body rest) (length-take-le n buffer le) has))
+
+-- what an input is whose body was read
+pub read_behind : {X : Type 0} (view : X → List ℕ) {known middle left : Option (List ℕ)} {buffer : List ℕ} (n len : ℕ) (parts : Parts) (result : Result X WireFault)
+    → Grows known middle [] buffer → ReadsBody view middle left (drop n buffer) len result → n ≤ length buffer
+    → IfSome known (Found n) → HasParts (take n buffer) (Ok parts) → body_len parts.fields ≡ Ok len
+    → IfSome known (λ input. Tells (λ x. record { parts = parts; body = view x }) result (IsMessage input))
+read_behind {X} view {known} {middle} {left} {buffer} n len parts result g h le found has is = go result h.body
+  where
+    go : (r : Result X WireFault) → IsBody view left h.all len r
+        → IfSome known (λ input. Tells {Y = Message} (λ x. record { parts = parts; body = view x }) r (IsMessage input))
+    go (Ok x) b =
+        subst (λ body. IfSome known (λ input. IsMessage input (Ok (record { parts = parts; body = body })))) (sym b.0)
+        (whole n len parts g h.grown le found has is b.1)
+    go (Err e) b = cut_short n len parts e g h.grown le found has is b
 
 -- a length that is announced is within the limit
 pub length_of-le : (limit len : ℕ) (bytes : List ℕ) → length_of limit bytes ≡ Ok len → len ≤ limit
@@ -133,14 +145,14 @@ body_len-le fields len e =
     go false true o e = cc
     go false false o e = last o e
 
-pub taken_whole : {known middle left : Option (List ℕ)} {buffer body : List ℕ} (n len : ℕ)
-    → Grows known middle [] buffer → Grows middle left (drop n buffer) body → n ≤ length buffer → length buffer ≤ 16384
-    → length body ≤ max (length (drop n buffer)) len → len ≤ 1048576 → TakesAtMost 1064960 known left
-taken_whole {known} {middle} {left} {buffer} {body} n len g h le short bound small =
-    let all = grows_behind n g h in (
-      all.bytes,
-      all.consumed,
-      omega (arith, ap length all.appended, length-append (take n buffer) body, length-take-le n buffer le, length-drop n buffer, bound),
+pub taken_whole : {X : Type 0} (view : X → List ℕ) {known middle left : Option (List ℕ)} {buffer : List ℕ} (n len : ℕ) (result : Result X WireFault)
+    → Grows known middle [] buffer → ReadsBody view middle left (drop n buffer) len result → n ≤ length buffer → length buffer ≤ 16384
+    → len ≤ 1048576 → TakesAtMost 1064960 known left
+taken_whole {X} view {known} {middle} {left} {buffer} n len result g h le short small =
+    let joined = grows_behind n g h.grown in (
+      joined.bytes,
+      joined.consumed,
+      omega (arith, ap length joined.appended, length-append (take n buffer) h.all, length-take-le n buffer le, length-drop n buffer, h.within),
     )
 
 -- `&xs[n..]`

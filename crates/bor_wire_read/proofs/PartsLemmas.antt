@@ -1,11 +1,10 @@
 -- When bytes are one head of the grammar.
-use Rattle.std.proofs.Common.{◌≡◌, ◌≤◌, ◌<◌, length, drop, take, map, ℕ, ◌+◌, List, [], ◌∷◌, ◌++◌, refl, sym, ap, ◌∙◌, arith, false, true, Bool, cond, ◌==◌, subst, append-nil, length-drop}
-use Rattle.std.specs.Prelude.{count_by}
+use Rattle.std.proofs.Common.{◌≡◌, ◌≤◌, ◌<◌, length, drop, ℕ, ◌+◌, List, [], ◌∷◌, ◌++◌, ap, ◌∙◌, arith, cond, ◌==◌, append-nil, length-drop}
 use Rattle.std.specs.List.{flat_map}
-use Rattle.std.proofs.lemmas.List.Sums.{sum_by-append, sum_by-cons}
+use Rattle.std.proofs.lemmas.List.Sums.{sum_by-append}
 use Rattle.httparse.specs.Grammar.{RequestHead, ReadsRequest, print_request, print_section, print_field, print_end, print_blank, print_version, LineEnd, crlf, lf, Field}
 use Rattle.httparse.specs.Spans.{RequestOverflows}
-use Rattle.httparse.proofs.GrammarLemmas.{request_unique, print_request-append}
+use Rattle.httparse.proofs.GrammarLemmas.{request_unique}
 use Rattle.bor_wire_read.specs.Head.{line_feeds}
 
 lines-append : (xs ys : List ℕ) → line_feeds (xs ++ ys) ≡ line_feeds xs + line_feeds ys

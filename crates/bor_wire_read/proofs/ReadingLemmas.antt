@@ -1,14 +1,12 @@
 -- What a buffer that grew from a reader says of the whole input.
-use Rattle.std.proofs.Common.{◌≡◌, ◌≤◌, length, drop, take, ℕ, ◌+◌, ◌-◌, ◌<◌, List, [], ◌∷◌, ◌++◌, Some, None, Option, Result, Ok, Err, refl, sym, ap, ◌∙◌, arith, false, true, Bool, nat_lt, not, IfSome, IfOk, cond, append_assoc, append-nil, length-append, subst}
-use Rattle.std.specs.Prelude.{⊤}
-use Rattle.std.specs.Option.{option_map_or}
-use Rattle.std.specs.Io.KnownBytes.{Consumes, IsAtEnd, Keeps}
+use Rattle.std.proofs.Common.{◌≡◌, ◌≤◌, length, drop, take, ℕ, ◌+◌, ◌-◌, ◌<◌, List, [], ◌∷◌, ◌++◌, Some, None, Option, Result, Ok, Err, refl, sym, ap, ◌∙◌, arith, false, true, Bool, nat_lt, not, IfSome, cond, append_assoc, append-nil, length-append, subst}
+use Rattle.std.specs.Io.KnownBytes.{Consumes, IsAtEnd}
 use Rattle.std.proofs.lemmas.List.{take_all, take-append-le, take-append-drop}
 use Rattle.std.proofs.lemmas.Bool.Decides.{nat_tests}
 use Rattle.std.proofs.Math.Seq.{take-append-add}
 use Rattle.bor_wire_read.specs.declared.fault.Refusal.{Refusal}
 use Rattle.bor_wire_read.specs.declared.fault.Refusal.TheVariants.{HeadTooLarge, CutShort}
-use Rattle.bor_wire_read.specs.Head.{head_len, head_at, head_within, without_head, with_few_lines, line_feeds}
+use Rattle.bor_wire_read.specs.Head.{head_len, head_within, without_head, with_few_lines, line_feeds}
 use Rattle.bor_wire_read.specs.declared.fault.WireFault.{WireFault}
 use Rattle.bor_wire_read.specs.declared.fault.WireFault.TheVariants.{Refused, Read, Memory}
 use Rattle.bor_wire_read.specs.Reading.{Grows, IsNoRefusal, GivesFault}

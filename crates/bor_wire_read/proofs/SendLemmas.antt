@@ -1,5 +1,5 @@
 -- What several writes add up to.
-use Rattle.std.proofs.Common.{◌≡◌, ◌≤◌, ◌+◌, ◌-◌, ℕ, List, ◌++◌, length, take, drop, Option, Some, None, refl, sym, ap, ◌∙◌, append_assoc, subst, arith, length-drop, cond, ◌==◌, ◌&&◌, nat_lt, false}
+use Rattle.std.proofs.Common.{◌≡◌, ◌+◌, ◌-◌, ℕ, List, ◌++◌, length, take, drop, Option, Some, None, sym, ap, ◌∙◌, append_assoc, subst, arith, length-drop, cond, ◌==◌, ◌&&◌, nat_lt, false}
 use Rattle.bor_wire_read.specs.Counted.{after_fault}
 use Rattle.std.proofs.lemmas.Bool.Decides.{nat_tests}
 use Rattle.std.specs.Io.KnownBytes.{Appends}

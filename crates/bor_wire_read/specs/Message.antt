@@ -1,6 +1,6 @@
 -- What a whole input says: the parts of its head, and its body.
-use Rattle.std.specs.Prelude.{◌≡◌, ℕ, ◌+◌, ◌==◌, ◌&&◌, nat_lt, nat_le, Bool, true, false, List, [], ◌∷◌, ◌++◌, length, take, drop, map, find, count_by, Option, Some, None, Result, Ok, Err, if◌then◌else◌, codes, nat_eq, All, ⊤}
-use Rattle.std.specs.List.{list_all, list_any}
+use Rattle.std.specs.Prelude.{◌≡◌, ℕ, ◌==◌, ◌&&◌, nat_lt, nat_le, Bool, List, [], length, take, drop, map, find, count_by, Option, None, Result, Ok, Err, if◌then◌else◌, codes, nat_eq, All, ⊤}
+use Rattle.std.specs.List.{list_all}
 use Rattle.std.specs.Option.{option_map, option_map_or}
 use Rattle.std.specs.Char.{to_ascii_lowercase, is_ascii_digit}
 use Rattle.std.specs.Str.Parse.{digits_value}

@@ -1,6 +1,6 @@
 -- What reads do to a reader and a buffer, and what a call that may fail gives.
-use Rattle.std.specs.Prelude.{◌≡◌, ℕ, ◌+◌, ◌≤◌, ◌<◌, List, ◌++◌, length, Option, Result, Ok, Err, ⊤}
-use Rattle.std.specs.Io.KnownBytes.{Consumes, Keeps, IsAtEnd}
+use Rattle.std.specs.Prelude.{◌≡◌, ℕ, ◌+◌, ◌≤◌, ◌<◌, List, ◌++◌, length, take, max, Option, Result, Ok, Err, ⊤}
+use Rattle.std.specs.Io.KnownBytes.{Consumes, IsAtEnd}
 use Rattle.bor_wire_read.specs.Counted.{after_fault}
 use Rattle.bor_wire_read.specs.declared.fault.Refusal.{Refusal}
 use Rattle.bor_wire_read.specs.declared.fault.Refusal.TheVariants.{CutShort}
@@ -19,10 +19,15 @@ IsNoRefusal (Refused r) = ⊥
 IsNoRefusal Read = ⊤
 IsNoRefusal Memory = ⊤
 
--- one read: at most room bytes, and none only at the end
-abbrev pub ReadsPiece : Option (List ℕ) → List ℕ → List ℕ → ℕ → Result ℕ WireFault → Type 0
-ReadsPiece left old new room (Ok n) = (length new ≡ length old + n) × (n ≤ room) × (n ≡ 0 → IsAtEnd left)
-ReadsPiece left old new room (Err e) = (new ≡ old) × IsNoRefusal e
+-- a buffer: the bytes that have come, and how many there is room for
+pub record Held : Type 0 where
+  pub bytes : List ℕ
+  pub size : ℕ
+
+-- one read: so many bytes came, and none only at the end
+abbrev pub ReadsPiece : Option (List ℕ) → List ℕ → List ℕ → Result ℕ WireFault → Type 0
+ReadsPiece left old new (Ok n) = (length new ≡ length old + n) × (n ≡ 0 → IsAtEnd left)
+ReadsPiece left old new (Err e) = (new ≡ old) × IsNoRefusal e
 
 -- what a call gives is the answer that is stated, unless the reader failed or memory ran out
 abbrev pub GivesFault : {Y : Type 0} → WireFault → Result Y Refusal → Type 0
@@ -54,12 +59,28 @@ abbrev pub Answers : {Y : Type 0} → Result Y WireFault → (Result Y Refusal �
 Answers (Ok x) Fits = Fits (Ok x)
 Answers (Err e) Fits = FaultFits e Fits
 
--- a body that is to have n bytes has come, or the reader ended before
+-- why fewer than n bytes have come: the reader ended before, or it failed, or memory ran out
+abbrev pub EndsBefore : Option (List ℕ) → List ℕ → ℕ → WireFault → Type 0
+EndsBefore left bytes n (Refused r) = (r ≡ CutShort) × (length bytes < n) × IsAtEnd left
+EndsBefore left bytes n Read = ⊤
+EndsBefore left bytes n Memory = ⊤
+
+-- n bytes have come, or the reader ended before
 abbrev pub FillsUp : Option (List ℕ) → List ℕ → ℕ → Result (Unit {0}) WireFault → Type 0
-FillsUp left buffer n (Ok u) = n ≤ length buffer
-FillsUp left buffer n (Err (Refused r)) = (r ≡ CutShort) × (length buffer < n) × IsAtEnd left
-FillsUp left buffer n (Err Read) = ⊤
-FillsUp left buffer n (Err Memory) = ⊤
+FillsUp left bytes n (Ok u) = n ≤ length bytes
+FillsUp left bytes n (Err e) = EndsBefore left bytes n e
+
+-- the first n of these bytes, or the reader ended before
+abbrev pub IsBody : {X : Type 0} → (X → List ℕ) → Option (List ℕ) → List ℕ → ℕ → Result X WireFault → Type 0
+IsBody view left all n (Ok body) = (view body ≡ take n all) × (n ≤ length all)
+IsBody view left all n (Err e) = EndsBefore left all n e
+
+-- A body of n bytes was read behind those that had come already: `all` are these and what the reader lost, which is nothing where they were enough.
+pub record ReadsBody {X : Type 0} (view : X → List ℕ) (known left : Option (List ℕ)) (behind : List ℕ) (n : ℕ) (result : Result X WireFault) : Type 0 where
+  pub all : List ℕ
+  pub grown : Grows known left behind all
+  pub within : length all ≤ max (length behind) n
+  pub body : IsBody view left all n result
 
 -- at most n bytes were taken of the reader
 abbrev pub TakesAtMost : ℕ → Option (List ℕ) → Option (List ℕ) → Type 0

@@ -16,6 +16,7 @@
 //! `Transfer-Encoding`.
 #![tactic(auto)]
 
+mod buffer;
 mod counted;
 mod fault;
 mod fields;

@@ -9,7 +9,7 @@ use crate::counted::Counted;
 use crate::fault::{Refusal, WireFault};
 use crate::fields::{count_named, find_value};
 use crate::lengths::body_length;
-use crate::reading::{fill, read_head};
+use crate::reading::{read_body, read_head, room_for_head};
 use httparse::Status;
 use httparse::spans::{EMPTY_HEADER_SPAN, HeaderSpan, Span, parse_request};
 use std::alloc::Global;
@@ -103,25 +103,28 @@ impl RawRequest {
 }
 
 /// Reads one request: its head, and as many bytes behind it as the head says.
+///
+/// What is read follows from the bytes of the reader alone, in whatever pieces they come, and what
+/// stands behind the body has no part in it. The refusals are those up to the second `CutShort`.
+/// `Read` comes exactly where the reader's count of faults moved. Nothing is asked of the reader once
+/// the request is there, and at most 1,064,960 bytes are taken of it.
 pub fn read_request<R: Read>(
     alloc: Global,
     reader: &mut Counted<R>,
 ) -> Result<RawRequest, WireFault>
-    // What is read is the request of the whole input, in whatever pieces it comes.
     ensures request { IfSome (R.remaining reader.old.inner) (λ input. Answers result (IsMessage input)) }
     ensures taken { TakesAtMost 1064960 (R.remaining reader.old.inner) (R.remaining reader.new.inner) }
     ensures faults { FaultsTell result reader.old.faults reader.new.faults }
 {
-    let mut head = Vec::new(alloc);
-    let len = read_head(reader, &mut head)?;
-    let mut body = Vec::from_slice(alloc, &head[len..])?;
-    head.truncate(len);
-    let spans = parse_head(alloc, &head)?;
-    let wanted = match body_length(&head, &spans.fields) {
-        Ok(wanted) => wanted,
-        Err(refusal) => return Err(WireFault::Refused(refusal)),
-    };
-    fill(reader, &mut body, wanted)?;
-    body.truncate(wanted);
-    Ok(RawRequest { head, spans, body })
+    let mut buffer = room_for_head(alloc)?;
+    let len = read_head(reader, &mut buffer)?;
+    let (head, behind) = buffer.bytes().split_at(len);
+    let spans = parse_head(alloc, head)?;
+    let wanted = body_length(head, &spans.fields)?;
+    let body = read_body(alloc, reader, behind, wanted)?;
+    Ok(RawRequest {
+        head: buffer.into_front(len),
+        spans,
+        body,
+    })
 }

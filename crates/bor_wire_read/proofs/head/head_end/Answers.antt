@@ -1,4 +1,4 @@
-use Rattle.std.proofs.Common.{sym, drop, ◌+◌, length, length-drop, arith, ◌<◌, ◌≤◌, ◌≡◌, rules}
+use Rattle.std.proofs.Common.{sym, drop, ◌+◌, length-drop, arith}
 use Rattle.bor_wire_read.proofs.HeadLemmas.{head_len-hit, head_len-miss, head_len-end, blank_len-le}
 use Rattle.bor_wire_read.proofs.head.head_end.Goals as goal
 use Rattle.bor_wire_read.proofs.head.head_end.Goals.{then-bytes-i-eq10+else-blank-gt0, else-bytes-i-eq10}

@@ -1,4 +1,4 @@
-use Rattle.std.proofs.Common.{rules, ◌≡◌, ◌≤◌, ◌<◌, arith, true, sym, ◌∙◌, get_or, ◌+◌, ◌-◌, ◌*◌, min, drop}
+use Rattle.std.proofs.Common.{◌≡◌, arith, true, sym, ◌∙◌, get_or}
 use Rattle.std.specs.Char.{is_ascii_digit}
 use Rattle.bor_wire_read.proofs.LengthLemmas.{digits_step, value_step}
 use Rattle.bor_wire_read.proofs.lengths.decimal.Goals as goal

@@ -1,4 +1,4 @@
-use Rattle.std.proofs.Common.{rules, ◌≡◌, ◌≤◌, ◌<◌, arith, refl, length}
+use Rattle.std.proofs.Common.{◌<◌, arith, refl, length}
 use Rattle.bor_wire_read.proofs.PartsLemmas.{no_overflow, not_whole}
 use Rattle.bor_wire_read.proofs.request.parse_head.Goals as goal
 

@@ -1,5 +1,4 @@
-use Rattle.std.proofs.Common.{arith, ◌≤◌, ◌≡◌, ◌+◌, length, length-drop, drop, rules, ◌∙◌}
-use Rattle.std.proofs.lemmas.Grind.{common_steps}
+use Rattle.std.proofs.Common.{arith, ◌∙◌}
 use Rattle.bor_wire_read.proofs.SendLemmas.{appends_more, to_end_length, counts_nothing}
 use Rattle.bor_wire_read.proofs.sending.send.Goals as goal
 
