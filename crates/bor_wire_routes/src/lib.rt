@@ -1,0 +1,21 @@
+//! The routes: which paths there are, and what each asks for by which method.
+//!
+//! ```
+//! let path = find_path(alloc, "/filings/f1")?;
+//! assert_eq!(rt; path, Some(Path::Filing));
+//! assert_eq!(rt; route_at(Path::Filing, b"PUT"), Some(Route::Lodge));
+//! assert_eq!(rt; route_at(Path::Filing, b"GET"), None);
+//! assert_eq!(rt; allow_of(Path::Filing), "DELETE, PUT");
+//! ```
+//!
+//! A path is matched as it stands: nothing is decoded, and no slash is added or dropped. Queries and
+//! tokens are not looked at here.
+#![tactic(auto)]
+
+mod path;
+mod route;
+#[cfg(test)]
+mod tests;
+
+pub use path::find_path;
+pub use route::{Route, allow_of, route_at};
