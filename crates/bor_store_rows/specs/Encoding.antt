@@ -1,0 +1,114 @@
+-- A register as rows of the six tables, column by column. Numbers, days and percents are integers, truth values are 0 and 1, texts are as they are, and the kinds are the words of BODS 0.4.
+use Rattle.std.specs.Prelude.{ℕ, pos, Bool, if◌then◌else◌, List, [], ◌∷◌, ◌++◌, map, Option, Some, None, option_map}
+use Rattle.std.specs.List.{flat_map}
+use Rattle.sqlite.specs.declared.types.Value.{Value}
+use Rattle.sqlite.specs.declared.types.Value.TheVariants.{Null, Int, Text, Blob}
+use Rattle.sqlite.specs.Order.{Row}
+use Rattle.bor_terms.specs.Span.{Range}
+use Rattle.bods_read.specs.Words.{type_word, status_word, entity_word, person_word, interest_word, directness_word}
+use Rattle.bods_read.specs.declared.statement.RecordType.TheVariants as types
+use Rattle.bor_register.specs.Register.{Register}
+use Rattle.bor_register.specs.declared.filing.AcceptedFiling.{AcceptedFiling}
+use Rattle.bor_register.specs.declared.filing.Filing.{Filing}
+use Rattle.bor_register.specs.declared.member.Member.{Member}
+use Rattle.bor_store_rows.specs.declared.rows.FilingRow.{FilingRow}
+use Rattle.bor_store_rows.specs.declared.rows.Part.{Part}
+use Rattle.bor_store_rows.specs.declared.rows.Part.TheVariants as part
+use Rattle.bor_store_rows.specs.declared.rows.StatementRow.{StatementRow}
+use Rattle.bor_store_rows.specs.declared.rows.InterestRow.{InterestRow}
+use Rattle.bor_store_rows.specs.declared.rows.IdentifierRow.{IdentifierRow}
+use Rattle.bor_store_rows.specs.Placed.{bare, interest_rows, identifier_rows, placed}
+
+-- ---- values
+
+abbrev pub truth : Bool → Value
+truth b = Int (pos (if b then 1 else 0))
+
+abbrev pub or_null : Option (List ℕ) → Value
+or_null None = Null
+or_null (Some text) = Text text
+
+-- ---- the columns of a row
+
+-- register: one, version, day, registrar
+abbrev pub register_columns : Register → Row
+register_columns r = Int (pos 1) ∷ Int (pos 1) ∷ Int r.day ∷ Text r.registrar ∷ []
+
+-- agent: name, token
+abbrev pub agent_columns : Member → Row
+agent_columns m = Text m.name ∷ Text m.token ∷ []
+
+-- filing: agent, number, lodge_key, due, withdrawn, bytes
+abbrev pub filing_columns : List ℕ → AcceptedFiling → Row
+filing_columns agent f =
+    Text agent ∷ Int (pos f.number) ∷ Text f.key ∷ Int f.due ∷ truth f.withdrawn ∷ Blob f.bytes ∷ []
+
+-- statement: kind, the word of what its record is of
+abbrev pub kind_word : Part → List ℕ
+kind_word (part.Entity kind name) = type_word types.Entity
+kind_word (part.Person kind name) = type_word types.Person
+kind_word (part.Relationship subject party) = type_word types.Relationship
+
+-- statement: sub_kind, name, subject, party
+abbrev pub part_columns : Part → Row
+part_columns (part.Entity kind name) = Text (entity_word kind) ∷ or_null name ∷ Null ∷ Null ∷ []
+part_columns (part.Person kind name) = Text (person_word kind) ∷ or_null name ∷ Null ∷ Null ∷ []
+part_columns (part.Relationship subject party) = Null ∷ Null ∷ or_null subject ∷ or_null party ∷ []
+
+-- statement: agent, filing, place, id, day, declaration, rec, kind, status, and the four above; the table has no statement without a status
+abbrev pub statement_columns : StatementRow → Row
+statement_columns s =
+    Text s.at.agent ∷ Int (pos s.at.filing) ∷ Int (pos s.at.place) ∷ Text s.id ∷ Int s.day ∷ Text s.declaration ∷ Text s.rec
+    ∷ Text (kind_word s.part) ∷ or_null (option_map status_word s.status) ∷ part_columns s.part
+
+-- interest: low, low_open, high, high_open
+abbrev pub share_columns : Option Range → Row
+share_columns None = Null ∷ Null ∷ Null ∷ Null ∷ []
+share_columns (Some s) = Int (pos s.low) ∷ truth s.low_open ∷ Int (pos s.high) ∷ truth s.high_open ∷ []
+
+-- interest: agent, filing, place, item, kind, directness, and the four above
+abbrev pub interest_columns : InterestRow → Row
+interest_columns i =
+    Text i.at.agent ∷ Int (pos i.at.filing) ∷ Int (pos i.at.place) ∷ Int (pos i.item) ∷ Text (interest_word i.interest.kind)
+    ∷ Text (directness_word i.interest.directness) ∷ share_columns i.interest.share
+
+-- identifier: agent, filing, place, item, scheme, id
+abbrev pub identifier_columns : IdentifierRow → Row
+identifier_columns i =
+    Text i.at.agent ∷ Int (pos i.at.filing) ∷ Int (pos i.at.place) ∷ Int (pos i.item) ∷ Text i.identifier.scheme ∷ Text i.identifier.id ∷ []
+
+-- ---- the rows of a register
+
+abbrev pub filing_rows : List Member → List Row
+filing_rows [] = []
+filing_rows (m ∷ ms) = map (filing_columns m.name) m.filings ++ filing_rows ms
+
+-- what the six tables have
+pub record Contents : Type 0 where
+  pub register : List Row
+  pub agents : List Row
+  pub filings : List Row
+  pub statements : List Row
+  pub interests : List Row
+  pub identifiers : List Row
+
+-- One row for the register, one for each agent, for each filing, for each statement of a filing, and for each interest and each identifier of a statement. A withdrawn filing has no statements.
+abbrev pub contents : Register → Contents
+contents r = record {
+  register = register_columns r ∷ [];
+  agents = map agent_columns r.members;
+  filings = filing_rows r.members;
+  statements = map (λ p. statement_columns (bare p)) (placed r.members);
+  interests = flat_map (λ p. map interest_columns (interest_rows p)) (placed r.members);
+  identifiers = flat_map (λ p. map identifier_columns (identifier_rows p)) (placed r.members);
+}
+
+-- ---- what the queries on filings show
+
+-- agent, number, lodge_key, due, withdrawn
+abbrev pub line_columns : FilingRow → Row
+line_columns f = Text f.agent ∷ Int (pos f.number) ∷ Text f.key ∷ Int f.due ∷ truth f.withdrawn ∷ []
+
+-- number, due, withdrawn, bytes
+abbrev pub shown_columns : Filing → Row
+shown_columns f = Int (pos f.number) ∷ Int f.due ∷ truth f.withdrawn ∷ Blob f.bytes ∷ []

@@ -1,0 +1,3 @@
+pub mod Placed
+pub mod Encoding
+pub mod Stored

@@ -1,0 +1,115 @@
+//! Two statements, one with an interest and one with an identifier.
+
+use crate::{At, IdentifierRow, InterestRow, Part, Placed, StatementRow, joined};
+use bods_read::{
+    Details, Directness, EntityKind, FreeText, Identifier, Interest, InterestKind, Status,
+};
+use bor_terms::{AgentName, Day, Ident};
+use std::alloc::Global;
+
+fn at(alloc: Global, place: u32) -> Option<At> {
+    match AgentName::read(alloc, "alder") {
+        Ok(Some(agent)) => Some(At {
+            agent,
+            filing: 1,
+            place,
+        }),
+        _ => None,
+    }
+}
+
+fn ident(alloc: Global, text: &str) -> Option<Ident> {
+    match Ident::read(alloc, text) {
+        Ok(found) => found,
+        Err(_) => None,
+    }
+}
+
+fn free(alloc: Global, text: &str) -> Option<FreeText> {
+    match FreeText::read(alloc, text) {
+        Ok(found) => found,
+        Err(_) => None,
+    }
+}
+
+fn statement(alloc: Global, place: u32, id: &str, part: Part) -> Option<StatementRow> {
+    Some(StatementRow {
+        at: at(alloc, place)?,
+        id: ident(alloc, id)?,
+        day: Day::from_number(19_732)?,
+        declaration: ident(alloc, "c1")?,
+        rec: ident(alloc, id)?,
+        status: Some(Status::New),
+        part,
+    })
+}
+
+fn entity(alloc: Global) -> Option<StatementRow> {
+    let kind = EntityKind::RegisteredEntity;
+    statement(alloc, 1, "e1", Part::Entity { kind, name: None })
+}
+
+fn relationship(alloc: Global) -> Option<StatementRow> {
+    let subject = ident(alloc, "e1");
+    let party = ident(alloc, "p1");
+    statement(alloc, 2, "r1", Part::Relationship { subject, party })
+}
+
+fn identifier(alloc: Global) -> Option<IdentifierRow> {
+    Some(IdentifierRow {
+        at: at(alloc, 1)?,
+        item: 1,
+        identifier: Identifier {
+            scheme: free(alloc, "GB-COH")?,
+            id: free(alloc, "01234567")?,
+        },
+    })
+}
+
+fn interest(alloc: Global) -> Option<InterestRow> {
+    Some(InterestRow {
+        at: at(alloc, 2)?,
+        item: 1,
+        interest: Interest {
+            kind: InterestKind::VotingRights,
+            directness: Directness::Direct,
+            share: None,
+        },
+    })
+}
+
+fn has_identifier(placed: &Placed, id: &str) -> bool {
+    match &placed.statement.details {
+        Details::Entity { identifiers, .. } => identifiers
+            .as_slice()
+            .iter()
+            .any(|identifier| identifier.id.as_str() == id),
+        _ => false,
+    }
+}
+
+fn has_voting_rights(placed: &Placed) -> bool {
+    match &placed.statement.details {
+        Details::Relationship { interests, .. } => interests
+            .as_slice()
+            .iter()
+            .any(|interest| interest.kind == InterestKind::VotingRights),
+        _ => false,
+    }
+}
+
+#[test]
+fn each_statement_gets_its_own_items(rt: HostRuntime) {
+    let alloc = rt.alloc();
+    let mut statements = Vec::new(alloc);
+    let first = entity(alloc).expect(&rt, "an entity");
+    statements.push(first).expect(&rt, "fits");
+    let second = relationship(alloc).expect(&rt, "a relationship");
+    statements.push(second).expect(&rt, "fits");
+    let interests = [interest(alloc).expect(&rt, "an interest")];
+    let identifiers = [identifier(alloc).expect(&rt, "an identifier")];
+    let placed = joined(alloc, statements, &interests, &identifiers).expect(&rt, "joins");
+    assert!(&rt; placed.len() == 2);
+    assert!(&rt; has_identifier(&placed[0], "01234567"));
+    assert!(&rt; has_voting_rights(&placed[1]));
+}
