@@ -1,0 +1,90 @@
+-- What the UPDATE of the register's day does.
+use Rattle.std.proofs.Common.{◌≡◌, ◌≤◌, ℕ, ℤ, pos, Bool, true, false, cond, List, [], ◌∷◌, length, drop, ◌==◌, Ok, arith, refl, subst, ◌∙◌}
+use Rattle.std.specs.List.{flat_map, filter_map}
+use Rattle.sqlite.specs.declared.types.Value.TheVariants.{Null, Int}
+use Rattle.sqlite.specs.Order.{Row, column}
+use Rattle.sqlite.specs.Term.{Term, col}
+use Rattle.sqlite.specs.State.{State, Executes}
+use Rattle.sqlite.specs.Effect.{Database}
+use Rattle.sqlite_rules.specs.Action.{Work, works, work_by, pairs, deed_for}
+use Rattle.sqlite_schema.specs.Rules.{parent_key}
+use Rattle.sqlite_rules.specs.Cast.{cast_row}
+use Rattle.sqlite_schema.specs.declared.schema.Keys.TheVariants.{Enforced}
+use Rattle.bor_register.specs.Register.{Register}
+use Rattle.bor_store_texts.specs.Tables.{keep_schema, register_at}
+use Rattle.bor_store_texts.specs.Changes.{equals_number, update_day_text, update_day_program}
+use Rattle.bor_store_texts.proofs.ChangeMeanings.{update_day_is}
+use Rattle.bor_terms.specs.Day.{IsDay}
+use Rattle.bor_store_rows.specs.Stored.{IsStored}
+use Rattle.bor_store_rows.specs.Encoding.{Contents, contents, register_columns}
+use Rattle.bor_store_sql.specs.Kept.{Keeps}
+use Rattle.bor_store_sql.specs.Shown.{Has}
+use Rattle.bor_store_sql.specs.Changing.{is_the_one, dated, with_day, IsOneRegister}
+use Rattle.bor_store_sql.proofs.Inserts.{cast_int}
+use Rattle.bor_store_sql.proofs.Writes.{updates}
+use Rattle.bor_store_sql.proofs.Tables.{updated}
+use Rattle.bor_store_sql.proofs.Selects.{int_test, and_true}
+use Rattle.bor_store_sql.proofs.Others.{with_register}
+
+-- no key acts where the register's row changes
+abbrev works_by : List Row → List Row → Bool → List Work
+works_by olds news none = flat_map (λ child. filter_map (λ ref. work_by 0 0 (pairs olds news) child ref (deed_for Enforced none ref) (parent_key keep_schema.tables ref)) child.references) keep_schema.tables
+
+register_alone : (olds news : List Row) → works keep_schema Enforced 0 0 olds news ≡ []
+register_alone olds news = go (length news == 0)
+  where
+    go : (b : Bool) → works_by olds news b ≡ []
+    go true = refl
+    go false = refl
+
+abbrev one_tests : List Term
+one_tests = equals_number 1 1 ∷ []
+
+abbrev day_terms : List Term
+day_terms = col 1 0 ∷ col 1 0 ∷ col 1 1 ∷ col 1 2 ∷ col 0 0 ∷ col 1 4 ∷ []
+
+module _ (day : ℤ) where
+  -- the row that the UPDATE writes for a row
+  abbrev day_of : Row → Row
+  day_of r = column r 0 ∷ column r 0 ∷ column r 1 ∷ column r 2 ∷ Int day ∷ column r 4 ∷ []
+
+  pub day_updated : (old new : State) (count : ℕ) (t : Contents) → Has t old.now → IsOneRegister day t → Executes update_day_text (Int day ∷ []) old new (Ok count) → Has (with_day day t) new.now
+  day_updated old new count t has one h =
+      let params = Int day ∷ [] in
+      let done = updates update_day_text params keep_schema 0 update_day_program register_at update_day_is.0 update_day_is.1 refl register_alone old new count has.schema h in
+      let w = done.2 in
+      with_register t old.now new.now w.schema_is has w.others _
+      (updated 0 refl one_tests params (is_the_one day) (λ id x. refl) day_terms day_of (λ s. cast_row register_at (drop 1 s)) (dated day)
+      (λ r. refl) (λ id x. refl) (λ id x. rw (cast_int (pos id)) refl) old.now.trees t.register done.0 (new.now.trees 0) has.register one (done.1.answer Null) w.rows_are)
+
+  pub one_register : (r : Register) → IsOneRegister day (contents r)
+  one_register r = go (is_the_one day (register_columns r))
+    where
+      go : (b : Bool) → length (cond b (register_columns r ∷ []) []) ≤ 1
+      go true = omega arith
+      go false = omega arith
+
+  is_it : (r : Register) → is_the_one day (register_columns r) ≡ true
+  is_it r = and_true _ ∙ int_test (pos 1) (pos 1)
+
+  row_is : (r : Register) → cond (is_the_one day (register_columns r)) (dated day (register_columns r)) (register_columns r) ≡ register_columns (record r { day = day })
+  row_is r = rw (is_it r) (rw (cast_int (pos 1), cast_int day) refl)
+
+  pub dated_has : (r : Register) (db : Database) → Has (with_day day (contents r)) db → Has (contents (record r { day = day })) db
+  dated_has r db h = record {
+    schema = h.schema;
+    register = subst (λ x. Keeps (x ∷ []) (db.trees 0)) (row_is r) h.register;
+    agents = h.agents;
+    filings = h.filings;
+    statements = h.statements;
+    interests = h.interests;
+    identifiers = h.identifiers;
+  }
+
+  pub dated_stored : (r : Register) → IsDay day → IsStored r → IsStored (record r { day = day })
+  dated_stored r is s = record {
+    ordered = s.ordered;
+    numbered = s.numbered;
+    formed = record { day = is; registrar = s.formed.registrar; members = s.formed.members };
+    counted = s.counted;
+  }

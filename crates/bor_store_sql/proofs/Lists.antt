@@ -1,0 +1,57 @@
+-- What the loops over a statement's lists, and over statements, have added so far.
+use Rattle.std.proofs.Common.{◌≡◌, ℕ, ◌+◌, ◌<◌, List, [], ◌∷◌, ◌++◌, map, take, length, get_or, append-nil, sym, ap, ap₂, ◌∙◌}
+use Rattle.std.specs.List.{flat_map}
+use Rattle.std.proofs.lemmas.List.{map-append, append_assoc}
+use Rattle.std.proofs.lemmas.List.Concat.{flat_map-append}
+use Rattle.sqlite.specs.Order.{Row}
+use Rattle.bods_read.specs.declared.statement.Statement.{Statement}
+use Rattle.bods_read.specs.declared.details.Identifier.{Identifier}
+use Rattle.bods_read.specs.declared.interest.Interest.{Interest}
+use Rattle.bor_store_rows.specs.declared.places.At.{At}
+use Rattle.bor_store_rows.specs.declared.rows.Placed.{Placed}
+use Rattle.bor_store_rows.specs.Placed.{bare, interest_rows, identifier_rows, interests_from, identifiers_from, placed_from}
+use Rattle.bor_store_rows.specs.Encoding.{Contents, statement_columns, interest_columns, identifier_columns}
+use Rattle.bor_store_sql.specs.Changing.{with_interest_rows, with_identifier_rows, with_one_placed, with_placed}
+use Rattle.bor_store_sql.proofs.Counted.{interests_more, identifiers_more, placed_more}
+
+pub no_interests : (t : Contents) → t ≡ with_interest_rows [] t
+no_interests t = ap (λ xs. record t { interests = xs }) (sym (append-nil t.interests))
+
+pub no_identifiers : (t : Contents) → t ≡ with_identifier_rows [] t
+no_identifiers t = ap (λ xs. record t { identifiers = xs }) (sym (append-nil t.identifiers))
+
+two_parts : {X : Type 0} (f : X → Row) (rows : List Row) (xs ys zs : List X) → xs ++ ys ≡ zs → (rows ++ map f xs) ++ map f ys ≡ rows ++ map f zs
+two_parts f rows xs ys zs e = append_assoc rows (map f xs) (map f ys) ∙ ap (λ l. rows ++ l) (sym (map-append f xs ys) ∙ ap (map f) e)
+
+module _ (at : At) (i item : ℕ) where
+  pub interest_added : (xs : List Interest) (x : Interest) → i < length xs → x ≡ get_or xs i x → item ≡ i + 1 → (t : Contents)
+      → with_interest_rows (record { at = at; item = item; interest = x } ∷ []) (with_interest_rows (interests_from at 1 (take i xs)) t) ≡ with_interest_rows (interests_from at 1 (take (i + 1) xs)) t
+  interest_added xs x lt is e t =
+      ap (λ l. record t { interests = l }) (two_parts interest_columns t.interests (interests_from at 1 (take i xs)) _ _ (interests_more at i item xs x lt is e))
+
+  pub identifier_added : (xs : List Identifier) (x : Identifier) → i < length xs → x ≡ get_or xs i x → item ≡ i + 1 → (t : Contents)
+      → with_identifier_rows (record { at = at; item = item; identifier = x } ∷ []) (with_identifier_rows (identifiers_from at 1 (take i xs)) t) ≡ with_identifier_rows (identifiers_from at 1 (take (i + 1) xs)) t
+  identifier_added xs x lt is e t =
+      ap (λ l. record t { identifiers = l }) (two_parts identifier_columns t.identifiers (identifiers_from at 1 (take i xs)) _ _ (identifiers_more at i item xs x lt is e))
+
+pub no_placed : (t : Contents) → t ≡ with_placed [] t
+no_placed t =
+    ap (λ xs. record t { statements = xs }) (sym (append-nil t.statements))
+    ∙ ap₂ (λ xs ys. record t { statements = t.statements ++ []; interests = xs; identifiers = ys }) (sym (append-nil t.interests)) (sym (append-nil t.identifiers))
+
+flat_parts : {X : Type 0} (g : X → List Row) (rows : List Row) (xs zs : List X) (y : X) → xs ++ y ∷ [] ≡ zs → (rows ++ flat_map g xs) ++ g y ≡ rows ++ flat_map g zs
+flat_parts g rows xs zs y e =
+    append_assoc rows (flat_map g xs) (g y) ∙ ap (λ l. rows ++ l) (ap (λ l. flat_map g xs ++ l) (sym (append-nil (g y))) ∙ sym (flat_map-append g xs (y ∷ [])) ∙ ap (flat_map g) e)
+
+pub placed_added : (agent : List ℕ) (filing i place : ℕ) (xs : List Statement) (x : Statement) → i < length xs → x ≡ get_or xs i x → place ≡ i + 1 → (t : Contents)
+    → with_one_placed (record { at = record { agent = agent; filing = filing; place = place }; statement = x }) (with_placed (placed_from agent filing 1 (take i xs)) t) ≡ with_placed (placed_from agent filing 1 (take (i + 1) xs)) t
+placed_added agent filing i place xs x lt is e t =
+    let p : Placed = record { at = record { agent = agent; filing = filing; place = place }; statement = x } in
+    let before = placed_from agent filing 1 (take i xs) in
+    let after = placed_from agent filing 1 (take (i + 1) xs) in
+    let more = placed_more agent filing i place xs x lt is e in
+    ap (λ l. record t { statements = l; interests = (t.interests ++ flat_map (λ p. map interest_columns (interest_rows p)) before) ++ map interest_columns (interest_rows p); identifiers = (t.identifiers ++ flat_map (λ p. map identifier_columns (identifier_rows p)) before) ++ map identifier_columns (identifier_rows p) })
+    (two_parts (λ (p : Placed). statement_columns (bare p)) t.statements before (p ∷ []) after more)
+    ∙ ap₂ (λ k l. record t { statements = t.statements ++ map (λ p. statement_columns (bare p)) after; interests = k; identifiers = l })
+    (flat_parts (λ (p : Placed). map interest_columns (interest_rows p)) t.interests before after p more)
+    (flat_parts (λ (p : Placed). map identifier_columns (identifier_rows p)) t.identifiers before after p more)

@@ -1,0 +1,96 @@
+-- The rows of the members, and those of one agent.
+use Rattle.std.proofs.Common.{◌≡◌, ℕ, Bool, true, false, cond, List, [], ◌∷◌, ◌++◌, filter, append-nil, true≢false, refl, sym, ap, ap₂, subst, subst₂, ◌∙◌, IsPermutation}
+use Rattle.std.specs.Prelude.{if◌then◌else◌, ◌||◌}
+use Rattle.std.specs.List.{AllByRecursion}
+use Rattle.std.proofs.lemmas.List.{append_assoc}
+use Rattle.std.proofs.lemmas.List.Sorted.{IsPermutation-append_comm, IsPermutation-append_right, IsPermutation-cons, IsPermutation-refl}
+use Rattle.bor_terms.specs.Texts.{is_same, is_below}
+use Rattle.bor_terms.proofs.Texts.{same_is, same_sym, below_differs}
+use Rattle.bor_register.specs.declared.filing.AcceptedFiling.{AcceptedFiling}
+use Rattle.bor_register.specs.declared.member.Member.{Member}
+use Rattle.bor_register.specs.Register.{IsOrdered, AllAbove, is_enrolled, filings_of, with_filings, with_member}
+
+pub filter_append : {X : Type 0} (p : X → Bool) (xs ys : List X) → filter p (xs ++ ys) ≡ filter p xs ++ filter p ys
+filter_append p [] ys = refl
+filter_append p (x ∷ xs) ys = elim (p x) as (λ b. cond b (x ∷ filter p (xs ++ ys)) (filter p (xs ++ ys)) ≡ cond b (x ∷ filter p xs) (filter p xs) ++ filter p ys) [
+  | true ↦ ap (λ l. x ∷ l) (filter_append p xs ys)
+  | false ↦ filter_append p xs ys
+]
+
+-- where one agent has the name, the others have other names
+pub apart_names : (agent name : List ℕ) (ms : List Member) → is_same name agent ≡ true → AllAbove name ms → AllByRecursion (λ (m : Member). is_same m.name agent ≡ false) ms
+apart_names agent name [] same up = tt
+apart_names agent name (m ∷ ms) same up =
+    (same_sym m.name agent ∙ subst (λ a. is_same a m.name ≡ false) (same_is name agent same) (below_differs name m.name up.0), apart_names agent name ms same up.1)
+
+-- what a list has of each agent's filings, agent by agent
+module _ {X : Type 0} (own : List ℕ → List AcceptedFiling → List X) (all : List Member → List X) (none : all [] ≡ []) (some : (m : Member) (ms : List Member) → all (m ∷ ms) ≡ own m.name m.filings ++ all ms) where
+  -- a filing is added to an agent's
+  module _ (agent : List ℕ) (f : AcceptedFiling) (new : List X) (added : (fs : List AcceptedFiling) → own agent (fs ++ f ∷ []) ≡ own agent fs ++ new) where
+    abbrev added_by : Member → List Member → Bool → List Member
+    added_by m ms b =
+        if b then record m { filings = (if b then m.filings else filings_of agent ms) ++ f ∷ [] } ∷ ms
+        else m ∷ with_filings agent ((if b then m.filings else filings_of agent ms) ++ f ∷ []) ms
+
+    turn : (xs ys zs : List X) → IsPermutation ((xs ++ ys) ++ zs) ((xs ++ zs) ++ ys)
+    turn xs ys zs =
+        subst₂ IsPermutation (sym (append_assoc xs ys zs)) (sym (append_assoc xs zs ys)) (IsPermutation-append_right xs (ys ++ zs) (zs ++ ys) (IsPermutation-append_comm ys zs))
+
+    pub with_one_more : (ms : List Member) → is_enrolled agent ms ≡ true → IsPermutation (all ms ++ new) (all (with_filings agent (filings_of agent ms ++ f ∷ []) ms))
+    with_one_more [] enrolled = absurd (true≢false (sym enrolled))
+    with_one_more (m ∷ ms) enrolled = go (is_same m.name agent) refl enrolled (with_one_more ms)
+      where
+        go : (b : Bool) → is_same m.name agent ≡ b → (b || is_enrolled agent ms) ≡ true → (is_enrolled agent ms ≡ true → IsPermutation (all ms ++ new) (all (with_filings agent (filings_of agent ms ++ f ∷ []) ms)))
+            → IsPermutation (all (m ∷ ms) ++ new) (all (added_by m ms b))
+        go true e h more =
+            let name : m.name ≡ agent = same_is m.name agent e in
+            let here : own m.name (m.filings ++ f ∷ []) ≡ own m.name m.filings ++ new = subst (λ n. own n (m.filings ++ f ∷ []) ≡ own n m.filings ++ new) (sym name) (added m.filings) in
+            subst₂ IsPermutation (ap (λ l. l ++ new) (sym (some m ms))) (sym (some (record m { filings = m.filings ++ f ∷ [] }) ms ∙ ap (λ l. l ++ all ms) here)) (turn (own m.name m.filings) (all ms) new)
+        go false e h more =
+            let after = with_filings agent (filings_of agent ms ++ f ∷ []) ms in
+            subst₂ IsPermutation (sym (append_assoc (own m.name m.filings) (all ms) new) ∙ ap (λ l. l ++ new) (sym (some m ms))) (sym (some m after)) (IsPermutation-append_right (own m.name m.filings) (all ms ++ new) (all after) (more h))
+
+  -- an agent without filings is added
+  module _ (new : Member) (nothing : own new.name new.filings ≡ []) where
+    pub with_new_agent : (ms : List Member) → all (with_member new ms) ≡ all ms
+    with_new_agent [] = some new [] ∙ ap₂ (λ x y. x ++ y) nothing none ∙ sym none
+    with_new_agent (m ∷ ms) = elim (is_below m.name new.name) as (λ b. all (if b then m ∷ with_member new ms else new ∷ m ∷ ms) ≡ all (m ∷ ms)) [
+      | true ↦ some m (with_member new ms) ∙ ap (λ l. own m.name m.filings ++ l) (with_new_agent ms) ∙ sym (some m ms)
+      | false ↦ some new (m ∷ ms) ∙ ap (λ l. l ++ all (m ∷ ms)) nothing
+    ]
+
+  -- those of one agent
+  module _ (owner : X → List ℕ) (owned : (name : List ℕ) (fs : List AcceptedFiling) → AllByRecursion (λ x. owner x ≡ name) (own name fs)) (without : (name : List ℕ) → own name [] ≡ []) (agent : List ℕ) where
+    all_pass : (xs : List X) (name : List ℕ) → is_same name agent ≡ true → AllByRecursion (λ x. owner x ≡ name) xs → filter (λ x. is_same (owner x) agent) xs ≡ xs
+    all_pass [] name e h = refl
+    all_pass (x ∷ xs) name e h = rw (ap (λ a. is_same a agent) h.0 ∙ e) (ap (λ l. x ∷ l) (all_pass xs name e h.1))
+
+    none_pass : (xs : List X) (name : List ℕ) → is_same name agent ≡ false → AllByRecursion (λ x. owner x ≡ name) xs → filter (λ x. is_same (owner x) agent) xs ≡ []
+    none_pass [] name e h = refl
+    none_pass (x ∷ xs) name e h = rw (ap (λ a. is_same a agent) h.0 ∙ e) (none_pass xs name e h.1)
+
+    others_pass_not : (ms : List Member) → AllByRecursion (λ (m : Member). is_same m.name agent ≡ false) ms → filter (λ x. is_same (owner x) agent) (all ms) ≡ []
+    others_pass_not [] h = ap (filter (λ x. is_same (owner x) agent)) none
+    others_pass_not (m ∷ ms) h =
+        ap (filter (λ x. is_same (owner x) agent)) (some m ms) ∙ filter_append (λ x. is_same (owner x) agent) (own m.name m.filings) (all ms)
+        ∙ ap₂ (λ x y. x ++ y) (none_pass (own m.name m.filings) m.name h.0 (owned m.name m.filings)) (others_pass_not ms h.1)
+
+    pub own_alone : (ms : List Member) → IsOrdered ms → filter (λ x. is_same (owner x) agent) (all ms) ≡ own agent (filings_of agent ms)
+    own_alone [] up = ap (filter (λ x. is_same (owner x) agent)) none ∙ sym (without agent)
+    own_alone (m ∷ ms) up =
+        ap (filter (λ x. is_same (owner x) agent)) (some m ms) ∙ filter_append (λ x. is_same (owner x) agent) (own m.name m.filings) (all ms) ∙ go (is_same m.name agent) refl (own_alone ms up.1)
+      where
+        go : (b : Bool) → is_same m.name agent ≡ b → filter (λ x. is_same (owner x) agent) (all ms) ≡ own agent (filings_of agent ms)
+            → filter (λ x. is_same (owner x) agent) (own m.name m.filings) ++ filter (λ x. is_same (owner x) agent) (all ms) ≡ own agent (if b then m.filings else filings_of agent ms)
+        go true e more =
+            ap₂ (λ x y. x ++ y) (all_pass (own m.name m.filings) m.name e (owned m.name m.filings)) (others_pass_not ms (apart_names agent m.name ms e up.0))
+            ∙ append-nil (own m.name m.filings) ∙ ap (λ n. own n m.filings) (same_is m.name agent e)
+        go false e more = ap₂ (λ x y. x ++ y) (none_pass (own m.name m.filings) m.name e (owned m.name m.filings)) more
+
+-- the members with one more are the members and that one
+pub member_added : (new : Member) (ms : List Member) → IsPermutation (ms ++ new ∷ []) (with_member new ms)
+member_added new [] = IsPermutation-refl (new ∷ [])
+member_added new (m ∷ ms) = elim (is_below m.name new.name) as (λ b. IsPermutation (m ∷ ms ++ new ∷ []) (if b then m ∷ with_member new ms else new ∷ m ∷ ms)) [
+  | true ↦ IsPermutation-cons m (ms ++ new ∷ []) (with_member new ms) (member_added new ms)
+  | false ↦ IsPermutation-append_comm (m ∷ ms) (new ∷ [])
+]

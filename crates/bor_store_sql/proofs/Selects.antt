@@ -1,0 +1,63 @@
+-- What a SELECT over one table answers.
+use Rattle.std.proofs.Common.{◌≡◌, ℕ, ◌^◌, Bool, true, false, ◌&&◌, ℤ, List, [], ◌∷◌, map, filter, flat_map, nat_le, Some, refl, ap, subst, ◌∙◌, bytes_eq, if◌then◌else◌, IsPermutation, IsSorted}
+use Rattle.std.specs.List.{list_all}
+use Rattle.std.specs.Ordering.{is_eq, int_cmp}
+use Rattle.std.proofs.lemmas.Map.Text.{is_eq-slice_cmp}
+use Rattle.sqlite_value.proofs.OrderLemmas.{value_cmp-Text, value_cmp-Int}
+use Rattle.sqlite.specs.Collation.TheVariants.{Binary}
+use Rattle.sqlite_value.specs.declared.keys.Key.{Key}
+use Rattle.sqlite_sql.specs.declared.ops.BinaryOp.TheVariants.{Compare}
+use Rattle.sqlite_sql.specs.declared.ops.CompareOp.TheVariants.{Eq}
+use Rattle.sqlite.specs.declared.types.Value.TheVariants.{Int, Text}
+use Rattle.sqlite.specs.Order.{Row, value_cmp}
+use Rattle.sqlite.specs.Tree.{Trees}
+use Rattle.sqlite.specs.Ops.{binary, from_truth, is_true}
+use Rattle.sqlite.specs.Term.{Term, Env, holds}
+use Rattle.sqlite.specs.Query.{Query, IsAnswer, output, output_cmp, Output}
+use Rattle.sqlite.specs.Program.{overlay}
+use Rattle.bor_store_texts.specs.Queries.{table_query}
+
+truth_back : (b : Bool) → is_true (from_truth (Some b)) ≡ b
+truth_back true = refl
+truth_back false = refl
+
+-- an equality of texts
+pub text_test : (a b : List ℕ) → is_true (binary (Compare Eq Binary) (Text a) (Text b)) ≡ bytes_eq a b
+unfolding binary
+text_test a b = truth_back (is_eq (value_cmp (Text a) (Text b))) ∙ ap is_eq (value_cmp-Text a b) ∙ is_eq-slice_cmp a b
+
+module _ (t : ℕ) (tests : List Term) (params : Row) where
+  abbrev pub env : Row → Env
+  env r = params ∷ r ∷ []
+
+  abbrev pub keeps : Row → Bool
+  keeps r = list_all (holds (env r)) tests
+
+  met : (rows : List Row) → flat_map (λ r. if list_all (holds (env r)) tests then env r ∷ [] else []) rows ≡ map env (filter keeps rows)
+  met [] = refl
+  met (r ∷ rows) = go (keeps r) refl (met rows)
+    where
+      go : (b : Bool) → keeps r ≡ b → flat_map (λ r. if list_all (holds (env r)) tests then env r ∷ [] else []) rows ≡ map env (filter keeps rows)
+          → flat_map (λ r. if list_all (holds (env r)) tests then env r ∷ [] else []) (r ∷ rows) ≡ map env (filter keeps (r ∷ rows))
+      go true e more = rw e (ap (λ l. env r ∷ l) more)
+      go false e more = rw e more
+
+  module _ (project : List Term) (order : List (Term × Key)) where
+    abbrev query : Query
+    query = table_query t tests project order
+
+    pub answered : nat_le (2 ^ 31) t ≡ false → (db : Trees) (rows : List Row) → IsAnswer query (overlay db []) params rows
+        → (ordered : List Output) × IsPermutation (map (output query) (map env (filter keeps (db t)))) ordered × IsSorted (output_cmp query) ordered × (rows ≡ map (λ o. o.1) ordered)
+    answered low db rows a =
+        let staged : a.staged ≡ map env (filter keeps (db t)) = a.grouped ∙ rw low (met (db t)) in
+        let kept = a.distinct ∙ ap (map (output query)) staged in
+        (a.ordered, subst (λ k. IsPermutation k a.ordered) kept a.same, a.sorted, a.shown)
+
+pub and_true : (b : Bool) → (b && true) ≡ b
+and_true true = refl
+and_true false = refl
+
+-- an equality of integers
+pub int_test : (m n : ℤ) → is_true (binary (Compare Eq Binary) (Int m) (Int n)) ≡ is_eq (int_cmp m n)
+unfolding binary
+int_test m n = truth_back (is_eq (value_cmp (Int m) (Int n))) ∙ ap is_eq (value_cmp-Int m n)

@@ -1,0 +1,79 @@
+-- What the statements of a withdrawal do.
+use Rattle.std.proofs.Common.{◌≡◌, ℕ, pos, Bool, true, false, List, [], ◌∷◌, length, drop, Ok, ◌==◌, refl}
+use Rattle.sqlite.specs.declared.types.Value.TheVariants.{Null, Int, Text}
+use Rattle.sqlite.specs.Order.{Row, column}
+use Rattle.std.specs.List.{flat_map, filter_map}
+use Rattle.sqlite.specs.Term.{Term, col, lit}
+use Rattle.sqlite.specs.State.{State, Executes}
+use Rattle.sqlite_rules.specs.Action.{Work, works, work_by, pairs, deed_for}
+use Rattle.sqlite_schema.specs.Rules.{parent_key}
+use Rattle.sqlite_rules.specs.Cast.{cast_row}
+use Rattle.sqlite_schema.specs.declared.schema.Keys.TheVariants.{Enforced}
+use Rattle.bor_store_texts.specs.Tables.{keep_schema, filing_at, statement_at, interest_at, identifier_at}
+use Rattle.bor_store_texts.specs.Queries.{equals}
+use Rattle.bor_store_texts.specs.Changes.{mark_withdrawn_text, mark_withdrawn_program, delete_identifiers_text, delete_identifiers_program, delete_interests_text, delete_interests_program, delete_statements_text, delete_statements_program}
+use Rattle.bor_store_texts.proofs.ChangeMeanings.{mark_withdrawn_is, delete_identifiers_is, delete_interests_is, delete_statements_is}
+use Rattle.bor_store_rows.specs.Encoding.{Contents}
+use Rattle.bor_store_sql.specs.Shown.{Has}
+use Rattle.bor_store_sql.specs.Changing.{is_of_filing, marked, with_mark, IsOnce, without_identifiers, without_interests, without_statements}
+use Rattle.bor_store_sql.proofs.Inserts.{cast_int}
+use Rattle.bor_store_sql.proofs.Writes.{deletes, updates}
+use Rattle.bor_store_sql.proofs.Tables.{deleted, updated}
+use Rattle.bor_store_sql.proofs.Others.{with_filings, with_statements, with_interests, with_identifiers}
+
+-- no key acts where a filing's row changes
+abbrev works_by : List Row → List Row → Bool → List Work
+works_by olds news none = flat_map (λ child. filter_map (λ ref. work_by 0 5 (pairs olds news) child ref (deed_for Enforced none ref) (parent_key keep_schema.tables ref)) child.references) keep_schema.tables
+
+filing_alone : (olds news : List Row) → works keep_schema Enforced 0 5 olds news ≡ []
+filing_alone olds news = go (length news == 0)
+  where
+    go : (b : Bool) → works_by olds news b ≡ []
+    go true = refl
+    go false = refl
+
+abbrev filing_tests : List Term
+filing_tests = equals 1 0 ∷ equals 2 1 ∷ []
+
+abbrev mark_terms : List Term
+mark_terms = col 1 0 ∷ col 1 0 ∷ col 1 1 ∷ col 1 2 ∷ col 1 3 ∷ col 1 4 ∷ lit (Int (pos 1)) ∷ col 1 6 ∷ []
+
+-- the row that the UPDATE writes for a row
+abbrev mark_of : Row → Row
+mark_of r = column r 0 ∷ column r 0 ∷ column r 1 ∷ column r 2 ∷ column r 3 ∷ column r 4 ∷ Int (pos 1) ∷ column r 6 ∷ []
+
+abbrev pub filing_params : List ℕ → ℕ → Row
+filing_params agent number = Text agent ∷ Int (pos number) ∷ []
+
+module _ (agent : List ℕ) (number : ℕ) (old new : State) (count : ℕ) (t : Contents) (has : Has t old.now) where
+  abbrev params : Row
+  params = filing_params agent number
+
+  pub identifiers_deleted : Executes delete_identifiers_text params old new (Ok count) → Has (without_identifiers agent number t) new.now
+  identifiers_deleted h =
+      let done = deletes delete_identifiers_text params keep_schema 5 delete_identifiers_program identifier_at delete_identifiers_is.0 delete_identifiers_is.1 refl (λ olds. refl) old new count has.schema h in
+      let w = done.2 in
+      with_identifiers t old.now new.now w.schema_is has w.others _
+      (deleted 13 refl filing_tests params (is_of_filing agent number) (λ id x. refl) old.now.trees t.identifiers done.0 (new.now.trees 13) has.identifiers (done.1.answer Null) w.rows)
+
+  pub interests_deleted : Executes delete_interests_text params old new (Ok count) → Has (without_interests agent number t) new.now
+  interests_deleted h =
+      let done = deletes delete_interests_text params keep_schema 4 delete_interests_program interest_at delete_interests_is.0 delete_interests_is.1 refl (λ olds. refl) old new count has.schema h in
+      let w = done.2 in
+      with_interests t old.now new.now w.schema_is has w.others _
+      (deleted 11 refl filing_tests params (is_of_filing agent number) (λ id x. refl) old.now.trees t.interests done.0 (new.now.trees 11) has.interests (done.1.answer Null) w.rows)
+
+  pub statements_deleted : Executes delete_statements_text params old new (Ok count) → Has (without_statements agent number t) new.now
+  statements_deleted h =
+      let done = deletes delete_statements_text params keep_schema 3 delete_statements_program statement_at delete_statements_is.0 delete_statements_is.1 refl (λ olds. refl) old new count has.schema h in
+      let w = done.2 in
+      with_statements t old.now new.now w.schema_is has w.others _
+      (deleted 8 refl filing_tests params (is_of_filing agent number) (λ id x. refl) old.now.trees t.statements done.0 (new.now.trees 8) has.statements (done.1.answer Null) w.rows)
+
+  pub filing_marked : IsOnce agent number t → Executes mark_withdrawn_text params old new (Ok count) → Has (with_mark agent number t) new.now
+  filing_marked once h =
+      let done = updates mark_withdrawn_text params keep_schema 2 mark_withdrawn_program filing_at mark_withdrawn_is.0 mark_withdrawn_is.1 refl filing_alone old new count has.schema h in
+      let w = done.2 in
+      with_filings t old.now new.now w.schema_is has w.others _
+      (updated 5 refl filing_tests params (is_of_filing agent number) (λ id x. refl) mark_terms mark_of (λ s. cast_row filing_at (drop 1 s)) marked
+      (λ r. refl) (λ id x. refl) (λ id x. rw (cast_int (pos id)) refl) old.now.trees t.filings done.0 (new.now.trees 5) has.filings once (done.1.answer Null) w.rows_are)

@@ -1,0 +1,13 @@
+use Rattle.std.proofs.Common.{◌≡◌, take}
+use Rattle.sqlite.specs.Held.{state}
+use Rattle.bor_store_rows.specs.Placed.{placed_from}
+use Rattle.bor_store_sql.specs.Changing.{with_placed}
+use Rattle.bor_store_sql.proofs.Going.{Went}
+use Rattle.bor_store_sql.proofs.additions.insert_statements.Given as goal
+
+-- the rows so far are inserted
+abbrev pub invariant-loop-statement : goal.invariant-loop-statement
+invariant-loop-statement g l =
+    (l.tx.conn.ghost_name ≡ l.fn.tx.conn.ghost_name)
+    × (l.place ≡ l.statement-index)
+    × Went (with_placed (placed_from l.agent l.number 1 (take l.statement-index l.statements))) (state g.S.Store l.fn.tx.conn.now) (state g.S.Store l.tx.conn.now)

@@ -1,0 +1,15 @@
+use Rattle.sqlite.specs.Held.{state}
+use Rattle.sqlite.specs.State.{ExecutesInside}
+use Rattle.bor_store_texts.specs.Changes.{delete_statements_text}
+use Rattle.bor_store_sql.specs.Changing.{Any, without_statements}
+use Rattle.bor_store_sql.proofs.Stepping.{one_step}
+use Rattle.bor_store_sql.proofs.Withdrawing.{filing_params, statements_deleted}
+use Rattle.bor_store_sql.proofs.withdrawal.delete_statements.Goals as goal
+
+pub returns-clause-steps : goal.returns-clause-steps
+returns-clause-steps g c clean inside =
+    let old = state g.S.Store c.args.tx.now.conn.now in
+    let new = state g.S.Store c.execute.new.self.conn.now in
+    let run : ExecutesInside 0 delete_statements_text (filing_params c.args.agent.now c.args.number) old new c.execute.result =
+    rw (c.params-to_sql.ensures, c.params-to_sql-2.ensures) at (c.execute.ensures.runs clean inside) in
+    one_step Any (without_statements c.args.agent.now c.args.number) delete_statements_text (filing_params c.args.agent.now c.args.number) old new c.execute.result run (λ count t h has fit. statements_deleted c.args.agent.now c.args.number _ _ count t has h)

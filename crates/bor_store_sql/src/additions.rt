@@ -1,0 +1,249 @@
+//! What adds an agent, and a filing with its statements.
+
+ghost use Rattle.std.specs.Prelude.{◌≡◌, ◌+◌, false, true, [], ◌∷◌, length, IsTrue, IfOk, OnOk, OnErr};
+ghost use Rattle.sqlite.specs.Held.{state};
+ghost use Rattle.sqlite.specs.State.{HasCleanDisk};
+ghost use Rattle.bor_store_rows.specs.Placed.{bare, placed_from, interests_from, identifiers_from, interests_of, identifiers_of};
+ghost use Rattle.bor_store_sql.specs.Shown.{Steps, IsClean, ShowsIn};
+ghost use Rattle.bor_store_sql.specs.Changing.{Any, live_filing, with_filing_row, with_statement_row, with_interest_rows, with_identifier_rows, with_one_placed, with_placed, with_live_filing, added};
+ghost use Rattle.bor_register.specs.Register.{Register, is_enrolled, filings_of};
+ghost use Rattle.bor_store_rows.specs.Stored.{IsStored};
+
+use crate::columns::{filing_values, identifier_values, interest_values, statement_values};
+use bods_read::{Details, Identifier, Interest, Statement};
+use bor_store_texts::changes::{
+    INSERT_FILING, INSERT_IDENTIFIER, INSERT_INTEREST, INSERT_STATEMENT,
+};
+use bor_terms::Day;
+use sqlite::{Alter, Connection, Error, ErrorCode, Transaction};
+
+fn insert_filing<S: Alter>(
+    tx: &mut Transaction<'_, S>,
+    agent: &str,
+    number: u32,
+    key: &str,
+    due: Day,
+    bytes: &[u8],
+) -> Result<usize, Error>
+    ensures same_reference { tx.new.conn.ghost_name ≡ tx.old.conn.ghost_name }
+    ensures clean { HasCleanDisk (state S.Store tx.new.conn.now) → HasCleanDisk (state S.Store tx.old.conn.now) }
+    ensures steps { HasCleanDisk (state S.Store tx.new.conn.now) → IsTrue (state S.Store tx.old.conn.now).in_transaction
+        → Steps Any (with_filing_row agent.now (live_filing number key.now due bytes.now [])) (state S.Store tx.old.conn.now) (state S.Store tx.new.conn.now) result }
+{
+    tx.execute(
+        INSERT_FILING,
+        &filing_values(agent, number, key, due, bytes),
+    )
+}
+
+fn insert_statement<S: Alter>(
+    tx: &mut Transaction<'_, S>,
+    agent: &str,
+    number: u32,
+    place: u32,
+    statement: &Statement,
+) -> Result<usize, Error>
+    ensures same_reference { tx.new.conn.ghost_name ≡ tx.old.conn.ghost_name }
+    ensures clean { HasCleanDisk (state S.Store tx.new.conn.now) → HasCleanDisk (state S.Store tx.old.conn.now) }
+    ensures steps { HasCleanDisk (state S.Store tx.new.conn.now) → IsTrue (state S.Store tx.old.conn.now).in_transaction
+        → Steps Any (with_statement_row (bare (record { at = record { agent = agent.now; filing = number; place = place }; statement = statement.now })))
+        (state S.Store tx.old.conn.now) (state S.Store tx.new.conn.now) result }
+{
+    tx.execute(
+        INSERT_STATEMENT,
+        &statement_values(agent, number, place, statement),
+    )
+}
+
+fn insert_interest<S: Alter>(
+    tx: &mut Transaction<'_, S>,
+    agent: &str,
+    number: u32,
+    place: u32,
+    item: u32,
+    interest: &Interest,
+) -> Result<usize, Error>
+    ensures same_reference { tx.new.conn.ghost_name ≡ tx.old.conn.ghost_name }
+    ensures clean { HasCleanDisk (state S.Store tx.new.conn.now) → HasCleanDisk (state S.Store tx.old.conn.now) }
+    ensures steps { HasCleanDisk (state S.Store tx.new.conn.now) → IsTrue (state S.Store tx.old.conn.now).in_transaction
+        → Steps Any (with_interest_rows (record { at = record { agent = agent.now; filing = number; place = place }; item = item; interest = interest.now } ∷ []))
+        (state S.Store tx.old.conn.now) (state S.Store tx.new.conn.now) result }
+{
+    tx.execute(
+        INSERT_INTEREST,
+        &interest_values(agent, number, place, item, interest),
+    )
+}
+
+fn insert_identifier<S: Alter>(
+    tx: &mut Transaction<'_, S>,
+    agent: &str,
+    number: u32,
+    place: u32,
+    item: u32,
+    identifier: &Identifier,
+) -> Result<usize, Error>
+    ensures same_reference { tx.new.conn.ghost_name ≡ tx.old.conn.ghost_name }
+    ensures clean { HasCleanDisk (state S.Store tx.new.conn.now) → HasCleanDisk (state S.Store tx.old.conn.now) }
+    ensures steps { HasCleanDisk (state S.Store tx.new.conn.now) → IsTrue (state S.Store tx.old.conn.now).in_transaction
+        → Steps Any (with_identifier_rows (record { at = record { agent = agent.now; filing = number; place = place }; item = item; identifier = identifier.now } ∷ []))
+        (state S.Store tx.old.conn.now) (state S.Store tx.new.conn.now) result }
+{
+    tx.execute(
+        INSERT_IDENTIFIER,
+        &identifier_values(agent, number, place, item, identifier),
+    )
+}
+
+// The number after this one; a table has numbers of 32 bits alone.
+fn next(number: u32) -> Result<u32, Error>
+    ensures { IfOk result (λ next. next ≡ number + 1) }
+{
+    match number.checked_add(1) {
+        Some(next) => Ok(next),
+        None => Err(Error::SqliteFailure(ErrorCode::TooBig)),
+    }
+}
+
+fn interests(details: &Details) -> &[Interest]
+    ensures { result.now ≡ interests_of details.now }
+{
+    match details {
+        Details::Relationship { interests, .. } => interests.as_slice(),
+        _ => &[],
+    }
+}
+
+fn identifiers(details: &Details) -> &[Identifier]
+    ensures { result.now ≡ identifiers_of details.now }
+{
+    match details {
+        Details::Entity { identifiers, .. } => identifiers.as_slice(),
+        _ => &[],
+    }
+}
+
+fn insert_interests<S: Alter>(
+    tx: &mut Transaction<'_, S>,
+    agent: &str,
+    number: u32,
+    place: u32,
+    interests: &[Interest],
+) -> Result<(), Error>
+    ensures same_reference { tx.new.conn.ghost_name ≡ tx.old.conn.ghost_name }
+    ensures clean { HasCleanDisk (state S.Store tx.new.conn.now) → HasCleanDisk (state S.Store tx.old.conn.now) }
+    ensures steps { HasCleanDisk (state S.Store tx.new.conn.now) → IsTrue (state S.Store tx.old.conn.now).in_transaction
+        → Steps Any (with_interest_rows (interests_from (record { agent = agent.now; filing = number; place = place }) 1 interests.now))
+        (state S.Store tx.old.conn.now) (state S.Store tx.new.conn.now) result }
+{
+    let mut item = 0;
+    for interest in interests {
+        item = next(item)?;
+        insert_interest(tx, agent, number, place, item, interest)?;
+    }
+    Ok(())
+}
+
+fn insert_identifiers<S: Alter>(
+    tx: &mut Transaction<'_, S>,
+    agent: &str,
+    number: u32,
+    place: u32,
+    identifiers: &[Identifier],
+) -> Result<(), Error>
+    ensures same_reference { tx.new.conn.ghost_name ≡ tx.old.conn.ghost_name }
+    ensures clean { HasCleanDisk (state S.Store tx.new.conn.now) → HasCleanDisk (state S.Store tx.old.conn.now) }
+    ensures steps { HasCleanDisk (state S.Store tx.new.conn.now) → IsTrue (state S.Store tx.old.conn.now).in_transaction
+        → Steps Any (with_identifier_rows (identifiers_from (record { agent = agent.now; filing = number; place = place }) 1 identifiers.now))
+        (state S.Store tx.old.conn.now) (state S.Store tx.new.conn.now) result }
+{
+    let mut item = 0;
+    for identifier in identifiers {
+        item = next(item)?;
+        insert_identifier(tx, agent, number, place, item, identifier)?;
+    }
+    Ok(())
+}
+
+// A statement's row, its identifiers and its interests.
+fn insert_placed<S: Alter>(
+    tx: &mut Transaction<'_, S>,
+    agent: &str,
+    number: u32,
+    place: u32,
+    statement: &Statement,
+) -> Result<(), Error>
+    ensures same_reference { tx.new.conn.ghost_name ≡ tx.old.conn.ghost_name }
+    ensures clean { HasCleanDisk (state S.Store tx.new.conn.now) → HasCleanDisk (state S.Store tx.old.conn.now) }
+    ensures steps { HasCleanDisk (state S.Store tx.new.conn.now) → IsTrue (state S.Store tx.old.conn.now).in_transaction
+        → Steps Any (with_one_placed (record { at = record { agent = agent.now; filing = number; place = place }; statement = statement.now }))
+        (state S.Store tx.old.conn.now) (state S.Store tx.new.conn.now) result }
+{
+    insert_statement(tx, agent, number, place, statement)?;
+    insert_identifiers(tx, agent, number, place, identifiers(&statement.details))?;
+    insert_interests(tx, agent, number, place, interests(&statement.details))
+}
+
+fn insert_statements<S: Alter>(
+    tx: &mut Transaction<'_, S>,
+    agent: &str,
+    number: u32,
+    statements: &[Statement],
+) -> Result<(), Error>
+    ensures same_reference { tx.new.conn.ghost_name ≡ tx.old.conn.ghost_name }
+    ensures clean { HasCleanDisk (state S.Store tx.new.conn.now) → HasCleanDisk (state S.Store tx.old.conn.now) }
+    ensures steps { HasCleanDisk (state S.Store tx.new.conn.now) → IsTrue (state S.Store tx.old.conn.now).in_transaction
+        → Steps Any (with_placed (placed_from agent.now number 1 statements.now)) (state S.Store tx.old.conn.now) (state S.Store tx.new.conn.now) result }
+{
+    let mut place = 0;
+    for statement in statements {
+        place = next(place)?;
+        insert_placed(tx, agent, number, place, statement)?;
+    }
+    Ok(())
+}
+
+// A filing and all that its statements have.
+fn insert_rows<S: Alter>(
+    tx: &mut Transaction<'_, S>,
+    agent: &str,
+    number: u32,
+    key: &str,
+    due: Day,
+    bytes: &[u8],
+    statements: &[Statement],
+) -> Result<(), Error>
+    ensures same_reference { tx.new.conn.ghost_name ≡ tx.old.conn.ghost_name }
+    ensures clean { HasCleanDisk (state S.Store tx.new.conn.now) → HasCleanDisk (state S.Store tx.old.conn.now) }
+    ensures steps { HasCleanDisk (state S.Store tx.new.conn.now) → IsTrue (state S.Store tx.old.conn.now).in_transaction
+        → Steps Any (with_live_filing agent.now number key.now due bytes.now statements.now) (state S.Store tx.old.conn.now) (state S.Store tx.new.conn.now) result }
+{
+    insert_filing(tx, agent, number, key, due, bytes)?;
+    insert_statements(tx, agent, number, statements)
+}
+
+/// Adds a filing to those of an agent, in a transaction of its own: its row, then for each statement
+/// its row, its identifiers and its interests. The number is the agent's next.
+pub fn add_filing<S: Alter>(
+    conn: &mut Connection<S>,
+    agent: &str,
+    number: u32,
+    key: &str,
+    due: Day,
+    bytes: &[u8],
+    statements: &[Statement],
+) -> Result<(), Error>
+    requires { conn.old.in_transaction ≡ false }
+    ensures mode { conn.new.in_transaction ≡ false }
+    ensures began { IsClean (state S.Store conn.new) → IsClean (state S.Store conn.old) }
+    ensures made { IsClean (state S.Store conn.new) → (r : Register) → ShowsIn r (state S.Store conn.old)
+        → is_enrolled agent.now r.members ≡ true → number ≡ length (filings_of agent.now r.members) + 1
+        → IsStored (added agent.now key.now due bytes.now statements.now r)
+        → OnOk result (ShowsIn (added agent.now key.now due bytes.now statements.now r) (state S.Store conn.new)) }
+    ensures kept { IsClean (state S.Store conn.new) → OnErr result ((state S.Store conn.new).committed ≡ (state S.Store conn.old).committed) }
+{
+    let _settled = conn.is_autocommit();
+    let mut tx = conn.transaction();
+    insert_rows(&mut tx, agent, number, key, due, bytes, statements)?;
+    tx.commit()
+}

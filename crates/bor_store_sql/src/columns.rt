@@ -1,0 +1,207 @@
+//! The columns of rows, as parameters.
+
+ghost use Rattle.std.specs.Prelude.{◌≡◌, [], ◌∷◌, option_map};
+ghost use Rattle.sqlite_value.specs.Value.{owned};
+ghost use Rattle.sqlite.specs.Values.{bound, bound_value};
+ghost use Rattle.sqlite.specs.declared.types.Value.TheVariants.{Int};
+ghost use Rattle.bor_register.specs.Register.{new_member};
+ghost use Rattle.bods_read.specs.Words.{status_word};
+ghost use Rattle.bor_store_rows.specs.Placed.{bare, part_of};
+ghost use Rattle.bor_store_rows.specs.Encoding.{agent_columns, statement_columns, part_columns, interest_columns, identifier_columns, or_null, share_columns};
+ghost use Rattle.bor_store_sql.specs.Changing.{given_filing};
+
+use bods_read::{Details, FreeText, Identifier, Interest, Statement, Status};
+use bor_terms::{Day, Ident, Span};
+use sqlite::types::ValueRef;
+
+/// A day's number, alone.
+pub(crate) fn day_value(day: Day) -> [ValueRef<'static>; 1]
+    ensures { bound result ≡ Int day ∷ [] }
+{
+    [ValueRef::Int(i64::from(day.number()))]
+}
+
+/// The columns of an agent.
+pub(crate) fn agent_values<'a>(name: &'a str, token: &'a str) -> [ValueRef<'a>; 2]
+    ensures { bound result ≡ agent_columns (new_member name.now token.now) }
+{
+    [
+        ValueRef::Text(name.as_bytes()),
+        ValueRef::Text(token.as_bytes()),
+    ]
+}
+
+/// The columns of a filing but `withdrawn`.
+pub(crate) fn filing_values<'a>(
+    agent: &'a str,
+    number: u32,
+    key: &'a str,
+    due: Day,
+    bytes: &'a [u8],
+) -> [ValueRef<'a>; 5]
+    ensures { bound result ≡ given_filing agent.now number key.now due bytes.now }
+{
+    [
+        ValueRef::Text(agent.as_bytes()),
+        ValueRef::Int(i64::from(number)),
+        ValueRef::Text(key.as_bytes()),
+        ValueRef::Int(i64::from(due.number())),
+        ValueRef::Blob(bytes),
+    ]
+}
+
+/// The columns of an identifier: where its statement stands, which of its identifiers it is, and what it is.
+pub(crate) fn identifier_values<'a>(
+    agent: &'a str,
+    filing: u32,
+    place: u32,
+    item: u32,
+    identifier: &'a Identifier,
+) -> [ValueRef<'a>; 6]
+    ensures { bound result ≡ identifier_columns (record {
+      at = record { agent = agent.now; filing = filing; place = place };
+      item = item;
+      identifier = identifier.now;
+    }) }
+{
+    [
+        ValueRef::Text(agent.as_bytes()),
+        ValueRef::Int(i64::from(filing)),
+        ValueRef::Int(i64::from(place)),
+        ValueRef::Int(i64::from(item)),
+        ValueRef::Text(identifier.scheme.as_str().as_bytes()),
+        ValueRef::Text(identifier.id.as_str().as_bytes()),
+    ]
+}
+
+fn text_or_null(text: &Option<FreeText>) -> ValueRef<'_>
+    ensures { bound_value (owned result) ≡ or_null text.now }
+{
+    match text {
+        Some(text) => ValueRef::Text(text.as_str().as_bytes()),
+        None => ValueRef::Null,
+    }
+}
+
+fn ident_or_null(ident: &Option<Ident>) -> ValueRef<'_>
+    ensures { bound_value (owned result) ≡ or_null ident.now }
+{
+    match ident {
+        Some(ident) => ValueRef::Text(ident.as_str().as_bytes()),
+        None => ValueRef::Null,
+    }
+}
+
+fn status_or_null(status: Option<Status>) -> ValueRef<'static>
+    ensures { bound_value (owned result) ≡ or_null (option_map status_word status) }
+{
+    match status {
+        Some(status) => ValueRef::Text(status.as_str().as_bytes()),
+        None => ValueRef::Null,
+    }
+}
+
+// What kind of entity or person it is, its name, and what a relationship joins.
+fn part_values(details: &Details) -> [ValueRef<'_>; 4]
+    ensures { bound result ≡ part_columns (part_of details.now) }
+{
+    match details {
+        Details::Entity { kind, name, .. } => [
+            ValueRef::Text(kind.as_str().as_bytes()),
+            text_or_null(name),
+            ValueRef::Null,
+            ValueRef::Null,
+        ],
+        Details::Person { kind, name } => [
+            ValueRef::Text(kind.as_str().as_bytes()),
+            text_or_null(name),
+            ValueRef::Null,
+            ValueRef::Null,
+        ],
+        Details::Relationship { subject, party, .. } => [
+            ValueRef::Null,
+            ValueRef::Null,
+            ident_or_null(subject),
+            ident_or_null(party),
+        ],
+    }
+}
+
+/// The columns of a statement: where it stands, and what it says but for its lists.
+pub(crate) fn statement_values<'a>(
+    agent: &'a str,
+    filing: u32,
+    place: u32,
+    statement: &'a Statement,
+) -> [ValueRef<'a>; 13]
+    ensures { bound result ≡ statement_columns (bare (record {
+      at = record { agent = agent.now; filing = filing; place = place };
+      statement = statement.now;
+    })) }
+{
+    let [sub_kind, name, subject, party] = part_values(&statement.details);
+    [
+        ValueRef::Text(agent.as_bytes()),
+        ValueRef::Int(i64::from(filing)),
+        ValueRef::Int(i64::from(place)),
+        ValueRef::Text(statement.id.as_str().as_bytes()),
+        ValueRef::Int(i64::from(statement.day.number())),
+        ValueRef::Text(statement.declaration.as_str().as_bytes()),
+        ValueRef::Text(statement.rec.as_str().as_bytes()),
+        ValueRef::Text(statement.record_type().as_str().as_bytes()),
+        status_or_null(statement.status),
+        sub_kind,
+        name,
+        subject,
+        party,
+    ]
+}
+
+// The ends of a share, each with whether it is open.
+fn share_values(share: Option<Span>) -> [ValueRef<'static>; 4]
+    ensures { bound result ≡ share_columns share }
+{
+    match share {
+        Some(share) => [
+            ValueRef::Int(i64::from(share.low())),
+            ValueRef::Int(i64::from(share.low_is_open())),
+            ValueRef::Int(i64::from(share.high())),
+            ValueRef::Int(i64::from(share.high_is_open())),
+        ],
+        None => [
+            ValueRef::Null,
+            ValueRef::Null,
+            ValueRef::Null,
+            ValueRef::Null,
+        ],
+    }
+}
+
+/// The columns of an interest: where its statement stands, which of its interests it is, and what it is.
+pub(crate) fn interest_values<'a>(
+    agent: &'a str,
+    filing: u32,
+    place: u32,
+    item: u32,
+    interest: &'a Interest,
+) -> [ValueRef<'a>; 10]
+    ensures { bound result ≡ interest_columns (record {
+      at = record { agent = agent.now; filing = filing; place = place };
+      item = item;
+      interest = interest.now;
+    }) }
+{
+    let [low, low_open, high, high_open] = share_values(interest.share);
+    [
+        ValueRef::Text(agent.as_bytes()),
+        ValueRef::Int(i64::from(filing)),
+        ValueRef::Int(i64::from(place)),
+        ValueRef::Int(i64::from(item)),
+        ValueRef::Text(interest.kind.as_str().as_bytes()),
+        ValueRef::Text(interest.directness.as_str().as_bytes()),
+        low,
+        low_open,
+        high,
+        high_open,
+    ]
+}

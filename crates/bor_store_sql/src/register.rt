@@ -1,0 +1,69 @@
+//! What sets the register's day, and adds an agent.
+
+ghost use Rattle.std.specs.Prelude.{◌≡◌, false, IsTrue, OnOk, OnErr};
+ghost use Rattle.sqlite.specs.Held.{state};
+ghost use Rattle.sqlite.specs.State.{HasCleanDisk};
+ghost use Rattle.bor_register.specs.Register.{Register, new_member};
+ghost use Rattle.bor_store_rows.specs.Encoding.{agent_columns};
+ghost use Rattle.bor_store_rows.specs.Stored.{IsStored};
+ghost use Rattle.bor_store_sql.specs.Shown.{Steps, IsClean, ShowsIn};
+ghost use Rattle.bor_store_sql.specs.Changing.{Any, IsOneRegister, with_day, with_agent_row, enrolled};
+
+use crate::columns::{agent_values, day_value};
+use bor_store_texts::changes::{INSERT_AGENT, UPDATE_DAY};
+use bor_terms::Day;
+use sqlite::{Alter, Connection, Error, Transaction};
+
+fn update_day<S: Alter>(tx: &mut Transaction<'_, S>, day: Day) -> Result<usize, Error>
+    ensures same_reference { tx.new.conn.ghost_name ≡ tx.old.conn.ghost_name }
+    ensures clean { HasCleanDisk (state S.Store tx.new.conn.now) → HasCleanDisk (state S.Store tx.old.conn.now) }
+    ensures steps { HasCleanDisk (state S.Store tx.new.conn.now) → IsTrue (state S.Store tx.old.conn.now).in_transaction
+        → Steps (IsOneRegister day) (with_day day) (state S.Store tx.old.conn.now) (state S.Store tx.new.conn.now) result }
+{
+    tx.execute(UPDATE_DAY, &day_value(day))
+}
+
+fn insert_agent<S: Alter>(
+    tx: &mut Transaction<'_, S>,
+    agent: &str,
+    token: &str,
+) -> Result<usize, Error>
+    ensures same_reference { tx.new.conn.ghost_name ≡ tx.old.conn.ghost_name }
+    ensures clean { HasCleanDisk (state S.Store tx.new.conn.now) → HasCleanDisk (state S.Store tx.old.conn.now) }
+    ensures steps { HasCleanDisk (state S.Store tx.new.conn.now) → IsTrue (state S.Store tx.old.conn.now).in_transaction
+        → Steps Any (with_agent_row (agent_columns (new_member agent.now token.now))) (state S.Store tx.old.conn.now) (state S.Store tx.new.conn.now) result }
+{
+    tx.execute(INSERT_AGENT, &agent_values(agent, token))
+}
+
+/// Sets the register's day, in a transaction of its own.
+pub fn set_day<S: Alter>(conn: &mut Connection<S>, day: Day) -> Result<(), Error>
+    requires { conn.old.in_transaction ≡ false }
+    ensures mode { conn.new.in_transaction ≡ false }
+    ensures began { IsClean (state S.Store conn.new) → IsClean (state S.Store conn.old) }
+    ensures made { IsClean (state S.Store conn.new) → (r : Register) → ShowsIn r (state S.Store conn.old)
+        → OnOk result (ShowsIn (record r { day = day }) (state S.Store conn.new)) }
+    ensures kept { IsClean (state S.Store conn.new) → OnErr result ((state S.Store conn.new).committed ≡ (state S.Store conn.old).committed) }
+{
+    let _settled = conn.is_autocommit();
+    // Its clause says that the number is that of a day.
+    let _known = day.number();
+    let mut tx = conn.transaction();
+    update_day(&mut tx, day)?;
+    tx.commit()
+}
+
+/// Adds an agent, in a transaction of its own.
+pub fn add_agent<S: Alter>(conn: &mut Connection<S>, agent: &str, token: &str) -> Result<(), Error>
+    requires { conn.old.in_transaction ≡ false }
+    ensures mode { conn.new.in_transaction ≡ false }
+    ensures began { IsClean (state S.Store conn.new) → IsClean (state S.Store conn.old) }
+    ensures made { IsClean (state S.Store conn.new) → (r : Register) → ShowsIn r (state S.Store conn.old)
+        → IsStored (enrolled agent.now token.now r) → OnOk result (ShowsIn (enrolled agent.now token.now r) (state S.Store conn.new)) }
+    ensures kept { IsClean (state S.Store conn.new) → OnErr result ((state S.Store conn.new).committed ≡ (state S.Store conn.old).committed) }
+{
+    let _settled = conn.is_autocommit();
+    let mut tx = conn.transaction();
+    insert_agent(&mut tx, agent, token)?;
+    tx.commit()
+}
