@@ -1,0 +1,4 @@
+pub mod Texts
+pub mod Stepwise
+pub mod Lengths
+pub mod Messages

@@ -1,0 +1,13 @@
+-- Laws of what inputs spell.
+use Rattle.std.specs.Prelude.{◌≡◌, ℕ, List, Result}
+use Rattle.bor_wire_read.specs.declared.fault.Refusal.{Refusal}
+use Rattle.bor_wire_read.specs.Message.{◌>>=◌, Message, IsMessage}
+use Rattle.bor_wire_spell.specs.Spell.{Spelled, Spells, spell}
+
+-- an input spells one thing
+abbrev pub SpellsOne : Type 0
+SpellsOne = (input : List ℕ) (a b : Spelled) → Spells input a → Spells input b → a ≡ b
+
+-- the message that an input is, or why it is none, says what the input spells
+abbrev pub MessageSpells : Type 0
+MessageSpells = (input : List ℕ) (read : Result Message Refusal) → IsMessage input read → Spells input (read >>= spell)

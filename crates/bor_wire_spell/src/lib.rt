@@ -1,0 +1,25 @@
+//! What a request asks, and whose token it has.
+//!
+//! ```
+//! let input = b"GET /filings HTTP/1.1\r\nAuthorization: Bearer alder-token-000001\r\n\r\n";
+//! let request = read_request(alloc, &mut Counted::new(input.as_slice()))?;
+//! let asking = parse(alloc, &request)?;
+//! assert!(rt; asking.token.as_str() == "alder-token-000001");
+//! assert!(rt; matches!(asking.request, Request::Filings));
+//! ```
+//!
+//! The order of refusals is the table in `specs/Refusals.antt`. Nothing is asked of a register here:
+//! whose token it is, and whether the request may be asked, is the desk's to say.
+#![tactic(auto)]
+
+mod asking;
+pub mod laws;
+mod name;
+mod query;
+mod target;
+mod token;
+
+pub use asking::{Asking, parse};
+
+#[cfg(test)]
+mod tests;

@@ -1,0 +1,185 @@
+//! Inputs that spell no request, and which refusal comes first.
+
+use super::*;
+use bor_wire_read::{Name, Path};
+
+const ALDER: &str = "Authorization: Bearer alder-token-000001\r\n";
+
+#[test]
+fn requests_are_refused(rt: HostRuntime) -> Result<(), Fail> {
+    for (line, fields, why) in [
+        ("GET /nothing", "", Refusal::NoPath),
+        ("GET /filings/", "", Refusal::NoPath),
+        ("GET filings", ALDER, Refusal::NoPath),
+        ("GET http://localhost/filings", ALDER, Refusal::NoPath),
+        ("POST /filings", "", Refusal::WrongMethod(Path::Filings)),
+        ("HEAD /filings", ALDER, Refusal::WrongMethod(Path::Filings)),
+        ("GET /filings/f1", ALDER, Refusal::WrongMethod(Path::Filing)),
+        ("GET /filings", "", Refusal::NoToken),
+        ("PUT /filings/f1", ALDER, Refusal::BadQuery(Name::Due)),
+        (
+            "PUT /filings/f%31?due=2024-02-01",
+            ALDER,
+            Refusal::BadQuery(Name::Key),
+        ),
+        (
+            "PUT /filings/f1?due=2024-02-30",
+            ALDER,
+            Refusal::BadQuery(Name::Due),
+        ),
+        (
+            "GET /filings",
+            "Transfer-Encoding: chunked\r\n",
+            Refusal::BadLength,
+        ),
+        ("GET /filings", "Content-Length: 0\r\n", Refusal::BadLength),
+    ] {
+        let input = request(rt.alloc(), line, fields, "")?;
+        assert_eq!(rt; refusal(rt.alloc(), input.as_bytes()), Some(why), "{line}");
+    }
+    Ok(())
+}
+
+#[test]
+fn inputs_are_refused(rt: HostRuntime) -> Result<(), Fail> {
+    for (input, why) in [
+        ("", Refusal::CutShort),
+        (
+            "GET /filings HTTP/1.1\r\nHost: localhost\r\n",
+            Refusal::CutShort,
+        ),
+        ("GET /filings\r\n\r\n", Refusal::BadHead),
+        ("GET /filings HTTP/2.0\r\n\r\n", Refusal::BadHead),
+        ("GET /fil\u{e9}\u{0}ings HTTP/1.1\r\n\r\n", Refusal::BadHead),
+        (
+            "GET /filings HTTP/1.1\r\nContent-Length: -1\r\n\r\n",
+            Refusal::BadLength,
+        ),
+        (
+            "GET /filings HTTP/1.1\r\nContent-Length:\r\n\r\n",
+            Refusal::BadLength,
+        ),
+        (
+            "GET /filings HTTP/1.1\r\nContent-Length: 1048577\r\n\r\n",
+            Refusal::BodyTooLarge,
+        ),
+        (
+            "PUT /filings/f1 HTTP/1.1\r\nContent-Length: 5\r\n\r\nfour",
+            Refusal::CutShort,
+        ),
+    ] {
+        assert_eq!(rt; refusal(rt.alloc(), input.as_bytes()), Some(why), "{input}");
+    }
+    let alloc = rt.alloc();
+    let long = "a".repeat(alloc, 16_384)?;
+    assert_eq!(rt;
+        refusal(alloc, long.as_bytes()),
+        Some(Refusal::HeadTooLarge)
+    );
+    assert_eq!(rt;
+        refusal(alloc, &long.as_bytes()[..16_383]),
+        Some(Refusal::CutShort)
+    );
+    Ok(())
+}
+
+#[test]
+fn a_head_has_at_most_66_line_feeds(rt: HostRuntime) -> Result<(), Fail> {
+    let alloc = rt.alloc();
+    let mut input = String::new(alloc);
+    input.push_str("GET /filings HTTP/1.1\n")?;
+    input.push_str(ALDER)?;
+    for _ in 0..63 {
+        input.push_str("A: b\n")?;
+    }
+    input.push_str("\n")?;
+    assert!(rt; spelled(alloc, input.as_bytes()).is_ok());
+    let more = format!(in alloc; "\n{}", input.as_str())?;
+    assert_eq!(rt;
+        refusal(alloc, more.as_bytes()),
+        Some(Refusal::HeadTooLarge)
+    );
+    Ok(())
+}
+
+#[test]
+fn the_first_name_that_is_bad_is_told(rt: HostRuntime) -> Result<(), Fail> {
+    for (line, body, name) in [
+        ("PUT /filings/a+b?due=x", "", Name::Key),
+        ("DELETE /filings/a,b", "", Name::Key),
+        ("GET /filings/a%20b/file", "", Name::Key),
+        ("GET /snapshot?declaration=&date=x", "", Name::Agent),
+        ("GET /snapshot?agent=alder&date=x", "", Name::Declaration),
+        (
+            "GET /snapshot?agent=alder&declaration=c1&date=x",
+            "",
+            Name::Date,
+        ),
+        (
+            "GET /snapshot?agent=alder&declaration=c1&date=",
+            "",
+            Name::Date,
+        ),
+        (
+            "GET /chains?declaration=c1&record=e1&agent=Alder",
+            "",
+            Name::Agent,
+        ),
+        (
+            "GET /chains?agent=alder&record=e1&declaration=%01",
+            "",
+            Name::Declaration,
+        ),
+        ("GET /chains?agent=alder&declaration=c1", "", Name::Record),
+        ("POST /day", "", Name::Date),
+        ("POST /day?date=2024-02-01&date=2024-02-01", "", Name::Date),
+        ("POST /agents?name=Cedar", "short", Name::Name),
+        ("POST /agents?name=cedar", "", Name::Token),
+        (
+            "POST /agents?name=cedar&token=cedar-token-000001",
+            "",
+            Name::Token,
+        ),
+        (
+            "POST /agents?name=cedar",
+            "cedar-token-000001\n",
+            Name::Token,
+        ),
+    ] {
+        let input = request(rt.alloc(), line, ALDER, body)?;
+        let why = refusal(rt.alloc(), input.as_bytes());
+        assert_eq!(rt; why, Some(Refusal::BadQuery(name)), "{line}");
+    }
+    Ok(())
+}
+
+#[test]
+fn a_token_stands_in_the_one_authorization_field(rt: HostRuntime) -> Result<(), Fail> {
+    for (fields, is_token) in [
+        ("Authorization: Bearer alder-token-000001\r\n", true),
+        ("AUTHORIZATION:bEARER   alder-token-000001  \r\n", true),
+        ("Authorization: Bearer\talder-token-000001\r\n", false),
+        ("Authorization: Beareralder-token-000001\r\n", false),
+        ("Authorization: Basic alder-token-000001\r\n", false),
+        ("Authorization: alder-token-000001\r\n", false),
+        ("Authorization: Bearer alder token-000001\r\n", false),
+        ("Authorization: Bearer short-token-001\r\n", false),
+        ("Authorization: Bearer\r\n", false),
+        ("X-Authorization: Bearer alder-token-000001\r\n", false),
+        ("Proxy-Authorization: Bearer alder-token-000001\r\n", false),
+        (
+            "Authorization: Bearer alder-token-000001\r\nauthorization: Bearer alder-token-000001\r\n",
+            false,
+        ),
+    ] {
+        let input = request(rt.alloc(), "GET /filings", fields, "")?;
+        let why = refusal(rt.alloc(), input.as_bytes());
+        let expected = if is_token {
+            None
+        } else {
+            Some(Refusal::NoToken)
+        };
+        assert_eq!(rt; why, expected, "{fields}");
+    }
+    Ok(())
+}
