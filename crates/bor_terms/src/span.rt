@@ -73,7 +73,8 @@ impl Span {
 
     /// The high end, in percent.
     pub fn high(self) -> u8
-        ensures { result ≡ self.high }
+        ensures value { result ≡ self.high }
+        ensures within { result ≤ 100 }
     {
         self.high
     }

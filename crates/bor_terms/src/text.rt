@@ -77,9 +77,10 @@ impl<F: Form> Text<F> {
         }
     }
 
-    /// The text itself.
+    /// The text itself, which has its form.
     pub fn as_str(&self) -> &str
-        ensures { result.now ≡ self.now }
+        ensures value { result.now ≡ self.now }
+        ensures form { F.is_form self.now ≡ true }
     {
         self.text.as_str()
     }

@@ -12,7 +12,7 @@ loop-row-preserved c = λ rec.
       | then-counts+in_ok-insert w ↦
           let put = btree_map_updates_str _ c.loop-row.found w.insert.new.self _ w.in_ok-insert.ensures.updates rec in
           ap (λ m. found_at m rec) w.found-is
-          ∙ put_latest c.args.day c.args.declaration.now rec c.row-item.result _ _ _ _ _ refl w.as_str.ensures (sym c.counts.ensures ∙ w.if-counts.true) put (c.loop-row.invariant rec)
+          ∙ put_latest c.args.day c.args.declaration.now rec c.row-item.result _ _ _ _ _ refl w.as_str.ensures.value (sym c.counts.ensures ∙ w.if-counts.true) put (c.loop-row.invariant rec)
           ∙ sym more
       | else-counts w ↦
           ap (λ m. found_at m rec) w.found-is ∙ c.loop-row.invariant rec
