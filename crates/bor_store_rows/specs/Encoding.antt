@@ -11,13 +11,15 @@ use Rattle.bor_register.specs.Register.{Register}
 use Rattle.bor_register.specs.declared.filing.AcceptedFiling.{AcceptedFiling}
 use Rattle.bor_register.specs.declared.filing.Filing.{Filing}
 use Rattle.bor_register.specs.declared.member.Member.{Member}
+use Rattle.bor_store_rows.specs.declared.rows.RegisterRow.{RegisterRow}
+use Rattle.bor_store_rows.specs.declared.rows.AgentRow.{AgentRow}
 use Rattle.bor_store_rows.specs.declared.rows.FilingRow.{FilingRow}
 use Rattle.bor_store_rows.specs.declared.rows.Part.{Part}
 use Rattle.bor_store_rows.specs.declared.rows.Part.TheVariants as part
 use Rattle.bor_store_rows.specs.declared.rows.StatementRow.{StatementRow}
 use Rattle.bor_store_rows.specs.declared.rows.InterestRow.{InterestRow}
 use Rattle.bor_store_rows.specs.declared.rows.IdentifierRow.{IdentifierRow}
-use Rattle.bor_store_rows.specs.Placed.{bare, interest_rows, identifier_rows, placed}
+use Rattle.bor_store_rows.specs.Placed.{register_row, agent_row, bare, interest_rows, identifier_rows, placed}
 
 -- ---- values
 
@@ -31,12 +33,18 @@ or_null (Some text) = Text text
 -- ---- the columns of a row
 
 -- register: one, version, day, registrar
+abbrev pub register_row_columns : RegisterRow → Row
+register_row_columns r = Int (pos 1) ∷ Int (pos 1) ∷ Int r.day ∷ Text r.registrar ∷ []
+
 abbrev pub register_columns : Register → Row
-register_columns r = Int (pos 1) ∷ Int (pos 1) ∷ Int r.day ∷ Text r.registrar ∷ []
+register_columns r = register_row_columns (register_row r)
 
 -- agent: name, token
+abbrev pub agent_row_columns : AgentRow → Row
+agent_row_columns a = Text a.name ∷ Text a.token ∷ []
+
 abbrev pub agent_columns : Member → Row
-agent_columns m = Text m.name ∷ Text m.token ∷ []
+agent_columns m = agent_row_columns (agent_row m)
 
 -- filing: agent, number, lodge_key, due, withdrawn, bytes
 abbrev pub filing_columns : List ℕ → AcceptedFiling → Row

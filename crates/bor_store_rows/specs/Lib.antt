@@ -1,3 +1,7 @@
 pub mod Placed
 pub mod Encoding
 pub mod Stored
+pub mod Words
+pub mod WordLaws
+pub mod Reading
+pub mod RowForms

@@ -1,15 +1,26 @@
-//! The register's statements as rows of three tables, and back.
+//! A register as rows of six tables, and back.
+//!
+//! `specs/Encoding` says what rows the tables have of a register, column by column. [`TableRow`] reads
+//! a row of SQL as the value whose columns it has, and [`joined`] puts statements together from the
+//! rows of their tables. Nothing here speaks to a store.
 #![tactic(auto)]
 
+mod fault;
 mod joining;
+mod parts;
 mod places;
+mod reader;
 mod rows;
 mod split;
 #[cfg(test)]
 mod tests;
+mod values;
+mod words;
 
+pub use fault::RowFault;
 pub use joining::joined;
 pub use places::At;
+pub use reader::{TableRow, read_rows};
 pub use rows::{
     AgentRow, FilingRow, IdentifierRow, InterestRow, Part, Placed, RegisterRow, StatementRow,
 };

@@ -1,0 +1,47 @@
+-- Rows that are read one by one.
+use Rattle.std.proofs.Common.{◌≡◌, ℕ, ◌+◌, ◌<◌, List, [], ◌∷◌, ◌++◌, length, drop, slice_index_or, map, append-nil, append_assoc, add-one, refl, sym, ap, ◌∙◌}
+use Rattle.std.proofs.Math.Seq.{drop-cons}
+use Rattle.std.specs.Prelude.{All}
+use Rattle.std.proofs.lemmas.List.Elements.{All-head, All-tail}
+
+module _ {X R : Type 0} (columns : X → R) (is_formed : X → Type 0) where
+  -- some values are read of all, and the rows are those of the others
+  pub record ToRead (all out : List X) (rows : List R) : Type 0 where
+    pub left : List X
+    pub whole : out ++ left ≡ all
+    pub rows_are : rows ≡ map columns left
+    pub formed : All is_formed left
+
+  pub one_read : (all out : List X) (row : R) (rows : List R) (x : X) → ToRead all out (row ∷ rows) → ((y : X) → row ≡ columns y → is_formed y → x ≡ y) → ToRead all (out ++ x ∷ []) rows
+  one_read all out row rows x l reads = go l.left l.whole l.rows_are l.formed
+    where
+      go : (left : List X) → out ++ left ≡ all → row ∷ rows ≡ map columns left → All is_formed left → ToRead all (out ++ x ∷ []) rows
+      go [] whole e h = absurd cc
+      go (y ∷ left) whole e h =
+          let here : row ≡ columns y = cc in
+          let rest : rows ≡ map columns left = cc in
+          let it : x ≡ y = reads y here (All-head is_formed y left h) in
+          record {
+            left = left;
+            whole = append_assoc out (x ∷ []) left ∙ ap (λ z. out ++ z ∷ left) it ∙ whole;
+            rows_are = rest;
+            formed = All-tail is_formed y left h;
+          }
+
+  pub all_read : (all out : List X) → ToRead all out [] → out ≡ all
+  all_read all out l = go l.left l.whole l.rows_are
+    where
+      go : (left : List X) → out ++ left ≡ all → [] ≡ map columns left → out ≡ all
+      go [] whole e = sym (append-nil out) ∙ whole
+      go (y ∷ left) whole e = absurd cc
+
+  -- the next row is that of a value
+  pub next_read : (all out : List X) (row : R) (rows : List R) (Q : Type 0) → ToRead all out (row ∷ rows) → ((y : X) → row ≡ columns y → is_formed y → Q) → Q
+  next_read all out row rows Q l reads = go l.left l.rows_are l.formed
+    where
+      go : (left : List X) → row ∷ rows ≡ map columns left → All is_formed left → Q
+      go [] e h = absurd cc
+      go (y ∷ left) e h = let here : row ≡ columns y = cc in reads y here (All-head is_formed y left h)
+
+pub next_row : {R : Type 0} (rows : List R) (i : ℕ) (row d : R) → i < length rows → slice_index_or rows i d ≡ row → drop i rows ≡ row ∷ drop (i + 1) rows
+next_row rows i row d low is = drop-cons rows i d low ∙ rw (is, add-one) refl
