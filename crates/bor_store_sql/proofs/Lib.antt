@@ -16,3 +16,11 @@ pub mod Withdrawing
 pub mod WithdrawnContents
 pub mod AddedContents
 pub mod Dating
+pub mod Plain
+pub mod Keeping
+pub mod Finding
+pub mod Rising
+pub mod Orders
+pub mod Picking
+pub mod FromTables
+pub mod Selecting

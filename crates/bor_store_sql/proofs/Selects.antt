@@ -1,5 +1,5 @@
 -- What a SELECT over one table answers.
-use Rattle.std.proofs.Common.{◌≡◌, ℕ, ◌^◌, Bool, true, false, ◌&&◌, ℤ, List, [], ◌∷◌, map, filter, flat_map, nat_le, Some, refl, ap, subst, ◌∙◌, bytes_eq, if◌then◌else◌, IsPermutation, IsSorted}
+use Rattle.std.proofs.Common.{◌≡◌, ℕ, ◌^◌, Bool, true, false, ◌&&◌, ℤ, List, [], ◌∷◌, map, filter, take, flat_map, nat_le, Some, refl, ap, subst, ◌∙◌, bytes_eq, if◌then◌else◌, IsPermutation, IsSorted}
 use Rattle.std.specs.List.{list_all}
 use Rattle.std.specs.Ordering.{is_eq, int_cmp}
 use Rattle.std.proofs.lemmas.Map.Text.{is_eq-slice_cmp}
@@ -15,7 +15,7 @@ use Rattle.sqlite.specs.Ops.{binary, from_truth, is_true}
 use Rattle.sqlite.specs.Term.{Term, Env, holds}
 use Rattle.sqlite.specs.Query.{Query, IsAnswer, output, output_cmp, Output}
 use Rattle.sqlite.specs.Program.{overlay}
-use Rattle.bor_store_texts.specs.Queries.{table_query}
+use Rattle.bor_store_texts.specs.Queries.{table_query, first_query}
 
 truth_back : (b : Bool) → is_true (from_truth (Some b)) ≡ b
 truth_back true = refl
@@ -51,6 +51,17 @@ module _ (t : ℕ) (tests : List Term) (params : Row) where
     answered low db rows a =
         let staged : a.staged ≡ map env (filter keeps (db t)) = a.grouped ∙ rw low (met (db t)) in
         let kept = a.distinct ∙ ap (map (output query)) staged in
+        (a.ordered, subst (λ k. IsPermutation k a.ordered) kept a.same, a.sorted, a.shown)
+
+    abbrev first : Query
+    first = first_query t tests project order
+
+    -- the first row alone of one that shows all
+    pub answered_first : nat_le (2 ^ 31) t ≡ false → (db : Trees) (rows : List Row) → IsAnswer first (overlay db []) params rows
+        → (ordered : List Output) × IsPermutation (map (output first) (map env (filter keeps (db t)))) ordered × IsSorted (output_cmp first) ordered × (rows ≡ take 1 (map (λ o. o.1) ordered))
+    answered_first low db rows a =
+        let staged : a.staged ≡ map env (filter keeps (db t)) = a.grouped ∙ rw low (met (db t)) in
+        let kept = a.distinct ∙ ap (map (output first)) staged in
         (a.ordered, subst (λ k. IsPermutation k a.ordered) kept a.same, a.sorted, a.shown)
 
 pub and_true : (b : Bool) → (b && true) ≡ b

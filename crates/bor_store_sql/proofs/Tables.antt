@@ -1,5 +1,5 @@
 -- What a table keeps after a change, and what a query over it answers.
-use Rattle.std.proofs.Common.{◌≡◌, ℕ, ℤ, pos, ◌^◌, ◌≤◌, Bool, true, false, not, cond, nat_le, List, [], ◌∷◌, ◌++◌, map, filter, length, ◌+◌, refl, sym, ap, subst, subst₂, ◌∙◌, arith, IsPermutation, Less}
+use Rattle.std.proofs.Common.{◌≡◌, ℕ, ℤ, pos, ◌^◌, ◌≤◌, Bool, true, false, not, cond, nat_le, List, [], ◌∷◌, ◌++◌, map, filter, take, length, ◌+◌, refl, sym, ap, subst, subst₂, ◌∙◌, arith, IsPermutation, IsSorted, Less}
 use Rattle.std.proofs.lemmas.List.{length-map}
 use Rattle.std.proofs.lemmas.List.Sorted.{IsPermutation-map, IsPermutation-trans, IsPermutation-sym, IsPermutation-append_left, length_permutation}
 use Rattle.sqlite_keyed.proofs.SortLemmas.{sorted_unique}
@@ -17,12 +17,12 @@ use Rattle.sqlite.specs.Term.{Term, col}
 use Rattle.sqlite.specs.Query.{Query, Output, output, output_cmp, IsAnswer}
 use Rattle.sqlite.specs.Program.{overlay}
 use Rattle.sqlite.proofs.Callers.{one_permutation}
-use Rattle.bor_store_texts.specs.Queries.{table_query}
+use Rattle.bor_store_texts.specs.Queries.{table_query, first_query}
 use Rattle.bor_store_sql.specs.Kept.{AreRows, Keeps}
 use Rattle.bor_store_sql.proofs.Rowids.{put_last, picked}
 use Rattle.bor_store_sql.proofs.Taken.{ids_in, taken_out, any_order}
 use Rattle.bor_store_sql.proofs.PutBack.{put_back}
-use Rattle.bor_store_sql.proofs.Selects.{env, keeps, answered}
+use Rattle.bor_store_sql.proofs.Selects.{env, keeps, answered, answered_first}
 
 -- ---- changes
 
@@ -77,6 +77,21 @@ module _ (t : ℕ) (low : nat_le (2 ^ 31) t ≡ false) (tests : List Term) (para
         let same : IsPermutation (map shown (filter q xs)) it.0 = IsPermutation-trans _ _ _ back (subst (λ l. IsPermutation l it.0) outs it.1) in
         let one : it.0 ≡ map shown (filter q xs) = sorted_unique (output_cmp asked) (output_cmp_total asked) _ it.0 (ascending-map _ shown (filter q xs) up) same it.2 in
         it.3 ∙ ap (map (λ (o : Output). o.1)) one ∙ map-map (λ (o : Output). o.1) shown (filter q xs)
+
+  abbrev first_asked : Query
+  first_asked = first_query t tests project order
+
+  module _ (shown : Row → Output) (same_out : (id : ℕ) (x : Row) → output first_asked (env t tests params (Int (pos id) ∷ x)) ≡ shown x) where
+    -- the first row comes from those that pass, in some order
+    pub come_first : (db : Trees) (xs rows : List Row) → Keeps xs (db t) → IsAnswer first_asked (overlay db []) params rows
+        → (ordered : List Output) × IsPermutation (map shown (filter q xs)) ordered × IsSorted (output_cmp first_asked) ordered × (rows ≡ take 1 (map (λ (o : Output). o.1) ordered))
+    come_first db xs rows k a =
+        let it = answered_first t tests params project order low db rows a in
+        let outs : map (output first_asked) (map (env t tests params) (filter (keeps t tests params) (db t))) ≡ map shown (filter q k.stored) =
+        map-map (output first_asked) (env t tests params) _ ∙ picked (keeps t tests params) q same_test _ shown same_out 1 k.stored (db t) k.under in
+        let back : IsPermutation (map shown (filter q xs)) (map shown (filter q k.stored)) =
+        IsPermutation-sym _ _ (IsPermutation-map shown _ _ (IsPermutation-filter q k.stored xs k.same)) in
+        (it.0, IsPermutation-trans _ _ _ back (subst (λ l. IsPermutation l it.0) outs it.1), it.2, it.3)
 
 -- ---- a deletion and an update, by what their queries answer
 

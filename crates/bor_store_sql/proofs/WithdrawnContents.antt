@@ -234,7 +234,7 @@ module _ (agent : List ℕ) (number : ℕ) where
     | false ↦ (all.0, numbered_with new ms one all.1)
   ]
 
-  numbered_of : (ms : List Member) → AllNumbered ms → AreNumbered 1 (filings_of agent ms)
+  pub numbered_of : (ms : List Member) → AllNumbered ms → AreNumbered 1 (filings_of agent ms)
   numbered_of [] all = tt
   numbered_of (m ∷ ms) all = elim (is_same m.name agent) as (λ b. AreNumbered 1 (if b then m.filings else filings_of agent ms)) [
     | true ↦ all.0

@@ -1,3 +1,5 @@
 pub mod Kept
 pub mod Shown
 pub mod Changing
+pub mod Found
+pub mod Selected

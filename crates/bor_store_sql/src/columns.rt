@@ -1,9 +1,9 @@
 //! The columns of rows, as parameters.
 
-ghost use Rattle.std.specs.Prelude.{◌≡◌, [], ◌∷◌, option_map};
+ghost use Rattle.std.specs.Prelude.{◌≡◌, pos, [], ◌∷◌, option_map};
 ghost use Rattle.sqlite_value.specs.Value.{owned};
 ghost use Rattle.sqlite.specs.Values.{bound, bound_value};
-ghost use Rattle.sqlite.specs.declared.types.Value.TheVariants.{Int};
+ghost use Rattle.sqlite.specs.declared.types.Value.TheVariants.{Int, Text, Blob};
 ghost use Rattle.bor_register.specs.Register.{new_member};
 ghost use Rattle.bods_read.specs.Words.{status_word};
 ghost use Rattle.bor_store_rows.specs.Placed.{bare, part_of};
@@ -13,6 +13,66 @@ ghost use Rattle.bor_store_sql.specs.Changing.{given_filing};
 use bods_read::{Details, FreeText, Identifier, Interest, Statement, Status};
 use bor_terms::{Day, Ident, Span};
 use sqlite::types::ValueRef;
+
+/// One text.
+pub(crate) fn one_text(text: &str) -> [ValueRef<'_>; 1]
+    ensures { bound result ≡ Text text.now ∷ [] }
+{
+    [ValueRef::Text(text.as_bytes())]
+}
+
+/// Two texts.
+pub(crate) fn two_texts<'a>(first: &'a str, second: &'a str) -> [ValueRef<'a>; 2]
+    ensures { bound result ≡ Text first.now ∷ Text second.now ∷ [] }
+{
+    [
+        ValueRef::Text(first.as_bytes()),
+        ValueRef::Text(second.as_bytes()),
+    ]
+}
+
+/// Three texts.
+pub(crate) fn three_texts<'a>(first: &'a str, second: &'a str, third: &'a str) -> [ValueRef<'a>; 3]
+    ensures { bound result ≡ Text first.now ∷ Text second.now ∷ Text third.now ∷ [] }
+{
+    [
+        ValueRef::Text(first.as_bytes()),
+        ValueRef::Text(second.as_bytes()),
+        ValueRef::Text(third.as_bytes()),
+    ]
+}
+
+/// A filing by agent and number.
+pub(crate) fn filing_key(agent: &str, number: u32) -> [ValueRef<'_>; 2]
+    ensures { bound result ≡ Text agent.now ∷ Int (pos number) ∷ [] }
+{
+    [
+        ValueRef::Text(agent.as_bytes()),
+        ValueRef::Int(i64::from(number)),
+    ]
+}
+
+/// A statement by agent, filing and place.
+pub(crate) fn statement_key(agent: &str, filing: u32, place: u32) -> [ValueRef<'_>; 3]
+    ensures { bound result ≡ Text agent.now ∷ Int (pos filing) ∷ Int (pos place) ∷ [] }
+{
+    [
+        ValueRef::Text(agent.as_bytes()),
+        ValueRef::Int(i64::from(filing)),
+        ValueRef::Int(i64::from(place)),
+    ]
+}
+
+/// A filing by agent and key, with bytes that its file may have.
+pub(crate) fn file_key<'a>(agent: &'a str, key: &'a str, bytes: &'a [u8]) -> [ValueRef<'a>; 3]
+    ensures { bound result ≡ Text agent.now ∷ Text key.now ∷ Blob bytes.now ∷ [] }
+{
+    [
+        ValueRef::Text(agent.as_bytes()),
+        ValueRef::Text(key.as_bytes()),
+        ValueRef::Blob(bytes),
+    ]
+}
 
 /// A day's number, alone.
 pub(crate) fn day_value(day: Day) -> [ValueRef<'static>; 1]

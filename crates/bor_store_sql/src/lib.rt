@@ -1,15 +1,26 @@
-//! A register in the tables of a connection, without its row readers: each change is one transaction.
+//! A register in the tables of a connection: each change is one transaction, each read one query.
 //!
 //! `specs/Shown` says which register a connection shows: what the last commit left is the schema of
 //! `bor_store_texts` with the rows of `bor_store_rows`, in any order. A change that is answered `Ok`
-//! shows the changed register, and a refused one leaves what the last commit left.
+//! shows the changed register, and a refused one leaves what the last commit left. A read leaves it
+//! too, and gives the rows of the part that is asked for; `bor_store_rows` reads their values.
 #![tactic(auto)]
 
 mod additions;
 mod columns;
+mod keyed;
+mod reads;
 mod register;
 mod withdrawal;
 
 pub use additions::add_filing;
+pub use keyed::{
+    agent_by_name, agent_by_token, filing_by_key, filings_of_agent, identifiers_of_statement,
+    interests_of_statement, last_filing, last_of_series, line_by_key, line_by_number, same_bytes,
+    statement_by_id, statements_of_declaration, statements_of_filing,
+};
+pub use reads::{
+    all_agents, all_filings, all_identifiers, all_interests, all_register, all_statements,
+};
 pub use register::{add_agent, set_day};
 pub use withdrawal::withdraw_filing;

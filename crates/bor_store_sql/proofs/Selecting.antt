@@ -1,0 +1,272 @@
+-- What each query gives of a register that is shown.
+use Rattle.std.proofs.Common.{◌≡◌, ℕ, pos, ◌+◌, ◌<◌, Bool, true, false, ◌&&◌, ◌==◌, List, [], ◌∷◌, ◌++◌, map, filter, take, reverse, Some, refl, sym, ap, ap₂, subst, ◌∙◌, arith}
+use Rattle.std.specs.List.{AllByRecursion, flat_map}
+use Rattle.std.specs.Ordering.{is_eq, int_cmp}
+use Rattle.std.specs.Str.{bytes_eq}
+use Rattle.std.proofs.lemmas.Int.{ints}
+use Rattle.std.proofs.lemmas.Bool.Decides.{nat_tests}
+use Rattle.std.proofs.lemmas.List.{map-append, reverse-append}
+use Rattle.std.proofs.lemmas.Map.Text.{is_eq-slice_cmp}
+use Rattle.sqlite.specs.declared.types.Value.TheVariants.{Int, Text, Blob}
+use Rattle.sqlite.specs.Order.{Row}
+use Rattle.sqlite.specs.Tree.{IsAscending}
+use Rattle.sqlite.specs.State.{State}
+use Rattle.sqlite.specs.Ops.{binary, from_truth}
+use Rattle.sqlite.specs.Collation.TheVariants.{Binary}
+use Rattle.sqlite_sql.specs.declared.ops.BinaryOp.TheVariants.{Compare}
+use Rattle.sqlite_sql.specs.declared.ops.CompareOp.TheVariants.{Eq}
+use Rattle.sqlite_value.proofs.OrderLemmas.{value_cmp-Blob}
+use Rattle.sqlite_keyed.proofs.ListLemmas.{map-map, filter-map, ascending-filter, filter_all, filter_none}
+use Rattle.bor_terms.specs.Texts.{is_same}
+use Rattle.bods_read.specs.declared.details.Identifier.{Identifier}
+use Rattle.bods_read.specs.declared.interest.Interest.{Interest}
+use Rattle.bor_register.specs.declared.filing.AcceptedFiling.{AcceptedFiling}
+use Rattle.bor_register.specs.declared.member.Member.{Member}
+use Rattle.bor_register.specs.Register.{Register, IsOrdered, filings_of}
+use Rattle.bor_register.specs.Publication.{filing_shown}
+use Rattle.bor_store_texts.specs.Queries.{falling, all_register_text, all_register_query, all_agents_text, all_agents_query, all_filings_text, all_filings_query, all_statements_text, all_statements_query, all_interests_text, all_interests_query, all_identifiers_text, all_identifiers_query, agent_by_name_text, agent_by_name_query, agent_by_token_text, agent_by_token_query, filing_by_key_text, filing_by_key_query, line_by_key_text, line_by_key_query, line_by_number_text, line_by_number_query, same_bytes_text, same_bytes_query, filings_of_agent_text, filings_of_agent_query, last_filing_text, last_filing_query, last_of_series_text, last_of_series_query, statement_by_id_text, statement_by_id_query, statements_of_filing_text, statements_of_filing_query, statements_of_declaration_text, statements_of_declaration_query, interests_of_statement_text, interests_of_statement_query, identifiers_of_statement_text, identifiers_of_statement_query}
+use Rattle.bor_store_texts.proofs.QueryMeanings.{all_register_is, all_agents_is, all_filings_is, all_statements_is, all_interests_is, all_identifiers_is, agent_by_name_is, agent_by_token_is, filing_by_key_is, line_by_key_is, line_by_number_is, same_bytes_is, filings_of_agent_is, last_filing_is, last_of_series_is, statement_by_id_is, statements_of_filing_is, statements_of_declaration_is, interests_of_statement_is, identifiers_of_statement_is}
+use Rattle.bor_store_rows.specs.declared.places.At.{At}
+use Rattle.bor_store_rows.specs.declared.rows.Placed.{Placed}
+use Rattle.bor_store_rows.specs.declared.rows.InterestRow.{InterestRow}
+use Rattle.bor_store_rows.specs.declared.rows.IdentifierRow.{IdentifierRow}
+use Rattle.bor_store_rows.specs.Placed.{same_place, bare, filing_row, filing_lines, placed, placed_by, interest_rows, identifier_rows, interests_from, identifiers_from, interests_of, identifiers_of}
+use Rattle.bor_store_rows.specs.Encoding.{truth, register_columns, agent_columns, filing_rows, line_columns, shown_columns, statement_columns, interest_columns, identifier_columns}
+use Rattle.bor_store_sql.specs.Selected.{named, with_token, keyed, numbered, last, placed_of, in_filing, in_declaration, in_series, identified, interests_at, identifiers_at, place_columns}
+use Rattle.bor_store_sql.specs.Shown.{ShowsIn}
+use Rattle.bor_store_sql.proofs.Finding.{Shows, answers, has_now}
+use Rattle.bor_store_sql.proofs.FromTables.{from_agents, from_filings, from_statements, from_interests, from_identifiers, statement_shown, interest_shown}
+use Rattle.bor_store_sql.proofs.Members.{filter_append, own_alone}
+use Rattle.bor_store_sql.proofs.Orders.{Owned, owned, owned_filing, owners, whole, filing_rows_are, int_same, IsLower}
+use Rattle.bor_store_sql.proofs.Picking.{all_pass, filter_both, picked_rows, picked_last}
+use Rattle.bor_store_sql.proofs.Rowids.{lower_id}
+use Rattle.bor_store_sql.proofs.Rising.{filings_rise, statements_rise, owned_by}
+use Rattle.bor_store_sql.proofs.Selects.{text_test, int_test, and_true}
+use Rattle.bor_store_sql.proofs.WithdrawnContents.{numbered_of}
+
+-- ---- tests of columns
+
+number_test : (m n : ℕ) → is_eq (int_cmp (pos m) (pos n)) ≡ (m == n)
+number_test m n = grind (arith, ints, nat_tests)
+
+as_truth : (b : Bool) → from_truth (Some b) ≡ truth b
+as_truth true = refl
+as_truth false = refl
+
+blob_test : (a b : List ℕ) → binary (Compare Eq Binary) (Blob a) (Blob b) ≡ truth (is_same a b)
+unfolding binary
+blob_test a b = ap (λ t. from_truth (Some t)) (ap is_eq (value_cmp-Blob a b) ∙ is_eq-slice_cmp a b) ∙ as_truth (bytes_eq a b)
+
+-- ---- those of one agent
+
+module _ (agent : List ℕ) (ms : List Member) (names : IsOrdered ms) where
+  own_owned : filter (λ (o : Owned). is_same o.agent agent) (owned ms) ≡ map (owned_filing agent) (filings_of agent ms)
+  own_owned = own_alone (λ name fs. map (owned_filing name) fs) owned refl (λ m rest. refl) (λ (o : Owned). o.agent) owners (λ name. refl) agent ms names
+
+  own_filings : (q : AcceptedFiling → Bool) (out : Owned → Row) → map out (filter (λ (o : Owned). is_same o.agent agent && q o.filing) (owned ms)) ≡ map (λ f. out (owned_filing agent f)) (filter q (filings_of agent ms))
+  own_filings q out =
+      ap (map out) (filter_both (λ (o : Owned). is_same o.agent agent) (λ (o : Owned). q o.filing) (owned ms) ∙ ap (filter (λ (o : Owned). q o.filing)) own_owned ∙ filter-map (λ (o : Owned). q o.filing) (owned_filing agent) (filings_of agent ms))
+      ∙ map-map out (owned_filing agent) (filter q (filings_of agent ms))
+
+  own_placed : filter (λ (p : Placed). is_same p.at.agent agent) (placed ms) ≡ placed_by agent (filings_of agent ms)
+  own_placed = own_alone placed_by placed refl (λ m rest. refl) (λ (p : Placed). p.at.agent) owned_by (λ name. refl) agent ms names
+
+  own_statements : (q : Placed → Bool) → filter (λ (p : Placed). is_same p.at.agent agent && q p) (placed ms) ≡ filter q (placed_by agent (filings_of agent ms))
+  own_statements q = filter_both (λ (p : Placed). is_same p.at.agent agent) q (placed ms) ∙ ap (filter q) own_placed
+
+lines_of : (name : List ℕ) (fs : List AcceptedFiling) → map (λ (o : Owned). line_columns (filing_row o.agent o.filing)) (map (owned_filing name) fs) ≡ map line_columns (map (filing_row name) fs)
+lines_of name [] = refl
+lines_of name (f ∷ fs) = ap (λ l. line_columns (filing_row name f) ∷ l) (lines_of name fs)
+
+lines_are : (ms : List Member) → map (λ (o : Owned). line_columns (filing_row o.agent o.filing)) (owned ms) ≡ map line_columns (filing_lines ms)
+lines_are [] = refl
+lines_are (m ∷ ms) =
+    map-append (λ (o : Owned). line_columns (filing_row o.agent o.filing)) (map (owned_filing m.name) m.filings) (owned ms) ∙ ap₂ (λ x y. x ++ y) (lines_of m.name m.filings) (lines_are ms)
+    ∙ sym (map-append line_columns (map (filing_row m.name) m.filings) (filing_lines ms))
+
+-- ---- those of one statement
+
+module _ {X : Type 0} (at_of : X → At) (t : At → Bool) (rows : Placed → List X) (own : (p : Placed) → AllByRecursion (λ x. at_of x ≡ p.at) (rows p)) where
+  passed : (at : At) (b : Bool) → t at ≡ b → (xs : List X) → AllByRecursion (λ x. at_of x ≡ at) xs → AllByRecursion (λ x. t (at_of x) ≡ b) xs
+  passed at b e [] h = tt
+  passed at b e (x ∷ xs) h = (ap t h.0 ∙ e, passed at b e xs h.1)
+
+  rows_at : (ps : List Placed) → filter (λ x. t (at_of x)) (flat_map rows ps) ≡ flat_map rows (filter (λ (p : Placed). t p.at) ps)
+  rows_at [] = refl
+  rows_at (p ∷ ps) = filter_append (λ x. t (at_of x)) (rows p) (flat_map rows ps) ∙ go (t p.at) refl (rows_at ps)
+    where
+      go : (b : Bool) → t p.at ≡ b → filter (λ x. t (at_of x)) (flat_map rows ps) ≡ flat_map rows (filter (λ (p : Placed). t p.at) ps)
+          → filter (λ x. t (at_of x)) (rows p) ++ filter (λ x. t (at_of x)) (flat_map rows ps) ≡ flat_map rows (filter (λ (p : Placed). t p.at) (p ∷ ps))
+      go true e more = rw e (ap₂ (λ x y. x ++ y) (filter_all (λ x. t (at_of x)) (rows p) (passed p.at true e (rows p) (own p))) more)
+      go false e more = rw e (ap₂ (λ x y. x ++ y) (filter_none (λ x. t (at_of x)) (rows p) (passed p.at false e (rows p) (own p))) more)
+
+interests_stand : (at : At) (n : ℕ) (is : List Interest) → AllByRecursion (λ (i : InterestRow). i.at ≡ at) (interests_from at n is)
+interests_stand at n [] = tt
+interests_stand at n (i ∷ is) = (refl, interests_stand at (n + 1) is)
+
+identifiers_stand : (at : At) (n : ℕ) (is : List Identifier) → AllByRecursion (λ (i : IdentifierRow). i.at ≡ at) (identifiers_from at n is)
+identifiers_stand at n [] = tt
+identifiers_stand at n (i ∷ is) = (refl, identifiers_stand at (n + 1) is)
+
+-- ---- the last one
+
+last_of_map : {X Y : Type 0} (f : X → Y) (xs : List X) → take 1 (reverse (map f xs)) ≡ map f (take 1 (reverse xs))
+last_of_map f xs = ap (take 1) (turned f xs) ∙ first f (reverse xs)
+  where
+    turned : {X Y : Type 0} (f : X → Y) (xs : List X) → reverse (map f xs) ≡ map f (reverse xs)
+    turned f [] = refl
+    turned f (x ∷ xs) = reverse-append (f x ∷ []) (map f xs) ∙ ap (λ l. l ++ f x ∷ []) (turned f xs) ∙ sym (map-append f (reverse xs) (x ∷ [])) ∙ ap (map f) (sym (reverse-append (x ∷ []) xs))
+
+    first : {X Y : Type 0} (f : X → Y) (xs : List X) → take 1 (map f xs) ≡ map f (take 1 xs)
+    first f [] = refl
+    first f (x ∷ xs) = refl
+
+abbrev IsLaterNumber : Owned → Owned → Type 0
+IsLaterNumber a b = a.filing.number < b.filing.number
+
+abbrev falling_keys : At → Row
+falling_keys at = Int (pos at.filing) ∷ Int (pos at.place) ∷ []
+
+abbrev IsLaterPlace : At → At → Type 0
+IsLaterPlace a b = IsLower ((falling 2).1 ∷ (falling 3).1 ∷ []) (falling_keys b) (falling_keys a)
+
+later_number : (name : List ℕ) (m n i j : ℕ) → m < n → IsLaterPlace (record { agent = name; filing = m; place = i }) (record { agent = name; filing = n; place = j })
+later_number name m n i j lt = rw (lower_id m n lt) refl
+
+later_place : (name : List ℕ) (n i j : ℕ) → i < j → IsLaterPlace (record { agent = name; filing = n; place = i }) (record { agent = name; filing = n; place = j })
+later_place name n i j lt = rw (int_same (pos n), lower_id i j lt) refl
+
+-- ---- the queries
+
+module _ (r : Register) (old new : State) (shows : ShowsIn r old) (rows : List Row) where
+  pub all_register_found : Shows all_register_text [] old new rows → rows ≡ register_columns r ∷ []
+  all_register_found h =
+      picked_rows 0 refl all_register_query.filter [] all_register_query.project all_register_query.order (λ id x. refl) register_columns register_columns (λ x. true) (λ x. refl) (r ∷ []) old.now.trees (register_columns r ∷ []) rows refl
+      (has_now r old new shows h.0).register (λ id x. refl) (λ x. refl) (answers r old new shows h.0 all_register_text [] all_register_query _ all_register_is rows h.1) (λ a b. ⊥)
+      (λ a b lt. absurd lt) (tt, tt)
+
+  pub all_agents_found : Shows all_agents_text [] old new rows → rows ≡ map agent_columns r.members
+  all_agents_found h =
+      from_agents r old new shows rows all_agents_text [] _ all_agents_query.filter all_agents_query.project h (λ m. true) (λ m. refl) all_agents_is (λ id x. refl) (λ id x. refl) (λ m. refl) ∙ ap (map agent_columns) (all_pass r.members)
+
+  pub all_filings_found : Shows all_filings_text [] old new rows → rows ≡ map line_columns (filing_lines r.members)
+  all_filings_found h =
+      from_filings r old new shows rows all_filings_text [] _ all_filings_query.filter all_filings_query.project h (λ o. line_columns (filing_row o.agent o.filing)) (λ o. true) (λ o. refl) all_filings_is (λ id x. refl) (λ id x. refl) (λ o. refl)
+      ∙ ap (map (λ (o : Owned). line_columns (filing_row o.agent o.filing))) (all_pass (owned r.members)) ∙ lines_are r.members
+
+  pub all_statements_found : Shows all_statements_text [] old new rows → rows ≡ map (λ p. statement_columns (bare p)) (placed r.members)
+  all_statements_found h =
+      from_statements r old new shows rows all_statements_text [] _ all_statements_query.filter all_statements_query.project h (λ p. statement_columns (bare p)) (λ p. true) (λ p. refl) all_statements_is (λ id x. refl) (λ id x. refl) (λ p. statement_shown (bare p))
+      ∙ ap (map (λ p. statement_columns (bare p))) (all_pass (placed r.members))
+
+  pub all_interests_found : Shows all_interests_text [] old new rows → rows ≡ map interest_columns (flat_map interest_rows (placed r.members))
+  all_interests_found h =
+      from_interests r old new shows rows all_interests_text [] _ all_interests_query.filter all_interests_query.project h (λ i. true) (λ i. refl) all_interests_is (λ id x. refl) (λ id x. refl) interest_shown
+      ∙ ap (map interest_columns) (all_pass (flat_map interest_rows (placed r.members)))
+
+  pub all_identifiers_found : Shows all_identifiers_text [] old new rows → rows ≡ map identifier_columns (flat_map identifier_rows (placed r.members))
+  all_identifiers_found h =
+      from_identifiers r old new shows rows all_identifiers_text [] _ all_identifiers_query.filter all_identifiers_query.project h (λ i. true) (λ i. refl) all_identifiers_is (λ id x. refl) (λ id x. refl) (λ i. refl)
+      ∙ ap (map identifier_columns) (all_pass (flat_map identifier_rows (placed r.members)))
+
+  pub agent_by_name_found : (name : List ℕ) → Shows agent_by_name_text (Text name ∷ []) old new rows → rows ≡ map agent_columns (named name r.members)
+  agent_by_name_found name h =
+      from_agents r old new shows rows agent_by_name_text (Text name ∷ []) _ agent_by_name_query.filter agent_by_name_query.project h (λ m. is_same m.name name) (λ m. and_true _ ∙ text_test m.name name) agent_by_name_is (λ id x. refl) (λ id x. refl) (λ m. refl)
+
+  pub agent_by_token_found : (token : List ℕ) → Shows agent_by_token_text (Text token ∷ []) old new rows → rows ≡ map agent_columns (with_token token r.members)
+  agent_by_token_found token h =
+      from_agents r old new shows rows agent_by_token_text (Text token ∷ []) _ agent_by_token_query.filter agent_by_token_query.project h (λ m. is_same m.token token) (λ m. and_true _ ∙ text_test m.token token) agent_by_token_is (λ id x. refl) (λ id x. refl) (λ m. refl)
+
+  pub filing_by_key_found : (agent key : List ℕ) → Shows filing_by_key_text (Text agent ∷ Text key ∷ []) old new rows → rows ≡ map (λ f. shown_columns (filing_shown f)) (keyed key (filings_of agent r.members))
+  filing_by_key_found agent key h =
+      from_filings r old new shows rows filing_by_key_text (Text agent ∷ Text key ∷ []) _ filing_by_key_query.filter filing_by_key_query.project h (λ o. shown_columns (filing_shown o.filing)) (λ o. is_same o.agent agent && is_same o.filing.key key)
+      (λ o. ap₂ (λ x y. x && y) (text_test o.agent agent) (and_true _ ∙ text_test o.filing.key key)) filing_by_key_is (λ id x. refl) (λ id x. refl) (λ o. refl)
+      ∙ own_filings agent r.members shows.stored.ordered (λ f. is_same f.key key) (λ o. shown_columns (filing_shown o.filing))
+
+  pub line_by_key_found : (agent key : List ℕ) → Shows line_by_key_text (Text agent ∷ Text key ∷ []) old new rows → rows ≡ map (λ f. line_columns (filing_row agent f)) (keyed key (filings_of agent r.members))
+  line_by_key_found agent key h =
+      from_filings r old new shows rows line_by_key_text (Text agent ∷ Text key ∷ []) _ line_by_key_query.filter line_by_key_query.project h (λ o. line_columns (filing_row o.agent o.filing)) (λ o. is_same o.agent agent && is_same o.filing.key key)
+      (λ o. ap₂ (λ x y. x && y) (text_test o.agent agent) (and_true _ ∙ text_test o.filing.key key)) line_by_key_is (λ id x. refl) (λ id x. refl) (λ o. refl)
+      ∙ own_filings agent r.members shows.stored.ordered (λ f. is_same f.key key) (λ o. line_columns (filing_row o.agent o.filing))
+
+  pub line_by_number_found : (agent : List ℕ) (number : ℕ) → Shows line_by_number_text (Text agent ∷ Int (pos number) ∷ []) old new rows → rows ≡ map (λ f. line_columns (filing_row agent f)) (numbered number (filings_of agent r.members))
+  line_by_number_found agent number h =
+      from_filings r old new shows rows line_by_number_text (Text agent ∷ Int (pos number) ∷ []) _ line_by_number_query.filter line_by_number_query.project h (λ o. line_columns (filing_row o.agent o.filing)) (λ o. is_same o.agent agent && o.filing.number == number)
+      (λ o. ap₂ (λ x y. x && y) (text_test o.agent agent) (and_true _ ∙ int_test (pos o.filing.number) (pos number) ∙ number_test o.filing.number number)) line_by_number_is (λ id x. refl) (λ id x. refl) (λ o. refl)
+      ∙ own_filings agent r.members shows.stored.ordered (λ f. f.number == number) (λ o. line_columns (filing_row o.agent o.filing))
+
+  pub same_bytes_found : (agent key bytes : List ℕ) → Shows same_bytes_text (Text agent ∷ Text key ∷ Blob bytes ∷ []) old new rows → rows ≡ map (λ f. truth (is_same f.bytes bytes) ∷ []) (keyed key (filings_of agent r.members))
+  same_bytes_found agent key bytes h =
+      from_filings r old new shows rows same_bytes_text (Text agent ∷ Text key ∷ Blob bytes ∷ []) _ same_bytes_query.filter same_bytes_query.project h (λ o. truth (is_same o.filing.bytes bytes) ∷ []) (λ o. is_same o.agent agent && is_same o.filing.key key)
+      (λ o. ap₂ (λ x y. x && y) (text_test o.agent agent) (and_true _ ∙ text_test o.filing.key key)) same_bytes_is (λ id x. refl) (λ id x. refl) (λ o. ap (λ v. v ∷ []) (blob_test o.filing.bytes bytes))
+      ∙ own_filings agent r.members shows.stored.ordered (λ f. is_same f.key key) (λ o. truth (is_same o.filing.bytes bytes) ∷ [])
+
+  pub filings_of_agent_found : (agent : List ℕ) → Shows filings_of_agent_text (Text agent ∷ []) old new rows → rows ≡ map (λ f. line_columns (filing_row agent f)) (filings_of agent r.members)
+  filings_of_agent_found agent h =
+      from_filings r old new shows rows filings_of_agent_text (Text agent ∷ []) _ filings_of_agent_query.filter filings_of_agent_query.project h (λ o. line_columns (filing_row o.agent o.filing)) (λ o. is_same o.agent agent)
+      (λ o. and_true _ ∙ text_test o.agent agent) filings_of_agent_is (λ id x. refl) (λ id x. refl) (λ o. refl)
+      ∙ ap (map (λ (o : Owned). line_columns (filing_row o.agent o.filing))) (own_owned agent r.members shows.stored.ordered) ∙ map-map (λ (o : Owned). line_columns (filing_row o.agent o.filing)) (owned_filing agent) (filings_of agent r.members)
+
+  pub last_filing_found : (agent : List ℕ) → Shows last_filing_text (Text agent ∷ []) old new rows → rows ≡ map (λ f. line_columns (filing_row agent f)) (last (filings_of agent r.members))
+  last_filing_found agent h =
+      let fs = filings_of agent r.members in
+      let out : Owned → Row = λ o. line_columns (filing_row o.agent o.filing) in
+      let own = own_owned agent r.members shows.stored.ordered in
+      let up = filings_rise IsLaterNumber (owned_filing agent) (λ f g lt. lt) 1 fs (numbered_of agent 0 r.members shows.stored.numbered) in
+      picked_last 5 refl last_filing_query.filter (Text agent ∷ []) last_filing_query.project last_filing_query.order (λ id x. refl) whole out (λ o. is_same o.agent agent) (λ o. and_true _ ∙ text_test o.agent agent) (owned r.members) old.now.trees
+      (filing_rows r.members) rows (filing_rows_are r.members) (has_now r old new shows h.0).filings (λ id x. refl) (λ o. refl) (answers r old new shows h.0 last_filing_text (Text agent ∷ []) last_filing_query _ last_filing_is rows h.1)
+      IsLaterNumber (λ a b lt. rw (lower_id a.filing.number b.filing.number lt) refl) (subst (IsAscending IsLaterNumber) (sym own) up)
+      ∙ ap (λ l. map out (take 1 (reverse l))) own ∙ ap (map out) (last_of_map (owned_filing agent) fs) ∙ map-map out (owned_filing agent) (last fs)
+
+  pub last_of_series_found : (agent declaration rec : List ℕ) → Shows last_of_series_text (Text agent ∷ Text declaration ∷ Text rec ∷ []) old new rows
+      → rows ≡ map (λ p. statement_columns (bare p)) (last (in_series declaration rec (placed_of agent r)))
+  last_of_series_found agent declaration rec h =
+      let out : Placed → Row = λ p. statement_columns (bare p) in
+      let q : Placed → Bool = λ p. is_same p.statement.declaration declaration && is_same p.statement.rec rec in
+      let own = own_statements agent r.members shows.stored.ordered q in
+      let Up : Placed → Placed → Type 0 = λ a b. IsLaterPlace a.at b.at in
+      let up = ascending-filter Up q (placed_of agent r) (statements_rise IsLaterPlace later_number later_place agent 1 (filings_of agent r.members) (numbered_of agent 0 r.members shows.stored.numbered)) in
+      picked_last 8 refl last_of_series_query.filter (Text agent ∷ Text declaration ∷ Text rec ∷ []) last_of_series_query.project last_of_series_query.order (λ id x. refl) out out (λ p. is_same p.at.agent agent && q p)
+      (λ p. ap₂ (λ x y. x && y) (text_test p.at.agent agent) (ap₂ (λ x y. x && y) (text_test p.statement.declaration declaration) (and_true _ ∙ text_test p.statement.rec rec))) (placed r.members) old.now.trees
+      (map out (placed r.members)) rows refl (has_now r old new shows h.0).statements (λ id x. refl) (λ p. statement_shown (bare p))
+      (answers r old new shows h.0 last_of_series_text (Text agent ∷ Text declaration ∷ Text rec ∷ []) last_of_series_query _ last_of_series_is rows h.1) Up (λ a b lt. lt) (subst (IsAscending Up) (sym own) up)
+      ∙ ap (λ l. map out (last l)) own
+
+  pub statement_by_id_found : (agent id : List ℕ) → Shows statement_by_id_text (Text agent ∷ Text id ∷ []) old new rows → rows ≡ map place_columns (identified id (placed_of agent r))
+  statement_by_id_found agent id h =
+      from_statements r old new shows rows statement_by_id_text (Text agent ∷ Text id ∷ []) _ statement_by_id_query.filter statement_by_id_query.project h place_columns (λ p. is_same p.at.agent agent && is_same p.statement.id id)
+      (λ p. ap₂ (λ x y. x && y) (text_test p.at.agent agent) (and_true _ ∙ text_test p.statement.id id)) statement_by_id_is (λ id x. refl) (λ id x. refl) (λ p. refl)
+      ∙ ap (map place_columns) (own_statements agent r.members shows.stored.ordered (λ p. is_same p.statement.id id))
+
+  pub statements_of_filing_found : (agent : List ℕ) (number : ℕ) → Shows statements_of_filing_text (Text agent ∷ Int (pos number) ∷ []) old new rows
+      → rows ≡ map (λ p. statement_columns (bare p)) (in_filing number (placed_of agent r))
+  statements_of_filing_found agent number h =
+      from_statements r old new shows rows statements_of_filing_text (Text agent ∷ Int (pos number) ∷ []) _ statements_of_filing_query.filter statements_of_filing_query.project h (λ p. statement_columns (bare p)) (λ p. is_same p.at.agent agent && p.at.filing == number)
+      (λ p. ap₂ (λ x y. x && y) (text_test p.at.agent agent) (and_true _ ∙ int_test (pos p.at.filing) (pos number) ∙ number_test p.at.filing number)) statements_of_filing_is (λ id x. refl) (λ id x. refl) (λ p. statement_shown (bare p))
+      ∙ ap (map (λ p. statement_columns (bare p))) (own_statements agent r.members shows.stored.ordered (λ p. p.at.filing == number))
+
+  pub statements_of_declaration_found : (agent declaration : List ℕ) → Shows statements_of_declaration_text (Text agent ∷ Text declaration ∷ []) old new rows
+      → rows ≡ map (λ p. statement_columns (bare p)) (in_declaration declaration (placed_of agent r))
+  statements_of_declaration_found agent declaration h =
+      from_statements r old new shows rows statements_of_declaration_text (Text agent ∷ Text declaration ∷ []) _ statements_of_declaration_query.filter statements_of_declaration_query.project h (λ p. statement_columns (bare p))
+      (λ p. is_same p.at.agent agent && is_same p.statement.declaration declaration)
+      (λ p. ap₂ (λ x y. x && y) (text_test p.at.agent agent) (and_true _ ∙ text_test p.statement.declaration declaration)) statements_of_declaration_is (λ id x. refl) (λ id x. refl) (λ p. statement_shown (bare p))
+      ∙ ap (map (λ p. statement_columns (bare p))) (own_statements agent r.members shows.stored.ordered (λ p. is_same p.statement.declaration declaration))
+
+  module _ (at : At) where
+    abbrev place_params : Row
+    place_params = Text at.agent ∷ Int (pos at.filing) ∷ Int (pos at.place) ∷ []
+
+    pub interests_of_statement_found : Shows interests_of_statement_text place_params old new rows → rows ≡ map interest_columns (interests_at at r.members)
+    interests_of_statement_found h =
+        from_interests r old new shows rows interests_of_statement_text place_params _ interests_of_statement_query.filter interests_of_statement_query.project h (λ i. same_place i.at at)
+        (λ i. ap₂ (λ x y. x && y) (text_test i.at.agent at.agent) (ap₂ (λ x y. x && y) (int_test (pos i.at.filing) (pos at.filing) ∙ number_test i.at.filing at.filing) (and_true _ ∙ int_test (pos i.at.place) (pos at.place) ∙ number_test i.at.place at.place)))
+        interests_of_statement_is (λ id x. refl) (λ id x. refl) interest_shown
+        ∙ ap (map interest_columns) (rows_at (λ (i : InterestRow). i.at) (λ a. same_place a at) interest_rows (λ p. interests_stand p.at 1 (interests_of p.statement.details)) (placed r.members))
+
+    pub identifiers_of_statement_found : Shows identifiers_of_statement_text place_params old new rows → rows ≡ map identifier_columns (identifiers_at at r.members)
+    identifiers_of_statement_found h =
+        from_identifiers r old new shows rows identifiers_of_statement_text place_params _ identifiers_of_statement_query.filter identifiers_of_statement_query.project h (λ i. same_place i.at at)
+        (λ i. ap₂ (λ x y. x && y) (text_test i.at.agent at.agent) (ap₂ (λ x y. x && y) (int_test (pos i.at.filing) (pos at.filing) ∙ number_test i.at.filing at.filing) (and_true _ ∙ int_test (pos i.at.place) (pos at.place) ∙ number_test i.at.place at.place)))
+        identifiers_of_statement_is (λ id x. refl) (λ id x. refl) (λ i. refl)
+        ∙ ap (map identifier_columns) (rows_at (λ (i : IdentifierRow). i.at) (λ a. same_place a at) identifier_rows (λ p. identifiers_stand p.at 1 (identifiers_of p.statement.details)) (placed r.members))

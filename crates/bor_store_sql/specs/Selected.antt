@@ -1,0 +1,69 @@
+-- The parts of a register that are asked for by key.
+use Rattle.std.specs.Prelude.{ℕ, pos, List, [], ◌∷◌, take, reverse, filter, ◌==◌, ◌&&◌}
+use Rattle.std.specs.List.{flat_map}
+use Rattle.sqlite.specs.declared.types.Value.TheVariants.{Int}
+use Rattle.sqlite.specs.Order.{Row}
+use Rattle.bor_terms.specs.Texts.{is_same}
+use Rattle.bor_register.specs.declared.filing.AcceptedFiling.{AcceptedFiling}
+use Rattle.bor_register.specs.declared.member.Member.{Member}
+use Rattle.bor_register.specs.Register.{Register, filings_of}
+use Rattle.bor_store_rows.specs.declared.places.At.{At}
+use Rattle.bor_store_rows.specs.declared.rows.Placed.{Placed}
+use Rattle.bor_store_rows.specs.declared.rows.InterestRow.{InterestRow}
+use Rattle.bor_store_rows.specs.declared.rows.IdentifierRow.{IdentifierRow}
+use Rattle.bor_store_rows.specs.Placed.{same_place, placed, placed_by, interest_rows, identifier_rows}
+
+-- the agents of this name: at most one
+abbrev pub named : List ℕ → List Member → List Member
+named name ms = filter (λ m. is_same m.name name) ms
+
+-- the agents that have the token
+abbrev pub with_token : List ℕ → List Member → List Member
+with_token token ms = filter (λ m. is_same m.token token) ms
+
+-- of these filings those under a key; the first is the one that the register means
+abbrev pub keyed : List ℕ → List AcceptedFiling → List AcceptedFiling
+keyed key fs = filter (λ f. is_same f.key key) fs
+
+abbrev pub numbered : ℕ → List AcceptedFiling → List AcceptedFiling
+numbered number fs = filter (λ f. f.number == number) fs
+
+-- the last of a list, or none
+abbrev pub last : {X : Type 0} → List X → List X
+last xs = take 1 (reverse xs)
+
+-- an agent's live statements, each where it stands
+abbrev pub placed_of : List ℕ → Register → List Placed
+placed_of agent r = placed_by agent (filings_of agent r.members)
+
+-- of these statements those of a filing
+abbrev pub in_filing : ℕ → List Placed → List Placed
+in_filing number ps = filter (λ p. p.at.filing == number) ps
+
+-- those of a declaration
+abbrev pub in_declaration : List ℕ → List Placed → List Placed
+in_declaration declaration ps = filter (λ p. is_same p.statement.declaration declaration) ps
+
+-- those of a record of a declaration
+abbrev pub in_series : List ℕ → List ℕ → List Placed → List Placed
+in_series declaration rec ps = filter (λ p. is_same p.statement.declaration declaration && is_same p.statement.rec rec) ps
+
+-- those under an identifier
+abbrev pub identified : List ℕ → List Placed → List Placed
+identified id ps = filter (λ p. is_same p.statement.id id) ps
+
+-- ---- what a statement has in lists
+
+-- the interests of the statement at this place
+abbrev pub interests_at : At → List Member → List InterestRow
+interests_at at ms = flat_map interest_rows (filter (λ p. same_place p.at at) (placed ms))
+
+-- the identifiers of the statement at this place
+abbrev pub identifiers_at : At → List Member → List IdentifierRow
+identifiers_at at ms = flat_map identifier_rows (filter (λ p. same_place p.at at) (placed ms))
+
+-- ---- what else is shown
+
+-- where a statement stands in its agent's filings: filing, place
+abbrev pub place_columns : Placed → Row
+place_columns p = Int (pos p.at.filing) ∷ Int (pos p.at.place) ∷ []
