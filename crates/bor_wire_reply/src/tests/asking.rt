@@ -1,0 +1,116 @@
+//! A desk that is asked in words, for the tests.
+
+use bor_chains::Node;
+use bor_desk::{DeskReply, Request, answer};
+use bor_machine::ListKeep;
+use bor_rows::{Ask, Wish, body_of};
+use bor_terms::{AgentName, Day, Ident, Listed, LodgeKey, Token};
+use std::alloc::Global;
+use std::test::Fail;
+
+pub(crate) fn day(text: &str) -> Result<Day, Fail> {
+    Ok(Day::read(text).ok_or("no day")?)
+}
+
+pub(crate) fn agent(alloc: Global, text: &str) -> Result<AgentName, Fail> {
+    Ok(AgentName::read(alloc, text)?.ok_or("no name")?)
+}
+
+fn ident(alloc: Global, text: &str) -> Result<Ident, Fail> {
+    Ok(Ident::read(alloc, text)?.ok_or("no identifier")?)
+}
+
+fn key(alloc: Global, text: &str) -> Result<LodgeKey, Fail> {
+    Ok(LodgeKey::read(alloc, text)?.ok_or("no key")?)
+}
+
+fn token(alloc: Global, text: &str) -> Result<Token, Fail> {
+    Ok(Token::read(alloc, text)?.ok_or("no token")?)
+}
+
+fn optional_day(text: &str) -> Result<Option<Day>, Fail> {
+    if text.is_empty() {
+        return Ok(None);
+    }
+    Ok(Some(day(text)?))
+}
+
+fn lodging(alloc: Global, lodged: &str, due: &str, file: &str) -> Result<Request, Fail> {
+    Ok(Request::Lodge {
+        key: key(alloc, lodged)?,
+        due: day(due)?,
+        file: Listed::new(body_of(alloc, file)?.into_bytes()),
+    })
+}
+
+// The request for what is wished.
+fn request(alloc: Global, wish: Wish<'_>) -> Result<Request, Fail> {
+    match wish {
+        Wish::Lodge { key, due, file } => lodging(alloc, key, due, file),
+        Wish::Withdraw { key: lodged } => Ok(Request::Withdraw {
+            key: key(alloc, lodged)?,
+        }),
+        Wish::Filings => Ok(Request::Filings),
+        Wish::File { key: lodged } => Ok(Request::File {
+            key: key(alloc, lodged)?,
+        }),
+        Wish::Published => Ok(Request::Published),
+        Wish::Snapshot {
+            agent: name,
+            declaration,
+            date,
+        } => Ok(Request::Snapshot {
+            agent: agent(alloc, name)?,
+            declaration: ident(alloc, declaration)?,
+            date: optional_day(date)?,
+        }),
+        Wish::Chains {
+            agent: name,
+            declaration,
+            rec,
+            date,
+        } => Ok(Request::Chains {
+            entity: Node {
+                agent: agent(alloc, name)?,
+                declaration: ident(alloc, declaration)?,
+                rec: ident(alloc, rec)?,
+            },
+            date: optional_day(date)?,
+        }),
+        Wish::Day { date } => Ok(Request::Day { date: day(date)? }),
+        Wish::Enrol { name, token: text } => Ok(Request::Enrol {
+            name: agent(alloc, name)?,
+            token: token(alloc, text)?,
+        }),
+    }
+}
+
+/// A desk over a register in memory.
+#[derive(Drop)]
+pub(crate) struct Desk {
+    alloc: Global,
+    keep: ListKeep,
+}
+
+impl Desk {
+    /// The desk on 2024-02-01 with the agents alder and birch and no filings.
+    pub(crate) fn new(alloc: Global) -> Result<Desk, Fail> {
+        let registrar = token(alloc, "registrar-token-0001")?;
+        let mut desk = Desk {
+            alloc,
+            keep: ListKeep::new(alloc, registrar, day("2024-02-01")?),
+        };
+        let _ = desk.ask("registrar enrol alder alder-token-000001")?;
+        let _ = desk.ask("registrar enrol birch birch-token-000001")?;
+        Ok(desk)
+    }
+
+    /// The reply to an ask.
+    pub(crate) fn ask(&mut self, ask: &str) -> Result<DeskReply, Fail> {
+        let ask = Ask::read(ask).ok_or("no ask")?;
+        let text = bor_rows::token_of(self.alloc, ask.caller)?;
+        let token = token(self.alloc, text.as_str())?;
+        let request = request(self.alloc, ask.wish)?;
+        Ok(answer(self.alloc, &mut self.keep, &token, &request))
+    }
+}
