@@ -51,9 +51,9 @@ fn put_enrolled(out: &mut Vec<u8>, name: &AgentName)
     ensures len { vec_len out.new ≤ vec_len out.old + short_room }
     ensures capacity { vec_capacity out.old ≤ vec_capacity out.new }
 {
-    name.has_form();
+    let name = name.as_str();
     put(out, b"{\"agent\":");
-    put_quoted(out, name.as_str().as_bytes());
+    put_quoted(out, name.as_bytes());
     put(out, b"}");
 }
 

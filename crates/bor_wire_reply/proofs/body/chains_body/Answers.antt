@@ -30,8 +30,8 @@ returns c =
       c.in_ok-push_text.ensures,
       c.in_ok-push_str.ensures.bytes,
       c.new-out.ensures.bytes,
-      c.as_str-3.ensures,
-      c.as_str-2.ensures,
-      c.as_str.ensures,
+      c.as_str-3.ensures.value,
+      c.as_str-2.ensures.value,
+      c.as_str.ensures.value,
       c.in_ok-day_string.ensures,
     ) (joined (quoted entity.agent) (quoted (day_text c.args.date)) (quoted entity.declaration) (compact_text (list_data person_data c.args.persons.now)) (quoted entity.rec))
