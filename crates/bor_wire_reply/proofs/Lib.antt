@@ -1,2 +1,4 @@
 pub mod ShortTexts
 pub mod HeadLengths
+pub mod LengthTold
+pub mod Examples

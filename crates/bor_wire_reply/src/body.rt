@@ -18,7 +18,8 @@ use std::alloc::{AllocError, Global};
 
 // Adds a text as JSON has it.
 fn push_quoted(alloc: Global, out: &mut String, text: String) -> Result<(), AllocError>
-    ensures { OnOk result (string_bytes out.new ≡ string_bytes out.old ++ quoted (string_bytes text)) }
+    ensures { OnOk result
+        (string_bytes out.new ≡ string_bytes out.old ++ quoted (string_bytes text)) }
 {
     let text = Value::String(text).to_string(alloc)?;
     out.push_str(text.as_str())

@@ -18,7 +18,12 @@ impl Shown for FilingLine {
 
     fn value(&self, alloc: Global) -> Result<Value, AllocError> {
         let due = day_string(alloc, self.due)?;
-        json!(in alloc; {"due": due, "filing": self.number, "key": self.key.as_str(), "state": self.state.as_str()})
+        json!(in alloc; {
+            "due": due,
+            "filing": self.number,
+            "key": self.key.as_str(),
+            "state": self.state.as_str()
+        })
     }
 }
 
@@ -40,7 +45,14 @@ impl Shown for Statement {
         let date = day_string(alloc, self.day)?;
         let status = settled_word(self.status);
         let kind = self.record_type().as_str();
-        json!(in alloc; {"date": date, "declaration": self.declaration.as_str(), "id": self.id.as_str(), "record": self.rec.as_str(), "status": status, "type": kind})
+        json!(in alloc; {
+            "date": date,
+            "declaration": self.declaration.as_str(),
+            "id": self.id.as_str(),
+            "record": self.rec.as_str(),
+            "status": status,
+            "type": kind
+        })
     }
 }
 

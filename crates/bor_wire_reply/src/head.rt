@@ -80,7 +80,8 @@ fn put_head(out: &mut Vec<u8>, status: StatusCode, wrong_method: Option<Path>, l
 /// Writes the head of a reply before its body, which is already there: the body's length is then
 /// known, and no second buffer is needed.
 pub(crate) fn put_head_before(out: &mut Vec<u8>, status: StatusCode, wrong_method: Option<Path>)
-    requires { vec_len out.old + length (head_bytes status wrong_method (vec_len out.old)) ≤ vec_capacity out.old }
+    requires { vec_len out.old + length (head_bytes status wrong_method (vec_len out.old))
+        ≤ vec_capacity out.old }
     ensures { out.new.items ≡ reply_bytes status wrong_method out.old.items }
 {
     let len = out.len();

@@ -16,6 +16,11 @@ impl Shown for PersonLine {
     fn value(&self, alloc: Global) -> Result<Value, AllocError> {
         let node = &self.node;
         let name = text_or_null(alloc, &self.name)?;
-        json!(in alloc; {"agent": node.agent.as_str(), "declaration": node.declaration.as_str(), "name": name, "record": node.rec.as_str()})
+        json!(in alloc; {
+            "agent": node.agent.as_str(),
+            "declaration": node.declaration.as_str(),
+            "name": name,
+            "record": node.rec.as_str()
+        })
     }
 }

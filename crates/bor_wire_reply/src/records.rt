@@ -28,7 +28,12 @@ fn share_value(alloc: Global, share: Option<Span>) -> Result<Value, AllocError>
 {
     match share {
         Some(share) => {
-            json!(in alloc; {"high": share.high(), "highOpen": share.high_is_open(), "low": share.low(), "lowOpen": share.low_is_open()})
+            json!(in alloc; {
+                "high": share.high(),
+                "highOpen": share.high_is_open(),
+                "low": share.low(),
+                "lowOpen": share.low_is_open()
+            })
         }
         None => Ok(Value::Null),
     }
@@ -41,7 +46,11 @@ impl Shown for Interest {
 
     fn value(&self, alloc: Global) -> Result<Value, AllocError> {
         let share = share_value(alloc, self.share)?;
-        json!(in alloc; {"directness": self.directness.as_str(), "share": share, "type": self.kind.as_str()})
+        json!(in alloc; {
+            "directness": self.directness.as_str(),
+            "share": share,
+            "type": self.kind.as_str()
+        })
     }
 }
 
@@ -85,6 +94,13 @@ impl Shown for Entry {
         let date = day_string(alloc, statement.day)?;
         let details = details_value(alloc, &statement.details)?;
         let kind = statement.record_type().as_str();
-        json!(in alloc; {"date": date, "details": details, "id": statement.id.as_str(), "record": statement.rec.as_str(), "status": self.status.as_str(), "type": kind})
+        json!(in alloc; {
+            "date": date,
+            "details": details,
+            "id": statement.id.as_str(),
+            "record": statement.rec.as_str(),
+            "status": self.status.as_str(),
+            "type": kind
+        })
     }
 }

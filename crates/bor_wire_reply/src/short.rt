@@ -89,7 +89,8 @@ fn put_refusal(out: &mut Vec<u8>, name: &str, place: Option<u32>, field: Option<
     requires room { vec_len out.old + short_room ≤ vec_capacity out.old }
     requires name { length name.now ≤ 15 }
     requires short { IfSome field (λ field. length field.now ≤ 18) }
-    ensures items { out.new.items ≡ out.old.items ++ refusal_text name.now place (option_map (λ s. s.now) field.entry) }
+    ensures items { out.new.items
+        ≡ out.old.items ++ refusal_text name.now place (option_map (λ s. s.now) field.entry) }
     ensures len { vec_len out.new ≤ vec_len out.old + short_room }
     ensures capacity { vec_capacity out.old ≤ vec_capacity out.new }
 {
@@ -126,7 +127,8 @@ fn put_desk_refusal(out: &mut Vec<u8>, refusal: Refusal)
 // The name in a query that a refusal is about.
 #[tactic(auto, using(crate::proofs::ShortTexts::query_short))]
 fn query_name_of(refusal: bor_wire_read::Refusal) -> Option<&'static str>
-    ensures value { option_map (λ s. s.now) result ≡ option_map wire.name_word (wire.refusal_name refusal) }
+    ensures value { option_map (λ s. s.now) result
+        ≡ option_map wire.name_word (wire.refusal_name refusal) }
     ensures short { IfSome result (λ name. length name.now ≤ 18) }
 {
     match refusal.name() {

@@ -63,7 +63,8 @@ fn text_of<T: Shown>(alloc: Global, item: &T) -> Result<String, AllocError>
 
 // Adds the text of an item of an array, after a comma where something stands before it.
 fn push_item(out: &mut String, later: bool, text: &str) -> Result<(), AllocError>
-    ensures { OnOk result (string_bytes out.new ≡ string_bytes out.old ++ (comma_if later ++ text.now)) }
+    ensures { OnOk result
+        (string_bytes out.new ≡ string_bytes out.old ++ (comma_if later ++ text.now)) }
 {
     if later {
         out.push_str(",")?;
@@ -78,7 +79,8 @@ pub(crate) fn push_array<T: Shown>(
     out: &mut String,
     items: &[T],
 ) -> Result<(), AllocError>
-    ensures { OnOk result (string_bytes out.new ≡ string_bytes out.old ++ compact_text (list_data T.as_data items.now)) }
+    ensures { OnOk result
+        (string_bytes out.new ≡ string_bytes out.old ++ compact_text (list_data T.as_data items.now)) }
 {
     out.push_str("[")?;
     for (i, item) in items.iter().enumerate() {

@@ -75,7 +75,7 @@ fn bytes_that_spell_no_request_are_told_why(rt: HostRuntime) -> Result<(), Fail>
     Ok(())
 }
 
-// The example of the crate's first page, and its law.
+// The example of the crate's first page, and the laws.
 #[test]
 fn the_first_page_holds(rt: HostRuntime) -> Result<(), Fail> {
     let mut out = Vec::with_capacity(rt.alloc(), RESERVED)?;
@@ -85,6 +85,7 @@ fn the_first_page_holds(rt: HostRuntime) -> Result<(), Fail> {
             .starts_with(b"HTTP/1.1 405 Method Not Allowed\r\n")
     );
     laws::unavailable_is_a_reply();
+    laws::length_is_told();
     Ok(())
 }
 
