@@ -2,7 +2,7 @@
 use Rattle.std.specs.Prelude.{◌≡◌, ◌<◌, ◌^◌, IfSome, true}
 use Rattle.bor_terms.specs.Day.{IsDay}
 use Rattle.bor_terms.specs.Texts.{is_agent_name, is_lodge_key, is_token}
-use Rattle.bods_read.specs.Forms.{IsFreeText, IsIdent, IsFormedIdentifier, IsFormedInterest}
+use Rattle.bods_read.specs.Forms.{IsFreeText, IsIdent, IsFormedIdentifier, IsFormedInterest, IsFormedStatement}
 use Rattle.bor_register.specs.declared.filing.Filing.{Filing}
 use Rattle.bor_store_rows.specs.declared.places.At.{At}
 use Rattle.bor_store_rows.specs.declared.rows.RegisterRow.{RegisterRow}
@@ -11,8 +11,10 @@ use Rattle.bor_store_rows.specs.declared.rows.FilingRow.{FilingRow}
 use Rattle.bor_store_rows.specs.declared.rows.Part.{Part}
 use Rattle.bor_store_rows.specs.declared.rows.Part.TheVariants.{Entity, Person, Relationship}
 use Rattle.bor_store_rows.specs.declared.rows.StatementRow.{StatementRow}
+use Rattle.bor_store_rows.specs.declared.rows.Placed.{Placed}
 use Rattle.bor_store_rows.specs.declared.rows.InterestRow.{InterestRow}
 use Rattle.bor_store_rows.specs.declared.rows.IdentifierRow.{IdentifierRow}
+use Rattle.bor_store_rows.specs.Stored.{IsCounted}
 
 pub record IsFormedRegisterRow (r : RegisterRow) : Type 0 where
   pub day : IsDay r.day
@@ -60,3 +62,9 @@ pub record IsFormedIdentifierRow (i : IdentifierRow) : Type 0 where
   pub at : IsFormedAt i.at
   pub item : i.item < 2 ^ 32
   pub identifier : IsFormedIdentifier i.identifier
+
+-- a statement where it stands, with its lists
+pub record IsFormedPlaced (p : Placed) : Type 0 where
+  pub at : IsFormedAt p.at
+  pub statement : IsFormedStatement p.statement
+  pub counted : IsCounted p.statement
