@@ -24,3 +24,4 @@ pub mod Orders
 pub mod Picking
 pub mod FromTables
 pub mod Selecting
+pub mod Creating

@@ -10,17 +10,18 @@ use Rattle.bor_register.specs.Register.{Register}
 use Rattle.bor_store_rows.specs.Encoding.{Contents, contents}
 use Rattle.bor_store_rows.specs.Stored.{IsStored}
 use Rattle.bor_store_sql.specs.Shown.{Has, Steps, ShowsIn}
+use Rattle.bor_store_sql.specs.Blank.{Leads}
 use Rattle.bor_store_sql.specs.Changing.{Any}
 
-ended_open : (old new : State) → IsUnchanged old new ⊎ IsRolledBack old new → IsTrue new.is_open → IsTrue old.is_open
+pub ended_open : (old new : State) → IsUnchanged old new ⊎ IsRolledBack old new → IsTrue new.is_open → IsTrue old.is_open
 ended_open old new (inl k) up = k.0.was_open
 ended_open old new (inr k) up = k.was_open up
 
-ended_committed : (old new : State) → IsUnchanged old new ⊎ IsRolledBack old new → IsTrue new.is_open → new.committed ≡ old.committed
+pub ended_committed : (old new : State) → IsUnchanged old new ⊎ IsRolledBack old new → IsTrue new.is_open → new.committed ≡ old.committed
 ended_committed old new (inl k) up = k.0.committed_is
 ended_committed old new (inr k) up = (k.undone up).1
 
-how_ended : (sql : List ℕ) (params : Row) (old new : State) (e : Error) → ExecutesInside 0 sql params old new (Err e) → IsUnchanged old new ⊎ IsRolledBack old new
+pub how_ended : (sql : List ℕ) (params : Row) (old new : State) (e : Error) → ExecutesInside 0 sql params old new (Err e) → IsUnchanged old new ⊎ IsRolledBack old new
 how_ended sql params old new e (inl h) = h.1
 how_ended sql params old new e (inr h) = inl h.2
 
@@ -65,6 +66,16 @@ pub committed_shows : {X Y : Type 0} {y : Y} (fits : Contents → Type 0) (chang
 committed_shows fits change r after old start mid new (Err e) now steps commit shows fit turn stored = tt
 committed_shows fits change r after old start mid new (Ok x) now steps commit shows fit turn stored = record {
   has = subst (Has (contents after)) (sym commit.1.committed_is) (turn mid.now (steps.made (contents r) (subst (Has (contents r)) (sym (now (steps.was_open commit.1.was_open))) shows.has) fit));
+  stored = stored;
+}
+
+-- a transaction that makes a register, and is committed
+pub made_shows : {X Y : Type 0} {y : Y} (before : Database → Type 0) (r : Register) (old start mid new : State) (result : Result X Error) → (IsTrue start.is_open → start.now ≡ old.committed)
+    → Leads {E = Error} before (Has (contents r)) start mid (Ok y) → OnOk result (IsTrue mid.in_transaction × Shows mid new mid.now mid.now false × KeepsCounts mid new × (new.marks ≡ []))
+    → before old.committed → IsStored r → OnOk result (ShowsIn r new)
+made_shows before r old start mid new (Err e) now leads commit is stored = tt
+made_shows before r old start mid new (Ok x) now leads commit is stored = record {
+  has = subst (Has (contents r)) (sym commit.1.committed_is) (leads.made (subst before (sym (now (leads.was_open commit.1.was_open))) is));
   stored = stored;
 }
 

@@ -3,3 +3,4 @@ pub mod Shown
 pub mod Changing
 pub mod Found
 pub mod Selected
+pub mod Blank

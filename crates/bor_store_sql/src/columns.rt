@@ -81,6 +81,16 @@ pub(crate) fn day_value(day: Day) -> [ValueRef<'static>; 1]
     [ValueRef::Int(i64::from(day.number()))]
 }
 
+/// The columns of the register's row but `one` and `version`.
+pub(crate) fn register_values(day: Day, registrar: &str) -> [ValueRef<'_>; 2]
+    ensures { bound result ≡ Int day ∷ Text registrar.now ∷ [] }
+{
+    [
+        ValueRef::Int(i64::from(day.number())),
+        ValueRef::Text(registrar.as_bytes()),
+    ]
+}
+
 /// The columns of an agent.
 pub(crate) fn agent_values<'a>(name: &'a str, token: &'a str) -> [ValueRef<'a>; 2]
     ensures { bound result ≡ agent_columns (new_member name.now token.now) }

@@ -8,12 +8,14 @@
 
 mod additions;
 mod columns;
+mod creation;
 mod keyed;
 mod reads;
 mod register;
 mod withdrawal;
 
 pub use additions::add_filing;
+pub use creation::set_up;
 pub use keyed::{
     agent_by_name, agent_by_token, filing_by_key, filings_of_agent, identifiers_of_statement,
     interests_of_statement, last_filing, last_of_series, line_by_key, line_by_number, same_bytes,

@@ -1,0 +1,147 @@
+-- What the texts do that make the tables and their indexes.
+use Rattle.std.proofs.Common.{◌≡◌, ℕ, ℤ, pos, List, [], ◌∷◌, slice_get, true, false, None, Some, Ok, Err, Result, refl, sym, ap, subst, ◌∙◌}
+use Rattle.std.specs.List.{AllByRecursion}
+use Rattle.std.proofs.lemmas.List.Elements.{All-nil}
+use Rattle.std.proofs.lemmas.List.Sorted.{IsPermutation-refl}
+use Rattle.sqlite.specs.declared.types.Value.TheVariants.{Int, Text}
+use Rattle.sqlite.specs.declared.error.Error.{Error}
+use Rattle.sqlite.specs.Order.{Row}
+use Rattle.sqlite.specs.Tree.{Trees}
+use Rattle.sqlite.specs.Table.{Table}
+use Rattle.sqlite.specs.Schema.{Schema}
+use Rattle.sqlite.specs.Command.TheVariants.{CreateTable, CreateIndex}
+use Rattle.sqlite.specs.Change.{created, next_tree, KeepsRows}
+use Rattle.sqlite.specs.Cast.{cast_all}
+use Rattle.sqlite.specs.Does.{Tally, Does, lacks_sequence}
+use Rattle.sqlite.specs.Effect.{Database}
+use Rattle.sqlite.specs.State.{State, Executes, ExecutesInside, Writes, mode_of}
+use Rattle.sqlite.proofs.Callers.{runs_as}
+use Rattle.sqlite_catalog.specs.Change.{indexed}
+use Rattle.sqlite_keyed.proofs.ListLemmas.{all-append, all_both}
+use Rattle.sqlite_schema.specs.declared.schema.Index.{Index}
+use Rattle.bor_terms.specs.Day.{IsDay}
+use Rattle.bor_terms.specs.Texts.{is_token}
+use Rattle.bor_register.proofs.Forms.{formed-empty_register}
+use Rattle.bor_register.specs.Register.{Register, empty_register}
+use Rattle.bor_store_texts.specs.Meanings.{MakesTable, MakesIndex}
+use Rattle.bor_store_texts.specs.Tables.{keep_schema, register_at, register_table}
+use Rattle.bor_store_texts.specs.Changes.{insert_register_text, insert_register_terms}
+use Rattle.bor_store_texts.proofs.ChangeMeanings.{insert_register_is}
+use Rattle.bor_store_rows.specs.Encoding.{contents, register_columns}
+use Rattle.bor_store_rows.specs.Stored.{IsStored}
+use Rattle.bor_store_sql.specs.Blank.{IsBlank, Leads, no_contents}
+use Rattle.bor_store_sql.specs.Kept.{Keeps}
+use Rattle.bor_store_sql.specs.Shown.{Has}
+use Rattle.bor_store_sql.proofs.Inserts.{inserts, went, same_value, cast_int}
+use Rattle.bor_store_sql.proofs.Others.{with_register}
+use Rattle.bor_store_sql.proofs.Stepping.{how_ended, ended_open, ended_committed}
+use Rattle.bor_store_sql.proofs.Tables.{one_more}
+
+-- tables without rows stay so where rows are kept
+still_empty : (tables : List Table) (old new : Trees) → AllByRecursion (λ t. old t.tree ≡ []) tables → KeepsRows tables old new → AllByRecursion (λ t. new t.tree ≡ []) tables
+still_empty tables old new empty kept = all_both (λ t. new t.tree ≡ old t.tree) (λ t. old t.tree ≡ []) (λ t. new t.tree ≡ []) (λ t same none. same ∙ none) tables kept empty
+
+module _ (sql : List ℕ) (schema : Schema) (table : Table) (is : MakesTable schema sql table) (uncounted : lacks_sequence (created schema table) ≡ false) where
+  pub table_made : (old new : State) (count : ℕ) → IsBlank schema old.now → Executes sql [] old new (Ok count) → IsBlank (created schema table) new.now
+  table_made old new count blank h =
+      let w = subst (λ t. Writes old new None CreateTable t [] count) is.1 (runs_as sql [] old new schema blank.is CreateTable is.0 is.2 count h) in
+      let all = went w.changed in
+      let first = went all.1 in
+      let made = first.1 in
+      let both : Ok made.table ≡ Ok table = sym made.defined ∙ is.3 in
+      let same : made.table ≡ table = cc in
+      let schema_is : first.0.schema ≡ created schema table = made.is ∙ ap (λ s. created s made.table) blank.is ∙ ap (created schema) same in
+      let lacks : lacks_sequence first.0.schema ≡ false = ap lacks_sequence schema_is ∙ uncounted in
+      let now : new.now ≡ first.0 = ap (λ (p : Tally × Database). p.1) (same_value all.2) ∙ same_value (rw lacks at first.2) in
+      let none : first.0.trees (next_tree schema) ≡ [] = subst (λ s. first.0.trees (next_tree s) ≡ []) blank.is made.empty in
+      let kept : KeepsRows schema.tables old.now.trees first.0.trees = subst (λ (s : Schema). KeepsRows s.tables old.now.trees first.0.trees) blank.is made.others in
+      subst (IsBlank (created schema table)) (sym now) (record {
+        is = schema_is;
+        empty = all-append (λ t. first.0.trees t.tree ≡ []) schema.tables (record table { tree = next_tree schema } ∷ []) (still_empty schema.tables old.now.trees first.0.trees blank.empty kept) (none, tt);
+      })
+
+module _ (sql : List ℕ) (schema : Schema) (at : ℕ) (table : Table) (index : Index) (is : MakesIndex schema at table sql index) (found : slice_get schema.tables at ≡ Some table) where
+  pub index_made : (old new : State) (count : ℕ) → IsBlank schema old.now → Executes sql [] old new (Ok count) → IsBlank (indexed schema table index) new.now
+  index_made old new count blank h =
+      let w = subst (λ t. Writes old new None (CreateIndex at) t [] count) is.1 (runs_as sql [] old new schema blank.is (CreateIndex at) is.0 is.2 count h) in
+      let at_table = subst (λ (s : Schema). Does old.step_limit (mode_of old) [] (record old.now { schema = s }) sql None (CreateIndex at) (Ok (w.tally, new.now))) blank.is w.changed in
+      let all = went (rw found at at_table) in
+      let made = all.1 in
+      let both : Ok made.index ≡ Ok index = sym made.defined ∙ is.3 in
+      let same : made.index ≡ index = cc in
+      let schema_is : all.0.schema ≡ indexed schema table index = made.is ∙ ap (indexed schema table) same in
+      let now : new.now ≡ all.0 = ap (λ (p : Tally × Database). p.1) (same_value all.2) in
+      subst (IsBlank (indexed schema table index)) (sym now) (record {
+        is = schema_is;
+        empty = still_empty schema.tables old.now.trees all.0.trees blank.empty made.rows;
+      })
+
+-- ---- one after the other
+
+pub one_lead : (before after : Database → Type 0) (sql : List ℕ) (params : Row) (old new : State) (result : Result ℕ Error) → ExecutesInside 0 sql params old new result
+    → ((count : ℕ) → before old.now → Executes sql params old new (Ok count) → after new.now) → Leads before after old new result
+one_lead before after sql params old new (Ok count) h does = record {
+  was_open = λ up. h.1.was_open;
+  committed = λ up. h.1.committed_is;
+  goes_on = h.1.mode;
+  made = λ is. does count is h.0;
+}
+one_lead before after sql params old new (Err e) h does =
+    let ended = how_ended sql params old new e h in
+    record { was_open = ended_open old new ended; committed = ended_committed old new ended; goes_on = tt; made = tt }
+
+pub both_lead : {X Y : Type 0} (first between last : Database → Type 0) (old mid new : State) (x : X) (result : Result Y Error) → Leads {E = Error} first between old mid (Ok x) → Leads {E = Error} between last mid new result
+    → Leads {E = Error} first last old new result
+both_lead first between last old mid new x (Ok y) one two = record {
+  was_open = λ up. one.was_open (two.was_open up);
+  committed = λ up. two.committed up ∙ one.committed (two.was_open up);
+  goes_on = two.goes_on;
+  made = λ is. two.made (one.made is);
+}
+both_lead first between last old mid new x (Err e) one two = record {
+  was_open = λ up. one.was_open (two.was_open up);
+  committed = λ up. two.committed up ∙ one.committed (two.was_open up);
+  goes_on = tt;
+  made = tt;
+}
+
+-- what they answer doesn't matter
+pub finished : {X : Type 0} (first last : Database → Type 0) (old new : State) (x : X) → Leads {E = Error} first last old new (Ok x) → Leads {X = Unit {0}} {E = Error} first last old new (Ok (tt {0}))
+finished first last old new x one = record { was_open = one.was_open; committed = one.committed; goes_on = one.goes_on; made = one.made }
+
+-- ---- the register's row
+
+none_kept : (rows : List Row) → rows ≡ [] → Keeps [] rows
+none_kept rows none = record { stored = []; under = none; same = IsPermutation-refl [] }
+
+blank_has : (db : Database) → IsBlank keep_schema db → Has no_contents db
+blank_has db blank = record {
+  schema = blank.is;
+  register = none_kept _ blank.empty.0;
+  agents = none_kept _ blank.empty.1.0;
+  filings = none_kept _ blank.empty.1.1.0;
+  statements = none_kept _ blank.empty.1.1.1.0;
+  interests = none_kept _ blank.empty.1.1.1.1.0;
+  identifiers = none_kept _ blank.empty.1.1.1.1.1.0;
+}
+
+-- what the INSERT of the register's row is given
+abbrev pub given_register : ℤ → List ℕ → Row
+given_register day registrar = Int day ∷ Text registrar ∷ []
+
+module _ (registrar : List ℕ) (day : ℤ) where
+  abbrev pub first_register : Register
+  first_register = empty_register registrar day
+
+  row_kept : cast_all register_table.columns (register_columns first_register) ≡ register_columns first_register
+  row_kept = rw (cast_int (pos 1), cast_int day) refl
+
+  pub register_put : (old new : State) (count : ℕ) → IsBlank keep_schema old.now → Executes insert_register_text (given_register day registrar) old new (Ok count) → Has (contents first_register) new.now
+  register_put old new count blank h =
+      let has = blank_has old.now blank in
+      let x = register_columns first_register in
+      let made = inserts insert_register_text (given_register day registrar) keep_schema 0 insert_register_terms 5 register_at x insert_register_is.0 insert_register_is.1 refl refl refl refl row_kept (λ new. refl) old new count has.schema h in
+      with_register no_contents old.now new.now made.schema_is has made.others _ (rw made.rows (one_more [] (old.now.trees 0) x has.register))
+
+  pub empty_is_stored : is_token registrar ≡ true → IsDay day → IsStored first_register
+  empty_is_stored token is = record { ordered = tt; numbered = tt; formed = formed-empty_register registrar day token is; counted = All-nil _ }
