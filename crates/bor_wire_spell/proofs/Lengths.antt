@@ -1,8 +1,8 @@
 -- The length of a body, and what the table says of it.
-use Rattle.std.proofs.Common.{◌≡◌, ◌≤◌, ◌<◌, ℕ, ◌+◌, List, [], ◌∷◌, ◌++◌, length, take, map, Option, Some, None, Ok, Err, Bool, true, false, cond, suc, not, ◌&&◌, ◌||◌, refl, sym, ap, ◌∙◌, arith, codes}
-use Rattle.std.specs.Prelude.{Result, nat_lt, nat_le, count_by, find, if◌then◌else◌}
-use Rattle.std.specs.List.{filter, list_any}
-use Rattle.std.specs.Option.{option_map, option_map_or}
+use Rattle.std.proofs.Common.{◌≡◌, ℕ, ◌+◌, List, [], ◌∷◌, ◌++◌, length, take, Option, Some, None, Ok, Err, Bool, true, false, cond, suc, not, ◌&&◌, ◌||◌, refl, ap, ◌∙◌, arith, codes}
+use Rattle.std.specs.Prelude.{Result, nat_lt, nat_le, count_by, if◌then◌else◌}
+use Rattle.std.specs.List.{list_any}
+use Rattle.std.specs.Option.{option_map_or}
 use Rattle.std.specs.Str.Parse.{digits_value}
 use Rattle.std.proofs.lemmas.Bool.Decides.{nat_tests}
 use Rattle.std.proofs.lemmas.List.Sums.{sum_by-append}
@@ -11,7 +11,7 @@ use Rattle.bor_wire_read.specs.declared.fault.Refusal.{Refusal}
 use Rattle.bor_wire_read.specs.declared.fault.Refusal.TheVariants.{BadLength, BodyTooLarge, CutShort}
 use Rattle.bor_wire_read.specs.Message.{◌>>=◌, and_then, Parts, Message, FieldText, is_named, is_numeral, how_many, first_value, length_of, body_limit, body_len, body_of, with_body}
 use Rattle.bor_wire_spell.specs.Refusals.{refuse, values, lengths, exceeds, lines_of_body, lines_of_message, stated, message_of}
-use Rattle.bor_wire_spell.specs.Spell.{Spelled, asked, spell}
+use Rattle.bor_wire_spell.specs.Spell.{asked, spell}
 
 -- ---- the values of fields
 

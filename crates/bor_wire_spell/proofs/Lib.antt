@@ -1,4 +1,6 @@
+pub mod Examples
 pub mod Texts
 pub mod Stepwise
 pub mod Lengths
 pub mod Messages
+pub mod Following

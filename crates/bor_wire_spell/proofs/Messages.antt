@@ -10,11 +10,11 @@ use Rattle.bor_wire_read.specs.Head.{head_at, head_limit, line_feeds, with_few_l
 use Rattle.bor_wire_read.specs.Message.{◌>>=◌, and_then, Parts, Message, HasParts, IsAt, IsMessage, with_body}
 use Rattle.bor_wire_read.proofs.Laws.{message_unique}
 use Rattle.bor_wire_spell.specs.Refusals.{refuse, head_end, refusals, lines_of_head, lines_behind}
-use Rattle.bor_wire_spell.specs.Spell.{Spelled, Spells, spell, spelling, asked_behind, or_bad_head, IsTakenApart, IsTakenApartAt}
+use Rattle.bor_wire_spell.specs.Spell.{Spelled, Spells, spell, spelling, asked_behind, or_bad_head, IsTakenApartAt}
 use Rattle.bor_wire_spell.proofs.Lengths.{body_refused}
 
 -- the message of an input whose head ends there, or doesn't, and is taken apart so
-message_at : List ℕ → Result ℕ Refusal → Option Parts → Result Message Refusal
+unfoldable pub message_at : List ℕ → Result ℕ Refusal → Option Parts → Result Message Refusal
 message_at input (Ok n) head = and_then (with_body (drop n input)) (or_bad_head head)
 message_at input (Err why) head = Err why
 
@@ -49,7 +49,7 @@ at_end : (input : List ℕ) (end : Option ℕ) (head : Option Parts)
 at_end input None head = without input (nat_lt (length input) head_limit) head (asked_behind input None head)
 at_end input (Some n) head = within input n (nat_lt 66 (line_feeds (take n input))) head
 
-spelling_is : (input : List ℕ) (head : Option Parts) → spelling input head ≡ (message_at input (head_at input) head >>= spell)
+pub spelling_is : (input : List ℕ) (head : Option Parts) → spelling input head ≡ (message_at input (head_at input) head >>= spell)
 unfolding spelling refusals
 spelling_is input head = at_end input (head_end input) head
 

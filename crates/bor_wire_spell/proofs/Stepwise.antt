@@ -1,6 +1,6 @@
 -- One part looked at after the other refuses as the first line of the table that holds.
-use Rattle.std.proofs.Common.{◌≡◌, ℕ, List, [], ◌∷◌, Option, Some, None, Ok, Err, refl, sym, ap, ◌∙◌}
-use Rattle.std.specs.Prelude.{Result, unwrap_or, option_and_then, pos}
+use Rattle.std.proofs.Common.{◌≡◌, ℕ, List, [], ◌∷◌, Option, Some, None, Ok, refl, sym, ap, ◌∙◌}
+use Rattle.std.specs.Prelude.{unwrap_or, option_and_then, pos}
 use Rattle.std.specs.Option.{is_none}
 use Rattle.bods_read.specs.Outcome.{table, outcome}
 use Rattle.bor_desk.specs.declared.request.Request.{Request}

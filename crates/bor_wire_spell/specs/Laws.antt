@@ -1,6 +1,7 @@
 -- Laws of what inputs spell.
-use Rattle.std.specs.Prelude.{◌≡◌, ℕ, List, Result}
+use Rattle.std.specs.Prelude.{◌≡◌, ◌≢◌, ℕ, List, ◌++◌, Result, Err}
 use Rattle.bor_wire_read.specs.declared.fault.Refusal.{Refusal}
+use Rattle.bor_wire_read.specs.declared.fault.Refusal.TheVariants.{CutShort}
 use Rattle.bor_wire_read.specs.Message.{◌>>=◌, Message, IsMessage}
 use Rattle.bor_wire_spell.specs.Spell.{Spelled, Spells, spell}
 
@@ -11,3 +12,8 @@ SpellsOne = (input : List ℕ) (a b : Spelled) → Spells input a → Spells inp
 -- the message that an input is, or why it is none, says what the input spells
 abbrev pub MessageSpells : Type 0
 MessageSpells = (input : List ℕ) (read : Result Message Refusal) → IsMessage input read → Spells input (read >>= spell)
+
+-- what stands behind a request has no effect, nor what stands behind an input that is refused for another cause than its end
+abbrev pub WhatFollowsIsPassedOver : Type 0
+WhatFollowsIsPassedOver =
+    (input more : List ℕ) (spelled : Spelled) → spelled ≢ Err CutShort → Spells input spelled → Spells (input ++ more) spelled

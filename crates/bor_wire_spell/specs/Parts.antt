@@ -1,5 +1,5 @@
 -- The parts of what a request asks. Each is None where the request lacks it, or it isn't of its form.
-use Rattle.std.specs.Prelude.{ℕ, ℤ, ◌==◌, ◌&&◌, Bool, List, [], ◌∷◌, take, drop, map, Option, Some, None, option_and_then, option_map, if◌then◌else◌, codes}
+use Rattle.std.specs.Prelude.{ℕ, ℤ, ◌==◌, Bool, List, [], ◌∷◌, take, drop, map, Option, Some, None, option_and_then, option_map, if◌then◌else◌, codes}
 use Rattle.std.specs.Char.{to_ascii_lowercase}
 use Rattle.std.specs.Str.{bytes_eq, is_utf8}
 use Rattle.form_urlencoded.specs.Form.{split_once}

@@ -1,7 +1,7 @@
 -- The names and values of a query (URL Standard, application/x-www-form-urlencoded).
 use Rattle.std.specs.Prelude.{ℕ, Bool, List, map, find, count_by, Option, None, ◌==◌, if◌then◌else◌}
 use Rattle.std.specs.Option.{option_map}
-use Rattle.std.specs.Str.{bytes_eq}
+use Rattle.std.specs.Str.{bytes_eq, is_utf8}
 use Rattle.std.specs.String.{string_bytes}
 use Rattle.std.specs.Str.Lossy.{utf8_lossy}
 use Rattle.form_urlencoded.specs.Form.{raw_pairs, decode}
@@ -11,9 +11,13 @@ use Rattle.bor_wire_spell.specs.declared.query.QueryPair.{QueryPair}
 abbrev pub TextPair : Type 0
 TextPair = List ℕ × List ℕ
 
--- what a pair stands for: percent signs and plus signs decoded, and what is no UTF-8 replaced by U+FFFD
+-- bytes as a text: as they stand where they are UTF-8, else with U+FFFD for what isn't
+unfoldable pub as_text : List ℕ → List ℕ
+as_text bytes = if is_utf8 bytes then bytes else utf8_lossy bytes
+
+-- what a pair stands for: percent signs and plus signs are decoded
 abbrev pub decoded : TextPair → TextPair
-decoded pair = (utf8_lossy (decode pair.0), utf8_lossy (decode pair.1))
+decoded pair = (as_text (decode pair.0), as_text (decode pair.1))
 
 -- the pairs of a query
 abbrev pub pairs_of : List ℕ → List TextPair

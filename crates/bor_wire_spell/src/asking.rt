@@ -72,7 +72,7 @@ fn request_for(alloc: Global, route: Route, raw: &RawRequest) -> Result<Request,
 /// What a message spells: the request and the token of whoever asks, or the first refusal of those
 /// that are about a path, a method, a token and names. Want of memory is answered where it is met;
 /// the reader is not asked, so [`WireFault::Read`] is never answered.
-#[tactic(auto, unfolding(crate::specs::Steps::spell_by_steps))]
+#[tactic(auto, using(crate::proofs::Stepwise::stepwise), unfolding(crate::specs::Steps::spell_by_steps))]
 pub fn parse(alloc: Global, raw: &RawRequest) -> Result<Asking, WireFault>
     ensures { Finds asked_view result (spell raw.now) }
 {

@@ -1,6 +1,6 @@
 //! Laws of what inputs spell. Each function does nothing: its contract is the law.
 
-ghost use Rattle.bor_wire_spell.specs.Laws.{SpellsOne, MessageSpells};
+ghost use Rattle.bor_wire_spell.specs.Laws.{SpellsOne, MessageSpells, WhatFollowsIsPassedOver};
 
 /// An input spells one thing: a request of whoever has a token, or one refusal.
 pub fn spells_one()
@@ -10,4 +10,10 @@ pub fn spells_one()
 /// `read_request` and `parse` together give what the whole input spells.
 pub fn message_spells()
     ensures { MessageSpells }
+{}
+
+/// What stands behind a request has no effect, nor what stands behind an input that is refused for
+/// another cause than that it ended.
+pub fn what_follows_is_passed_over()
+    ensures { WhatFollowsIsPassedOver }
 {}

@@ -1,9 +1,7 @@
 //! The pairs of a query.
 ghost use Rattle.std.specs.Prelude.{◌≡◌, IfOk};
 ghost use Rattle.std.specs.Option.{option_map};
-ghost use Rattle.std.specs.Str.Lossy.{utf8_lossy};
-ghost use Rattle.form_urlencoded.specs.Form as form;
-ghost use Rattle.bor_wire_spell.specs.Query.{pairs_of, pair_text, pair_texts, how_often, first_text, only_text};
+ghost use Rattle.bor_wire_spell.specs.Query.{decoded, pairs_of, pair_text, pair_texts, how_often, first_text, only_text};
 
 use form_urlencoded::{decode, raw_pairs};
 use std::alloc::{AllocError, Global};
@@ -16,7 +14,7 @@ pub(crate) struct QueryPair {
 }
 
 fn decoded_pair(alloc: Global, name: &[u8], value: &[u8]) -> Result<QueryPair, AllocError>
-    ensures { IfOk result (λ pair. pair_text pair ≡ (utf8_lossy (form.decode name.now), utf8_lossy (form.decode value.now))) }
+    ensures { IfOk result (λ pair. pair_text pair ≡ decoded (name.now, value.now)) }
 {
     Ok(QueryPair {
         name: decode(alloc, name)?.into_owned(alloc)?,

@@ -1,4 +1,4 @@
-use Rattle.std.proofs.Common.{◌≡◌, ap, sym, ◌∙◌, Some}
+use Rattle.std.proofs.Common.{ap, sym, ◌∙◌}
 use Rattle.bor_wire_read.specs.declared.fault.Refusal.TheVariants.{NoPath}
 use Rattle.bor_wire_routes.specs.Paths.{path_of}
 use Rattle.bor_wire_spell.specs.Steps.{or_refuse}

@@ -1,4 +1,4 @@
-use Rattle.std.proofs.Common.{◌≡◌, ap, sym, ◌∙◌}
+use Rattle.std.proofs.Common.{ap, sym, ◌∙◌}
 use Rattle.bor_terms.specs.Texts.{is_token}
 use Rattle.bor_wire_spell.specs.Parts.{fitting}
 use Rattle.bor_wire_spell.specs.Steps.{or_refuse}
