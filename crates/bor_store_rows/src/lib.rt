@@ -7,6 +7,7 @@
 
 mod fault;
 mod joining;
+mod members;
 mod parts;
 mod places;
 mod reader;
@@ -19,6 +20,7 @@ mod words;
 
 pub use fault::RowFault;
 pub use joining::joined;
+pub use members::{filings_of, members_of};
 pub use places::At;
 pub use reader::{TableRow, read_rows};
 pub use rows::{

@@ -1,10 +1,14 @@
-//! Two statements, one with an interest and one with an identifier.
+//! Two statements, one with an interest and one with an identifier; and two agents, of whom one has
+//! filings.
 
-use crate::{At, IdentifierRow, InterestRow, Part, Placed, StatementRow, joined};
+use crate::{
+    AgentRow, At, FilingRow, IdentifierRow, InterestRow, Part, Placed, StatementRow, filings_of,
+    joined, members_of,
+};
 use bods_read::{
     Details, Directness, EntityKind, FreeText, Identifier, Interest, InterestKind, Status,
 };
-use bor_terms::{AgentName, Day, Ident};
+use bor_terms::{AgentName, Day, Ident, LodgeKey, Token};
 use std::alloc::Global;
 
 fn at(alloc: Global, place: u32) -> Option<At> {
@@ -112,4 +116,52 @@ fn each_statement_gets_its_own_items(rt: HostRuntime) {
     assert!(&rt; placed.len() == 2);
     assert!(&rt; has_identifier(&placed[0], "01234567"));
     assert!(&rt; has_voting_rights(&placed[1]));
+}
+
+fn agent(alloc: Global, name: &str, token: &str) -> Option<AgentRow> {
+    match (AgentName::read(alloc, name), Token::read(alloc, token)) {
+        (Ok(Some(name)), Ok(Some(token))) => Some(AgentRow { name, token }),
+        _ => None,
+    }
+}
+
+fn filing(alloc: Global, number: u32, key: &str, withdrawn: bool) -> Option<FilingRow> {
+    match (AgentName::read(alloc, "alder"), LodgeKey::read(alloc, key)) {
+        (Ok(Some(agent)), Ok(Some(key))) => Some(FilingRow {
+            agent,
+            number,
+            key,
+            due: Day::from_number(19_754)?,
+            withdrawn,
+        }),
+        _ => None,
+    }
+}
+
+fn placed_entity(alloc: Global) -> Option<Placed> {
+    let mut statements = Vec::new(alloc);
+    statements.push(entity(alloc)?).ok()?;
+    joined(alloc, statements, &[], &[]).ok()?.pop()
+}
+
+#[test]
+fn each_agent_gets_its_own_filings(rt: HostRuntime) {
+    let alloc = rt.alloc();
+    let agents = [
+        agent(alloc, "alder", "alder-token-000001").expect(&rt, "an agent"),
+        agent(alloc, "birch", "birch-token-000001").expect(&rt, "an agent"),
+    ];
+    let filings = [
+        filing(alloc, 1, "f1", false).expect(&rt, "a filing"),
+        filing(alloc, 2, "f2", true).expect(&rt, "a filing"),
+    ];
+    let statements = [placed_entity(alloc).expect(&rt, "a statement")];
+    let members = members_of(alloc, &agents, &filings, &statements).expect(&rt, "members");
+    assert!(&rt; members.len() == 2);
+    let own = members[0].filings.as_slice();
+    assert!(&rt; own.len() == 2 && members[1].filings.as_slice().len() == 0);
+    assert!(&rt; own[0].statements.as_slice().len() == 1);
+    assert!(&rt; own[1].withdrawn && own[1].statements.as_slice().len() == 0);
+    let again = filings_of(alloc, &filings, &statements).expect(&rt, "filings");
+    assert!(&rt; again.len() == 2);
 }
