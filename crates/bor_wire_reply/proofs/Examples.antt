@@ -1,5 +1,5 @@
 -- Replies of worked instances, byte for byte.
-use Rattle.std.proofs.Common.{◌≡◌, ℕ, List, [], ◌∷◌, true, false, Option, Some, None, pos, refl}
+use Rattle.std.proofs.Common.{◌≡◌, [], ◌∷◌, true, false, Some, None, pos, refl}
 use Rattle.std.specs.Prelude.{codes}
 use Rattle.std.specs.Fmt.{digits}
 use Rattle.json.specs.Print.{escape_byte}
@@ -23,7 +23,7 @@ use Rattle.bor_desk.specs.declared.reply.DeskReply.TheVariants as tell
 use Rattle.bor_desk.specs.Refusals.{refusal_name}
 use Rattle.bor_wire_read.specs.declared.fault.Name.TheVariants as names
 use Rattle.bor_wire_read.specs.declared.fault.Path.TheVariants as paths
-use Rattle.bor_wire_read.specs.declared.fault.Refusal.TheVariants.{BodyTooLarge, WrongMethod, BadQuery}
+use Rattle.bor_wire_read.specs.declared.fault.Refusal.TheVariants.{WrongMethod, BadQuery}
 use Rattle.bor_wire_read.specs.Words.{name_word, refusal_word}
 use Rattle.bor_wire_routes.specs.Routes.{allow}
 use Rattle.bor_wire_reply.specs.Values.{interest_data, details_data}

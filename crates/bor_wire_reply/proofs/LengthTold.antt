@@ -1,23 +1,17 @@
 -- How a reply is read: its head has one empty line, at its end.
-use Rattle.std.proofs.Common.{◌≡◌, ℕ, zero, suc, ◌+◌, ◌/◌, ◌%◌, ◌<◌, List, [], ◌∷◌, ◌++◌, length, Bool, true, false, cond, ◌&&◌, not, Option, Some, None, append_assoc, refl, sym, ap, ◌∙◌, arith}
+use Rattle.std.proofs.Common.{◌≡◌, ℕ, zero, suc, ◌+◌, ◌/◌, ◌%◌, List, [], ◌∷◌, ◌++◌, length, Bool, true, false, cond, ◌&&◌, not, Option, Some, None, append_assoc, refl, sym, ap, ◌∙◌, arith}
 use Rattle.std.specs.Prelude.{nat_eq, codes, decimal, ◌==◌, nat_lt}
-use Rattle.std.specs.List.{list_all}
 use Rattle.std.specs.Fmt.{digits, digits_onto, digit_glyph}
 use Rattle.std.proofs.lemmas.Bool.Decides.{nat_tests}
+use Rattle.std.proofs.lemmas.List.Folds.{list_all-append}
 use Rattle.http.specs.StatusCode.{code_digits}
-use Rattle.bor_desk.specs.declared.refusal.Refusal as desk
-use Rattle.bor_desk.specs.declared.refusal.Refusal.TheVariants as refuse
-use Rattle.bor_desk.specs.declared.reply.DeskReply.{DeskReply}
-use Rattle.bor_desk.specs.declared.reply.DeskReply.TheVariants as tell
 use Rattle.bor_wire_read.specs.declared.fault.Path.{Path}
 use Rattle.bor_wire_read.specs.declared.fault.Path.TheVariants as paths
-use Rattle.bor_wire_read.specs.declared.fault.Refusal.{Refusal}
-use Rattle.bor_wire_read.specs.declared.fault.Refusal.TheVariants.{HeadTooLarge, CutShort, BadHead, BadLength, BodyTooLarge, NoPath, WrongMethod, NoToken, BadQuery}
 use Rattle.bor_wire_routes.specs.Routes.{allow}
-use Rattle.bor_wire_reply.specs.Statuses.{wire_refusal_status, desk_refusal_status, desk_status}
 use Rattle.bor_wire_reply.specs.Heads.{phrase, status_line, field_line, own_line, head_bytes}
-use Rattle.bor_wire_reply.specs.Replies.{Said, refused, answered, status_of, path_of, body_of, bytes_of}
+use Rattle.bor_wire_reply.specs.Replies.{Said, status_of, path_of, body_of, bytes_of}
 use Rattle.bor_wire_reply.specs.Laws.{behind, before, LengthIsTold}
+use Rattle.bor_wire_reply.proofs.Phrases.{one_line, phrase_plain}
 
 -- ---- bytes that are no carriage return
 
@@ -31,19 +25,19 @@ both_true true false h = absurd cc
 both_true false q h = absurd cc
 
 -- a mark that begins with a carriage return stands behind them
-pass : (mark bytes rest : List ℕ) → list_all (λ b. not (b == 13)) bytes ≡ true → behind (13 ∷ mark) (bytes ++ rest) ≡ behind (13 ∷ mark) rest
+pass : (mark bytes rest : List ℕ) → one_line bytes ≡ true → behind (13 ∷ mark) (bytes ++ rest) ≡ behind (13 ∷ mark) rest
 unfolding behind
 pass mark [] rest h = refl
 pass mark (b ∷ bytes) rest h =
-    let two = both_true (not (b == 13)) (list_all (λ c. not (c == 13)) bytes) h in
+    let two = both_true (not (b == 13)) (one_line bytes) h in
     rw (other b two.0) (pass mark bytes rest two.1)
 
 -- before the mark stand those bytes
-stop : (bytes rest : List ℕ) → list_all (λ b. not (b == 13)) bytes ≡ true → before (codes "\r\n") (bytes ++ (codes "\r\n" ++ rest)) ≡ bytes
+stop : (bytes rest : List ℕ) → one_line bytes ≡ true → before (codes "\r\n") (bytes ++ (codes "\r\n" ++ rest)) ≡ bytes
 unfolding before
 stop [] rest h = refl
 stop (b ∷ bytes) rest h =
-    let two = both_true (not (b == 13)) (list_all (λ c. not (c == 13)) bytes) h in
+    let two = both_true (not (b == 13)) (one_line bytes) h in
     rw (other b two.0) (ap (λ t. b ∷ t) (stop bytes rest two.1))
 
 -- ---- digits
@@ -55,18 +49,18 @@ glyph d = by_size (nat_lt d 10)
     by_size true = grind (arith, nat_tests)
     by_size false = grind (arith, nat_tests)
 
-chosen : (last : Bool) (here more : List ℕ) → list_all (λ b. not (b == 13)) here ≡ true → list_all (λ b. not (b == 13)) more ≡ true → list_all (λ b. not (b == 13)) (cond last here more) ≡ true
+chosen : (last : Bool) (here more : List ℕ) → one_line here ≡ true → one_line more ≡ true → one_line (cond last here more) ≡ true
 chosen true here more h m = h
 chosen false here more h m = m
 
-onto : (k n : ℕ) (acc : List ℕ) → list_all (λ b. not (b == 13)) acc ≡ true → list_all (λ b. not (b == 13)) (digits_onto k 10 false n acc) ≡ true
+onto : (k n : ℕ) (acc : List ℕ) → one_line acc ≡ true → one_line (digits_onto k 10 false n acc) ≡ true
 onto zero n acc h = h
 onto (suc k) n acc h =
     let here = digit_glyph false (n % 10) ∷ acc in
-    let plain : list_all (λ b. not (b == 13)) here ≡ true = rw (glyph (n % 10)) h in
+    let plain : one_line here ≡ true = rw (glyph (n % 10)) h in
     chosen (n / 10 == 0) here (digits_onto k 10 false (n / 10) here) plain (onto k (n / 10) here plain)
 
-plain_decimal : (n : ℕ) → list_all (λ b. not (b == 13)) (decimal n) ≡ true
+plain_decimal : (n : ℕ) → one_line (decimal n) ≡ true
 unfolding digits
 plain_decimal n = onto 64 n [] refl
 
@@ -77,61 +71,18 @@ abbrev status_text : ℕ → List ℕ
 status_text status = codes "HTTP/1.1 " ++ code_digits status ++ codes " " ++ phrase status
 
 abbrev IsPlain : ℕ → Type 0
-IsPlain status = list_all (λ b. not (b == 13)) (status_text status) ≡ true
+IsPlain status = one_line (status_text status) ≡ true
 
-refusal_plain : (why : desk.Refusal) → IsPlain (desk_refusal_status why)
-unfolding phrase
-refusal_plain refuse.NoAgent = refl
-refusal_plain refuse.NotRegistrar = refl
-refusal_plain refuse.NotAgent = refl
-refusal_plain refuse.KeyReused = refl
-refusal_plain refuse.FilingsFull = refl
-refusal_plain refuse.DuePast = refl
-refusal_plain (refuse.Read fault) = refl
-refusal_plain (refuse.StatementTwice place) = refl
-refusal_plain (refuse.Record place fault) = refl
-refusal_plain refuse.NoSuchFiling = refl
-refusal_plain refuse.Published = refl
-refusal_plain refuse.HasSuccessor = refl
-refusal_plain refuse.NoEntity = refl
-refusal_plain refuse.DayBack = refl
-refusal_plain refuse.NameTaken = refl
-refusal_plain refuse.TokenTaken = refl
+digits_plain : (status : ℕ) → one_line (code_digits status) ≡ true
+digits_plain status =
+    let hundreds : not (48 + status / 100 == 13) ≡ true = grind (arith, nat_tests) in
+    let tens : not (48 + status / 10 % 10 == 13) ≡ true = grind (arith, nat_tests) in
+    let ones : not (48 + status % 10 == 13) ≡ true = grind (arith, nat_tests) in
+    rw (hundreds, tens, ones) refl
 
-lodged_plain : (fresh : Bool) → IsPlain (cond fresh 201 200)
-unfolding phrase
-lodged_plain true = refl
-lodged_plain false = refl
-
-desk_plain : (reply : DeskReply) → IsPlain (desk_status reply)
-unfolding phrase
-desk_plain (tell.Lodged lodged) = lodged_plain lodged.fresh
-desk_plain (tell.Withdrawn line) = refl
-desk_plain (tell.Filings lines) = refl
-desk_plain (tell.File bytes) = refl
-desk_plain (tell.Published outwards) = refl
-desk_plain (tell.Snapshot date records) = refl
-desk_plain (tell.Chains entity date persons) = refl
-desk_plain (tell.Day day) = refl
-desk_plain (tell.Enrolled name) = refl
-desk_plain (tell.Refused why) = refusal_plain why
-desk_plain (tell.Failed fault) = refl
-
-wire_plain : (why : Refusal) → IsPlain (wire_refusal_status why)
-unfolding phrase
-wire_plain HeadTooLarge = refl
-wire_plain CutShort = refl
-wire_plain BadHead = refl
-wire_plain BadLength = refl
-wire_plain BodyTooLarge = refl
-wire_plain NoPath = refl
-wire_plain (WrongMethod path) = refl
-wire_plain NoToken = refl
-wire_plain (BadQuery asked) = refl
-
-said_plain : (said : Said) → IsPlain (status_of said)
-said_plain (refused why) = wire_plain why
-said_plain (answered reply) = desk_plain reply
+status_plain : (status : ℕ) → IsPlain status
+status_plain status =
+    rw (list_all-append, digits_plain status, phrase_plain status) refl
 
 -- ---- the head
 
@@ -194,7 +145,7 @@ body_is said =
     let path = path_of said in
     let body = body_of said in
     ap (behind (codes "\r\n\r\n")) (head_joined status path (length body) body)
-    ∙ pass (codes "\n\r\n") (status_text status) (fields status path (length body) body) (said_plain said)
+    ∙ pass (codes "\n\r\n") (status_text status) (fields status path (length body) body) (status_plain status)
     ∙ behind_fields status path (length body) body
     ∙ pass (codes "\n\r\n") (decimal (length body)) (tail status path body) (plain_decimal (length body))
     ∙ behind_tail status path body
@@ -205,7 +156,7 @@ told_is said =
     let path = path_of said in
     let body = body_of said in
     ap (λ bytes. before (codes "\r\n") (behind (codes "\r\nContent-Length: ") bytes)) (head_joined status path (length body) body)
-    ∙ ap (before (codes "\r\n")) (pass (codes "\nContent-Length: ") (status_text status) (fields status path (length body) body) (said_plain said))
+    ∙ ap (before (codes "\r\n")) (pass (codes "\nContent-Length: ") (status_text status) (fields status path (length body) body) (status_plain status))
     ∙ ap (before (codes "\r\n")) (told_fields status path (length body) body)
     ∙ stop (decimal (length body)) (own_line status path ++ (codes "Connection: close\r\n\r\n" ++ body)) (plain_decimal (length body))
 

@@ -1,4 +1,4 @@
 pub mod ShortTexts
-pub mod HeadLengths
 pub mod LengthTold
 pub mod Examples
+pub mod Phrases

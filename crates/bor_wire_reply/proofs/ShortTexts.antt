@@ -27,6 +27,9 @@ use Rattle.bor_wire_read.specs.declared.fault.Name.TheVariants as names
 use Rattle.bor_wire_read.specs.declared.fault.Refusal as wire
 use Rattle.bor_wire_read.specs.declared.fault.Refusal.TheVariants.{HeadTooLarge, CutShort, BadHead, BadLength, BodyTooLarge, NoPath, WrongMethod, NoToken, BadQuery}
 use Rattle.bor_wire_read.specs.Words.{name_word, refusal_word}
+use Rattle.bor_wire_read.specs.declared.fault.Path.{Path}
+use Rattle.bor_wire_read.specs.declared.fault.Path.TheVariants as paths
+use Rattle.bor_wire_routes.specs.Routes.{allow}
 use Rattle.bor_wire_reply.specs.Bodies.{refusal_text}
 use Rattle.bor_wire_reply.specs.Parts.{refusal_parts}
 
@@ -144,3 +147,14 @@ wire_refusal_short NoPath = omega arith
 wire_refusal_short (WrongMethod path) = omega arith
 wire_refusal_short NoToken = omega arith
 wire_refusal_short (BadQuery name) = omega arith
+
+pub allow_short : (path : Path) → length (allow path) ≤ 11
+unfolding allow
+allow_short paths.Filing = omega arith
+allow_short paths.Filings = omega arith
+allow_short paths.File = omega arith
+allow_short paths.Published = omega arith
+allow_short paths.Snapshot = omega arith
+allow_short paths.Chains = omega arith
+allow_short paths.Day = omega arith
+allow_short paths.Agents = omega arith

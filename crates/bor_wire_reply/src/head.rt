@@ -1,6 +1,7 @@
 //! The heads of replies.
 
 ghost use Rattle.std.specs.Prelude.{◌≡◌, ◌≤◌, ◌+◌, ◌++◌, length, vec_len, vec_capacity};
+ghost use Rattle.bor_wire_reply.specs.Limits.{head_room};
 ghost use Rattle.bor_wire_reply.specs.Heads.{phrase, status_line, field_line, own_line, head_bytes};
 ghost use Rattle.bor_wire_reply.specs.Replies.{reply_bytes};
 
@@ -20,11 +21,11 @@ fn phrase_of(status: StatusCode) -> &'static str
     status.canonical_reason().unwrap_or("")
 }
 
-#[tactic(auto, unfolding(crate::specs::Heads::status_line))]
+#[tactic(auto, unfolding(crate::specs::Heads::status_line), using(crate::proofs::Phrases::phrase_short))]
 fn put_status_line(out: &mut Vec<u8>, status: StatusCode)
-    requires { vec_len out.old + length (status_line status) ≤ vec_capacity out.old }
+    requires { vec_len out.old + 46 ≤ vec_capacity out.old }
     ensures items { out.new.items ≡ out.old.items ++ status_line status }
-    ensures len { vec_len out.new ≡ vec_len out.old + length (status_line status) }
+    ensures len { vec_len out.new ≤ vec_len out.old + 46 }
     ensures capacity { vec_capacity out.old ≤ vec_capacity out.new }
 {
     put(out, b"HTTP/1.1 ");
@@ -36,9 +37,9 @@ fn put_status_line(out: &mut Vec<u8>, status: StatusCode)
 
 #[tactic(auto, unfolding(crate::specs::Heads::field_line))]
 fn put_field_line(out: &mut Vec<u8>, name: &str, value: &str)
-    requires { vec_len out.old + length (field_line name.now value.now) ≤ vec_capacity out.old }
+    requires { vec_len out.old + (length name.now + length value.now + 4) ≤ vec_capacity out.old }
     ensures items { out.new.items ≡ out.old.items ++ field_line name.now value.now }
-    ensures len { vec_len out.new ≡ vec_len out.old + length (field_line name.now value.now) }
+    ensures len { vec_len out.new ≤ vec_len out.old + (length name.now + length value.now + 4) }
     ensures capacity { vec_capacity out.old ≤ vec_capacity out.new }
 {
     put(out, name.as_bytes());
@@ -47,11 +48,11 @@ fn put_field_line(out: &mut Vec<u8>, name: &str, value: &str)
     put(out, b"\r\n");
 }
 
-#[tactic(auto, unfolding(crate::specs::Heads::own_line))]
+#[tactic(auto, unfolding(crate::specs::Heads::own_line), using(crate::proofs::ShortTexts::allow_short))]
 fn put_own_line(out: &mut Vec<u8>, status: StatusCode, wrong_method: Option<Path>)
-    requires { vec_len out.old + length (own_line status wrong_method) ≤ vec_capacity out.old }
+    requires { vec_len out.old + 26 ≤ vec_capacity out.old }
     ensures items { out.new.items ≡ out.old.items ++ own_line status wrong_method }
-    ensures len { vec_len out.new ≡ vec_len out.old + length (own_line status wrong_method) }
+    ensures len { vec_len out.new ≤ vec_len out.old + 26 }
     ensures capacity { vec_capacity out.old ≤ vec_capacity out.new }
 {
     if let Some(path) = wrong_method {
@@ -64,9 +65,8 @@ fn put_own_line(out: &mut Vec<u8>, status: StatusCode, wrong_method: Option<Path
 // Writes all that stands before a body of so many bytes.
 #[tactic(auto, unfolding(crate::specs::Heads::head_bytes))]
 fn put_head(out: &mut Vec<u8>, status: StatusCode, wrong_method: Option<Path>, len: usize)
-    requires { vec_len out.old + length (head_bytes status wrong_method len) ≤ vec_capacity out.old }
-    ensures items { out.new.items ≡ out.old.items ++ head_bytes status wrong_method len }
-    ensures len { vec_len out.new ≡ vec_len out.old + length (head_bytes status wrong_method len) }
+    requires { vec_len out.old + head_room ≤ vec_capacity out.old }
+    ensures { out.new.items ≡ out.old.items ++ head_bytes status wrong_method len }
 {
     let mut digits = Buffer::new();
     put_status_line(out, status);
@@ -80,8 +80,7 @@ fn put_head(out: &mut Vec<u8>, status: StatusCode, wrong_method: Option<Path>, l
 /// Writes the head of a reply before its body, which is already there: the body's length is then
 /// known, and no second buffer is needed.
 pub(crate) fn put_head_before(out: &mut Vec<u8>, status: StatusCode, wrong_method: Option<Path>)
-    requires { vec_len out.old + length (head_bytes status wrong_method (vec_len out.old))
-        ≤ vec_capacity out.old }
+    requires { vec_len out.old + head_room ≤ vec_capacity out.old }
     ensures { out.new.items ≡ reply_bytes status wrong_method out.old.items }
 {
     let len = out.len();
