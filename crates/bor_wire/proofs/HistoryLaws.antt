@@ -1,0 +1,65 @@
+-- What an agent receives in a run is what it would receive alone.
+use Rattle.std.proofs.Common.{◌≡◌, ℕ, List, [], ◌∷◌, Option, Some, None, Ok, Err, refl, sym, ap, subst, ◌∙◌}
+use Rattle.std.specs.List.{AllZip}
+use Rattle.bor_register.specs.Register.{Register, filings_of}
+use Rattle.bor_machine.specs.Legality.{IsLegal}
+use Rattle.bor_desk.specs.declared.request.Request.{Request}
+use Rattle.bor_desk.specs.Step.{Answer}
+use Rattle.bor_desk.specs.Runs.{Asked, exchange, answers, answers_to, request_of, told_then, told_to, history, solo}
+use Rattle.bor_desk.proofs.Isolation.{isolated}
+use Rattle.bor_desk.proofs.OneReply.{one_reply}
+use Rattle.bor_wire_spell.specs.Spell.{Spelled}
+use Rattle.bor_wire_reply.specs.Replies.{answered, bytes_of}
+use Rattle.bor_wire.specs.Inputs.{IsReplyTo}
+use Rattle.bor_wire.specs.Runs.{AreReplies}
+use Rattle.bor_wire.specs.Histories.{AreBytesOf, IsAlone, SameHistorySameBytes, asked_in, told_in, received}
+
+one_bytes : (answer : Answer) (x y : List ℕ) → AreBytesOf answer x → AreBytesOf answer y → x ≡ y
+one_bytes answer x y p q = p.2 ∙ ap (λ reply. bytes_of (answered reply)) (one_reply answer p.0 q.0 p.1 q.1) ∙ sym q.2
+
+bytes_once : (told : List Answer) (x y : List (List ℕ)) → AllZip AreBytesOf told x → AllZip AreBytesOf told y → x ≡ y
+bytes_once [] [] [] p q = refl
+bytes_once [] [] (b ∷ bs) p q = elim q [ ]
+bytes_once [] (a ∷ rest) b p q = elim p [ ]
+bytes_once (i ∷ told) [] b p q = elim p [ ]
+bytes_once (i ∷ told) (a ∷ rest) [] p q = elim q [ ]
+bytes_once (i ∷ told) (a ∷ rest) (b ∷ bs) p q =
+    let first : a ≡ b = one_bytes i a b p.0 q.0 in
+    let others : rest ≡ bs = bytes_once told rest bs p.1 q.1 in
+    cc
+
+-- the replies to requests are the bytes of the answers to them
+answers_told : (r : Register) (ss : List Spelled) (bs : List (List ℕ)) → AreReplies r ss bs → AllZip AreBytesOf (answers r (asked_in ss)) (told_in ss bs)
+answers_told r [] [] h = tt
+answers_told r [] (b ∷ bs) h = elim h [ ]
+answers_told r (s ∷ ss) [] h = elim h [ ]
+answers_told r (Err why ∷ ss) (b ∷ bs) h = answers_told r ss bs h.1
+answers_told r (Ok asked ∷ ss) (b ∷ bs) h =
+    ((h.0.1.0, h.0.1.1, h.0.2 ∙ ap bytes_of h.0.1.2), answers_told (exchange r asked).register ss bs h.1)
+
+both_then : (asked : Option Request) (answer : Answer) (b : List ℕ) (told : List Answer) (bs : List (List ℕ)) → AreBytesOf answer b → AllZip AreBytesOf told bs
+    → AllZip AreBytesOf (told_then asked answer told) (told_then asked b bs)
+both_then None answer b told bs one rest = rest
+both_then (Some request) answer b told bs one rest = (one, rest)
+
+both_told : (name : List ℕ) (r : Register) (run : List Asked) (told : List Answer) (bs : List (List ℕ)) → AllZip AreBytesOf told bs
+    → AllZip AreBytesOf (told_to name r run told) (told_to name r run bs)
+both_told name r [] told bs h = tt
+both_told name r (a ∷ run) [] [] h = tt
+both_told name r (a ∷ run) [] (b ∷ bs) h = elim h [ ]
+both_told name r (a ∷ run) (x ∷ told) [] h = elim h [ ]
+both_told name r (a ∷ run) (x ∷ told) (b ∷ bs) h =
+    both_then (request_of name r a) x b (told_to name (exchange r a).register run told) (told_to name (exchange r a).register run bs) h.0
+    (both_told name (exchange r a).register run told bs h.1)
+
+pub alone : (name : List ℕ) (r : Register) (ss : List Spelled) (bs : List (List ℕ)) → IsLegal r → AreReplies r ss bs → IsAlone name r ss bs
+alone name r ss bs legal h =
+    subst (λ told. AllZip AreBytesOf told (received name r ss bs)) (isolated.alone_each r (asked_in ss) name legal)
+    (both_told name r (asked_in ss) (answers r (asked_in ss)) (told_in ss bs) (answers_told r ss bs h))
+
+pub same_bytes : SameHistorySameBytes
+same_bytes name r q inputs others replies told legal lawful one two own past =
+    let alike = ap (λ fs. solo name fs (history name r (asked_in inputs))) own ∙ ap (solo name (filings_of name q.members)) past in
+    bytes_once (solo name (filings_of name q.members) (history name q (asked_in others))) (received name r inputs replies) (received name q others told)
+    (subst (λ answers. AllZip AreBytesOf answers (received name r inputs replies)) alike (alone name r inputs replies legal one))
+    (alone name q others told lawful two)

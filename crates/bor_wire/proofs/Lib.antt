@@ -1,0 +1,5 @@
+pub mod Outgoings
+pub mod ReportLaws
+pub mod Exchanged
+pub mod RunLaws
+pub mod HistoryLaws

@@ -1,0 +1,61 @@
+-- Whom a report names, from what is said.
+use Rattle.std.proofs.Common.{◌≡◌, ℕ, ℤ, List, [], ◌∷◌, Bool, true, false, Option, Some, None, Ok, Err, refl, sym, ap, subst, ◌∙◌, arith}
+use Rattle.std.specs.Prelude.{if◌then◌else◌, unwrap_or}
+use Rattle.bor_links.specs.declared.node.Node.{Node}
+use Rattle.bor_links.specs.Rows.{shown_of, is_entity_info}
+use Rattle.bor_links.specs.Shown.{Shown, info_of}
+use Rattle.bor_chains.specs.declared.line.PersonLine.{PersonLine}
+use Rattle.bor_chains.specs.Chains.{AreJoined}
+use Rattle.bor_register.specs.declared.caller.Caller.{Caller}
+use Rattle.bor_register.specs.declared.caller.Caller.TheVariants.{Registrar, Agent}
+use Rattle.bor_register.specs.Register.{Register, caller_of}
+use Rattle.bor_machine.specs.Sight.{seen_by}
+use Rattle.bor_desk.specs.declared.refusal.Refusal.TheVariants.{NoEntity}
+use Rattle.bor_desk.specs.declared.request.Request.TheVariants as ask
+use Rattle.bor_desk.specs.declared.reply.DeskReply.{DeskReply}
+use Rattle.bor_desk.specs.declared.reply.DeskReply.TheVariants as tell
+use Rattle.bor_desk.specs.Step.{Answer, report, refused, step}
+use Rattle.bor_desk.specs.Outcomes.{IsTold}
+use Rattle.bor_desk.specs.Runs.{Asked, exchange}
+use Rattle.bor_wire_spell.specs.Spell.{Spelled}
+use Rattle.bor_wire_reply.specs.Statuses.{desk_status}
+use Rattle.bor_wire_reply.specs.Replies.{Said, answered, status_of}
+use Rattle.bor_wire.specs.Inputs.{IsSaid, after}
+use Rattle.bor_wire.specs.Runs.{AreReplies}
+use Rattle.bor_wire.specs.Reports.{NamesTheJoined, IsExact, AreReports}
+
+-- the reply is a report on the joined
+Names : Shown → Node → ℤ → DeskReply → Type 0
+Names shown entity day reply = (persons : List PersonLine) × AreJoined shown entity persons × (reply ≡ tell.Chains entity day persons)
+
+report_names : (is_entity : Bool) (shown : Shown) (entity : Node) (day : ℤ) (reply : DeskReply)
+    → IsTold (if is_entity then report entity day shown else refused NoEntity) reply → desk_status reply ≡ 200 → Names shown entity day reply
+unfolding Names
+report_names true shown entity day reply told status = told
+report_names false shown entity day reply told status = absurd (omega (arith, ap desk_status told, status))
+
+-- by whoever asks
+caller_names : (r : Register) (token : List ℕ) (caller : Option Caller) (entity : Node) (date : Option ℤ) (reply : DeskReply) → caller_of token r ≡ caller
+    → IsTold (step r caller (ask.Chains entity date)).answer reply → desk_status reply ≡ 200 → NamesTheJoined r token entity date (answered reply)
+unfolding Names
+caller_names r token None entity date reply is told status = absurd (omega (arith, ap desk_status told, status))
+caller_names r token (Some Registrar) entity date reply is told status = absurd (omega (arith, ap desk_status told, status))
+caller_names r token (Some (Agent name)) entity date reply is told status =
+    let day : ℤ = unwrap_or date r.day in
+    let shown : Shown = shown_of day (seen_by name r) in
+    let names : Names shown entity day reply = report_names (is_entity_info (info_of shown entity)) shown entity day reply told status in
+    record { name = name; caller = is; persons = names.0; joined = names.1; told = ap answered names.2 }
+
+pub exact : (r : Register) (spelled : Spelled) (said : Said) → IsSaid r spelled said → IsExact r spelled said
+exact r (Err why) said h = tt
+exact r (Ok asked) said h = λ entity date is status.
+    let told : IsTold (step r (caller_of asked.token r) (ask.Chains entity date)).answer h.0 =
+    subst (λ request. IsTold (step r (caller_of asked.token r) request).answer h.0) is h.1 in
+    subst (NamesTheJoined r asked.token entity date) (sym h.2)
+    (caller_names r asked.token (caller_of asked.token r) entity date h.0 refl told (sym (ap status_of h.2) ∙ status))
+
+pub reports : (r : Register) (ss : List Spelled) (bs : List (List ℕ)) → AreReplies r ss bs → AreReports r ss bs
+reports r [] [] h = tt
+reports r [] (b ∷ bs) h = elim h [ ]
+reports r (s ∷ ss) [] h = elim h [ ]
+reports r (s ∷ ss) (b ∷ bs) h = ((h.0.0, exact r s h.0.0 h.0.1, h.0.2), reports (after r s) ss bs h.1)

@@ -1,0 +1,84 @@
+-- What one exchange over a reader and a writer does.
+use Rattle.std.specs.Prelude.{◌≡◌, ◌≢◌, ℕ, List, take, Option, Some, None, ⊤}
+use Rattle.std.specs.Io.KnownBytes.{Appends, Keeps}
+use Rattle.bor_register.specs.Register.{Register}
+use Rattle.bor_desk.specs.declared.reply.DeskReply.{DeskReply}
+use Rattle.bor_desk.specs.Outcomes.{IsTold}
+use Rattle.bor_desk.specs.Runs.{Asked, exchange}
+use Rattle.bor_wire_read.specs.Counted.{after_fault}
+use Rattle.bor_wire_read.specs.declared.fault.Refusal.{Refusal}
+use Rattle.bor_wire_spell.specs.Spell.{Spelled, Spells}
+use Rattle.bor_wire_reply.specs.Replies.{Said, refused, status_of, bytes_of}
+use Rattle.bor_wire_reply.specs.declared.reply.TheConstants.{UNAVAILABLE}
+use Rattle.bor_wire.specs.declared.outcome.Outcome.{Outcome}
+use Rattle.bor_wire.specs.declared.outcome.Outcome.TheVariants.{Replied, ReadFailed, WriteFailed}
+use Rattle.bor_wire.specs.declared.outgoing.Outgoing.{Outgoing}
+use Rattle.bor_wire.specs.declared.outgoing.Outgoing.TheVariants as outgoing
+use Rattle.bor_wire.specs.Inputs.{IsSaid, after}
+use Rattle.bor_wire.specs.Reports.{IsReport}
+
+-- ---- what goes out
+
+-- the status and the bytes are those of what is said to the input, and the register after it is shown
+abbrev pub IsSent : (Register → Type 0) → Register → Spelled → ℕ → List ℕ → Type 0
+IsSent shown r spelled status bytes = (said : Said) × IsSaid r spelled said × (bytes ≡ bytes_of said) × (status ≡ status_of said) × shown (after r spelled)
+
+-- what goes out for an input that spells this: its reply, or nothing changed
+abbrev pub GoesOut : Outgoing → (Register → Type 0) → Register → Spelled → Type 0
+GoesOut (outgoing.Full status bytes) shown r spelled = IsSent shown r spelled status bytes.items
+GoesOut outgoing.Unavailable shown r spelled = shown r
+
+-- a whole reply has another status than 503
+abbrev pub HasStatus : Outgoing → Type 0
+HasStatus (outgoing.Full status bytes) = status ≢ 503
+HasStatus outgoing.Unavailable = ⊤
+
+-- a whole reply is the refusal
+abbrev pub IsRefusal : Outgoing → Refusal → Type 0
+IsRefusal (outgoing.Full status bytes) why = (status ≡ status_of (refused why)) × (bytes.items ≡ bytes_of (refused why))
+IsRefusal outgoing.Unavailable why = ⊤
+
+-- the desk's reply, or that there is none, where nothing changed
+abbrev pub IsDeskReply : Option DeskReply → (Register → Type 0) → Register → Asked → Type 0
+IsDeskReply (Some reply) shown r asked = IsTold (exchange r asked).answer reply × shown (exchange r asked).register
+IsDeskReply None shown r asked = shown r
+
+-- of a whole reply there is something that the input spells, of which P holds with its status and bytes; of anything else Q does
+abbrev pub ByOutgoing : Option Outgoing → List ℕ → (Spelled → ℕ → List ℕ → Type 0) → Type 0 → Type 0
+ByOutgoing (Some (outgoing.Full status bytes)) input P Q = (spelled : Spelled) × Spells input spelled × P spelled status bytes.items
+ByOutgoing (Some outgoing.Unavailable) input P Q = Q
+ByOutgoing None input P Q = Q
+
+-- a reader's fault is counted where there is nothing to go out
+abbrev pub faults_unread : Option Outgoing → ℕ → ℕ
+faults_unread None n = after_fault n
+faults_unread (Some reply) n = n
+
+-- ---- the exchange
+
+-- What was replied with a status; `written` says of bytes that they, or a front of them, were written and nothing else.
+pub record IsReplied (shown : Register → Type 0) (r : Register) (input : List ℕ) (status : ℕ) (written : List ℕ → Type 0) : Type 0 where
+  pub unavailable : status ≡ 503 → shown r × written UNAVAILABLE.now
+  pub full : status ≢ 503 → (spelled : Spelled) × Spells input spelled × (bytes : List ℕ) × IsSent shown r spelled status bytes × written bytes
+  pub report : status ≡ 200 → (spelled : Spelled) × Spells input spelled × (bytes : List ℕ) × IsReport r spelled bytes × written bytes
+
+-- What an exchange did with a reader of these bytes and a writer.
+abbrev pub IsExchanged : Outcome → (Register → Type 0) → Register → List ℕ → Option (List ℕ) → Option (List ℕ) → Type 0
+IsExchanged (Replied status) shown r input old new = IsReplied shown r input status (λ bytes. Appends old new bytes)
+IsExchanged ReadFailed shown r input old new = shown r × Keeps old new
+IsExchanged (WriteFailed status) shown r input old new = IsReplied shown r input status (λ bytes. (n : ℕ) × Appends old new (take n bytes))
+
+-- the faults that the reader and the writer counted are those that the outcome tells
+abbrev pub read_faults : Outcome → ℕ → ℕ
+read_faults ReadFailed n = after_fault n
+read_faults outcome n = n
+
+abbrev pub write_faults : Outcome → ℕ → ℕ
+write_faults (WriteFailed status) n = after_fault n
+write_faults outcome n = n
+
+-- these bytes were written, or a front of them
+abbrev pub IsWritten : Outcome → ℕ → List ℕ → Option (List ℕ) → Option (List ℕ) → Type 0
+IsWritten (Replied told) status bytes old new = (told ≡ status) × Appends old new bytes
+IsWritten ReadFailed status bytes old new = ⊥
+IsWritten (WriteFailed told) status bytes old new = (told ≡ status) × (n : ℕ) × Appends old new (take n bytes)

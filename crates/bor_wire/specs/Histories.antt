@@ -1,0 +1,44 @@
+-- What of a run an agent receives.
+use Rattle.std.specs.Prelude.{◌≡◌, ℕ, List, [], ◌∷◌, Result, Ok, Err}
+use Rattle.std.specs.List.{AllZip}
+use Rattle.bor_register.specs.Register.{Register, filings_of}
+use Rattle.bor_machine.specs.Legality.{IsLegal}
+use Rattle.bor_desk.specs.declared.reply.DeskReply.{DeskReply}
+use Rattle.bor_desk.specs.Step.{Answer}
+use Rattle.bor_desk.specs.Outcomes.{IsTold}
+use Rattle.bor_desk.specs.Runs.{Asked, told_to, history, solo}
+use Rattle.bor_wire_spell.specs.Spell.{Spelled}
+use Rattle.bor_wire_reply.specs.Replies.{answered, bytes_of}
+use Rattle.bor_wire.specs.Runs.{AreReplies}
+
+-- these are the bytes of a reply that tells the answer
+abbrev pub AreBytesOf : Answer → List ℕ → Type 0
+AreBytesOf answer bytes = (reply : DeskReply) × IsTold answer reply × (bytes ≡ bytes_of (answered reply))
+
+-- the requests among what was spelled
+abbrev pub asked_in : List Spelled → List Asked
+asked_in [] = []
+asked_in (Err why ∷ rest) = asked_in rest
+asked_in (Ok asked ∷ rest) = asked ∷ asked_in rest
+
+-- the replies to them
+abbrev pub told_in : List Spelled → List (List ℕ) → List (List ℕ)
+told_in [] replies = []
+told_in (spelled ∷ rest) [] = []
+told_in (Err why ∷ rest) (bytes ∷ replies) = told_in rest replies
+told_in (Ok asked ∷ rest) (bytes ∷ replies) = bytes ∷ told_in rest replies
+
+-- of the replies in a run those to the agent: to requests that have its token, from its enrolment on
+abbrev pub received : List ℕ → Register → List Spelled → List (List ℕ) → List (List ℕ)
+received name r inputs replies = told_to name r (asked_in inputs) (told_in inputs replies)
+
+-- What the agent receives are the bytes of the answers to its own exchanges alone: those that follow from its filings at the start and its history.
+abbrev pub IsAlone : List ℕ → Register → List Spelled → List (List ℕ) → Type 0
+IsAlone name r inputs replies = AllZip AreBytesOf (solo name (filings_of name r.members) (history name r (asked_in inputs))) (received name r inputs replies)
+
+-- Two runs that agree on an agent's filings at the start and on its history give it the same bytes, in the same order.
+abbrev pub SameHistorySameBytes : Type 0
+SameHistorySameBytes = (name : List ℕ) (r q : Register) (inputs others : List Spelled) (replies told : List (List ℕ)) → IsLegal r → IsLegal q →
+    AreReplies r inputs replies → AreReplies q others told →
+    filings_of name r.members ≡ filings_of name q.members → history name r (asked_in inputs) ≡ history name q (asked_in others) →
+    received name r inputs replies ≡ received name q others told

@@ -1,0 +1,5 @@
+pub mod Inputs
+pub mod Runs
+pub mod Reports
+pub mod Histories
+pub mod Exchanges

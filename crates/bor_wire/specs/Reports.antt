@@ -1,0 +1,37 @@
+-- Whom a report on chains names.
+use Rattle.std.specs.Prelude.{◌≡◌, ℕ, ℤ, List, [], ◌∷◌, Option, Some, Result, Ok, Err, unwrap_or}
+use Rattle.bor_links.specs.declared.node.Node.{Node}
+use Rattle.bor_links.specs.Rows.{shown_of}
+use Rattle.bor_chains.specs.declared.line.PersonLine.{PersonLine}
+use Rattle.bor_chains.specs.Chains.{AreJoined}
+use Rattle.bor_register.specs.declared.caller.Caller.TheVariants.{Agent}
+use Rattle.bor_register.specs.Register.{Register, caller_of}
+use Rattle.bor_machine.specs.Sight.{seen_by}
+use Rattle.bor_desk.specs.declared.request.Request.TheVariants as ask
+use Rattle.bor_desk.specs.declared.reply.DeskReply.TheVariants as tell
+use Rattle.bor_wire_spell.specs.Spell.{Spelled}
+use Rattle.bor_wire_reply.specs.Replies.{Said, answered, status_of, bytes_of}
+use Rattle.bor_wire.specs.Inputs.{after}
+
+-- The report names exactly the persons that are joined to the entity by chains in what the caller, an agent, sees on the day.
+pub record NamesTheJoined (r : Register) (token : List ℕ) (entity : Node) (date : Option ℤ) (said : Said) : Type 0 where
+  pub name : List ℕ
+  pub caller : caller_of token r ≡ Some (Agent name)
+  pub persons : List PersonLine
+  pub joined : AreJoined (shown_of (unwrap_or date r.day) (seen_by name r)) entity persons
+  pub told : said ≡ answered (tell.Chains entity (unwrap_or date r.day) persons)
+
+-- what is said with status 200 to a request for a report on chains
+abbrev pub IsExact : Register → Spelled → Said → Type 0
+IsExact r (Err why) said = Unit {0}
+IsExact r (Ok asked) said = (entity : Node) (date : Option ℤ) → asked.request ≡ ask.Chains entity date → status_of said ≡ 200 → NamesTheJoined r asked.token entity date said
+
+-- the bytes of something of that kind
+abbrev pub IsReport : Register → Spelled → List ℕ → Type 0
+IsReport r spelled bytes = (said : Said) × IsExact r spelled said × (bytes ≡ bytes_of said)
+
+-- each reply of a run is such
+abbrev pub AreReports : Register → List Spelled → List (List ℕ) → Type 0
+AreReports r [] [] = Unit {0}
+AreReports r (spelled ∷ rest) (bytes ∷ replies) = IsReport r spelled bytes × AreReports (after r spelled) rest replies
+AreReports r inputs replies = ⊥

@@ -1,0 +1,66 @@
+//! One exchange over a reader and a writer, and how it ends.
+
+ghost use Rattle.std.specs.Prelude.{◌≡◌, IfSome};
+ghost use Rattle.bor_records.specs.Promises.{Promised};
+ghost use Rattle.bor_machine.specs.Legality.{IsLegal};
+ghost use Rattle.bor_wire_read.specs.Reading.{TakesAtMost};
+ghost use Rattle.bor_wire.specs.Exchanges.{IsExchanged, IsWritten, read_faults, write_faults};
+
+use crate::outgoing::{Outgoing, read_reply};
+use bor_machine::Keep;
+use bor_wire_read::{Counted, send};
+use bor_wire_reply::UNAVAILABLE;
+use std::alloc::Global;
+use std::io::{Read, Write};
+
+/// How an exchange ended. The number is the status of the reply: where it is 503, nothing changed.
+#[derive(Clone, Copy, Debug, PartialEq, Eq)]
+pub enum Outcome {
+    /// The whole reply was written.
+    Replied(u16),
+    /// The reader failed. Nothing changed, and nothing was written.
+    ReadFailed,
+    /// The writer failed, or took nothing. The request was answered and its change, if any, stays; a
+    /// front of the reply was written.
+    WriteFailed(u16),
+}
+
+// Writes the bytes of a reply with this status.
+fn write_reply<W: Write>(writer: &mut Counted<W>, status: u16, bytes: &[u8]) -> Outcome
+    ensures written { IsWritten result status bytes.now (W.contents writer.old.inner) (W.contents writer.new.inner) }
+    ensures faults { writer.new.faults ≡ write_faults result writer.old.faults }
+{
+    if send(writer, bytes) {
+        Outcome::Replied(status)
+    } else {
+        Outcome::WriteFailed(status)
+    }
+}
+
+/// Reads one request, has the desk answer it, and writes the reply.
+///
+/// With a status other than 503 the bytes that are written, of which a failing writer takes a front,
+/// are the reply to the one input, and the register left is the one after it; with 503 they are
+/// [`UNAVAILABLE`], and nothing changed. At most 1,064,960 bytes are read. A failed read, an
+/// interruption too, ends the exchange as [`Outcome::ReadFailed`], and a write that fails or takes
+/// nothing as [`Outcome::WriteFailed`]: each comes exactly where that end's count of faults moved.
+pub fn exchange<K: Keep, R: Read, W: Write>(
+    alloc: Global,
+    keep: &mut K,
+    reader: &mut Counted<R>,
+    writer: &mut Counted<W>,
+) -> Outcome
+    ensures began { K.is_clean keep.new → K.is_clean keep.old }
+    ensures exchanged { IfSome (R.remaining reader.old.inner) (λ input.
+        Promised K.shows K.is_clean keep.old keep.new (λ r. IsLegal r →
+        IsExchanged result (K.shows keep.new) r input (W.contents writer.old.inner) (W.contents writer.new.inner))) }
+    ensures taken { TakesAtMost 1064960 (R.remaining reader.old.inner) (R.remaining reader.new.inner) }
+    ensures read_faults { reader.new.faults ≡ read_faults result reader.old.faults }
+    ensures write_faults { writer.new.faults ≡ write_faults result writer.old.faults }
+{
+    match read_reply(alloc, keep, reader) {
+        Some(Outgoing::Full(status, bytes)) => write_reply(writer, status, &bytes),
+        Some(Outgoing::Unavailable) => write_reply(writer, 503, UNAVAILABLE),
+        None => Outcome::ReadFailed,
+    }
+}

@@ -1,0 +1,116 @@
+//! What goes out for an input: it is read, asked of the desk, and made into bytes.
+
+ghost use Rattle.std.specs.Prelude.{◌≡◌, ◌≢◌, Ok, Err, IfSome};
+ghost use Rattle.bor_records.specs.Promises.{Promised};
+ghost use Rattle.bor_machine.specs.Legality.{IsLegal};
+ghost use Rattle.bor_wire_read.specs.Reading.{TakesAtMost};
+ghost use Rattle.bor_wire_spell.specs.Spell.{asked_view, spell};
+ghost use Rattle.bor_wire_reply.specs.Statuses.{desk_status};
+ghost use Rattle.bor_wire.specs.Exchanges.{ByOutgoing, GoesOut, HasStatus, IsDeskReply, IsRefusal, IsSent, faults_unread};
+
+use bor_desk::{DeskReply, answer};
+use bor_machine::Keep;
+use bor_wire_read::{Counted, RawRequest, Refusal, WireFault, read_request};
+use bor_wire_reply::{
+    RESERVED, desk_status, is_long, refusal_status, render, render_refusal, render_short,
+};
+use bor_wire_spell::{Asking, parse};
+use std::alloc::Global;
+use std::io::Read;
+
+/// What goes out for an input.
+#[derive(Drop)]
+pub(crate) enum Outgoing {
+    /// A whole reply, with its status.
+    Full(u16, Vec<u8>),
+    /// Memory was wanting, or the keep failed. Nothing changed.
+    Unavailable,
+}
+
+/// The reply to bytes that spell no request.
+fn refused(alloc: Global, refusal: Refusal) -> Outgoing
+    ensures refusal { IsRefusal result refusal }
+    ensures status { HasStatus result }
+{
+    let Ok(mut out) = Vec::with_capacity(alloc, RESERVED) else {
+        return Outgoing::Unavailable;
+    };
+    render_refusal(&mut out, refusal);
+    Outgoing::Full(refusal_status(refusal).as_u16(), out)
+}
+
+// What the desk replies; nothing where the keep failed.
+fn asked<K: Keep>(alloc: Global, keep: &mut K, asking: &Asking) -> Option<DeskReply>
+    ensures began { K.is_clean keep.new → K.is_clean keep.old }
+    ensures reply { Promised K.shows K.is_clean keep.old keep.new (λ r.
+        IsLegal r → IsDeskReply result (K.shows keep.new) r (asked_view asking.now)) }
+    ensures status { IfSome result (λ reply. desk_status reply ≢ 503) }
+{
+    match answer(alloc, keep, &asking.token, &asking.request) {
+        DeskReply::Failed(_) => None,
+        reply => Some(reply),
+    }
+}
+
+/// The reply to a request. The room for a short one is reserved before the desk is asked, so that no
+/// change is made whose reply finds no memory.
+fn answered<K: Keep>(alloc: Global, keep: &mut K, asking: &Asking) -> Outgoing
+    ensures began { K.is_clean keep.new → K.is_clean keep.old }
+    ensures reply { Promised K.shows K.is_clean keep.old keep.new (λ r.
+        IsLegal r → GoesOut result (K.shows keep.new) r (Ok (asked_view asking.now))) }
+    ensures status { HasStatus result }
+{
+    let Ok(mut out) = Vec::with_capacity(alloc, RESERVED) else {
+        return Outgoing::Unavailable;
+    };
+    let Some(reply) = asked(alloc, keep, asking) else {
+        return Outgoing::Unavailable;
+    };
+    let status = desk_status(&reply).as_u16();
+    if is_long(&reply) {
+        match render(alloc, &reply) {
+            Ok(bytes) => Outgoing::Full(status, bytes),
+            Err(_) => Outgoing::Unavailable,
+        }
+    } else {
+        render_short(&mut out, &reply);
+        Outgoing::Full(status, out)
+    }
+}
+
+/// The reply to a request that was read.
+fn reply_for<K: Keep>(alloc: Global, keep: &mut K, raw: &RawRequest) -> Outgoing
+    ensures began { K.is_clean keep.new → K.is_clean keep.old }
+    ensures reply { Promised K.shows K.is_clean keep.old keep.new (λ r.
+        IsLegal r → GoesOut result (K.shows keep.new) r (spell raw.now)) }
+    ensures status { HasStatus result }
+{
+    match parse(alloc, raw) {
+        Ok(asking) => answered(alloc, keep, &asking),
+        Err(WireFault::Refused(refusal)) => refused(alloc, refusal),
+        Err(_) => Outgoing::Unavailable,
+    }
+}
+
+/// The reply to the request that a reader gives; nothing where the reader failed.
+pub(crate) fn read_reply<K: Keep, R: Read>(
+    alloc: Global,
+    keep: &mut K,
+    reader: &mut Counted<R>,
+) -> Option<Outgoing>
+    ensures began { K.is_clean keep.new → K.is_clean keep.old }
+    ensures reply { IfSome (R.remaining reader.old.inner) (λ input. ByOutgoing result input
+        (λ spelled status bytes. Promised K.shows K.is_clean keep.old keep.new (λ r.
+        IsLegal r → IsSent (K.shows keep.new) r spelled status bytes))
+        (Promised K.shows K.is_clean keep.old keep.new (λ r. IsLegal r → K.shows keep.new r))) }
+    ensures status { IfSome result HasStatus }
+    ensures taken { TakesAtMost 1064960 (R.remaining reader.old.inner) (R.remaining reader.new.inner) }
+    ensures faults { reader.new.faults ≡ faults_unread result reader.old.faults }
+{
+    match read_request(alloc, reader) {
+        Ok(raw) => Some(reply_for(alloc, keep, &raw)),
+        Err(WireFault::Refused(refusal)) => Some(refused(alloc, refusal)),
+        Err(WireFault::Memory) => Some(Outgoing::Unavailable),
+        Err(WireFault::Read) => None,
+    }
+}

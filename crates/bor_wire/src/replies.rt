@@ -1,0 +1,82 @@
+//! The replies to a list of inputs.
+
+ghost use Rattle.std.specs.Prelude.{◌≡◌, ℕ, List, IfOk, OnErr, length, map};
+ghost use Rattle.bor_records.specs.Promises.{Kept, Promised};
+ghost use Rattle.bor_machine.specs.Legality.{IsLegal};
+ghost use Rattle.bor_wire_spell.specs.Spell.{Spelled};
+ghost use Rattle.bor_wire.specs.Inputs.{IsReplyTo, after};
+ghost use Rattle.bor_wire.specs.Runs.{AreReplies, AreSpelled, ByReply, register_left, served, full};
+ghost use Rattle.bor_wire.specs.Reports.{AreReports};
+ghost use Rattle.bor_wire.specs.Histories.{IsAlone};
+
+use crate::outgoing::{Outgoing, read_reply};
+use bor_machine::Keep;
+use bor_terms::Listed;
+use bor_wire_read::Counted;
+use std::alloc::{AllocError, Global};
+
+/// The reply to an input.
+#[derive(Debug, Drop)]
+pub enum Reply {
+    /// The bytes of the whole reply.
+    Full(Listed<u8>),
+    /// Memory was wanting, or the keep failed. Nothing changed. What is sent is
+    /// [`UNAVAILABLE`](bor_wire_reply::UNAVAILABLE).
+    Unavailable,
+}
+
+// The reply to one input.
+fn reply_to<K: Keep>(alloc: Global, keep: &mut K, input: &[u8]) -> Reply
+    ensures began { K.is_clean keep.new → K.is_clean keep.old }
+    ensures reply { ByReply result input.now
+        (λ spelled bytes. Promised K.shows K.is_clean keep.old keep.new (λ r.
+        IsLegal r → IsReplyTo r spelled bytes × K.shows keep.new (after r spelled)))
+        (Promised K.shows K.is_clean keep.old keep.new (λ r. IsLegal r → K.shows keep.new r)) }
+{
+    let mut reader = Counted::new(input);
+    match read_reply(alloc, keep, &mut reader) {
+        Some(Outgoing::Full(_, bytes)) => Reply::Full(Listed::new(bytes)),
+        Some(Outgoing::Unavailable) | None => Reply::Unavailable,
+    }
+}
+
+/// Answers inputs in turn, each from the register that the one before it left.
+///
+/// Without the inputs whose reply is [`Reply::Unavailable`], the replies are those of the run over what
+/// the inputs spell, and so is the register left; what each agent receives follows from its own
+/// exchanges alone; and a report on chains with status 200 names exactly the persons joined to the
+/// entity in what the caller sees.
+///
+/// # Errors
+///
+/// There is no memory for the list of replies; then no input was answered.
+pub fn replay<K: Keep>(
+    alloc: Global,
+    keep: &mut K,
+    inputs: &[Vec<u8>],
+) -> Result<Vec<Reply>, AllocError>
+    ensures began { K.is_clean keep.new → K.is_clean keep.old }
+    ensures count { IfOk result (λ replies. length replies.items ≡ length inputs.now) }
+    ensures spelled { IfOk result (λ replies. (spelled : List Spelled)
+        × AreSpelled (served (map (λ v. v.items) inputs.now) replies.items) spelled) }
+    ensures replies { Promised K.shows K.is_clean keep.old keep.new (λ r. IsLegal r → IfOk result (λ replies.
+        (spelled : List Spelled) → AreSpelled (served (map (λ v. v.items) inputs.now) replies.items) spelled →
+        AreReplies r spelled (full replies.items))) }
+    ensures left { Promised K.shows K.is_clean keep.old keep.new (λ r. IsLegal r → IfOk result (λ replies.
+        (spelled : List Spelled) → AreSpelled (served (map (λ v. v.items) inputs.now) replies.items) spelled →
+        K.shows keep.new (register_left r spelled))) }
+    ensures alone { Promised K.shows K.is_clean keep.old keep.new (λ r. IsLegal r → IfOk result (λ replies.
+        (spelled : List Spelled) → AreSpelled (served (map (λ v. v.items) inputs.now) replies.items) spelled →
+        (name : List ℕ) → IsAlone name r spelled (full replies.items))) }
+    ensures reports { Promised K.shows K.is_clean keep.old keep.new (λ r. IsLegal r → IfOk result (λ replies.
+        (spelled : List Spelled) → AreSpelled (served (map (λ v. v.items) inputs.now) replies.items) spelled →
+        AreReports r spelled (full replies.items))) }
+    ensures err { OnErr result (Kept K.shows K.is_clean keep.old keep.new) }
+{
+    let mut replies = Vec::with_capacity(alloc, inputs.len())?;
+    for input in inputs {
+        let reply = reply_to(alloc, keep, input);
+        replies.push_reserved(reply);
+    }
+    Ok(replies)
+}

@@ -1,0 +1,145 @@
+//! Readers, writers and keeps that fail.
+
+use crate::tests::requests::request;
+use crate::tests::streams::{Drip, Gate};
+use crate::tests::talk::{exchanged, new_keep};
+use crate::{Outcome, UNAVAILABLE, exchange};
+use bor_failing::FailingKeep;
+use bor_machine::{ListKeep, StoreFault};
+use bor_rows::Ask;
+use bor_wire_read::Counted;
+use std::alloc::Global;
+use std::process::Abort;
+use std::test::Fail;
+
+const LODGING: &str = "alder lodge f1 2024-02-01 E s1 e1";
+
+fn input(alloc: Global, ask: &str) -> Result<Vec<u8>, Fail> {
+    request(alloc, Ask::read(ask).ok_or("no ask")?)
+}
+
+// A register with alder.
+fn keep(rt: &(impl Abort + Alloc<A = Global>)) -> Result<ListKeep, Fail> {
+    let alloc = rt.alloc();
+    let mut keep = new_keep(alloc)?;
+    let enrolment = input(alloc, "registrar enrol alder alder-token-000001")?;
+    let (outcome, _) = exchanged(alloc, &mut keep, &enrolment, 100);
+    assert!(rt; outcome == Outcome::Replied(201));
+    Ok(keep)
+}
+
+// The bytes of alder's filings.
+fn filings(alloc: Global, keep: &mut ListKeep) -> Result<Vec<u8>, Fail> {
+    let (_, out) = exchanged(alloc, keep, &input(alloc, "alder filings")?, 100);
+    Ok(out)
+}
+
+#[test]
+fn a_reader_that_fails_changes_nothing(rt: HostRuntime) -> Result<(), Fail> {
+    let alloc = rt.alloc();
+    let mut keep = keep(&rt)?;
+    let lodging = input(alloc, LODGING)?;
+    let before = filings(alloc, &mut keep)?;
+    for length in 0..lodging.len() {
+        let mut reader = Counted::new(Drip {
+            bytes: &lodging[..length],
+            size: 40,
+            fails: true,
+        });
+        let mut out = Vec::new(alloc);
+        let mut writer = Counted::new(&mut out);
+        assert!(rt; exchange(alloc, &mut keep, &mut reader, &mut writer) == Outcome::ReadFailed);
+        assert_eq!(rt; (reader.faults(), writer.faults()), (1, 0));
+        assert!(rt; out.is_empty());
+    }
+    assert!(rt; filings(alloc, &mut keep)?.as_slice() == before.as_slice());
+    Ok(())
+}
+
+#[test]
+fn an_input_that_ends_too_soon_is_refused(rt: HostRuntime) -> Result<(), Fail> {
+    let alloc = rt.alloc();
+    let mut keep = keep(&rt)?;
+    let lodging = input(alloc, LODGING)?;
+    let before = filings(alloc, &mut keep)?;
+    for length in 0..lodging.len() {
+        let (outcome, out) = exchanged(alloc, &mut keep, &lodging[..length], 40);
+        assert!(rt; outcome == Outcome::Replied(400), "{length}");
+        assert!(rt;
+            out.ends_with(b"\r\n\r\n{\"refusal\":\"CutShort\"}"),
+            "{length}"
+        );
+    }
+    assert!(rt; filings(alloc, &mut keep)?.as_slice() == before.as_slice());
+    Ok(())
+}
+
+// What a writer with so much room took of the reply to an input, and how the exchange ended.
+fn written(
+    alloc: Global,
+    keep: &mut ListKeep,
+    input: &[u8],
+    room: usize,
+    fails: bool,
+) -> (Outcome, Vec<u8>) {
+    let mut gate = Gate {
+        taken: Vec::new(alloc),
+        room,
+        fails,
+    };
+    let outcome = exchange(
+        alloc,
+        keep,
+        &mut Counted::new(input),
+        &mut Counted::new(&mut gate),
+    );
+    (outcome, gate.taken)
+}
+
+// The first lodging makes its change, though nothing of the reply is taken.
+#[test]
+fn a_writer_that_fails_has_a_front_of_the_reply(rt: HostRuntime) -> Result<(), Fail> {
+    let alloc = rt.alloc();
+    let lodging = input(alloc, LODGING)?;
+    for fails in [false, true] {
+        let mut keep = keep(&rt)?;
+        let (outcome, taken) = written(alloc, &mut keep, &lodging, 0, fails);
+        assert!(rt; outcome == Outcome::WriteFailed(201) && taken.is_empty());
+        let (_, reply) = exchanged(alloc, &mut keep, &lodging, 40);
+        for room in 0..reply.len() {
+            let (outcome, taken) = written(alloc, &mut keep, &lodging, room, fails);
+            assert!(rt; outcome == Outcome::WriteFailed(200), "{room}");
+            assert!(rt; taken.as_slice() == &reply[..room], "{room}");
+        }
+        assert!(rt; filings(alloc, &mut keep)?.ends_with(b"\"state\":\"published\"}]"));
+    }
+    Ok(())
+}
+
+// Each call of the keep fails in turn, until the lodging is done.
+#[test]
+fn a_keep_that_fails_is_told_as_unavailable(rt: HostRuntime) -> Result<(), Fail> {
+    let alloc = rt.alloc();
+    let lodging = input(alloc, LODGING)?;
+    for fault in [StoreFault::Memory, StoreFault::Store, StoreFault::Damaged] {
+        let mut keep = FailingKeep::new(keep(&rt)?, fault);
+        let before = filings(alloc, &mut keep.keep)?;
+        let mut calls = 0;
+        for left in 0..20 {
+            keep.left = left;
+            let (outcome, out) = exchanged(alloc, &mut keep, &lodging, 40);
+            if outcome == Outcome::Replied(201) {
+                calls = left;
+                break;
+            }
+            assert!(rt; outcome == Outcome::Replied(503), "{left}");
+            assert!(rt; out.as_slice() == UNAVAILABLE, "{left}");
+            assert!(rt;
+                filings(alloc, &mut keep.keep)?.as_slice() == before.as_slice(),
+                "{left}"
+            );
+        }
+        assert!(rt; calls > 3);
+    }
+    Ok(())
+}
