@@ -5,3 +5,4 @@ pub mod Words
 pub mod WordLaws
 pub mod Reading
 pub mod RowForms
+pub mod Seen

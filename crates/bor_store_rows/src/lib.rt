@@ -12,6 +12,7 @@ mod parts;
 mod places;
 mod reader;
 mod rows;
+mod seen;
 mod split;
 #[cfg(test)]
 mod tests;

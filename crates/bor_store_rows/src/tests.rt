@@ -8,6 +8,7 @@ use crate::{
 use bods_read::{
     Details, Directness, EntityKind, FreeText, Identifier, Interest, InterestKind, Status,
 };
+use bor_register::State;
 use bor_terms::{AgentName, Day, Ident, LodgeKey, Token};
 use std::alloc::Global;
 
@@ -142,6 +143,25 @@ fn placed_entity(alloc: Global) -> Option<Placed> {
     let mut statements = Vec::new(alloc);
     statements.push(entity(alloc)?).ok()?;
     joined(alloc, statements, &[], &[]).ok()?.pop()
+}
+
+#[test]
+fn a_draft_stays_invisible_to_others(rt: HostRuntime) {
+    let alloc = rt.alloc();
+    let row = filing(alloc, 1, "f1", false).expect(&rt, "a filing");
+    let before = Day::from_number(19_753).expect(&rt, "a day");
+    let birch = agent(alloc, "birch", "birch-token-000001").expect(&rt, "an agent");
+    assert!(&rt; row.is_visible(&row.agent, before) && !row.is_visible(&birch.name, before));
+    assert!(&rt; row.is_visible(&birch.name, row.due));
+    let due = row.due;
+    assert!(&rt; row.into_line(due).state == State::Published);
+}
+
+#[test]
+fn a_row_says_where_its_statement_stands(rt: HostRuntime) {
+    let placed = placed_entity(rt.alloc()).expect(&rt, "a statement");
+    let row = placed.into_row();
+    assert!(&rt; row.place == 1 && row.agent.as_str() == "alder");
 }
 
 #[test]

@@ -1,0 +1,32 @@
+-- What a viewer sees of an agent's statements, from their rows and those of their filings.
+use Rattle.std.specs.Prelude.{ℕ, ℤ, int_le, List, Bool, not, ◌&&◌, ◌==◌, if◌then◌else◌}
+use Rattle.std.specs.List.{list_any}
+use Rattle.bor_terms.specs.Texts.{is_same}
+use Rattle.bor_records.specs.declared.row.Row.{Row}
+use Rattle.bor_register.specs.Rows.{row_of, is_visible}
+use Rattle.bor_register.specs.Publication.{state_of_live}
+use Rattle.bor_register.specs.declared.filing.AcceptedFiling.{AcceptedFiling}
+use Rattle.bor_register.specs.declared.filing.FilingLine.{FilingLine}
+use Rattle.bor_register.specs.declared.filing.State.TheVariants.{Withdrawn}
+use Rattle.bor_store_rows.specs.declared.rows.FilingRow.{FilingRow}
+use Rattle.bor_store_rows.specs.declared.rows.Placed.{Placed}
+
+-- the viewer sees the filing of this row: its own where it is live, another's where it is published
+abbrev pub is_line_visible : List ℕ → ℤ → FilingRow → Bool
+is_line_visible viewer day f = if is_same viewer f.agent then not f.withdrawn else (not f.withdrawn && int_le f.due day)
+
+-- the row of a statement where it stands
+abbrev pub row_placed : Placed → Row
+row_placed p = row_of p.at.agent p.at.filing p.at.place p.statement
+
+-- the statement is of the declaration
+abbrev pub is_of_declaration : List ℕ → Placed → Bool
+is_of_declaration declaration p = is_same p.statement.declaration declaration
+
+-- the viewer sees the filing, among these of the agent, that the statement is of
+abbrev pub is_seen : List ℕ → ℤ → List ℕ → List AcceptedFiling → Placed → Bool
+is_seen viewer day agent filings p = list_any (λ f. f.number == p.at.filing && is_visible viewer day agent f) filings
+
+-- the line of the filing of this row, in its agent's list
+abbrev pub line_shown : ℤ → FilingRow → FilingLine
+line_shown day f = record { key = f.key; number = f.number; due = f.due; state = if f.withdrawn then Withdrawn else state_of_live f.due day }
