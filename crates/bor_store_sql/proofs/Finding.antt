@@ -13,16 +13,26 @@ use Rattle.bor_store_texts.specs.Tables.{keep_schema}
 use Rattle.bor_store_texts.specs.Queries.{shows_rows}
 use Rattle.bor_store_texts.specs.Meanings.{Asks}
 use Rattle.bor_store_rows.specs.Encoding.{contents}
-use Rattle.bor_store_sql.specs.Shown.{Has, IsClean, ShowsIn}
-use Rattle.bor_store_sql.specs.Found.{Finds}
+use Rattle.bor_store_sql.specs.Shown.{Has, ShowsIn}
+use Rattle.bor_store_sql.specs.Found.{Asked, Finds}
 
 -- what a text shows of the last commit
 abbrev pub Shows : List ℕ → Row → State → State → List Row → Type 0
 Shows text params old new rows = (old.now ≡ old.committed) × Shown text params old new rows
 
-pub finds : (text : List ℕ) (params : Row) (rows_of : Register → List Row) (old new : State) (result : Result (Vec Row Global) Error) → (IsClean new → IsClean old) → (IsClean new → new.committed ≡ old.committed)
-    → (IsClean new → IfOk result (λ rows. Shows text params old new rows.items)) → ((r : Register) (rows : List Row) → ShowsIn r old → Shows text params old new rows → rows ≡ rows_of r) → Finds old new result rows_of
-finds text params rows_of old new result began kept asked found = record { began = began; kept = kept; rows = λ clean r shows. go result r shows (asked clean) }
+pub settled_shown : (text : List ℕ) (params : Row) (old new : State) (settled : old.now ≡ old.committed) (result : Result (Vec Row Global) Error) → IfOk result (λ x. Shown text params old new x.items)
+    → IfOk result (λ x. Shows text params old new x.items)
+settled_shown text params old new settled (Ok x) h = (settled, h)
+settled_shown text params old new settled (Err e) h = tt
+
+-- what is asked is found, if the query is given what it is said to be given
+pub finds : (text : List ℕ) (params given : Row) (rows_of : Register → List Row) (old new : State) (result : Result (Vec Row Global) Error) → Asked text given old new result → given ≡ params
+    → ((r : Register) (rows : List Row) → ShowsIn r old → Shows text params old new rows → rows ≡ rows_of r) → Finds old new result rows_of
+finds text params given rows_of old new result asked is found = record {
+  began = asked.began;
+  kept = asked.kept;
+  rows = λ clean r shows. go result r shows (subst (λ row. IfOk result (λ rows. Shows text row old new rows.items)) is (asked.shown clean));
+}
   where
     go : (result : Result (Vec Row Global) Error) (r : Register) → ShowsIn r old → IfOk result (λ rows. Shows text params old new rows.items) → IfOk result (λ rows. rows.items ≡ rows_of r)
     go (Ok rows) r shows h = found r rows.items shows h

@@ -25,3 +25,5 @@ pub mod Picking
 pub mod FromTables
 pub mod Selecting
 pub mod Creating
+pub mod WholeReads
+pub mod KeyedReads

@@ -5,7 +5,7 @@ use Rattle.sqlite.specs.Given.{Returns}
 use Rattle.sqlite.specs.Listing.{understood}
 use Rattle.sqlite.specs.Order.{Row}
 use Rattle.sqlite.specs.Schema.{Schema}
-use Rattle.sqlite.specs.State.{State}
+use Rattle.sqlite.specs.State.{State, Shown}
 use Rattle.sqlite.specs.declared.error.Error.{Error}
 use Rattle.bor_register.specs.Register.{Register}
 use Rattle.bor_store_sql.specs.Shown.{IsClean, ShowsIn}
@@ -13,6 +13,12 @@ use Rattle.bor_store_sql.specs.Shown.{IsClean, ShowsIn}
 -- under no schema the text is a change that returns rows
 abbrev pub IsQuery : List ℕ → Type 0
 IsQuery text = (schema : Schema) → Returns (understood schema text) → ⊥
+
+-- A query was asked of what the last commit left, which it leaves, or a fault is answered.
+pub record Asked (text : List ℕ) (params : Row) (old new : State) (result : Result (Vec Row Global) Error) : Type 0 where
+  pub began : IsClean new → IsClean old
+  pub kept : IsClean new → new.committed ≡ old.committed
+  pub shown : IsClean new → IfOk result (λ rows. (old.now ≡ old.committed) × Shown text params old new rows.items)
 
 -- The query leaves what the last commit left, and of a register that is shown it gives these rows, or a fault.
 pub record Finds (old new : State) (result : Result (Vec Row Global) Error) (rows_of : Register → List Row) : Type 0 where

@@ -10,8 +10,9 @@ ghost use Rattle.bor_store_rows.specs.Encoding.{truth, agent_columns, line_colum
 ghost use Rattle.bor_store_sql.specs.Found.{Finds};
 ghost use Rattle.bor_store_sql.specs.Selected.{named, with_token, keyed, numbered, last, placed_of, in_filing, in_declaration, in_series, identified, interests_at, identifiers_at, place_columns};
 
-use crate::columns::{file_key, filing_key, one_text, statement_key, three_texts, two_texts};
-use crate::reads::query;
+use crate::queries::{
+    query_by_file, query_by_filing, query_by_one, query_by_statement, query_by_three, query_by_two,
+};
 use bor_store_texts::queries::{
     AGENT_BY_NAME, AGENT_BY_TOKEN, FILING_BY_KEY, FILINGS_OF_AGENT, IDENTIFIERS_OF_STATEMENT,
     INTERESTS_OF_STATEMENT, LAST_FILING, LAST_OF_SERIES, LINE_BY_KEY, LINE_BY_NUMBER, SAME_BYTES,
@@ -20,25 +21,28 @@ use bor_store_texts::queries::{
 use sqlite::{Alter, Connection, Error, Row};
 
 /// The agent of this name with its token; no row where there is none.
+#[tactic(auto, using(crate::proofs::Plain::agent_by_name_asks))]
 pub fn agent_by_name<S: Alter>(conn: &mut Connection<S>, name: &str) -> Result<Vec<Row>, Error>
     requires { conn.old.in_transaction ≡ false }
     ensures mode { conn.new.in_transaction ≡ false }
     ensures finds { Finds (state S.Store conn.old) (state S.Store conn.new) result (λ r. map agent_columns (named name.now r.members)) }
 {
-    query(conn, AGENT_BY_NAME, &one_text(name))
+    query_by_one(conn, AGENT_BY_NAME, name)
 }
 
 /// The agents that have this token, by name.
+#[tactic(auto, using(crate::proofs::Plain::agent_by_token_asks))]
 pub fn agent_by_token<S: Alter>(conn: &mut Connection<S>, token: &str) -> Result<Vec<Row>, Error>
     requires { conn.old.in_transaction ≡ false }
     ensures mode { conn.new.in_transaction ≡ false }
     ensures finds { Finds (state S.Store conn.old) (state S.Store conn.new) result (λ r. map agent_columns (with_token token.now r.members)) }
 {
-    query(conn, AGENT_BY_TOKEN, &one_text(token))
+    query_by_one(conn, AGENT_BY_TOKEN, token)
 }
 
 /// The agent's filings under a key, by number: number, due day, whether it is withdrawn, and the file.
 /// No row where it has lodged none.
+#[tactic(auto, using(crate::proofs::Plain::filing_by_key_asks))]
 pub fn filing_by_key<S: Alter>(
     conn: &mut Connection<S>,
     agent: &str,
@@ -48,10 +52,11 @@ pub fn filing_by_key<S: Alter>(
     ensures mode { conn.new.in_transaction ≡ false }
     ensures finds { Finds (state S.Store conn.old) (state S.Store conn.new) result (λ r. map (λ f. shown_columns (filing_shown f)) (keyed key.now (filings_of agent.now r.members))) }
 {
-    query(conn, FILING_BY_KEY, &two_texts(agent, key))
+    query_by_two(conn, FILING_BY_KEY, agent, key)
 }
 
 /// The agent's filings under a key without their files, by number.
+#[tactic(auto, using(crate::proofs::Plain::line_by_key_asks))]
 pub fn line_by_key<S: Alter>(
     conn: &mut Connection<S>,
     agent: &str,
@@ -61,10 +66,11 @@ pub fn line_by_key<S: Alter>(
     ensures mode { conn.new.in_transaction ≡ false }
     ensures finds { Finds (state S.Store conn.old) (state S.Store conn.new) result (λ r. map (λ f. line_columns (filing_row agent.now f)) (keyed key.now (filings_of agent.now r.members))) }
 {
-    query(conn, LINE_BY_KEY, &two_texts(agent, key))
+    query_by_two(conn, LINE_BY_KEY, agent, key)
 }
 
 /// The agent's filing with this number, without its file.
+#[tactic(auto, using(crate::proofs::Plain::line_by_number_asks))]
 pub fn line_by_number<S: Alter>(
     conn: &mut Connection<S>,
     agent: &str,
@@ -74,10 +80,11 @@ pub fn line_by_number<S: Alter>(
     ensures mode { conn.new.in_transaction ≡ false }
     ensures finds { Finds (state S.Store conn.old) (state S.Store conn.new) result (λ r. map (λ f. line_columns (filing_row agent.now f)) (numbered number (filings_of agent.now r.members))) }
 {
-    query(conn, LINE_BY_NUMBER, &filing_key(agent, number))
+    query_by_filing(conn, LINE_BY_NUMBER, agent, number)
 }
 
 /// Whether the file of the agent's filings under a key has these bytes, by number: 1 or 0.
+#[tactic(auto, using(crate::proofs::Plain::same_bytes_asks))]
 pub fn same_bytes<S: Alter>(
     conn: &mut Connection<S>,
     agent: &str,
@@ -88,28 +95,31 @@ pub fn same_bytes<S: Alter>(
     ensures mode { conn.new.in_transaction ≡ false }
     ensures finds { Finds (state S.Store conn.old) (state S.Store conn.new) result (λ r. map (λ f. truth (is_same f.bytes bytes.now) ∷ []) (keyed key.now (filings_of agent.now r.members))) }
 {
-    query(conn, SAME_BYTES, &file_key(agent, key, bytes))
+    query_by_file(conn, SAME_BYTES, agent, key, bytes)
 }
 
 /// The agent's filings without their files, by number.
+#[tactic(auto, using(crate::proofs::Plain::filings_of_agent_asks))]
 pub fn filings_of_agent<S: Alter>(conn: &mut Connection<S>, agent: &str) -> Result<Vec<Row>, Error>
     requires { conn.old.in_transaction ≡ false }
     ensures mode { conn.new.in_transaction ≡ false }
     ensures finds { Finds (state S.Store conn.old) (state S.Store conn.new) result (λ r. map (λ f. line_columns (filing_row agent.now f)) (filings_of agent.now r.members)) }
 {
-    query(conn, FILINGS_OF_AGENT, &one_text(agent))
+    query_by_one(conn, FILINGS_OF_AGENT, agent)
 }
 
 /// The agent's last filing, without its file; no row where it has none.
+#[tactic(auto, using(crate::proofs::Plain::last_filing_asks))]
 pub fn last_filing<S: Alter>(conn: &mut Connection<S>, agent: &str) -> Result<Vec<Row>, Error>
     requires { conn.old.in_transaction ≡ false }
     ensures mode { conn.new.in_transaction ≡ false }
     ensures finds { Finds (state S.Store conn.old) (state S.Store conn.new) result (λ r. map (λ f. line_columns (filing_row agent.now f)) (last (filings_of agent.now r.members))) }
 {
-    query(conn, LAST_FILING, &one_text(agent))
+    query_by_one(conn, LAST_FILING, agent)
 }
 
 /// The last live statement of a record; no row where it has none.
+#[tactic(auto, using(crate::proofs::Plain::last_of_series_asks))]
 pub fn last_of_series<S: Alter>(
     conn: &mut Connection<S>,
     agent: &str,
@@ -120,10 +130,11 @@ pub fn last_of_series<S: Alter>(
     ensures mode { conn.new.in_transaction ≡ false }
     ensures finds { Finds (state S.Store conn.old) (state S.Store conn.new) result (λ r. map (λ p. statement_columns (bare p)) (last (in_series declaration.now rec.now (placed_of agent.now r)))) }
 {
-    query(conn, LAST_OF_SERIES, &three_texts(agent, declaration, rec))
+    query_by_three(conn, LAST_OF_SERIES, agent, declaration, rec)
 }
 
 /// Where the agent's live statements with this identifier stand: filing and place.
+#[tactic(auto, using(crate::proofs::Plain::statement_by_id_asks))]
 pub fn statement_by_id<S: Alter>(
     conn: &mut Connection<S>,
     agent: &str,
@@ -133,10 +144,11 @@ pub fn statement_by_id<S: Alter>(
     ensures mode { conn.new.in_transaction ≡ false }
     ensures finds { Finds (state S.Store conn.old) (state S.Store conn.new) result (λ r. map place_columns (identified id.now (placed_of agent.now r))) }
 {
-    query(conn, STATEMENT_BY_ID, &two_texts(agent, id))
+    query_by_two(conn, STATEMENT_BY_ID, agent, id)
 }
 
 /// The live statements of the agent's filing with this number, by place.
+#[tactic(auto, using(crate::proofs::Plain::statements_of_filing_asks))]
 pub fn statements_of_filing<S: Alter>(
     conn: &mut Connection<S>,
     agent: &str,
@@ -146,10 +158,11 @@ pub fn statements_of_filing<S: Alter>(
     ensures mode { conn.new.in_transaction ≡ false }
     ensures finds { Finds (state S.Store conn.old) (state S.Store conn.new) result (λ r. map (λ p. statement_columns (bare p)) (in_filing number (placed_of agent.now r))) }
 {
-    query(conn, STATEMENTS_OF_FILING, &filing_key(agent, number))
+    query_by_filing(conn, STATEMENTS_OF_FILING, agent, number)
 }
 
 /// The agent's live statements of a declaration, by filing and place.
+#[tactic(auto, using(crate::proofs::Plain::statements_of_declaration_asks))]
 pub fn statements_of_declaration<S: Alter>(
     conn: &mut Connection<S>,
     agent: &str,
@@ -159,14 +172,11 @@ pub fn statements_of_declaration<S: Alter>(
     ensures mode { conn.new.in_transaction ≡ false }
     ensures finds { Finds (state S.Store conn.old) (state S.Store conn.new) result (λ r. map (λ p. statement_columns (bare p)) (in_declaration declaration.now (placed_of agent.now r))) }
 {
-    query(
-        conn,
-        STATEMENTS_OF_DECLARATION,
-        &two_texts(agent, declaration),
-    )
+    query_by_two(conn, STATEMENTS_OF_DECLARATION, agent, declaration)
 }
 
 /// The interests of the statement at this place, by item.
+#[tactic(auto, using(crate::proofs::Plain::interests_of_statement_asks))]
 pub fn interests_of_statement<S: Alter>(
     conn: &mut Connection<S>,
     agent: &str,
@@ -177,14 +187,11 @@ pub fn interests_of_statement<S: Alter>(
     ensures mode { conn.new.in_transaction ≡ false }
     ensures finds { Finds (state S.Store conn.old) (state S.Store conn.new) result (λ r. map interest_columns (interests_at (record { agent = agent.now; filing = number; place = place }) r.members)) }
 {
-    query(
-        conn,
-        INTERESTS_OF_STATEMENT,
-        &statement_key(agent, number, place),
-    )
+    query_by_statement(conn, INTERESTS_OF_STATEMENT, agent, number, place)
 }
 
 /// The identifiers of the statement at this place, by item.
+#[tactic(auto, using(crate::proofs::Plain::identifiers_of_statement_asks))]
 pub fn identifiers_of_statement<S: Alter>(
     conn: &mut Connection<S>,
     agent: &str,
@@ -195,9 +202,5 @@ pub fn identifiers_of_statement<S: Alter>(
     ensures mode { conn.new.in_transaction ≡ false }
     ensures finds { Finds (state S.Store conn.old) (state S.Store conn.new) result (λ r. map identifier_columns (identifiers_at (record { agent = agent.now; filing = number; place = place }) r.members)) }
 {
-    query(
-        conn,
-        IDENTIFIERS_OF_STATEMENT,
-        &statement_key(agent, number, place),
-    )
+    query_by_statement(conn, IDENTIFIERS_OF_STATEMENT, agent, number, place)
 }

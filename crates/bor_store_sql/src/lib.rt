@@ -10,6 +10,7 @@ mod additions;
 mod columns;
 mod creation;
 mod keyed;
+mod queries;
 mod reads;
 mod register;
 mod withdrawal;

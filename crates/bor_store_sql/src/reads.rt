@@ -1,40 +1,20 @@
 //! What reads whole tables.
 
-ghost use Rattle.std.specs.Prelude.{◌≡◌, false, [], ◌∷◌, map, IfOk};
+ghost use Rattle.std.specs.Prelude.{◌≡◌, false, [], ◌∷◌, map};
 ghost use Rattle.std.specs.List.{flat_map};
 ghost use Rattle.sqlite.specs.Held.{state};
-ghost use Rattle.sqlite.specs.State.{Shown};
-ghost use Rattle.sqlite.specs.Values.{bound};
 ghost use Rattle.bor_store_rows.specs.Placed.{bare, filing_lines, placed, interest_rows, identifier_rows};
 ghost use Rattle.bor_store_rows.specs.Encoding.{register_columns, agent_columns, line_columns, statement_columns, interest_columns, identifier_columns};
-ghost use Rattle.bor_store_sql.specs.Shown.{IsClean};
-ghost use Rattle.bor_store_sql.specs.Found.{IsQuery, Finds};
+ghost use Rattle.bor_store_sql.specs.Found.{Finds};
 
+use crate::queries::query;
 use bor_store_texts::queries::{
     ALL_AGENTS, ALL_FILINGS, ALL_IDENTIFIERS, ALL_INTERESTS, ALL_REGISTER, ALL_STATEMENTS,
 };
-use sqlite::types::ValueRef;
 use sqlite::{Alter, Connection, Error, Row};
 
-/// What a query shows of the last commit.
-pub(crate) fn query<S: Alter>(
-    conn: &mut Connection<S>,
-    sql: &str,
-    params: &[ValueRef<'_>],
-) -> Result<Vec<Row>, Error>
-    requires settled { conn.old.in_transaction ≡ false }
-    requires asks { IsQuery sql.now }
-    ensures mode { conn.new.in_transaction ≡ false }
-    ensures began { IsClean (state S.Store conn.new) → IsClean (state S.Store conn.old) }
-    ensures kept { IsClean (state S.Store conn.new) → (state S.Store conn.new).committed ≡ (state S.Store conn.old).committed }
-    ensures shown { IsClean (state S.Store conn.new) → IfOk result (λ rows. ((state S.Store conn.old).now ≡ (state S.Store conn.old).committed)
-        × Shown sql.now (bound params.now) (state S.Store conn.old) (state S.Store conn.new) rows.items) }
-{
-    let _settled = conn.is_autocommit();
-    conn.query_all(sql, params)
-}
-
 /// The register's row.
+#[tactic(auto, using(crate::proofs::Plain::all_register_asks, crate::proofs::WholeReads::all_register_finds))]
 pub fn all_register<S: Alter>(conn: &mut Connection<S>) -> Result<Vec<Row>, Error>
     requires { conn.old.in_transaction ≡ false }
     ensures mode { conn.new.in_transaction ≡ false }
@@ -44,6 +24,7 @@ pub fn all_register<S: Alter>(conn: &mut Connection<S>) -> Result<Vec<Row>, Erro
 }
 
 /// The agents with their tokens, by name.
+#[tactic(auto, using(crate::proofs::Plain::all_agents_asks, crate::proofs::WholeReads::all_agents_finds))]
 pub fn all_agents<S: Alter>(conn: &mut Connection<S>) -> Result<Vec<Row>, Error>
     requires { conn.old.in_transaction ≡ false }
     ensures mode { conn.new.in_transaction ≡ false }
@@ -53,6 +34,7 @@ pub fn all_agents<S: Alter>(conn: &mut Connection<S>) -> Result<Vec<Row>, Error>
 }
 
 /// All filings without their files, by agent and number.
+#[tactic(auto, using(crate::proofs::Plain::all_filings_asks, crate::proofs::WholeReads::all_filings_finds))]
 pub fn all_filings<S: Alter>(conn: &mut Connection<S>) -> Result<Vec<Row>, Error>
     requires { conn.old.in_transaction ≡ false }
     ensures mode { conn.new.in_transaction ≡ false }
@@ -62,6 +44,7 @@ pub fn all_filings<S: Alter>(conn: &mut Connection<S>) -> Result<Vec<Row>, Error
 }
 
 /// All statements, by agent, filing and place.
+#[tactic(auto, using(crate::proofs::Plain::all_statements_asks, crate::proofs::WholeReads::all_statements_finds))]
 pub fn all_statements<S: Alter>(conn: &mut Connection<S>) -> Result<Vec<Row>, Error>
     requires { conn.old.in_transaction ≡ false }
     ensures mode { conn.new.in_transaction ≡ false }
@@ -71,6 +54,7 @@ pub fn all_statements<S: Alter>(conn: &mut Connection<S>) -> Result<Vec<Row>, Er
 }
 
 /// All interests, by agent, filing, place and item.
+#[tactic(auto, using(crate::proofs::Plain::all_interests_asks, crate::proofs::WholeReads::all_interests_finds))]
 pub fn all_interests<S: Alter>(conn: &mut Connection<S>) -> Result<Vec<Row>, Error>
     requires { conn.old.in_transaction ≡ false }
     ensures mode { conn.new.in_transaction ≡ false }
@@ -80,6 +64,7 @@ pub fn all_interests<S: Alter>(conn: &mut Connection<S>) -> Result<Vec<Row>, Err
 }
 
 /// All identifiers, by agent, filing, place and item.
+#[tactic(auto, using(crate::proofs::Plain::all_identifiers_asks, crate::proofs::WholeReads::all_identifiers_finds))]
 pub fn all_identifiers<S: Alter>(conn: &mut Connection<S>) -> Result<Vec<Row>, Error>
     requires { conn.old.in_transaction ≡ false }
     ensures mode { conn.new.in_transaction ≡ false }

@@ -1,25 +1,5 @@
-use Rattle.std.proofs.Common.{IfOk, [], ◌∷◌, map}
-use Rattle.sqlite.specs.declared.types.Value.TheVariants.{Text}
-use Rattle.sqlite.specs.Order.{Row}
-use Rattle.sqlite.specs.Held.{state}
-use Rattle.bor_register.specs.Register.{filings_of}
-use Rattle.bor_register.specs.Publication.{filing_shown}
-use Rattle.bor_store_texts.specs.Queries.{filing_by_key_text}
-use Rattle.bor_store_rows.specs.Encoding.{shown_columns}
-use Rattle.bor_store_sql.specs.Shown.{IsClean}
-use Rattle.bor_store_sql.specs.Selected.{keyed}
-use Rattle.bor_store_sql.proofs.Finding.{Shows, finds}
-use Rattle.bor_store_sql.proofs.Plain.{filing_by_key_asks}
-use Rattle.bor_store_sql.proofs.Selecting.{filing_by_key_found}
+use Rattle.bor_store_sql.proofs.KeyedReads.{filing_by_key_finds}
 use Rattle.bor_store_sql.proofs.keyed.filing_by_key.Goals as goal
 
-pub query-requires-clause-asks : goal.query-requires-clause-asks
-query-requires-clause-asks g c = filing_by_key_asks
-
 pub returns-clause-finds : goal.returns-clause-finds
-returns-clause-finds g c =
-    let old = state g.S.Store c.args.conn.now in
-    let new = state g.S.Store c.query.new.conn in
-    let params : Row = Text c.args.agent.now ∷ Text c.args.key.now ∷ [] in
-    let shown : IsClean new → IfOk c.query.result (λ rows. Shows filing_by_key_text params old new rows.items) = rw (c.two_texts.ensures) at c.query.ensures.shown in
-    finds filing_by_key_text params (λ r. map (λ f. shown_columns (filing_shown f)) (keyed c.args.key.now (filings_of c.args.agent.now r.members))) old new c.query.result c.query.ensures.began c.query.ensures.kept shown (λ r rows shows h. filing_by_key_found r old new shows rows c.args.agent.now c.args.key.now h)
+returns-clause-finds g c = search (filing_by_key_finds)

@@ -1,25 +1,5 @@
-use Rattle.std.proofs.Common.{IfOk, [], ◌∷◌, pos, map}
-use Rattle.sqlite.specs.declared.types.Value.TheVariants.{Int, Text}
-use Rattle.sqlite.specs.Order.{Row}
-use Rattle.sqlite.specs.Held.{state}
-use Rattle.bor_register.specs.Register.{filings_of}
-use Rattle.bor_store_texts.specs.Queries.{line_by_number_text}
-use Rattle.bor_store_rows.specs.Placed.{filing_row}
-use Rattle.bor_store_rows.specs.Encoding.{line_columns}
-use Rattle.bor_store_sql.specs.Shown.{IsClean}
-use Rattle.bor_store_sql.specs.Selected.{numbered}
-use Rattle.bor_store_sql.proofs.Finding.{Shows, finds}
-use Rattle.bor_store_sql.proofs.Plain.{line_by_number_asks}
-use Rattle.bor_store_sql.proofs.Selecting.{line_by_number_found}
+use Rattle.bor_store_sql.proofs.KeyedReads.{line_by_number_finds}
 use Rattle.bor_store_sql.proofs.keyed.line_by_number.Goals as goal
 
-pub query-requires-clause-asks : goal.query-requires-clause-asks
-query-requires-clause-asks g c = line_by_number_asks
-
 pub returns-clause-finds : goal.returns-clause-finds
-returns-clause-finds g c =
-    let old = state g.S.Store c.args.conn.now in
-    let new = state g.S.Store c.query.new.conn in
-    let params : Row = Text c.args.agent.now ∷ Int (pos c.args.number) ∷ [] in
-    let shown : IsClean new → IfOk c.query.result (λ rows. Shows line_by_number_text params old new rows.items) = rw (c.filing_key.ensures) at c.query.ensures.shown in
-    finds line_by_number_text params (λ r. map (λ f. line_columns (filing_row c.args.agent.now f)) (numbered c.args.number (filings_of c.args.agent.now r.members))) old new c.query.result c.query.ensures.began c.query.ensures.kept shown (λ r rows shows h. line_by_number_found r old new shows rows c.args.agent.now c.args.number h)
+returns-clause-finds g c = search (line_by_number_finds)
