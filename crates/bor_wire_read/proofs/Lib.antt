@@ -7,3 +7,4 @@ pub mod PartsLemmas
 pub mod ReadingLemmas
 pub mod MessageLemmas
 pub mod SendLemmas
+pub mod Examples

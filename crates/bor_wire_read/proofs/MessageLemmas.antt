@@ -68,7 +68,7 @@ body_short parts behind len lt = let t : nat_lt (length behind) len ≡ true = g
 not_less : (a b : ℕ) → b ≤ a → nat_lt a b ≡ false
 not_less a b le = grind (arith, nat_tests)
 
-body_whole : (parts : Parts) (body rest : List ℕ) (len : ℕ) → len ≤ length body
+pub body_whole : (parts : Parts) (body rest : List ℕ) (len : ℕ) → len ≤ length body
     → body_of parts (body ++ rest) len ≡ Ok (record { parts = parts; body = take len body })
 body_whole parts body rest len le =
     let f : nat_lt (length (body ++ rest)) len ≡ false = not_less (length (body ++ rest)) len (omega (arith, length-append body rest)) in

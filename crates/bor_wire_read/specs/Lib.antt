@@ -3,3 +3,4 @@ pub mod Counted
 pub mod Head
 pub mod Message
 pub mod Reading
+pub mod Laws

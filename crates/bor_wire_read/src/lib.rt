@@ -22,6 +22,7 @@ mod fault;
 mod fields;
 mod head;
 mod lengths;
+pub mod message;
 mod reading;
 mod request;
 mod sending;
