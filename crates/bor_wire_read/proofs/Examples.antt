@@ -1,6 +1,5 @@
 -- The definitions on worked inputs.
-use Rattle.std.proofs.Common.{◌≡◌, ℕ, List, [], ◌∷◌, Option, Some, None, Result, Ok, Err, codes, refl}
-use Rattle.bor_wire_read.specs.declared.fault.Refusal.{Refusal}
+use Rattle.std.proofs.Common.{◌≡◌, ℕ, List, [], ◌∷◌, Some, None, Ok, Err, codes, refl}
 use Rattle.bor_wire_read.specs.declared.fault.Refusal.TheVariants.{HeadTooLarge, CutShort, BadLength, BodyTooLarge}
 use Rattle.bor_wire_read.specs.Counted.{after_fault, takes_nothing}
 use Rattle.bor_wire_read.specs.Head.{head_len, head_within, head_at}

@@ -1,5 +1,5 @@
 -- An input is one request, whatever stands behind it.
-use Rattle.std.proofs.Common.{◌≡◌, ◌≤◌, ◌<◌, ℕ, List, [], ◌∷◌, ◌++◌, Option, Some, None, Bool, true, false, Result, Ok, Err, refl, sym, ap, ◌∙◌, take, drop, length, cond, nat_lt, subst, append_assoc, append-nil, arith}
+use Rattle.std.proofs.Common.{◌≡◌, ◌≤◌, ℕ, List, [], ◌++◌, Option, Some, None, Bool, true, false, Result, Ok, Err, refl, sym, ap, ◌∙◌, take, drop, length, cond, nat_lt, subst, append_assoc, append-nil, arith}
 use Rattle.std.specs.Option.{option_map_or}
 use Rattle.std.proofs.lemmas.List.{take-append-drop, take-append-le, drop-append-le, length-take}
 use Rattle.std.proofs.lemmas.Bool.Decides.{nat_tests}
@@ -11,7 +11,7 @@ use Rattle.bor_wire_read.specs.Laws.{OneRequest, RestIsIgnored}
 use Rattle.bor_wire_read.proofs.HeadLemmas.{head_len-le}
 use Rattle.bor_wire_read.proofs.ReadingLemmas.{head-found}
 use Rattle.bor_wire_read.proofs.MessageLemmas.{body_whole}
-use Rattle.bor_wire_read.specs.Message.{Parts, Message, HasParts, IsMessage, IsAt, IsBehind, and_then, with_body, body_of, body_len, parts_of}
+use Rattle.bor_wire_read.specs.Message.{Parts, Message, HasParts, IsMessage, IsAt, and_then, with_body, body_of, body_len, parts_of}
 
 parts_unique : (head : List ℕ) (a b : Result Parts Refusal) → HasParts head a → HasParts head b → a ≡ b
 parts_unique head (Ok a) (Ok b) x y =

@@ -25,13 +25,17 @@ IsScanned bytes from = head_len bytes ≡ option_map (λ n. from + n) (head_len 
 abbrev pub head_limit : ℕ
 head_limit = 16384
 
+-- and has at most this many line feeds
+abbrev pub line_limit : ℕ
+line_limit = 66
+
 -- the line feeds of the bytes
 abbrev pub line_feeds : List ℕ → ℕ
 line_feeds bytes = count_by (λ b. b == 10) bytes
 
 -- a head that was found has few enough lines
 abbrev pub with_few_lines : List ℕ → ℕ → Result ℕ Refusal
-with_few_lines bytes n = if nat_lt 66 (line_feeds (take n bytes)) then Err HeadTooLarge else Ok n
+with_few_lines bytes n = if nat_lt line_limit (line_feeds (take n bytes)) then Err HeadTooLarge else Ok n
 
 -- no head ends within the limit
 abbrev pub without_head : ℕ → List ℕ → Result ℕ Refusal

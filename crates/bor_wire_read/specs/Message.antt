@@ -80,8 +80,13 @@ length_of limit bytes =
     if is_numeral bytes then (if nat_le (digits_value 10 bytes) limit then Ok (digits_value 10 bytes) else Err BodyTooLarge)
     else Err BadLength
 
+-- a body has at most this many bytes
 abbrev pub body_limit : ℕ
 body_limit = 1048576
+
+-- at most this many bytes are taken of a reader: those of a head and of a body
+abbrev pub request_limit : ℕ
+request_limit = 1064960
 
 -- the length of the body that follows a head with these fields
 abbrev pub body_len : List FieldText → Result ℕ Refusal

@@ -1,5 +1,6 @@
 //! A reader or a writer that counts its faults.
-ghost use Rattle.std.specs.Prelude.{◌≡◌, ◌+◌, ◌%◌, ◌^◌, ◌<◌, ◌==◌, ◌&&◌, nat_lt, length, if◌then◌else◌, is_ok, IfOk, IfErr};
+
+ghost use Rattle.std.specs.Prelude.{◌≡◌, if◌then◌else◌, is_ok};
 ghost use Rattle.std.specs.Io.{ReadsAtMost, WritesAtMost};
 ghost use Rattle.std.specs.Io.KnownBytes.{ReadConsumes, WriteAppends};
 ghost use Rattle.bor_wire_read.specs.Counted.{after_fault, takes_nothing};
@@ -7,7 +8,8 @@ ghost use Rattle.bor_wire_read.specs.Counted.{after_fault, takes_nothing};
 use std::io;
 use std::io::{Read, Write};
 
-/// A reader or a writer, with the number of its faults so far, modulo 2^64.
+/// A reader or a writer, with the number of its faults so far, modulo 2^64. A fault is a call that
+/// failed, an interruption too, or a write that took nothing of bytes.
 #[derive(Drop)]
 pub struct Counted<T> {
     inner: T,
@@ -15,6 +17,7 @@ pub struct Counted<T> {
 }
 
 impl<T> Counted<T> {
+    /// The reader or writer, with no fault so far.
     pub fn new(inner: T) -> Counted<T>
         ensures inner { result.inner ≡ inner }
         ensures faults { result.faults ≡ 0 }
@@ -22,6 +25,7 @@ impl<T> Counted<T> {
         Counted { inner, faults: 0 }
     }
 
+    /// How many faults there were, modulo 2^64.
     pub fn faults(&self) -> u64
         ensures { result ≡ self.now.faults }
     {
@@ -30,6 +34,11 @@ impl<T> Counted<T> {
 }
 
 impl<R: Read> Counted<R> {
+    /// Reads once, and hands on what the reader answers.
+    ///
+    /// # Errors
+    ///
+    /// The reader's.
     pub fn read(&mut self, buf: &mut [u8]) -> io::Result<usize>
         ensures bound { ReadsAtMost result buf.new }
         ensures bytes { ReadConsumes (R.remaining self.old.inner) (R.remaining self.new.inner) result buf.new }
@@ -44,6 +53,11 @@ impl<R: Read> Counted<R> {
 }
 
 impl<W: Write> Counted<W> {
+    /// Writes once, and hands on what the writer answers.
+    ///
+    /// # Errors
+    ///
+    /// The writer's. That it takes nothing is no error, but a fault.
     pub fn write(&mut self, buf: &[u8]) -> io::Result<usize>
         ensures bound { WritesAtMost result buf.now }
         ensures bytes { WriteAppends (W.contents self.old.inner) (W.contents self.new.inner) result buf.now }

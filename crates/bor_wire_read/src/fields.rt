@@ -1,4 +1,5 @@
 //! The fields of a head, by name.
+
 ghost use Rattle.std.specs.Prelude.{◌≡◌, ◌≤◌, ◌<◌, ◌^◌, length, map, All};
 ghost use Rattle.std.specs.Option.{option_map};
 ghost use Rattle.httparse.specs.Spans.{header_bytes, IsHeaderWithin};

@@ -1,6 +1,10 @@
 //! Where a request's head ends.
+
 ghost use Rattle.std.specs.Prelude.{◌≡◌, ◌≤◌, length, drop, not, nat_lt, IfSome};
-ghost use Rattle.bor_wire_read.specs.Head.{blank_len, head_len, line_feeds, IsScanned};
+ghost use Rattle.bor_wire_read.specs.Head.{blank_len, head_len, line_feeds, line_limit, IsScanned};
+
+/// The most line feeds of a head.
+const LINE_LIMIT: usize = 66;
 
 /// The length of the empty line that stands at `at`, or 0 where none does.
 fn blank_at(bytes: &[u8], at: usize) -> usize
@@ -51,7 +55,7 @@ pub(crate) fn head_end_from(bytes: &[u8], from: usize) -> Option<usize>
 
 /// Whether a head has few enough lines for its fields to be read.
 pub(crate) fn has_few_lines(head: &[u8]) -> bool
-    ensures { result ≡ not (nat_lt 66 (line_feeds head.now)) }
+    ensures { result ≡ not (nat_lt line_limit (line_feeds head.now)) }
 {
-    head.iter().filter(|b| **b == b'\n').count() <= 66
+    head.iter().filter(|b| **b == b'\n').count() <= LINE_LIMIT
 }

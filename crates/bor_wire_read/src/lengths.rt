@@ -1,10 +1,11 @@
 //! The length of the body that the fields announce.
-ghost use Rattle.std.specs.Prelude.{◌≡◌, ◌≤◌, ◌<◌, length, map, All, min, Some, None, if◌then◌else◌};
+
+ghost use Rattle.std.specs.Prelude.{◌≡◌, ◌≤◌, ◌+◌, ◌<◌, length, map, All, min, Some, None, if◌then◌else◌};
 ghost use Rattle.std.specs.List.{list_all};
 ghost use Rattle.std.specs.Char.{is_ascii_digit};
 ghost use Rattle.std.specs.Str.Parse.{digits_value};
 ghost use Rattle.httparse.specs.Spans.{header_bytes, IsHeaderWithin};
-ghost use Rattle.bor_wire_read.specs.Message.{length_of, body_len};
+ghost use Rattle.bor_wire_read.specs.Message.{length_of, body_len, body_limit};
 
 use crate::fault::Refusal;
 use crate::fields::{count_named, find_value};
@@ -15,7 +16,7 @@ const BODY_LIMIT: usize = 1_048_576;
 
 /// The number that the digits give, up to one past the limit, if all are digits.
 fn decimal(bytes: &[u8]) -> Option<usize>
-    ensures { result ≡ (if list_all is_ascii_digit bytes.now then Some (min (digits_value 10 bytes.now) 1048577) else None) }
+    ensures { result ≡ (if list_all is_ascii_digit bytes.now then Some (min (digits_value 10 bytes.now) (body_limit + 1)) else None) }
 {
     let mut value = 0;
     for b in bytes {
@@ -29,7 +30,7 @@ fn decimal(bytes: &[u8]) -> Option<usize>
 
 /// The length that a value of Content-Length gives.
 fn announced(bytes: &[u8]) -> Result<usize, Refusal>
-    ensures { result ≡ length_of 1048576 bytes.now }
+    ensures { result ≡ length_of body_limit bytes.now }
 {
     if bytes.is_empty() {
         return Err(Refusal::BadLength);

@@ -2,7 +2,7 @@
 
 ghost use Rattle.std.specs.Prelude.{◌≡◌, ◌≤◌, [], IfSome, IfOk, length, take};
 ghost use Rattle.bor_wire_read.specs.Reading.{Grows, Gives, FaultsTell, FillsUp, ReadsBody};
-ghost use Rattle.bor_wire_read.specs.Head.{head_at, head_limit, line_feeds};
+ghost use Rattle.bor_wire_read.specs.Head.{head_at, head_limit, line_feeds, line_limit};
 
 use crate::buffer::Buffer;
 use crate::counted::Counted;
@@ -31,7 +31,7 @@ pub(crate) fn read_head<R: Read>(
     requires size { buffer.old.size ≡ head_limit }
     ensures bytes { Grows (R.remaining reader.old.inner) (R.remaining reader.new.inner) [] buffer.new.bytes }
     ensures within { length buffer.new.bytes ≤ head_limit }
-    ensures few { IfOk result (λ n. (n ≤ length buffer.new.bytes) × (line_feeds (take n buffer.new.bytes) ≤ 66)) }
+    ensures few { IfOk result (λ n. (n ≤ length buffer.new.bytes) × (line_feeds (take n buffer.new.bytes) ≤ line_limit)) }
     ensures head { IfSome (R.remaining reader.old.inner) (λ input. Gives (λ n. n) result (head_at input)) }
     ensures faults { FaultsTell result reader.old.faults reader.new.faults }
 {

@@ -1,9 +1,10 @@
 //! A request as it was read: its head, taken apart, and its body.
+
 ghost use Rattle.std.specs.Prelude.{◌≡◌, ◌≤◌, length, IfOk, IfSome};
 ghost use Rattle.std.specs.Option.{option_map};
-ghost use Rattle.bor_wire_read.specs.Head.{line_feeds};
+ghost use Rattle.bor_wire_read.specs.Head.{line_feeds, line_limit};
 ghost use Rattle.bor_wire_read.specs.Reading.{Answers, FaultsTell, TakesAtMost};
-ghost use Rattle.bor_wire_read.specs.Message.{AreWithin, HeadAnswers, parts_at, IsMessage, only_value};
+ghost use Rattle.bor_wire_read.specs.Message.{AreWithin, HeadAnswers, parts_at, IsMessage, only_value, request_limit};
 
 use crate::counted::Counted;
 use crate::fault::{Refusal, WireFault};
@@ -29,7 +30,7 @@ pub(crate) struct HeadSpans {
 
 /// Takes apart bytes that are to be one head and nothing else.
 pub(crate) fn parse_head(alloc: Global, head: &[u8]) -> Result<HeadSpans, WireFault>
-    requires { line_feeds head.now ≤ 66 }
+    requires { line_feeds head.now ≤ line_limit }
     ensures within { IfOk result (λ s. AreWithin head.now s.method s.target s.fields.items) }
     ensures parts { HeadAnswers (λ s. parts_at head.now s.method s.target s.fields.items) head.now result }
 {
@@ -50,7 +51,8 @@ pub(crate) fn parse_head(alloc: Global, head: &[u8]) -> Result<HeadSpans, WireFa
     }
 }
 
-/// A request as it was read. Only `read_request` makes one.
+/// A request as it was read, whole: a head (RFC 9112) and as many bytes behind it as the head says. Only
+/// [`read_request`] makes one.
 #[derive(Drop)]
 pub struct RawRequest {
     head: Vec<u8>,
@@ -72,25 +74,29 @@ impl Model for RawRequest {
 }
 
 impl RawRequest {
+    /// The method, as it stands.
     pub fn method(&self) -> &[u8]
         ensures { result.now ≡ self.now.parts.method }
     {
         self.spans.method.of(&self.head)
     }
 
+    /// The target, as it stands: a path and a query.
     pub fn target(&self) -> &[u8]
         ensures { result.now ≡ self.now.parts.target }
     {
         self.spans.target.of(&self.head)
     }
 
+    /// The body, of at most 1,048,576 bytes.
     pub fn body(&self) -> &[u8]
         ensures { result.now ≡ self.now.body }
     {
         &self.body
     }
 
-    /// The value of the one field that has the name, if there is exactly one.
+    /// The value of the one field that has the name, in whichever letter case, if there is exactly one;
+    /// without the blanks at its ends.
     pub fn only(&self, name: &[u8]) -> Option<&[u8]>
         ensures { option_map (λ value. value.now) result ≡ only_value name.now self.now.parts.fields }
     {
@@ -105,15 +111,19 @@ impl RawRequest {
 /// Reads one request: its head, and as many bytes behind it as the head says.
 ///
 /// What is read follows from the bytes of the reader alone, in whatever pieces they come, and what
-/// stands behind the body has no part in it. The refusals are those up to the second `CutShort`.
-/// `Read` comes exactly where the reader's count of faults moved. Nothing is asked of the reader once
-/// the request is there, and at most 1,064,960 bytes are taken of it.
+/// stands behind the body has no part in it. Nothing is asked of the reader once the request is there,
+/// and at most 1,064,960 bytes are taken of it.
+///
+/// # Errors
+///
+/// `Refused`: the bytes are no request; what comes first of [`Refusal`], up to the second `CutShort`.
+/// `Read`: the reader failed, exactly where its count of faults moved. `Memory`: memory is wanting.
 pub fn read_request<R: Read>(
     alloc: Global,
     reader: &mut Counted<R>,
 ) -> Result<RawRequest, WireFault>
     ensures request { IfSome (R.remaining reader.old.inner) (λ input. Answers result (IsMessage input)) }
-    ensures taken { TakesAtMost 1064960 (R.remaining reader.old.inner) (R.remaining reader.new.inner) }
+    ensures taken { TakesAtMost request_limit (R.remaining reader.old.inner) (R.remaining reader.new.inner) }
     ensures faults { FaultsTell result reader.old.faults reader.new.faults }
 {
     let mut buffer = room_for_head(alloc)?;

@@ -1,4 +1,5 @@
 //! Writing all of a reply.
+
 ghost use Rattle.std.specs.Prelude.{◌≡◌, ◌≤◌, ℕ, length, take, if◌then◌else◌};
 ghost use Rattle.std.specs.Bool.{OnTrue};
 ghost use Rattle.std.specs.Io.KnownBytes.{Appends};
@@ -7,7 +8,8 @@ ghost use Rattle.bor_wire_read.specs.Counted.{after_fault};
 use crate::counted::Counted;
 use std::io::Write;
 
-/// Writes all bytes, or stops at the first fault.
+/// Writes all bytes, and tells whether it did: it stops at the first write that fails or takes nothing,
+/// and then a front of the bytes is written.
 pub fn send<W: Write>(writer: &mut Counted<W>, bytes: &[u8]) -> bool
     ensures whole { OnTrue result (Appends (W.contents writer.old.inner) (W.contents writer.new.inner) bytes.now) }
     ensures part { (n : ℕ) × Appends (W.contents writer.old.inner) (W.contents writer.new.inner) (take n bytes.now) }
