@@ -1,0 +1,4 @@
+pub mod Found
+pub mod Lists
+pub mod FoundAgents
+pub mod FoundFilings

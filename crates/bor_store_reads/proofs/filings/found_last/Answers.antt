@@ -1,0 +1,27 @@
+use Rattle.std.proofs.Common.{◌≡◌, map, length, sym, ap, ◌∙◌, slice_get}
+use Rattle.std.proofs.lemmas.Simd.{map-map}
+use Rattle.sqlite.specs.Held.{state}
+use Rattle.bor_register.specs.Register.{filings_of}
+use Rattle.bor_register.specs.Forms.{IsFormedFiling}
+use Rattle.bor_store_rows.specs.Placed.{filing_row}
+use Rattle.bor_store_rows.specs.Encoding.{line_columns}
+use Rattle.bor_store_rows.specs.RowForms.{IsFormedFilingRow}
+use Rattle.bor_store_sql.specs.Selected.{last}
+use Rattle.bor_store_reads.specs.Lines.{count_to}
+use Rattle.bor_store_reads.proofs.Found.{told, in_words}
+use Rattle.bor_store_reads.proofs.Lists.{all_taken}
+use Rattle.bor_store_reads.proofs.FoundFilings.{counted, own_numbered, own_rows_formed}
+use Rattle.bor_store_reads.proofs.filings.found_last.Goals as goal
+
+pub returns-clause-answer : goal.returns-clause-answer
+returns-clause-answer g c =
+    let agent = c.args.agent.now in
+    let old = state g.S.Store c.args.conn.now in
+    let new = state g.S.Store c.last_filing.new.conn in
+    in_words old new c.first.result (λ r x. x ≡ slice_get (map (filing_row agent) (last (filings_of agent r.members))) 0) (λ r x. count_to x ≡ length (filings_of agent r.members))
+    (λ r x stored is. ap count_to is ∙ counted agent (filings_of agent r.members) (own_numbered agent r.members stored.numbered))
+    (told line_columns IsFormedFilingRow old new c.last_filing.result (λ r. map (λ f. line_columns (filing_row c.as_str.result.now f)) (last (filings_of c.as_str.result.now r.members))) c.last_filing.ensures.finds
+    (λ r. map (filing_row agent) (last (filings_of agent r.members)))
+    (λ r. ap (λ a. map (λ f. line_columns (filing_row a f)) (last (filings_of a r.members))) c.as_str.ensures.value ∙ sym (map-map line_columns (filing_row agent) (last (filings_of agent r.members))))
+    (own_rows_formed agent c.as_str.ensures.form last (λ fs h. all_taken IsFormedFiling fs h))
+    c.first.result (λ xs x. x ≡ slice_get xs 0) c.first.ensures)

@@ -1,0 +1,15 @@
+use Rattle.std.proofs.Common.{◌≡◌, [], ◌∷◌, refl, slice_get}
+use Rattle.std.proofs.lemmas.List.Elements.{All-nil, All-cons}
+use Rattle.sqlite.specs.Held.{state}
+use Rattle.bor_store_rows.specs.Placed.{register_row}
+use Rattle.bor_store_rows.specs.Encoding.{register_columns, register_row_columns}
+use Rattle.bor_store_rows.specs.RowForms.{IsFormedRegisterRow}
+use Rattle.bor_store_rows.proofs.Formed.{register_formed}
+use Rattle.bor_store_reads.proofs.Found.{told}
+use Rattle.bor_store_reads.proofs.register.found_register.Goals as goal
+
+pub returns-clause-answer : goal.returns-clause-answer
+returns-clause-answer g c =
+    told register_row_columns IsFormedRegisterRow (state g.S.Store c.args.conn.now) (state g.S.Store c.all_register.new.conn) c.all_register.result (λ r. register_columns r ∷ []) c.all_register.ensures.finds
+    (λ r. register_row r ∷ []) (λ r. refl) (λ r stored. All-cons IsFormedRegisterRow (register_row r) [] (register_formed r stored.formed) (All-nil IsFormedRegisterRow))
+    c.first.result (λ xs x. x ≡ slice_get xs 0) c.first.ensures

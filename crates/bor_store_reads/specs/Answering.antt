@@ -1,0 +1,30 @@
+-- What a read answers.
+use Rattle.std.specs.Prelude.{◌≢◌, Result, MatchResult}
+use Rattle.sqlite.specs.State.{State}
+use Rattle.bor_register.specs.Register.{Register}
+use Rattle.bor_register.specs.declared.fault.StoreFault.{StoreFault}
+use Rattle.bor_register.specs.declared.fault.StoreFault.TheVariants as store_faults
+use Rattle.bor_store_rows.specs.declared.fault.RowFault.{RowFault}
+use Rattle.bor_store_rows.specs.declared.fault.RowFault.TheVariants as row_faults
+use Rattle.bor_store_sql.specs.Shown.{IsClean, ShowsIn}
+use Rattle.bor_store_reads.specs.declared.fault.ReadError.{ReadError}
+use Rattle.bor_store_reads.specs.declared.fault.ReadError.TheVariants as errors
+
+-- memory is wanting or the store failed: the tables are those of a register
+abbrev pub IsNoDamage : ReadError → Type 0
+IsNoDamage error = error ≢ errors.Damaged
+
+-- what is told of a row that is not read
+abbrev pub of_row : RowFault → ReadError
+of_row row_faults.Memory = errors.Memory
+of_row row_faults.Damaged = errors.Damaged
+
+-- Where the connection ended clean and showed a register, this holds of an answer, and no error is of damage.
+abbrev pub Answers : {X : Type 0} → State → State → Result X ReadError → (Register → X → Type 0) → Type 0
+Answers old new result P = IsClean new → (r : Register) → ShowsIn r old → MatchResult result (P r) IsNoDamage
+
+-- the fault of a keep that an error is told as
+abbrev pub told_as : ReadError → StoreFault
+told_as errors.Memory = store_faults.Memory
+told_as errors.Store = store_faults.Store
+told_as errors.Damaged = store_faults.Damaged

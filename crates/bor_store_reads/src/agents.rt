@@ -1,0 +1,67 @@
+//! Agents, by name and by token.
+
+ghost use Rattle.std.specs.Prelude.{◌≡◌, false, option_map};
+ghost use Rattle.sqlite.specs.Held.{state};
+ghost use Rattle.bor_register.specs.Register.{agent_with, caller_of, is_enrolled};
+ghost use Rattle.bor_store_sql.specs.Shown.{IsClean};
+ghost use Rattle.bor_store_reads.specs.Answering.{Answers};
+
+use crate::fault::ReadError;
+use crate::register::read_register;
+use crate::values::{any, first};
+use bor_register::Caller;
+use bor_store_rows::AgentRow;
+use bor_store_sql::{agent_by_name, agent_by_token};
+use bor_terms::{AgentName, Token};
+use sqlite::{Alter, Connection};
+use std::alloc::Global;
+
+/// The agent that has the token.
+fn found_agent<S: Alter>(
+    conn: &mut Connection<S>,
+    alloc: Global,
+    token: &Token,
+) -> Result<Option<AgentRow>, ReadError>
+    requires { conn.old.in_transaction ≡ false }
+    ensures mode { conn.new.in_transaction ≡ false }
+    ensures began { IsClean (state S.Store conn.new) → IsClean (state S.Store conn.old) }
+    ensures kept { IsClean (state S.Store conn.new) → (state S.Store conn.new).committed ≡ (state S.Store conn.old).committed }
+    ensures answer { Answers (state S.Store conn.old) (state S.Store conn.new) result (λ r agent.
+        option_map (λ a. a.name) agent ≡ agent_with token.now r.members) }
+{
+    first(alloc, agent_by_token(conn, token.as_str()))
+}
+
+/// Who has the token; `None` where nobody has.
+pub fn read_who<S: Alter>(
+    conn: &mut Connection<S>,
+    alloc: Global,
+    token: &Token,
+) -> Result<Option<Caller>, ReadError>
+    requires { conn.old.in_transaction ≡ false }
+    ensures mode { conn.new.in_transaction ≡ false }
+    ensures began { IsClean (state S.Store conn.new) → IsClean (state S.Store conn.old) }
+    ensures kept { IsClean (state S.Store conn.new) → (state S.Store conn.new).committed ≡ (state S.Store conn.old).committed }
+    ensures answer { Answers (state S.Store conn.old) (state S.Store conn.new) result (λ r caller.
+        caller ≡ caller_of token.now r) }
+{
+    if read_register(conn, alloc)?.registrar == *token {
+        return Ok(Some(Caller::Registrar));
+    }
+    match found_agent(conn, alloc, token)? {
+        Some(agent) => Ok(Some(Caller::Agent(agent.name))),
+        None => Ok(None),
+    }
+}
+
+/// Whether an agent has the name.
+pub fn has_agent<S: Alter>(conn: &mut Connection<S>, agent: &AgentName) -> Result<bool, ReadError>
+    requires { conn.old.in_transaction ≡ false }
+    ensures mode { conn.new.in_transaction ≡ false }
+    ensures began { IsClean (state S.Store conn.new) → IsClean (state S.Store conn.old) }
+    ensures kept { IsClean (state S.Store conn.new) → (state S.Store conn.new).committed ≡ (state S.Store conn.old).committed }
+    ensures answer { Answers (state S.Store conn.old) (state S.Store conn.new) result (λ r has.
+        has ≡ is_enrolled agent.now r.members) }
+{
+    any(agent_by_name(conn, agent.as_str()))
+}

@@ -1,0 +1,19 @@
+//! What a register in tables answers to each question of a keep, over a connection.
+//!
+//! Each read asks by key for the rows that it needs. Where the connection shows a register
+//! (`bor_store_sql`), the answer is what the trait `Keep` of `bor_register` says of that register,
+//! or memory or the store failed: [`ReadError::Damaged`] is never answered of such tables
+//! (`specs/Answering`).
+#![tactic(auto)]
+
+mod agents;
+mod fault;
+mod files;
+mod filings;
+mod register;
+mod values;
+
+pub use agents::{has_agent, read_who};
+pub use fault::ReadError;
+pub use filings::{filing_count, has_file, read_filing, read_filings, read_line};
+pub use register::read_day;

@@ -1,0 +1,43 @@
+//! The values of the rows that a query finds.
+
+ghost use Rattle.std.specs.Prelude.{◌≡◌, List, map, not, length, ◌==◌, All, IfOk, MatchResult, slice_get};
+ghost use Rattle.sqlite.specs.Order.{Row as SqlRow};
+ghost use Rattle.bor_store_reads.specs.Answering.{IsNoDamage};
+
+use crate::fault::ReadError;
+use bor_store_rows::{TableRow, read_rows};
+use sqlite::{Error, Row};
+use std::alloc::Global;
+
+/// The value of the first row; none where no row was found.
+pub(crate) fn first<T: TableRow + Drop>(
+    alloc: Global,
+    found: Result<Vec<Row>, Error>,
+) -> Result<Option<T>, ReadError>
+    ensures { (xs : List T) → IfOk found (λ rows. rows.items ≡ map T.columns xs) → All T.is_formed xs → MatchResult result (λ x. x ≡ slice_get xs 0) IsNoDamage }
+{
+    let rows = found?;
+    match rows.as_slice().first() {
+        Some(row) => Ok(Some(T::read(alloc, row)?)),
+        None => Ok(None),
+    }
+}
+
+/// The values of all rows, in order.
+pub(crate) fn all<T: TableRow + Drop>(
+    alloc: Global,
+    found: Result<Vec<Row>, Error>,
+) -> Result<Vec<T>, ReadError>
+    ensures { (xs : List T) → IfOk found (λ rows. rows.items ≡ map T.columns xs) → All T.is_formed xs → MatchResult result (λ values. values.items ≡ xs) IsNoDamage }
+{
+    let rows = found?;
+    Ok(read_rows(alloc, rows.as_slice())?)
+}
+
+/// Whether a row was found.
+pub(crate) fn any(found: Result<Vec<Row>, Error>) -> Result<bool, ReadError>
+    ensures { (xs : List SqlRow) → IfOk found (λ rows. rows.items ≡ xs) → MatchResult result (λ any. any ≡ not (length xs == 0)) IsNoDamage }
+{
+    let rows = found?;
+    Ok(!rows.as_slice().is_empty())
+}
