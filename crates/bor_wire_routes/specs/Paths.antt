@@ -1,6 +1,6 @@
 -- The path that a text is, as matchit keeps the paths of the table and finds one.
-use Rattle.std.specs.Prelude.{ℕ, List, [], ◌∷◌, not, Option, Result, Ok, Err}
-use Rattle.std.specs.List.{filter}
+use Rattle.std.specs.Prelude.{◌≡◌, ◌<◌, ◌==◌, ◌↔◌, ℕ, List, [], ◌∷◌, ◌++◌, length, false, not, Option, Some, Result, Ok, Err, codes, All}
+use Rattle.std.specs.List.{filter, list_any}
 use Rattle.std.specs.Option.{option_map}
 use Rattle.matchit.specs.Rows.{RowsOf}
 use Rattle.matchit.specs.Router.{RouteOf, route_from}
@@ -9,6 +9,7 @@ use Rattle.matchit.specs.Route.{Scan, parse_route}
 use Rattle.matchit.specs.Seek.{first}
 use Rattle.matchit.specs.declared.error.InsertError.{InsertError}
 use Rattle.bor_wire_read.specs.declared.fault.Path.{Path}
+use Rattle.bor_wire_read.specs.declared.fault.Path.TheVariants as paths
 use Rattle.bor_wire_routes.specs.Routes.{Line, table, path_word, is_same_path}
 
 -- the paths of lines, each once, where it first stands
@@ -39,3 +40,20 @@ path_in rows text = option_map (λ row. row.value) (first rows text)
 -- the path that a text is
 unfoldable pub path_of : List ℕ → Option Path
 path_of text = path_in router text
+
+-- ---- the same as the paths are written
+
+-- one segment that isn't empty
+pub record IsSegment (key : List ℕ) : Type 0 where
+  pub some : 0 < length key
+  pub one : list_any (λ b. b == 47) key ≡ false
+
+-- The text is the path as it is written, with a segment in the place of {key}. Nothing is decoded.
+abbrev pub IsPath : Path → List ℕ → Type 0
+IsPath paths.Filing text = (key : List ℕ) × IsSegment key × (text ≡ codes "/filings/" ++ key)
+IsPath paths.File text = (key : List ℕ) × IsSegment key × (text ≡ codes "/filings/" ++ key ++ codes "/file")
+IsPath path text = text ≡ path_word path
+
+-- what is found of a text is the path that it is as it stands
+abbrev pub PathsAreAsWritten : Type 0
+PathsAreAsWritten = (text : List ℕ) (path : Path) → All (λ b. b < 256) text → (path_of text ≡ Some path) ↔ IsPath path text

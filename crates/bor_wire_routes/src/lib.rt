@@ -12,6 +12,7 @@
 //! tokens are not looked at here.
 #![tactic(auto)]
 
+pub mod laws;
 mod path;
 mod route;
 #[cfg(test)]

@@ -26,13 +26,15 @@ refuse why holds = if holds then why ∷ [] else []
 abbrev pub head_end : List ℕ → Option ℕ
 head_end input = head_len (take head_limit input)
 
-abbrev pub has_many_lines : List ℕ → Option ℕ → Bool
-has_many_lines input None = not (nat_lt (length input) head_limit)
-has_many_lines input (Some n) = nat_lt 66 (line_feeds (take n input))
+-- none ends within the limit, of as many bytes; or the one that does has too many lines
+abbrev pub is_too_large : List ℕ → Option ℕ → Bool
+is_too_large input None = not (nat_lt (length input) head_limit)
+is_too_large input (Some n) = nat_lt 66 (line_feeds (take n input))
 
+-- about an input, where its head ends, and the head taken apart
 abbrev pub lines_of_head : List ℕ → Option ℕ → Option Parts → List Refusal
 lines_of_head input end head =
-    table (refuse HeadTooLarge (has_many_lines input end)
+    table (refuse HeadTooLarge (is_too_large input end)
     ∷ refuse CutShort (is_none end && nat_lt (length input) head_limit)
     ∷ refuse BadHead (is_some end && is_none head)
     ∷ [])
@@ -50,10 +52,16 @@ lengths fields = values (codes "content-length") fields
 abbrev pub exceeds : ℕ → List (List ℕ) → Bool
 exceeds limit lengths = list_any (λ value. is_numeral value && nat_lt limit (digits_value 10 value)) lengths
 
+-- there is a transfer coding, more than one length, or a length that is no number
+abbrev pub has_bad_length : List FieldText → Bool
+has_bad_length fields =
+    nat_lt 0 (length (values (codes "transfer-encoding") fields))
+    || nat_lt 1 (length (lengths fields)) || list_any (λ value. not (is_numeral value)) (lengths fields)
+
+-- about a head with these fields, and what stands behind it
 abbrev pub lines_of_body : List FieldText → List ℕ → List Refusal
 lines_of_body fields rest =
-    table (refuse BadLength (nat_lt 0 (length (values (codes "transfer-encoding") fields))
-    || nat_lt 1 (length (lengths fields)) || list_any (λ value. not (is_numeral value)) (lengths fields))
+    table (refuse BadLength (has_bad_length fields)
     ∷ refuse BodyTooLarge (exceeds body_limit (lengths fields))
     ∷ refuse CutShort (exceeds (length rest) (lengths fields))
     ∷ [])
