@@ -65,7 +65,7 @@ left_more : (r : Register) (ss : List Spelled) (s : Spelled) → register_left r
 left_more r [] s = refl
 left_more r (t ∷ ss) s = left_more (after r t) ss s
 
-after_legal : (r : Register) (s : Spelled) → IsLegal r → IsLegal (after r s)
+pub after_legal : (r : Register) (s : Spelled) → IsLegal r → IsLegal (after r s)
 after_legal r (Err why) legal = legal
 after_legal r (Ok asked) legal = step-stays_legal r (caller_of asked.token r) asked.request legal
 

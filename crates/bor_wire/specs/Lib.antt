@@ -3,3 +3,6 @@ pub mod Runs
 pub mod Reports
 pub mod Histories
 pub mod Exchanges
+pub mod Nobody
+pub mod Agents
+pub mod Sequences

@@ -1,0 +1,69 @@
+-- Exchanges one after the other, as a run.
+use Rattle.std.specs.Prelude.{ℕ, List, [], ◌∷◌, map, filter, take, Option, Bool, false, not, ◌==◌}
+use Rattle.std.specs.List.{AllZip}
+use Rattle.std.specs.Io.KnownBytes.{Appends}
+use Rattle.bor_records.specs.Promises.{Promised}
+use Rattle.bor_register.specs.Register.{Register}
+use Rattle.bor_machine.specs.Legality.{IsLegal}
+use Rattle.bor_wire_spell.specs.Spell.{Spelled}
+use Rattle.bor_wire.specs.declared.outcome.Outcome.{Outcome}
+use Rattle.bor_wire.specs.declared.outcome.Outcome.TheVariants.{Replied, ReadFailed, WriteFailed}
+use Rattle.bor_wire.specs.Runs.{AreReplies, AreSpelled, register_left}
+use Rattle.bor_wire.specs.Histories.{IsAlone}
+use Rattle.bor_wire.specs.Reports.{AreReports}
+use Rattle.bor_wire.specs.Exchanges.{IsExchanged}
+
+-- One exchange of a sequence: the bytes that its reader gave, how it ended, what its writer held before it and after it, and the keep that it left.
+pub record Exchanged (K : Type 0) : Type 0 where
+  pub input : List ℕ
+  pub outcome : Outcome
+  pub held : Option (List ℕ)
+  pub holds : Option (List ℕ)
+  pub keep : K
+
+-- the keep that they leave
+abbrev pub keep_left : {K : Type 0} → K → List (Exchanged K) → K
+keep_left keep [] = keep
+keep_left keep (e ∷ rest) = keep_left e.keep rest
+
+-- each is as the contract of an exchange says, from the keep that the one before it left
+abbrev pub AreExchanged : {K : Type 0} → (K → Register → Type 0) → (K → Type 0) → K → List (Exchanged K) → Type 0
+AreExchanged shows is_clean keep [] = Unit {0}
+AreExchanged shows is_clean keep (e ∷ rest) =
+    (is_clean e.keep → is_clean keep)
+    × Promised shows is_clean keep e.keep (λ r. IsLegal r → IsExchanged e.outcome (shows e.keep) r e.input e.held e.holds)
+    × AreExchanged shows is_clean e.keep rest
+
+-- whether the request was answered: the reader didn't fail, and the reply isn't 503
+abbrev pub is_answered : Outcome → Bool
+is_answered (Replied status) = not (status == 503)
+is_answered ReadFailed = false
+is_answered (WriteFailed status) = not (status == 503)
+
+abbrev pub answered : {K : Type 0} → List (Exchanged K) → List (Exchanged K)
+answered exchanges = filter (λ e. is_answered e.outcome) exchanges
+
+-- the reply was written, or a front of it where the writer failed
+abbrev pub IsWrittenBy : Outcome → Option (List ℕ) → Option (List ℕ) → List ℕ → Type 0
+IsWrittenBy (Replied status) held holds bytes = Appends held holds bytes
+IsWrittenBy ReadFailed held holds bytes = ⊥
+IsWrittenBy (WriteFailed status) held holds bytes = (n : ℕ) × Appends held holds (take n bytes)
+
+abbrev pub AreWritten : {K : Type 0} → List (Exchanged K) → List (List ℕ) → Type 0
+AreWritten exchanges replies = AllZip (λ e bytes. IsWrittenBy e.outcome e.held e.holds bytes) exchanges replies
+
+-- What `replay` says of a list of inputs, of the exchanges that were answered.
+pub record IsRun {K : Type 0} (shown : Register → Type 0) (r : Register) (exchanges : List (Exchanged K)) : Type 0 where
+  pub spelled : List Spelled
+  pub spells : AreSpelled (map (λ e. e.input) (answered exchanges)) spelled
+  pub sent : List (List ℕ)
+  pub written : AreWritten (answered exchanges) sent
+  pub replies : AreReplies r spelled sent
+  pub left : shown (register_left r spelled)
+  pub alone : (name : List ℕ) → IsAlone name r spelled sent
+  pub reports : AreReports r spelled sent
+
+-- Exchanges one after the other, from a keep of a legal register, are a run over what their inputs spell.
+abbrev pub ExchangesAreARun : {K : Type 0} → (K → Register → Type 0) → (K → Type 0) → Type 0
+ExchangesAreARun {K} shows is_clean = (keep : K) (exchanges : List (Exchanged K)) → AreExchanged shows is_clean keep exchanges →
+    Promised shows is_clean keep (keep_left keep exchanges) (λ r. IsLegal r → IsRun (shows (keep_left keep exchanges)) r exchanges)
