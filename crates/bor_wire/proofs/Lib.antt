@@ -6,3 +6,4 @@ pub mod HistoryLaws
 pub mod SentAlone
 pub mod NobodyLaws
 pub mod SequenceLaws
+pub mod HistoryExamples

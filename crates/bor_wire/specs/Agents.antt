@@ -8,7 +8,7 @@ use Rattle.bor_wire.specs.declared.outcome.Outcome.TheVariants.{Replied, ReadFai
 use Rattle.bor_wire.specs.Inputs.{IsReplyTo}
 use Rattle.bor_wire.specs.Histories.{IsAlone}
 
--- These are the bytes of the reply, and what each agent receives of it is what it would receive alone: one agent the whole reply, the others nothing.
+-- These are the bytes of the reply, and what each agent receives of the exchange is what it would receive alone.
 abbrev pub IsSentAlone : Register → Spelled → List ℕ → Type 0
 IsSentAlone r spelled bytes = IsReplyTo r spelled bytes × ((name : List ℕ) → IsAlone name r (spelled ∷ []) (bytes ∷ []))
 

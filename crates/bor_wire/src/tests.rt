@@ -9,3 +9,4 @@ mod requests;
 mod rows;
 mod streams;
 mod talk;
+mod worlds;
