@@ -5,6 +5,7 @@
 //! rows of their tables. Nothing here speaks to a store.
 #![tactic(auto)]
 
+mod answers;
 mod fault;
 mod joining;
 mod members;
@@ -19,6 +20,7 @@ mod tests;
 mod values;
 mod words;
 
+pub use answers::{first_flag, first_row, lines_of};
 pub use fault::RowFault;
 pub use joining::joined;
 pub use members::{filings_of, members_of};
