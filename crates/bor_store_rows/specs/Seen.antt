@@ -1,10 +1,11 @@
 -- What a viewer sees of an agent's statements, from their rows and those of their filings.
-use Rattle.std.specs.Prelude.{ℕ, ℤ, int_le, List, Bool, not, ◌&&◌, ◌==◌, if◌then◌else◌, unwrap_or}
+use Rattle.std.specs.Prelude.{ℕ, ℤ, int_le, List, Bool, not, ◌&&◌, ◌==◌, if◌then◌else◌, unwrap_or, Option, Some, None, nat_lt, false}
 use Rattle.std.specs.List.{list_any}
 use Rattle.bor_terms.specs.Texts.{is_same}
 use Rattle.bods_read.specs.declared.statement.RecordType.{RecordType}
 use Rattle.bods_read.specs.declared.statement.RecordType.TheVariants as types
 use Rattle.bods_read.specs.declared.statement.Status.TheVariants.{New}
+use Rattle.bor_records.specs.Admission.{is_of}
 use Rattle.bor_records.specs.declared.admission.Last.{Last}
 use Rattle.bor_records.specs.declared.row.Row.{Row}
 use Rattle.bor_register.specs.Rows.{row_of, is_visible}
@@ -47,3 +48,14 @@ type_of_part (part.Relationship subject party) = types.Relationship
 -- what is known of the statement of this row, whose filing is due on this day
 abbrev pub known_at : ℤ → StatementRow → Last
 known_at due s = record { kind = type_of_part s.part; status = unwrap_or s.status New; day = s.day; due = due }
+
+-- ---- for has_successor
+
+-- a statement of the record of another one
+abbrev pub is_of_record_of : Placed → Placed → Bool
+is_of_record_of p q = is_of p.statement.declaration p.statement.rec q.statement
+
+-- there is a statement, and it stands in a filing after the one with this number
+abbrev pub is_later : ℕ → Option Placed → Bool
+is_later number None = false
+is_later number (Some p) = nat_lt number p.at.filing
