@@ -23,7 +23,7 @@ mod words;
 pub use answers::{first_flag, first_row, lines_of};
 pub use fault::RowFault;
 pub use joining::joined;
-pub use members::{filings_of, members_of};
+pub use members::{filings_of, members_joined, members_of};
 pub use places::At;
 pub use reader::{TableRow, read_rows};
 pub use rows::{
