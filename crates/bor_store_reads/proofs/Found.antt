@@ -12,6 +12,8 @@ use Rattle.bor_register.specs.Register.{Register}
 use Rattle.bor_store_rows.specs.Stored.{IsStored}
 use Rattle.bor_store_rows.specs.declared.fault.RowFault.{RowFault}
 use Rattle.bor_store_rows.specs.declared.fault.RowFault.TheVariants as row_faults
+use Rattle.bor_store_rows.specs.Encoding.{contents}
+use Rattle.bor_store_sql.specs.Shown.{Has, ShowsIn}
 use Rattle.bor_store_sql.specs.Found.{Finds}
 use Rattle.bor_store_reads.specs.declared.fault.ReadError.{ReadError}
 use Rattle.bor_store_reads.specs.declared.fault.ReadError.TheVariants as errors
@@ -58,3 +60,9 @@ not_none x xs = grind arith
 pub any_left : {X Y : Type 0} (f : X → Y) (p : X → Bool) (xs : List X) → not (length (map f (filter p xs)) == 0) ≡ list_any p xs
 any_left f p [] = refl
 any_left f p (x ∷ xs) = elim (p x) as (λ b. not (length (map f (cond b (x ∷ filter p xs) (filter p xs))) == 0) ≡ (b || list_any p xs)) [ true ↦ not_none (f x) (map f (filter p xs)) | false ↦ any_left f p xs ]
+
+-- ---- what is shown
+
+-- a read leaves what is shown
+pub still_shows : (r : Register) (old new : State) → new.committed ≡ old.committed → ShowsIn r old → ShowsIn r new
+still_shows r old new same shows = record { has = subst (Has (contents r)) (sym same) shows.has; stored = shows.stored }
