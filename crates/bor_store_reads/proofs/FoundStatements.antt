@@ -20,6 +20,7 @@ use Rattle.bor_register.specs.declared.filing.AcceptedFiling.{AcceptedFiling}
 use Rattle.bor_register.specs.declared.member.Member.{Member}
 use Rattle.bor_register.specs.Register.{Register, filings_of}
 use Rattle.bor_register.specs.Live.{live_of}
+use Rattle.bor_register.specs.Withdrawal.{has_successor}
 use Rattle.bor_register.proofs.LiveStatements.{has_id-live_of}
 use Rattle.bor_store_rows.specs.declared.rows.FilingRow.{FilingRow}
 use Rattle.bor_store_rows.specs.declared.rows.Placed.{Placed}
@@ -27,9 +28,10 @@ use Rattle.bor_store_rows.specs.declared.rows.StatementRow.{StatementRow}
 use Rattle.bor_store_rows.specs.Placed.{bare, part_of, filing_row, placed_from, placed_by, placed}
 use Rattle.bor_store_rows.specs.RowForms.{IsFormedPlaced}
 use Rattle.bor_store_rows.specs.Stored.{AreNumbered, IsStored}
+use Rattle.bor_store_rows.proofs.Successors.{successor_is}
 use Rattle.bor_store_rows.proofs.Formed.{placed_formed}
-use Rattle.bor_store_sql.specs.Selected.{numbered, placed_of, in_series, identified, place_columns}
-use Rattle.bor_store_reads.specs.Lines.{known_at, type_of_part}
+use Rattle.bor_store_sql.specs.Selected.{numbered, in_filing, placed_of, in_series, identified, place_columns}
+use Rattle.bor_store_rows.specs.Seen.{known_at, type_of_part, is_later}
 use Rattle.bor_store_reads.proofs.Found.{any_left}
 use Rattle.bor_store_reads.proofs.Lists.{all_left, all_front, all_back}
 use Rattle.bor_store_reads.proofs.LastOnes.{last_or-map, of_last}
@@ -162,3 +164,14 @@ module _ (agent declaration rec : List ℕ) (fs : List AcceptedFiling) (numbers 
         go (Some p) e h =
             let same : row ≡ bare p = same_Some row (bare p) e in
             none-some (filing_row agent h.0) (none ∙ ap (λ (x : StatementRow). option_map (filing_row agent) (slice_get (numbered x.at.filing fs) 0)) same ∙ ap (option_map (filing_row agent)) h.1)
+
+-- ---- successors
+
+any_map : {X Y : Type 0} (p : Y → Bool) (f : X → Y) (xs : List X) → list_any p (map f xs) ≡ list_any (λ x. p (f x)) xs
+any_map p f [] = refl
+any_map p f (x ∷ xs) = ap (λ b. p (f x) || b) (any_map p f xs)
+
+pub followed_is : (agent : List ℕ) (number : ℕ) (fs : List AcceptedFiling) → AreNumbered 1 fs
+    → list_any (λ (row : StatementRow). is_later number (last_or None (in_series row.declaration row.rec (placed_by agent fs)))) (map bare (in_filing number (placed_by agent fs))) ≡ has_successor number fs
+followed_is agent number fs numbers =
+    any_map (λ (row : StatementRow). is_later number (last_or None (in_series row.declaration row.rec (placed_by agent fs)))) bare (in_filing number (placed_by agent fs)) ∙ successor_is agent number 1 fs numbers

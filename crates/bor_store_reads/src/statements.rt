@@ -12,15 +12,13 @@ ghost use Rattle.bor_store_rows.specs.Placed.{bare, filing_row};
 ghost use Rattle.bor_store_sql.specs.Shown.{IsClean};
 ghost use Rattle.bor_store_sql.specs.Selected.{in_series, numbered, placed_of};
 ghost use Rattle.bor_store_reads.specs.Answering.{Answers};
-ghost use Rattle.bor_store_reads.specs.Lines.{known_at, type_of_part};
 
 use crate::fault::ReadError;
 use crate::values::{any, first};
-use bods_read::{RecordType, Status};
 use bor_records::Last;
-use bor_store_rows::{FilingRow, Part, StatementRow};
+use bor_store_rows::{FilingRow, StatementRow};
 use bor_store_sql::{last_of_series, line_by_number, statement_by_id};
-use bor_terms::{AgentName, Day, Ident};
+use bor_terms::{AgentName, Ident};
 use sqlite::{Alter, Connection};
 use std::alloc::Global;
 
@@ -41,7 +39,7 @@ pub fn has_statement<S: Alter>(
 }
 
 /// The row of the record's last live statement.
-fn found_statement<S: Alter>(
+pub(crate) fn found_statement<S: Alter>(
     conn: &mut Connection<S>,
     alloc: Global,
     agent: &AgentName,
@@ -78,28 +76,6 @@ fn found_filing<S: Alter>(
     first(alloc, line_by_number(conn, agent.as_str(), number))
 }
 
-fn record_type(part: &Part) -> RecordType
-    ensures { result ≡ type_of_part part.now }
-{
-    match part {
-        Part::Entity { .. } => RecordType::Entity,
-        Part::Person { .. } => RecordType::Person,
-        Part::Relationship { .. } => RecordType::Relationship,
-    }
-}
-
-/// What is known of a statement whose filing is due on a day.
-fn known(row: &StatementRow, due: Day) -> Last
-    ensures { result ≡ known_at due row.now }
-{
-    Last {
-        kind: record_type(&row.part),
-        status: row.status.unwrap_or(Status::New),
-        day: row.day,
-        due,
-    }
-}
-
 /// What is known of the record's last live statement; `rec` is its identifier. `None` where the record
 /// has none.
 pub fn read_last<S: Alter>(
@@ -120,7 +96,7 @@ pub fn read_last<S: Alter>(
         return Ok(None);
     };
     match found_filing(conn, alloc, agent, row.at.filing)? {
-        Some(filing) => Ok(Some(known(&row, filing.due))),
+        Some(filing) => Ok(Some(row.known(filing.due))),
         None => Err(ReadError::Damaged),
     }
 }
