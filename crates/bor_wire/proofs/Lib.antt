@@ -3,3 +3,4 @@ pub mod ReportLaws
 pub mod Exchanged
 pub mod RunLaws
 pub mod HistoryLaws
+pub mod Examples
