@@ -2,3 +2,5 @@ pub mod Found
 pub mod Lists
 pub mod FoundAgents
 pub mod FoundFilings
+pub mod LastOnes
+pub mod FoundStatements

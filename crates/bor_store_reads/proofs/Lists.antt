@@ -1,5 +1,5 @@
 -- Lists, and what holds of all their elements.
-use Rattle.std.proofs.Common.{List, [], ◌∷◌, map, take, reverse, Bool, true, false, cond, sym, subst}
+use Rattle.std.proofs.Common.{List, [], ◌∷◌, ◌++◌, map, take, reverse, Bool, true, false, cond, sym, subst}
 use Rattle.std.proofs.lemmas.List.{reverse-append}
 use Rattle.std.specs.Prelude.{All}
 use Rattle.std.specs.List.{filter}
@@ -32,3 +32,11 @@ all_first P (x ∷ xs) h = All-cons P x [] (All-head P x xs h) (All-nil P)
 -- the last of them, alone
 pub all_taken : {X : Type 0} (P : X → Type 0) (xs : List X) → All P xs → All P (take 1 (reverse xs))
 all_taken P xs h = all_first P (reverse xs) (all_turned P xs h)
+
+pub all_front : {X : Type 0} (P : X → Type 0) (xs ys : List X) → All P (xs ++ ys) → All P xs
+all_front P [] ys h = All-nil P
+all_front P (x ∷ xs) ys h = All-cons P x xs (All-head P x (xs ++ ys) h) (all_front P xs ys (All-tail P x (xs ++ ys) h))
+
+pub all_back : {X : Type 0} (P : X → Type 0) (xs ys : List X) → All P (xs ++ ys) → All P ys
+all_back P [] ys h = h
+all_back P (x ∷ xs) ys h = all_back P xs ys (All-tail P x (xs ++ ys) h)

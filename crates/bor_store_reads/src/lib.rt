@@ -8,12 +8,15 @@
 
 mod agents;
 mod fault;
-mod files;
 mod filings;
 mod register;
+mod statements;
+mod successors;
 mod values;
 
 pub use agents::{has_agent, read_who};
 pub use fault::ReadError;
 pub use filings::{filing_count, has_file, read_filing, read_filings, read_line};
 pub use register::read_day;
+pub use statements::{has_statement, read_last};
+pub use successors::has_successor;

@@ -1,11 +1,12 @@
 //! The values of the rows that a query finds.
 
-ghost use Rattle.std.specs.Prelude.{◌≡◌, List, map, not, length, ◌==◌, All, IfOk, MatchResult, slice_get};
+ghost use Rattle.std.specs.Prelude.{◌≡◌, List, [], ◌∷◌, Bool, false, unwrap_or, map, not, length, ◌==◌, All, IfOk, MatchResult, slice_get};
 ghost use Rattle.sqlite.specs.Order.{Row as SqlRow};
+ghost use Rattle.bor_store_rows.specs.Encoding.{truth};
 ghost use Rattle.bor_store_reads.specs.Answering.{IsNoDamage};
 
 use crate::fault::ReadError;
-use bor_store_rows::{TableRow, read_rows};
+use bor_store_rows::{TableRow, first_flag, first_row, read_rows};
 use sqlite::{Error, Row};
 use std::alloc::Global;
 
@@ -17,10 +18,7 @@ pub(crate) fn first<T: TableRow + Drop>(
     ensures { (xs : List T) → IfOk found (λ rows. rows.items ≡ map T.columns xs) → All T.is_formed xs → MatchResult result (λ x. x ≡ slice_get xs 0) IsNoDamage }
 {
     let rows = found?;
-    match rows.as_slice().first() {
-        Some(row) => Ok(Some(T::read(alloc, row)?)),
-        None => Ok(None),
-    }
+    Ok(first_row(alloc, rows.as_slice())?)
 }
 
 /// The values of all rows, in order.
@@ -40,4 +38,12 @@ pub(crate) fn any(found: Result<Vec<Row>, Error>) -> Result<bool, ReadError>
 {
     let rows = found?;
     Ok(!rows.as_slice().is_empty())
+}
+
+/// The truth value of the first row; false where no row was found.
+pub(crate) fn flag(found: Result<Vec<Row>, Error>) -> Result<bool, ReadError>
+    ensures { (bs : List Bool) → IfOk found (λ rows. rows.items ≡ map (λ b. truth b ∷ []) bs) → MatchResult result (λ flag. flag ≡ unwrap_or (slice_get bs 0) false) IsNoDamage }
+{
+    let rows = found?;
+    Ok(first_flag(rows.as_slice())?)
 }

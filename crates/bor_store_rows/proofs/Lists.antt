@@ -1,7 +1,7 @@
 -- Rows that are read one by one.
 use Rattle.std.proofs.Common.{◌≡◌, ℕ, ◌+◌, ◌<◌, List, [], ◌∷◌, ◌++◌, length, drop, slice_index_or, map, append-nil, append_assoc, add-one, refl, sym, ap, ◌∙◌}
 use Rattle.std.proofs.Math.Seq.{drop-cons}
-use Rattle.std.specs.Prelude.{All}
+use Rattle.std.specs.Prelude.{All, slice_get, Some}
 use Rattle.std.proofs.lemmas.List.Elements.{All-head, All-tail}
 
 module _ {X R : Type 0} (columns : X → R) (is_formed : X → Type 0) where
@@ -45,3 +45,9 @@ module _ {X R : Type 0} (columns : X → R) (is_formed : X → Type 0) where
 
 pub next_row : {R : Type 0} (rows : List R) (i : ℕ) (row d : R) → i < length rows → slice_index_or rows i d ≡ row → drop i rows ≡ row ∷ drop (i + 1) rows
 next_row rows i row d low is = drop-cons rows i d low ∙ rw (is, add-one) refl
+
+-- the first row is that of a value
+pub first_read : {X R : Type 0} (columns : X → R) (is_formed : X → Type 0) (rows : List R) (xs : List X) (row : R) (Q : Type 0) → slice_get rows 0 ≡ Some row → rows ≡ map columns xs → All is_formed xs
+    → ((y : X) → row ≡ columns y → is_formed y → Q) → Q
+first_read columns is_formed rows [] row Q first e h reads = let none = sym (ap (λ l. slice_get l 0) e) ∙ first in absurd cc
+first_read columns is_formed rows (y ∷ xs) row Q first e h reads = let here : row ≡ columns y = cc in reads y here (All-head is_formed y xs h)

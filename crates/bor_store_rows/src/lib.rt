@@ -5,6 +5,7 @@
 //! rows of their tables. Nothing here speaks to a store.
 #![tactic(auto)]
 
+mod answers;
 mod fault;
 mod joining;
 mod members;
@@ -19,9 +20,10 @@ mod tests;
 mod values;
 mod words;
 
+pub use answers::{first_flag, first_row, lines_of};
 pub use fault::RowFault;
 pub use joining::joined;
-pub use members::{filings_of, members_of};
+pub use members::{filings_of, members_joined, members_of};
 pub use places::At;
 pub use reader::{TableRow, read_rows};
 pub use rows::{

@@ -3,10 +3,11 @@
 
 use crate::{
     AgentRow, At, FilingRow, IdentifierRow, InterestRow, Part, Placed, StatementRow, filings_of,
-    joined, members_of,
+    joined, lines_of, members_joined, members_of,
 };
 use bods_read::{
-    Details, Directness, EntityKind, FreeText, Identifier, Interest, InterestKind, Status,
+    Details, Directness, EntityKind, FreeText, Identifier, Interest, InterestKind, RecordType,
+    Status,
 };
 use bor_register::State;
 use bor_terms::{AgentName, Day, Ident, LodgeKey, Token};
@@ -154,7 +155,17 @@ fn a_draft_stays_invisible_to_others(rt: HostRuntime) {
     assert!(&rt; row.is_visible(&row.agent, before) && !row.is_visible(&birch.name, before));
     assert!(&rt; row.is_visible(&birch.name, row.due));
     let due = row.due;
-    assert!(&rt; row.into_line(due).state == State::Published);
+    let mut filings = Vec::new(alloc);
+    filings.push(row).expect(&rt, "fits");
+    let lines = lines_of(alloc, filings, due).expect(&rt, "lines");
+    assert!(&rt; lines.len() == 1 && lines[0].state == State::Published);
+}
+
+#[test]
+fn a_relationship_is_known_as_one(rt: HostRuntime) {
+    let row = relationship(rt.alloc()).expect(&rt, "a relationship");
+    let known = row.known(row.day);
+    assert!(&rt; known.kind == RecordType::Relationship && known.status == Status::New);
 }
 
 #[test]
@@ -184,4 +195,10 @@ fn each_agent_gets_its_own_filings(rt: HostRuntime) {
     assert!(&rt; own[1].withdrawn && own[1].statements.as_slice().len() == 0);
     let again = filings_of(alloc, &filings, &statements).expect(&rt, "filings");
     assert!(&rt; again.len() == 2);
+    let mut rows = Vec::new(alloc);
+    rows.push(entity(alloc).expect(&rt, "an entity"))
+        .expect(&rt, "fits");
+    let (none, nothing) = (Vec::new(alloc), Vec::new(alloc));
+    let joined = members_joined(alloc, &agents, &filings, rows, none, nothing);
+    assert!(&rt; joined.expect(&rt, "members").len() == 2);
 }

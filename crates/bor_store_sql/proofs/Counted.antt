@@ -1,5 +1,9 @@
 -- One element more of a list that is counted.
-use Rattle.std.proofs.Common.{◌≡◌, ℕ, zero, suc, ◌+◌, ◌<◌, List, [], ◌∷◌, ◌++◌, take, length, get_or, refl, sym, ap, ap₂, ◌∙◌, arith}
+use Rattle.std.proofs.Common.{◌≡◌, ℕ, zero, suc, ◌+◌, ◌<◌, List, [], ◌∷◌, ◌++◌, take, length, get_or, refl, sym, ap, ap₂, subst, ◌∙◌, arith}
+use Rattle.std.specs.Prelude.{All}
+use Rattle.std.proofs.lemmas.List.{take_more}
+use Rattle.std.proofs.lemmas.List.Elements.{All-push}
+use Rattle.bor_store_rows.specs.Stored.{IsCounted}
 use Rattle.bods_read.specs.declared.statement.Statement.{Statement}
 use Rattle.bods_read.specs.declared.details.Identifier.{Identifier}
 use Rattle.bods_read.specs.declared.interest.Interest.{Interest}
@@ -42,3 +46,7 @@ placed_more agent filing i place xs x lt is e =
     let one : place ≡ 1 + i = omega (arith, e) in
     ap (λ k. placed_from agent filing 1 (take i xs) ++ record { at = record { agent = agent; filing = filing; place = k }; statement = x } ∷ []) one
     ∙ counted_more (λ n y. record { at = record { agent = agent; filing = filing; place = n }; statement = y }) (placed_from agent filing) (λ n. refl) (λ n y ys. refl) 1 i xs x lt is
+
+-- the statements so far are counted, and so is one more
+pub all_counted : (xs : List Statement) (i : ℕ) (x : Statement) → i < length xs → x ≡ get_or xs i x → All IsCounted (take i xs) → IsCounted x → All IsCounted (take (i + 1) xs)
+all_counted xs i x lt is all one = subst (All IsCounted) (ap (λ y. take i xs ++ y ∷ []) is ∙ sym (take_more xs i x lt)) (All-push IsCounted (take i xs) x all one)

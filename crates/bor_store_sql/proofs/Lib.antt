@@ -12,6 +12,7 @@ pub mod Going
 pub mod Counted
 pub mod Lists
 pub mod Members
+pub mod StoredMembers
 pub mod Withdrawing
 pub mod WithdrawnContents
 pub mod AddedContents

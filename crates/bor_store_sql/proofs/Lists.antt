@@ -1,5 +1,5 @@
 -- What the loops over a statement's lists, and over statements, have added so far.
-use Rattle.std.proofs.Common.{◌≡◌, ℕ, ◌+◌, ◌<◌, List, [], ◌∷◌, ◌++◌, map, take, length, get_or, append-nil, sym, ap, ap₂, ◌∙◌}
+use Rattle.std.proofs.Common.{◌≡◌, ℕ, ◌+◌, ◌<◌, ◌^◌, Result, Ok, Err, IfOk, subst, List, [], ◌∷◌, ◌++◌, map, take, length, get_or, append-nil, sym, ap, ap₂, ◌∙◌}
 use Rattle.std.specs.List.{flat_map}
 use Rattle.std.proofs.lemmas.List.{map-append, append_assoc}
 use Rattle.std.proofs.lemmas.List.Concat.{flat_map-append}
@@ -9,9 +9,10 @@ use Rattle.bods_read.specs.declared.details.Identifier.{Identifier}
 use Rattle.bods_read.specs.declared.interest.Interest.{Interest}
 use Rattle.bor_store_rows.specs.declared.places.At.{At}
 use Rattle.bor_store_rows.specs.declared.rows.Placed.{Placed}
-use Rattle.bor_store_rows.specs.Placed.{bare, interest_rows, identifier_rows, interests_from, identifiers_from, placed_from}
+use Rattle.bor_store_rows.specs.Placed.{bare, interests_of, identifiers_of, interest_rows, identifier_rows, interests_from, identifiers_from, placed_from}
 use Rattle.bor_store_rows.specs.Encoding.{Contents, statement_columns, interest_columns, identifier_columns}
 use Rattle.bor_store_sql.specs.Changing.{with_interest_rows, with_identifier_rows, with_one_placed, with_placed}
+use Rattle.bor_store_rows.specs.Stored.{IsCounted}
 use Rattle.bor_store_sql.proofs.Counted.{interests_more, identifiers_more, placed_more}
 
 pub no_interests : (t : Contents) → t ≡ with_interest_rows [] t
@@ -55,3 +56,9 @@ placed_added agent filing i place xs x lt is e t =
     ∙ ap₂ (λ k l. record t { statements = t.statements ++ map (λ p. statement_columns (bare p)) after; interests = k; identifiers = l })
     (flat_parts (λ (p : Placed). map interest_columns (interest_rows p)) t.interests before after p more)
     (flat_parts (λ (p : Placed). map identifier_columns (identifier_rows p)) t.identifiers before after p more)
+
+-- a statement whose lists are inserted is counted
+pub counted : {E : Type 0} (s : Statement) (ids : List Identifier) (is : List Interest) (result : Result (Unit {0}) E) → ids ≡ identifiers_of s.details → is ≡ interests_of s.details → length ids < 2 ^ 32
+    → IfOk result (λ x. length is < 2 ^ 32) → IfOk result (λ x. IsCounted s)
+counted s ids is (Err e) same_ids same_is few_ids few = tt
+counted s ids is (Ok x) same_ids same_is few_ids few = record { interests = subst (λ l. length l < 2 ^ 32) same_is few; identifiers = subst (λ l. length l < 2 ^ 32) same_ids few_ids }

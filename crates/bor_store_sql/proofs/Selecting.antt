@@ -42,7 +42,7 @@ use Rattle.bor_store_sql.proofs.Picking.{all_pass, filter_both, picked_rows, pic
 use Rattle.bor_store_sql.proofs.Rowids.{lower_id}
 use Rattle.bor_store_sql.proofs.Rising.{filings_rise, statements_rise, owned_by}
 use Rattle.bor_store_sql.proofs.Selects.{text_test, int_test, and_true}
-use Rattle.bor_store_sql.proofs.WithdrawnContents.{numbered_of}
+use Rattle.bor_store_sql.proofs.StoredMembers.{numbered_of}
 
 -- ---- tests of columns
 
@@ -212,7 +212,7 @@ module _ (r : Register) (old new : State) (shows : ShowsIn r old) (rows : List R
       let fs = filings_of agent r.members in
       let out : Owned → Row = λ o. line_columns (filing_row o.agent o.filing) in
       let own = own_owned agent r.members shows.stored.ordered in
-      let up = filings_rise IsLaterNumber (owned_filing agent) (λ f g lt. lt) 1 fs (numbered_of agent 0 r.members shows.stored.numbered) in
+      let up = filings_rise IsLaterNumber (owned_filing agent) (λ f g lt. lt) 1 fs (numbered_of agent r.members shows.stored.numbered) in
       picked_last 5 refl last_filing_query.filter (Text agent ∷ []) last_filing_query.project last_filing_query.order (λ id x. refl) whole out (λ o. is_same o.agent agent) (λ o. and_true _ ∙ text_test o.agent agent) (owned r.members) old.now.trees
       (filing_rows r.members) rows (filing_rows_are r.members) (has_now r old new shows h.0).filings (λ id x. refl) (λ o. refl) (answers r old new shows h.0 last_filing_text (Text agent ∷ []) last_filing_query _ last_filing_is rows h.1)
       IsLaterNumber (λ a b lt. rw (lower_id a.filing.number b.filing.number lt) refl) (subst (IsAscending IsLaterNumber) (sym own) up)
@@ -225,7 +225,7 @@ module _ (r : Register) (old new : State) (shows : ShowsIn r old) (rows : List R
       let q : Placed → Bool = λ p. is_same p.statement.declaration declaration && is_same p.statement.rec rec in
       let own = own_statements agent r.members shows.stored.ordered q in
       let Up : Placed → Placed → Type 0 = λ a b. IsLaterPlace a.at b.at in
-      let up = ascending-filter Up q (placed_of agent r) (statements_rise IsLaterPlace later_number later_place agent 1 (filings_of agent r.members) (numbered_of agent 0 r.members shows.stored.numbered)) in
+      let up = ascending-filter Up q (placed_of agent r) (statements_rise IsLaterPlace later_number later_place agent 1 (filings_of agent r.members) (numbered_of agent r.members shows.stored.numbered)) in
       picked_last 8 refl last_of_series_query.filter (Text agent ∷ Text declaration ∷ Text rec ∷ []) last_of_series_query.project last_of_series_query.order (λ id x. refl) out out (λ p. is_same p.at.agent agent && q p)
       (λ p. ap₂ (λ x y. x && y) (text_test p.at.agent agent) (ap₂ (λ x y. x && y) (text_test p.statement.declaration declaration) (and_true _ ∙ text_test p.statement.rec rec))) (placed r.members) old.now.trees
       (map out (placed r.members)) rows refl (has_now r old new shows h.0).statements (λ id x. refl) (λ p. statement_shown (bare p))

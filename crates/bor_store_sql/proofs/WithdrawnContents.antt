@@ -1,6 +1,6 @@
 -- The tables of a register in which a filing is withdrawn.
 use Rattle.std.proofs.Common.{◌≡◌, ℕ, pos, ◌+◌, ◌<◌, ◌≤◌, ◌==◌, ◌&&◌, Bool, true, false, not, cond, List, [], ◌∷◌, ◌++◌, map, filter, length, drop, append-nil, refl, sym, ap, ap₂, subst, ◌∙◌, arith}
-use Rattle.std.specs.Prelude.{if◌then◌else◌, All}
+use Rattle.std.specs.Prelude.{if◌then◌else◌}
 use Rattle.std.proofs.lemmas.List.Elements.{All-nil, All-cons, All-head, All-tail}
 use Rattle.std.specs.List.{AllByRecursion, flat_map}
 use Rattle.std.specs.Ordering.{is_eq, int_cmp}
@@ -16,7 +16,7 @@ use Rattle.bor_terms.specs.Texts.{is_same}
 use Rattle.bods_read.specs.declared.statement.Statement.{Statement}
 use Rattle.bor_register.specs.declared.filing.AcceptedFiling.{AcceptedFiling}
 use Rattle.bor_register.specs.declared.member.Member.{Member}
-use Rattle.bor_register.specs.Register.{Register, IsOrdered, AllAbove, with_filings, filings_of}
+use Rattle.bor_register.specs.Register.{Register, IsOrdered, with_filings, filings_of}
 use Rattle.bor_register.specs.Withdrawal.{as_withdrawn, with_withdrawn}
 use Rattle.bor_store_rows.specs.declared.rows.Placed.{Placed}
 use Rattle.bods_read.specs.declared.details.Identifier.{Identifier}
@@ -29,6 +29,7 @@ use Rattle.bor_store_rows.specs.Stored.{AreNumbered, AllNumbered, IsCounted, Are
 use Rattle.bor_store_sql.specs.Changing.{is_of_filing, marked, others, withdrawn_in, withdrawn}
 use Rattle.bor_store_sql.proofs.Inserts.{cast_int}
 use Rattle.bor_store_sql.proofs.Members.{filter_append, apart_names}
+use Rattle.bor_store_sql.proofs.StoredMembers.{AllCounted, numbered_with, numbered_of, ordered_with, counted_of, counted_with}
 use Rattle.bor_store_sql.proofs.Selects.{text_test, int_test, and_true}
 
 same_number : (m n : ℕ) → is_eq (int_cmp (pos m) (pos n)) ≡ (m == n)
@@ -227,74 +228,29 @@ module _ (agent : List ℕ) (number : ℕ) where
     | false ↦ (up.0, still_numbered (n + 1) fs up.1)
   ]
 
-  numbered_with : (new : List AcceptedFiling) (ms : List Member) → AreNumbered 1 new → AllNumbered ms → AllNumbered (with_filings agent new ms)
-  numbered_with new [] one all = tt
-  numbered_with new (m ∷ ms) one all = elim (is_same m.name agent) as (λ b. AllNumbered (if b then record m { filings = new } ∷ ms else m ∷ with_filings agent new ms)) [
-    | true ↦ (one, all.1)
-    | false ↦ (all.0, numbered_with new ms one all.1)
-  ]
-
-  pub numbered_of : (ms : List Member) → AllNumbered ms → AreNumbered 1 (filings_of agent ms)
-  numbered_of [] all = tt
-  numbered_of (m ∷ ms) all = elim (is_same m.name agent) as (λ b. AreNumbered 1 (if b then m.filings else filings_of agent ms)) [
-    | true ↦ all.0
-    | false ↦ numbered_of ms all.1
-  ]
-
-  above_with : (low : List ℕ) (new : List AcceptedFiling) (ms : List Member) → AllAbove low ms → AllAbove low (with_filings agent new ms)
-  above_with low new [] up = tt
-  above_with low new (m ∷ ms) up = elim (is_same m.name agent) as (λ b. AllAbove low (if b then record m { filings = new } ∷ ms else m ∷ with_filings agent new ms)) [
-    | true ↦ up
-    | false ↦ (up.0, above_with low new ms up.1)
-  ]
-
-  ordered_with : (new : List AcceptedFiling) (ms : List Member) → IsOrdered ms → IsOrdered (with_filings agent new ms)
-  ordered_with new [] up = tt
-  ordered_with new (m ∷ ms) up = elim (is_same m.name agent) as (λ b. IsOrdered (if b then record m { filings = new } ∷ ms else m ∷ with_filings agent new ms)) [
-    | true ↦ up
-    | false ↦ (above_with m.name new ms up.0, ordered_with new ms up.1)
-  ]
-
-  abbrev AllCounted : List AcceptedFiling → Type 0
-  AllCounted fs = All (λ (f : AcceptedFiling). AreCounted f.statements) fs
-
-  counted_of : (ms : List Member) → All (λ (m : Member). AllCounted m.filings) ms → AllCounted (filings_of agent ms)
-  counted_of [] all = All-nil (λ (f : AcceptedFiling). AreCounted f.statements)
-  counted_of (m ∷ ms) all = elim (is_same m.name agent) as (λ b. AllCounted (if b then m.filings else filings_of agent ms)) [
-    | true ↦ All-head (λ (m : Member). AllCounted m.filings) m ms all
-    | false ↦ counted_of ms (All-tail (λ (m : Member). AllCounted m.filings) m ms all)
-  ]
-
-  counted_with : (new : List AcceptedFiling) (ms : List Member) → AllCounted new → All (λ (m : Member). AllCounted m.filings) ms → All (λ (m : Member). AllCounted m.filings) (with_filings agent new ms)
-  counted_with new [] own all = all
-  counted_with new (m ∷ ms) own all = elim (is_same m.name agent) as (λ b. All (λ (m : Member). AllCounted m.filings) (if b then record m { filings = new } ∷ ms else m ∷ with_filings agent new ms)) [
-    | true ↦ All-cons (λ (m : Member). AllCounted m.filings) (record m { filings = new }) ms own (All-tail (λ (m : Member). AllCounted m.filings) m ms all)
-    | false ↦ All-cons (λ (m : Member). AllCounted m.filings) m (with_filings agent new ms) (All-head (λ (m : Member). AllCounted m.filings) m ms all) (counted_with new ms own (All-tail (λ (m : Member). AllCounted m.filings) m ms all))
-  ]
-
   none_counted : AreCounted []
   none_counted = record { few = omega arith; each = All-nil IsCounted }
 
-  still_counted : (fs : List AcceptedFiling) → AllCounted fs → AllCounted (with_withdrawn number fs)
+  still_counted : (fs : List AcceptedFiling) → AllCounted agent fs → AllCounted agent (with_withdrawn number fs)
   still_counted [] all = all
   still_counted (f ∷ fs) all =
       let here = All-head (λ (f : AcceptedFiling). AreCounted f.statements) f fs all in
       let rest = All-tail (λ (f : AcceptedFiling). AreCounted f.statements) f fs all in
-      elim (f.number == number) as (λ b. AllCounted (if b then as_withdrawn f ∷ fs else f ∷ with_withdrawn number fs)) [
+      elim (f.number == number) as (λ b. AllCounted agent (if b then as_withdrawn f ∷ fs else f ∷ with_withdrawn number fs)) [
         | true ↦ All-cons (λ (f : AcceptedFiling). AreCounted f.statements) (as_withdrawn f) fs none_counted rest
         | false ↦ All-cons (λ (f : AcceptedFiling). AreCounted f.statements) f (with_withdrawn number fs) here (still_counted fs rest)
       ]
 
   pub still_stored : (r : Register) → IsStored r → IsStored (withdrawn agent number r)
   still_stored r s = record {
-    ordered = ordered_with _ r.members s.ordered;
-    numbered = numbered_with _ r.members (still_numbered 1 (filings_of agent r.members) (numbered_of r.members s.numbered)) s.numbered;
+    ordered = ordered_with agent _ r.members s.ordered;
+    numbered = numbered_with agent _ r.members (still_numbered 1 (filings_of agent r.members) (numbered_of agent r.members s.numbered)) s.numbered;
     formed = record {
       day = s.formed.day;
       registrar = s.formed.registrar;
       members = formed-with_filings agent _ r.members (formed-with_withdrawn number (filings_of agent r.members) (formed-filings_of agent r.members s.formed.members)) s.formed.members;
     };
-    counted = counted_with _ r.members (still_counted (filings_of agent r.members) (counted_of r.members s.counted)) s.counted;
+    counted = counted_with agent _ r.members (still_counted (filings_of agent r.members) (counted_of agent r.members s.counted)) s.counted;
   }
 
   abbrev interest_of : Placed → List Row

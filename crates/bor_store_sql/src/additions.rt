@@ -1,20 +1,22 @@
 //! What adds an agent, and a filing with its statements.
 
-ghost use Rattle.std.specs.Prelude.{◌≡◌, ◌+◌, false, true, [], ◌∷◌, length, IsTrue, IfOk, OnOk, OnErr};
+ghost use Rattle.std.specs.Prelude.{◌≡◌, ◌+◌, ◌<◌, ◌^◌, false, true, [], ◌∷◌, All, length, IsTrue, IfOk, OnOk, OnErr};
 ghost use Rattle.sqlite.specs.Held.{state};
 ghost use Rattle.sqlite.specs.State.{HasCleanDisk};
 ghost use Rattle.bor_store_rows.specs.Placed.{bare, placed_from, interests_from, identifiers_from, interests_of, identifiers_of};
 ghost use Rattle.bor_store_sql.specs.Shown.{Steps, IsClean, ShowsIn};
 ghost use Rattle.bor_store_sql.specs.Changing.{Any, live_filing, with_filing_row, with_statement_row, with_interest_rows, with_identifier_rows, with_one_placed, with_placed, with_live_filing, added};
 ghost use Rattle.bor_register.specs.Register.{Register, is_enrolled, filings_of};
-ghost use Rattle.bor_store_rows.specs.Stored.{IsStored};
+ghost use Rattle.bor_store_rows.specs.Stored.{IsCounted, AreCounted};
+ghost use Rattle.bods_read.specs.Forms.{IsFormedStatement};
+ghost use Rattle.bor_register.specs.Limits.{filings_limit};
 
 use crate::columns::{filing_values, identifier_values, interest_values, statement_values};
 use bods_read::{Details, Identifier, Interest, Statement};
 use bor_store_texts::changes::{
     INSERT_FILING, INSERT_IDENTIFIER, INSERT_INTEREST, INSERT_STATEMENT,
 };
-use bor_terms::Day;
+use bor_terms::{Day, LodgeKey};
 use sqlite::{Alter, Connection, Error, ErrorCode, Transaction};
 
 fn insert_filing<S: Alter>(
@@ -97,7 +99,8 @@ fn insert_identifier<S: Alter>(
 
 // The number after this one; a table has numbers of 32 bits alone.
 fn next(number: u32) -> Result<u32, Error>
-    ensures { IfOk result (λ next. next ≡ number + 1) }
+    ensures value { IfOk result (λ next. next ≡ number + 1) }
+    ensures within { IfOk result (λ next. next < 2 ^ 32) }
 {
     match number.checked_add(1) {
         Some(next) => Ok(next),
@@ -135,6 +138,7 @@ fn insert_interests<S: Alter>(
     ensures steps { HasCleanDisk (state S.Store tx.new.conn.now) → IsTrue (state S.Store tx.old.conn.now).in_transaction
         → Steps Any (with_interest_rows (interests_from (record { agent = agent.now; filing = number; place = place }) 1 interests.now))
         (state S.Store tx.old.conn.now) (state S.Store tx.new.conn.now) result }
+    ensures counted { IfOk result (λ _. length interests.now < 2 ^ 32) }
 {
     let mut item = 0;
     for interest in interests {
@@ -156,6 +160,7 @@ fn insert_identifiers<S: Alter>(
     ensures steps { HasCleanDisk (state S.Store tx.new.conn.now) → IsTrue (state S.Store tx.old.conn.now).in_transaction
         → Steps Any (with_identifier_rows (identifiers_from (record { agent = agent.now; filing = number; place = place }) 1 identifiers.now))
         (state S.Store tx.old.conn.now) (state S.Store tx.new.conn.now) result }
+    ensures counted { IfOk result (λ _. length identifiers.now < 2 ^ 32) }
 {
     let mut item = 0;
     for identifier in identifiers {
@@ -178,6 +183,7 @@ fn insert_placed<S: Alter>(
     ensures steps { HasCleanDisk (state S.Store tx.new.conn.now) → IsTrue (state S.Store tx.old.conn.now).in_transaction
         → Steps Any (with_one_placed (record { at = record { agent = agent.now; filing = number; place = place }; statement = statement.now }))
         (state S.Store tx.old.conn.now) (state S.Store tx.new.conn.now) result }
+    ensures counted { IfOk result (λ _. IsCounted statement.now) }
 {
     insert_statement(tx, agent, number, place, statement)?;
     insert_identifiers(tx, agent, number, place, identifiers(&statement.details))?;
@@ -194,6 +200,7 @@ fn insert_statements<S: Alter>(
     ensures clean { HasCleanDisk (state S.Store tx.new.conn.now) → HasCleanDisk (state S.Store tx.old.conn.now) }
     ensures steps { HasCleanDisk (state S.Store tx.new.conn.now) → IsTrue (state S.Store tx.old.conn.now).in_transaction
         → Steps Any (with_placed (placed_from agent.now number 1 statements.now)) (state S.Store tx.old.conn.now) (state S.Store tx.new.conn.now) result }
+    ensures counted { IfOk result (λ _. AreCounted statements.now) }
 {
     let mut place = 0;
     for statement in statements {
@@ -217,6 +224,7 @@ fn insert_rows<S: Alter>(
     ensures clean { HasCleanDisk (state S.Store tx.new.conn.now) → HasCleanDisk (state S.Store tx.old.conn.now) }
     ensures steps { HasCleanDisk (state S.Store tx.new.conn.now) → IsTrue (state S.Store tx.old.conn.now).in_transaction
         → Steps Any (with_live_filing agent.now number key.now due bytes.now statements.now) (state S.Store tx.old.conn.now) (state S.Store tx.new.conn.now) result }
+    ensures counted { IfOk result (λ _. AreCounted statements.now) }
 {
     insert_filing(tx, agent, number, key, due, bytes)?;
     insert_statements(tx, agent, number, statements)
@@ -228,7 +236,7 @@ pub fn add_filing<S: Alter>(
     conn: &mut Connection<S>,
     agent: &str,
     number: u32,
-    key: &str,
+    key: &LodgeKey,
     due: Day,
     bytes: &[u8],
     statements: &[Statement],
@@ -237,13 +245,16 @@ pub fn add_filing<S: Alter>(
     ensures mode { conn.new.in_transaction ≡ false }
     ensures began { IsClean (state S.Store conn.new) → IsClean (state S.Store conn.old) }
     ensures made { IsClean (state S.Store conn.new) → (r : Register) → ShowsIn r (state S.Store conn.old)
-        → is_enrolled agent.now r.members ≡ true → number ≡ length (filings_of agent.now r.members) + 1
-        → IsStored (added agent.now key.now due bytes.now statements.now r)
+        → is_enrolled agent.now r.members ≡ true → length (filings_of agent.now r.members) < filings_limit
+        → number ≡ length (filings_of agent.now r.members) + 1 → All IsFormedStatement statements.now
         → OnOk result (ShowsIn (added agent.now key.now due bytes.now statements.now r) (state S.Store conn.new)) }
     ensures kept { IsClean (state S.Store conn.new) → OnErr result ((state S.Store conn.new).committed ≡ (state S.Store conn.old).committed) }
 {
     let _settled = conn.is_autocommit();
+    // Their clauses say that the key has its form, and that the number is that of a day.
+    let lodge_key = key.as_str();
+    let _known = due.number();
     let mut tx = conn.transaction();
-    insert_rows(&mut tx, agent, number, key, due, bytes, statements)?;
+    insert_rows(&mut tx, agent, number, lodge_key, due, bytes, statements)?;
     tx.commit()
 }

@@ -3,7 +3,6 @@
 ghost use Rattle.std.specs.Prelude.{◌≡◌, false, true, IsTrue, OnOk, OnErr};
 ghost use Rattle.sqlite.specs.Held.{state};
 ghost use Rattle.sqlite.specs.State.{HasCleanDisk};
-ghost use Rattle.bor_terms.specs.Texts.{is_token};
 ghost use Rattle.bor_register.specs.Register.{empty_register};
 ghost use Rattle.bor_store_texts.specs.Tables.{no_schema, schema_1, schema_2, schema_3, schema_4, schema_5, schema_6, schema_7, schema_8, schema_9, keep_schema};
 ghost use Rattle.bor_store_rows.specs.Encoding.{contents};
@@ -16,7 +15,7 @@ use bor_store_texts::tables::{
     AGENT_TABLE, FILING_TABLE, IDENTIFIER_INDEX, IDENTIFIER_TABLE, INTEREST_TABLE, LINE_INDEX,
     RECORD_INDEX, REGISTER_TABLE, STATEMENT_TABLE, SUBJECT_INDEX,
 };
-use bor_terms::Day;
+use bor_terms::{Day, Token};
 use sqlite::{Alter, Connection, Error, Transaction};
 
 fn create_register<S: Alter>(tx: &mut Transaction<'_, S>) -> Result<usize, Error>
@@ -178,18 +177,19 @@ fn make_register<S: Alter>(
 
 /// Makes the tables of a register with no agents and no filings, in a transaction of its own. Where the
 /// store has other tables it may work too, and nothing is promised of what is shown.
-pub fn set_up<S: Alter>(conn: &mut Connection<S>, registrar: &str, day: Day) -> Result<(), Error>
+pub fn set_up<S: Alter>(conn: &mut Connection<S>, registrar: &Token, day: Day) -> Result<(), Error>
     requires { conn.old.in_transaction ≡ false }
     ensures mode { conn.new.in_transaction ≡ false }
     ensures began { IsClean (state S.Store conn.new) → IsClean (state S.Store conn.old) }
-    ensures made { IsClean (state S.Store conn.new) → (state S.Store conn.old).committed.schema ≡ no_schema → is_token registrar.now ≡ true
+    ensures made { IsClean (state S.Store conn.new) → (state S.Store conn.old).committed.schema ≡ no_schema
         → OnOk result (ShowsIn (empty_register registrar.now day) (state S.Store conn.new)) }
     ensures kept { IsClean (state S.Store conn.new) → OnErr result ((state S.Store conn.new).committed ≡ (state S.Store conn.old).committed) }
 {
     let _settled = conn.is_autocommit();
-    // Its clause says that the number is that of a day.
+    // Their clauses say that the token has its form, and that the number is that of a day.
+    let token = registrar.as_str();
     let _known = day.number();
     let mut tx = conn.transaction();
-    make_register(&mut tx, registrar, day)?;
+    make_register(&mut tx, token, day)?;
     tx.commit()
 }

@@ -3,15 +3,14 @@
 ghost use Rattle.std.specs.Prelude.{◌≡◌, false, IsTrue, OnOk, OnErr};
 ghost use Rattle.sqlite.specs.Held.{state};
 ghost use Rattle.sqlite.specs.State.{HasCleanDisk};
-ghost use Rattle.bor_register.specs.Register.{Register, new_member};
+ghost use Rattle.bor_register.specs.Register.{Register, is_enrolled, new_member};
 ghost use Rattle.bor_store_rows.specs.Encoding.{agent_columns};
-ghost use Rattle.bor_store_rows.specs.Stored.{IsStored};
 ghost use Rattle.bor_store_sql.specs.Shown.{Steps, IsClean, ShowsIn};
 ghost use Rattle.bor_store_sql.specs.Changing.{Any, IsOneRegister, with_day, with_agent_row, enrolled};
 
 use crate::columns::{agent_values, day_value};
 use bor_store_texts::changes::{INSERT_AGENT, UPDATE_DAY};
-use bor_terms::Day;
+use bor_terms::{AgentName, Day, Token};
 use sqlite::{Alter, Connection, Error, Transaction};
 
 fn update_day<S: Alter>(tx: &mut Transaction<'_, S>, day: Day) -> Result<usize, Error>
@@ -54,16 +53,22 @@ pub fn set_day<S: Alter>(conn: &mut Connection<S>, day: Day) -> Result<(), Error
 }
 
 /// Adds an agent, in a transaction of its own.
-pub fn add_agent<S: Alter>(conn: &mut Connection<S>, agent: &str, token: &str) -> Result<(), Error>
+pub fn add_agent<S: Alter>(
+    conn: &mut Connection<S>,
+    agent: &AgentName,
+    token: &Token,
+) -> Result<(), Error>
     requires { conn.old.in_transaction ≡ false }
     ensures mode { conn.new.in_transaction ≡ false }
     ensures began { IsClean (state S.Store conn.new) → IsClean (state S.Store conn.old) }
     ensures made { IsClean (state S.Store conn.new) → (r : Register) → ShowsIn r (state S.Store conn.old)
-        → IsStored (enrolled agent.now token.now r) → OnOk result (ShowsIn (enrolled agent.now token.now r) (state S.Store conn.new)) }
+        → is_enrolled agent.now r.members ≡ false → OnOk result (ShowsIn (enrolled agent.now token.now r) (state S.Store conn.new)) }
     ensures kept { IsClean (state S.Store conn.new) → OnErr result ((state S.Store conn.new).committed ≡ (state S.Store conn.old).committed) }
 {
     let _settled = conn.is_autocommit();
+    let name = agent.as_str();
+    let secret = token.as_str();
     let mut tx = conn.transaction();
-    insert_agent(&mut tx, agent, token)?;
+    insert_agent(&mut tx, name, secret)?;
     tx.commit()
 }

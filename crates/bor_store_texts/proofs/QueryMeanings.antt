@@ -3,7 +3,7 @@ use Rattle.std.proofs.Common.{refl}
 use Rattle.sqlite.specs.Listing.{understood}
 use Rattle.sqlite_tied.specs.Compute.{everything}
 use Rattle.bor_store_texts.specs.Meanings.{Asks}
-use Rattle.bor_store_texts.specs.Queries.{all_register_text, all_register_command, all_agents_text, all_agents_command, all_filings_text, all_filings_command, all_statements_text, all_statements_command, all_interests_text, all_interests_command, all_identifiers_text, all_identifiers_command, agent_by_name_text, agent_by_name_command, agent_by_token_text, agent_by_token_command, filing_by_key_text, filing_by_key_command, line_by_key_text, line_by_key_command, line_by_number_text, line_by_number_command, same_bytes_text, same_bytes_command, filings_of_agent_text, filings_of_agent_command, last_filing_text, last_filing_command, series_text, series_command, last_of_series_text, last_of_series_command, statement_by_id_text, statement_by_id_command, statements_of_filing_text, statements_of_filing_command, statements_of_declaration_text, statements_of_declaration_command, interests_of_statement_text, interests_of_statement_command, identifiers_of_statement_text, identifiers_of_statement_command}
+use Rattle.bor_store_texts.specs.Queries.{all_register_text, all_register_command, all_agents_text, all_agents_command, all_filings_text, all_filings_command, all_statements_text, all_statements_command, all_interests_text, all_interests_command, all_identifiers_text, all_identifiers_command, agent_by_name_text, agent_by_name_command, agent_by_token_text, agent_by_token_command, filing_by_key_text, filing_by_key_command, line_by_key_text, line_by_key_command, line_by_number_text, line_by_number_command, same_bytes_text, same_bytes_command, filings_of_agent_text, filings_of_agent_command, last_filing_text, last_filing_command, last_of_series_text, last_of_series_command, statement_by_id_text, statement_by_id_command, statements_of_filing_text, statements_of_filing_command, statements_of_declaration_text, statements_of_declaration_command, interests_of_statement_text, interests_of_statement_command, identifiers_of_statement_text, identifiers_of_statement_command}
 
 pub all_register_is : Asks all_register_text all_register_command
 unfolding understood everything
@@ -60,10 +60,6 @@ filings_of_agent_is = (refl, (refl, refl), refl)
 pub last_filing_is : Asks last_filing_text last_filing_command
 unfolding understood everything
 last_filing_is = (refl, (refl, refl), refl)
-
-pub series_is : Asks series_text series_command
-unfolding understood everything
-series_is = (refl, (refl, refl), refl)
 
 pub last_of_series_is : Asks last_of_series_text last_of_series_command
 unfolding understood everything

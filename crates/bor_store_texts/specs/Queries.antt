@@ -10,7 +10,7 @@ use Rattle.sqlite.specs.Command.{Command}
 use Rattle.sqlite.specs.Command.TheVariants.{Select}
 use Rattle.sqlite_sql.specs.declared.ops.BinaryOp.TheVariants.{Compare}
 use Rattle.sqlite_sql.specs.declared.ops.CompareOp.TheVariants.{Eq}
-use Rattle.bor_store_texts.specs.declared.queries.TheConstants.{ALL_REGISTER, ALL_AGENTS, ALL_FILINGS, ALL_STATEMENTS, ALL_INTERESTS, ALL_IDENTIFIERS, AGENT_BY_NAME, AGENT_BY_TOKEN, FILING_BY_KEY, LINE_BY_KEY, LINE_BY_NUMBER, SAME_BYTES, FILINGS_OF_AGENT, LAST_FILING, SERIES, LAST_OF_SERIES, STATEMENT_BY_ID, STATEMENTS_OF_FILING, STATEMENTS_OF_DECLARATION, INTERESTS_OF_STATEMENT, IDENTIFIERS_OF_STATEMENT}
+use Rattle.bor_store_texts.specs.declared.queries.TheConstants.{ALL_REGISTER, ALL_AGENTS, ALL_FILINGS, ALL_STATEMENTS, ALL_INTERESTS, ALL_IDENTIFIERS, AGENT_BY_NAME, AGENT_BY_TOKEN, FILING_BY_KEY, LINE_BY_KEY, LINE_BY_NUMBER, SAME_BYTES, FILINGS_OF_AGENT, LAST_FILING, LAST_OF_SERIES, STATEMENT_BY_ID, STATEMENTS_OF_FILING, STATEMENTS_OF_DECLARATION, INTERESTS_OF_STATEMENT, IDENTIFIERS_OF_STATEMENT}
 
 -- Columns are counted from 1, parameters from 0.
 
@@ -173,15 +173,6 @@ last_filing_query = first_query 5 (equals 1 0 ∷ []) (col 1 1 ∷ col 1 2 ∷ c
 
 abbrev pub last_filing_command : Command
 last_filing_command = shows_rows last_filing_query (codes "agent" ∷ codes "number" ∷ codes "lodge_key" ∷ codes "due" ∷ codes "withdrawn" ∷ [])
-
-abbrev pub series_text : List ℕ
-series_text = SERIES.now
-
-abbrev pub series_query : Query
-series_query = table_query 8 (equals 1 0 ∷ equals 6 1 ∷ equals 7 2 ∷ []) (col 1 1 ∷ col 1 2 ∷ col 1 3 ∷ col 1 4 ∷ col 1 5 ∷ col 1 6 ∷ col 1 7 ∷ col 1 8 ∷ col 1 9 ∷ col 1 10 ∷ col 1 11 ∷ col 1 12 ∷ col 1 13 ∷ []) (rising 1 ∷ rising 2 ∷ rising 3 ∷ [])
-
-abbrev pub series_command : Command
-series_command = shows_rows series_query (codes "agent" ∷ codes "filing" ∷ codes "place" ∷ codes "id" ∷ codes "day" ∷ codes "declaration" ∷ codes "rec" ∷ codes "kind" ∷ codes "status" ∷ codes "sub_kind" ∷ codes "name" ∷ codes "subject" ∷ codes "party" ∷ [])
 
 abbrev pub last_of_series_text : List ℕ
 last_of_series_text = LAST_OF_SERIES.now

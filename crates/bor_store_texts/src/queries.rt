@@ -57,12 +57,6 @@ pub const FILINGS_OF_AGENT: &str = "SELECT agent, number, lodge_key, due, withdr
 pub const LAST_FILING: &str = "SELECT agent, number, lodge_key, due, withdrawn \
      FROM filing WHERE agent = ?1 ORDER BY number DESC LIMIT 1";
 
-/// The statements of a record of a declaration of an agent.
-pub const SERIES: &str =
-    "SELECT agent, filing, place, id, day, declaration, rec, kind, status, sub_kind, name, \
-     subject, party FROM statement WHERE agent = ?1 AND declaration = ?2 AND rec = ?3 \
-     ORDER BY agent, filing, place";
-
 /// The last statement of a record of a declaration of an agent.
 pub const LAST_OF_SERIES: &str =
     "SELECT agent, filing, place, id, day, declaration, rec, kind, status, sub_kind, name, \

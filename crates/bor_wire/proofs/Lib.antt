@@ -7,3 +7,4 @@ pub mod SentAlone
 pub mod NobodyLaws
 pub mod SequenceLaws
 pub mod HistoryExamples
+pub mod Examples

@@ -1,5 +1,5 @@
 -- What goes out for an input, from what goes out for what it spells.
-use Rattle.std.proofs.Common.{◌≡◌, ℕ, List, Some, Result, Ok, Err, refl}
+use Rattle.std.proofs.Common.{ℕ, List, Some, Err, refl}
 use Rattle.bor_records.specs.Promises.{Promised}
 use Rattle.bor_register.specs.Register.{Register}
 use Rattle.bor_machine.specs.Legality.{IsLegal}

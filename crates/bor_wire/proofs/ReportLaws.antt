@@ -14,9 +14,8 @@ use Rattle.bor_desk.specs.declared.refusal.Refusal.TheVariants.{NoEntity}
 use Rattle.bor_desk.specs.declared.request.Request.TheVariants as ask
 use Rattle.bor_desk.specs.declared.reply.DeskReply.{DeskReply}
 use Rattle.bor_desk.specs.declared.reply.DeskReply.TheVariants as tell
-use Rattle.bor_desk.specs.Step.{Answer, report, refused, step}
+use Rattle.bor_desk.specs.Step.{report, refused, step}
 use Rattle.bor_desk.specs.Outcomes.{IsTold}
-use Rattle.bor_desk.specs.Runs.{Asked, exchange}
 use Rattle.bor_wire_spell.specs.Spell.{Spelled}
 use Rattle.bor_wire_reply.specs.Statuses.{desk_status}
 use Rattle.bor_wire_reply.specs.Replies.{Said, answered, status_of}

@@ -1,5 +1,5 @@
 -- Whom a report on chains names.
-use Rattle.std.specs.Prelude.{◌≡◌, ℕ, ℤ, List, [], ◌∷◌, Option, Some, Result, Ok, Err, unwrap_or}
+use Rattle.std.specs.Prelude.{◌≡◌, ℕ, ℤ, List, [], ◌∷◌, Option, Some, Ok, Err, unwrap_or}
 use Rattle.bor_links.specs.declared.node.Node.{Node}
 use Rattle.bor_links.specs.Rows.{shown_of}
 use Rattle.bor_chains.specs.declared.line.PersonLine.{PersonLine}

@@ -5,6 +5,7 @@ ghost use Rattle.bor_records.specs.Promises.{Promised};
 ghost use Rattle.bor_machine.specs.Legality.{IsLegal};
 ghost use Rattle.bor_wire_read.specs.Reading.{TakesAtMost};
 ghost use Rattle.bor_wire_spell.specs.Spell.{asked_view, spell};
+ghost use Rattle.bor_wire_spell.specs.Steps.{Finds};
 ghost use Rattle.bor_wire_reply.specs.Statuses.{desk_status};
 ghost use Rattle.bor_wire.specs.Exchanges.{ByOutgoing, GoesOut, HasStatus, IsDeskReply, IsRefusal, IsSent, faults_unread};
 
@@ -78,14 +79,21 @@ fn answered<K: Keep>(alloc: Global, keep: &mut K, asking: &Asking) -> Outgoing
     }
 }
 
+// What was read is let go with this, so that no body is held twice while the desk answers.
+fn spelled(alloc: Global, raw: RawRequest) -> Result<Asking, WireFault>
+    ensures { Finds asked_view result (spell raw) }
+{
+    parse(alloc, &raw)
+}
+
 /// The reply to a request that was read.
-fn reply_for<K: Keep>(alloc: Global, keep: &mut K, raw: &RawRequest) -> Outgoing
+fn reply_for<K: Keep>(alloc: Global, keep: &mut K, raw: RawRequest) -> Outgoing
     ensures began { K.is_clean keep.new → K.is_clean keep.old }
     ensures reply { Promised K.shows K.is_clean keep.old keep.new (λ r.
-        IsLegal r → GoesOut result (K.shows keep.new) r (spell raw.now)) }
+        IsLegal r → GoesOut result (K.shows keep.new) r (spell raw)) }
     ensures status { HasStatus result }
 {
-    match parse(alloc, raw) {
+    match spelled(alloc, raw) {
         Ok(asking) => answered(alloc, keep, &asking),
         Err(WireFault::Refused(refusal)) => refused(alloc, refusal),
         Err(_) => Outgoing::Unavailable,
@@ -108,7 +116,7 @@ pub(crate) fn read_reply<K: Keep, R: Read>(
     ensures faults { reader.new.faults ≡ faults_unread result reader.old.faults }
 {
     match read_request(alloc, reader) {
-        Ok(raw) => Some(reply_for(alloc, keep, &raw)),
+        Ok(raw) => Some(reply_for(alloc, keep, raw)),
         Err(WireFault::Refused(refusal)) => Some(refused(alloc, refusal)),
         Err(WireFault::Memory) => Some(Outgoing::Unavailable),
         Err(WireFault::Read) => None,

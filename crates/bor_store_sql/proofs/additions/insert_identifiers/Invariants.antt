@@ -1,4 +1,4 @@
-use Rattle.std.proofs.Common.{◌≡◌, take}
+use Rattle.std.proofs.Common.{◌≡◌, ◌<◌, ◌^◌, take}
 use Rattle.sqlite.specs.Held.{state}
 use Rattle.bor_store_rows.specs.Placed.{identifiers_from}
 use Rattle.bor_store_sql.specs.Changing.{with_identifier_rows}
@@ -11,3 +11,4 @@ invariant-loop-identifier g l =
     (l.tx.conn.ghost_name ≡ l.fn.tx.conn.ghost_name)
     × (l.item ≡ l.identifier-index)
     × Went (with_identifier_rows (identifiers_from (record { agent = l.agent; filing = l.number; place = l.place }) 1 (take l.identifier-index l.identifiers))) (state g.S.Store l.fn.tx.conn.now) (state g.S.Store l.tx.conn.now)
+    × (l.item < 2 ^ 32)

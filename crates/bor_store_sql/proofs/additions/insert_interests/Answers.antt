@@ -10,7 +10,7 @@ use Rattle.bor_store_sql.proofs.Lists.{no_interests, interest_added}
 use Rattle.bor_store_sql.proofs.additions.insert_interests.Goals as goal
 
 pub loop-interest-init : goal.loop-interest-init
-loop-interest-init g c = (refl, refl, none_went _ _ no_interests)
+loop-interest-init g c = (refl, refl, none_went _ _ no_interests, omega arith)
 
 pub returns-in_err-item-clause-same_reference : goal.returns-in_err-item-clause-same_reference
 returns-in_err-item-clause-same_reference g c = c.loop-interest.invariant.0
@@ -33,11 +33,12 @@ returns-in_err-insert_interest-clause-steps g c =
 
 pub loop-interest-preserved : goal.loop-interest-preserved
 loop-interest-preserved g c =
-    let item : c.in_ok-item.item ≡ c.loop-interest.interest-index + 1 = c.in_ok-item.ensures ∙ ap (λ n. n + 1) c.loop-interest.invariant.1 in (
+    let item : c.in_ok-item.item ≡ c.loop-interest.interest-index + 1 = c.in_ok-item.ensures.value ∙ ap (λ n. n + 1) c.loop-interest.invariant.1 in (
       c.in_ok-insert_interest.ensures.same_reference ∙ c.loop-interest.invariant.0,
       item,
       one_went _ _ _ _ _ _ c.loop-interest.invariant.2 c.in_ok-insert_interest.ensures.clean _ c.in_ok-insert_interest.ensures.steps
           (interest_added (record { agent = c.args.agent.now; filing = c.args.number; place = c.args.place }) c.loop-interest.interest-index c.in_ok-item.item c.args.interests.now c.interest-item.result (omega (arith, c.loop-interest-test.true)) c.interest-item.is item),
+      c.in_ok-item.ensures.within,
     )
 
 pub returns-clause-same_reference : goal.returns-clause-same_reference
@@ -50,3 +51,10 @@ pub returns-clause-steps : goal.returns-clause-steps
 returns-clause-steps g c clean inside =
     subst (λ xs. Steps {X = Unit {0}} {E = Error} Any (with_interest_rows (interests_from (record { agent = c.args.agent.now; filing = c.args.number; place = c.args.place }) 1 xs)) (state g.S.Store c.args.tx.now.conn.now) (state g.S.Store c.loop-interest.tx.conn.now) (Ok (tt {0})))
     (take_all c.loop-interest.interest-index c.args.interests.now c.loop-interest-test.false) (c.loop-interest.invariant.2.steps clean inside)
+
+pub returns-clause-counted : goal.returns-clause-counted
+returns-clause-counted g c =
+    let last = c.loop-interest-test.false in
+    let same = c.loop-interest.invariant.1 in
+    let low = c.loop-interest.invariant.3 in
+    omega (arith, last, same, low)

@@ -6,6 +6,7 @@ use Rattle.bor_store_rows.specs.declared.rows.Placed.{Placed}
 use Rattle.bor_store_rows.specs.Placed.{bare, interest_rows, identifier_rows, interests_from, identifiers_from}
 use Rattle.bor_store_sql.specs.Shown.{Steps}
 use Rattle.bor_store_sql.specs.Changing.{Any, with_statement_row, with_interest_rows, with_identifier_rows}
+use Rattle.bor_store_sql.proofs.Lists.{counted}
 use Rattle.bor_store_sql.proofs.Stepping.{both, then_last}
 use Rattle.bor_store_sql.proofs.additions.insert_placed.Goals as goal
 
@@ -24,3 +25,7 @@ returns-clause-steps g c clean inside =
     let three = subst (λ xs. Steps {X = Unit {0}} {E = Error} Any (with_interest_rows (interests_from at 1 xs)) s2 s3 c.insert_interests.result) c.interests.ensures (c.insert_interests.ensures.steps clean two.goes_on) in
     let start = both Any (with_statement_row (bare p)) (with_identifier_rows (identifier_rows p)) s0 s1 s2 _ _ (tt {0}) one two in
     then_last Any (λ t. with_identifier_rows (identifier_rows p) (with_statement_row (bare p) t)) (with_interest_rows (interest_rows p)) s0 s2 s3 (tt {0}) c.insert_interests.result start three
+
+pub returns-clause-counted : goal.returns-clause-counted
+returns-clause-counted g c =
+    counted c.args.statement.now c.identifiers.result.now c.interests.result.now c.insert_interests.result c.identifiers.ensures c.interests.ensures c.in_ok-insert_identifiers.ensures.counted c.insert_interests.ensures.counted

@@ -1,4 +1,6 @@
-use Rattle.std.proofs.Common.{◌≡◌, take}
+use Rattle.std.proofs.Common.{◌≡◌, ◌<◌, ◌^◌, take}
+use Rattle.std.specs.Prelude.{All}
+use Rattle.bor_store_rows.specs.Stored.{IsCounted}
 use Rattle.sqlite.specs.Held.{state}
 use Rattle.bor_store_rows.specs.Placed.{placed_from}
 use Rattle.bor_store_sql.specs.Changing.{with_placed}
@@ -11,3 +13,5 @@ invariant-loop-statement g l =
     (l.tx.conn.ghost_name ≡ l.fn.tx.conn.ghost_name)
     × (l.place ≡ l.statement-index)
     × Went (with_placed (placed_from l.agent l.number 1 (take l.statement-index l.statements))) (state g.S.Store l.fn.tx.conn.now) (state g.S.Store l.tx.conn.now)
+    × (l.place < 2 ^ 32)
+    × All IsCounted (take l.statement-index l.statements)

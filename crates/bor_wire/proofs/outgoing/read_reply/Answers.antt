@@ -1,4 +1,4 @@
-use Rattle.std.proofs.Common.{◌≡◌, refl, Some, None, Ok, Err, Option, List, ℕ}
+use Rattle.std.proofs.Common.{Some, None, Ok, Err, Option, List, ℕ}
 use Rattle.std.specs.Option.{IfSome}
 use Rattle.bor_records.specs.Promises.{Promised}
 use Rattle.bor_machine.specs.Legality.{IsLegal}

@@ -1,0 +1,102 @@
+//! An agent's live statements, by identifier and by record.
+
+ghost use Rattle.std.specs.Prelude.{◌≡◌, false, option_map, slice_get};
+ghost use Rattle.std.specs.List.{last_or};
+ghost use Rattle.std.specs.Prelude.{None};
+ghost use Rattle.sqlite.specs.Held.{state};
+ghost use Rattle.bor_records.specs.Admission.{last_of};
+ghost use Rattle.bor_records.specs.Settling.{has_id};
+ghost use Rattle.bor_register.specs.Register.{filings_of};
+ghost use Rattle.bor_register.specs.Live.{live_of};
+ghost use Rattle.bor_store_rows.specs.Placed.{bare, filing_row};
+ghost use Rattle.bor_store_sql.specs.Shown.{IsClean};
+ghost use Rattle.bor_store_sql.specs.Selected.{in_series, numbered, placed_of};
+ghost use Rattle.bor_store_reads.specs.Answering.{Answers};
+
+use crate::fault::ReadError;
+use crate::values::{any, first};
+use bor_records::Last;
+use bor_store_rows::{FilingRow, StatementRow};
+use bor_store_sql::{last_of_series, line_by_number, statement_by_id};
+use bor_terms::{AgentName, Ident};
+use sqlite::{Alter, Connection};
+use std::alloc::Global;
+
+/// Whether a live statement of the agent has the identifier.
+pub fn has_statement<S: Alter>(
+    conn: &mut Connection<S>,
+    agent: &AgentName,
+    id: &Ident,
+) -> Result<bool, ReadError>
+    requires { conn.old.in_transaction ≡ false }
+    ensures mode { conn.new.in_transaction ≡ false }
+    ensures began { IsClean (state S.Store conn.new) → IsClean (state S.Store conn.old) }
+    ensures kept { IsClean (state S.Store conn.new) → (state S.Store conn.new).committed ≡ (state S.Store conn.old).committed }
+    ensures answer { Answers (state S.Store conn.old) (state S.Store conn.new) result (λ r has.
+        has ≡ has_id id.now (live_of (filings_of agent.now r.members))) }
+{
+    any(statement_by_id(conn, agent.as_str(), id.as_str()))
+}
+
+/// The row of the record's last live statement.
+pub(crate) fn found_statement<S: Alter>(
+    conn: &mut Connection<S>,
+    alloc: Global,
+    agent: &AgentName,
+    declaration: &Ident,
+    rec: &Ident,
+) -> Result<Option<StatementRow>, ReadError>
+    requires { conn.old.in_transaction ≡ false }
+    ensures mode { conn.new.in_transaction ≡ false }
+    ensures began { IsClean (state S.Store conn.new) → IsClean (state S.Store conn.old) }
+    ensures kept { IsClean (state S.Store conn.new) → (state S.Store conn.new).committed ≡ (state S.Store conn.old).committed }
+    ensures answer { Answers (state S.Store conn.old) (state S.Store conn.new) result (λ r row.
+        row ≡ option_map bare (last_or None (in_series declaration.now rec.now (placed_of agent.now r)))) }
+{
+    first(
+        alloc,
+        last_of_series(conn, agent.as_str(), declaration.as_str(), rec.as_str()),
+    )
+}
+
+/// The row of the agent's filing with this number.
+fn found_filing<S: Alter>(
+    conn: &mut Connection<S>,
+    alloc: Global,
+    agent: &AgentName,
+    number: u32,
+) -> Result<Option<FilingRow>, ReadError>
+    requires { conn.old.in_transaction ≡ false }
+    ensures mode { conn.new.in_transaction ≡ false }
+    ensures began { IsClean (state S.Store conn.new) → IsClean (state S.Store conn.old) }
+    ensures kept { IsClean (state S.Store conn.new) → (state S.Store conn.new).committed ≡ (state S.Store conn.old).committed }
+    ensures answer { Answers (state S.Store conn.old) (state S.Store conn.new) result (λ r row.
+        row ≡ option_map (filing_row agent.now) (slice_get (numbered number (filings_of agent.now r.members)) 0)) }
+{
+    first(alloc, line_by_number(conn, agent.as_str(), number))
+}
+
+/// What is known of the record's last live statement; `rec` is its identifier. `None` where the record
+/// has none.
+pub fn read_last<S: Alter>(
+    conn: &mut Connection<S>,
+    alloc: Global,
+    agent: &AgentName,
+    declaration: &Ident,
+    rec: &Ident,
+) -> Result<Option<Last>, ReadError>
+    requires { conn.old.in_transaction ≡ false }
+    ensures mode { conn.new.in_transaction ≡ false }
+    ensures began { IsClean (state S.Store conn.new) → IsClean (state S.Store conn.old) }
+    ensures kept { IsClean (state S.Store conn.new) → (state S.Store conn.new).committed ≡ (state S.Store conn.old).committed }
+    ensures answer { Answers (state S.Store conn.old) (state S.Store conn.new) result (λ r last.
+        last ≡ last_of declaration.now rec.now (live_of (filings_of agent.now r.members))) }
+{
+    let Some(row) = found_statement(conn, alloc, agent, declaration, rec)? else {
+        return Ok(None);
+    };
+    match found_filing(conn, alloc, agent, row.at.filing)? {
+        Some(filing) => Ok(Some(row.known(filing.due))),
+        None => Err(ReadError::Damaged),
+    }
+}

@@ -1,0 +1,102 @@
+//! Whether a filing has a successor.
+
+ghost use Rattle.std.specs.Prelude.{◌≡◌, false, map, None};
+ghost use Rattle.std.specs.List.{last_or, list_any};
+ghost use Rattle.sqlite.specs.Held.{state};
+ghost use Rattle.bor_register.specs.Register.{filings_of};
+ghost use Rattle.bor_register.specs.Withdrawal.{has_successor};
+ghost use Rattle.bor_store_rows.specs.Placed.{bare};
+ghost use Rattle.bor_store_rows.specs.Seen.{is_later};
+ghost use Rattle.bor_store_sql.specs.Shown.{IsClean};
+ghost use Rattle.bor_store_sql.specs.Selected.{in_filing, in_series, placed_of};
+ghost use Rattle.bor_store_reads.specs.Answering.{Answers};
+
+use crate::fault::ReadError;
+use crate::statements::found_statement;
+use crate::values::all;
+use bor_store_rows::StatementRow;
+use bor_store_sql::statements_of_filing;
+use bor_terms::AgentName;
+use sqlite::{Alter, Connection};
+use std::alloc::Global;
+
+/// The rows of the live statements of the agent's filing with this number.
+fn found_statements<S: Alter>(
+    conn: &mut Connection<S>,
+    alloc: Global,
+    agent: &AgentName,
+    number: u32,
+) -> Result<Vec<StatementRow>, ReadError>
+    requires { conn.old.in_transaction ≡ false }
+    ensures mode { conn.new.in_transaction ≡ false }
+    ensures began { IsClean (state S.Store conn.new) → IsClean (state S.Store conn.old) }
+    ensures kept { IsClean (state S.Store conn.new) → (state S.Store conn.new).committed ≡ (state S.Store conn.old).committed }
+    ensures answer { Answers (state S.Store conn.old) (state S.Store conn.new) result (λ r rows.
+        rows.items ≡ map bare (in_filing number (placed_of agent.now r))) }
+{
+    all(alloc, statements_of_filing(conn, agent.as_str(), number))
+}
+
+/// Whether the last statement of this one's record stands in a filing after the one with this number.
+fn is_followed<S: Alter>(
+    conn: &mut Connection<S>,
+    alloc: Global,
+    agent: &AgentName,
+    number: u32,
+    row: &StatementRow,
+) -> Result<bool, ReadError>
+    requires { conn.old.in_transaction ≡ false }
+    ensures mode { conn.new.in_transaction ≡ false }
+    ensures began { IsClean (state S.Store conn.new) → IsClean (state S.Store conn.old) }
+    ensures kept { IsClean (state S.Store conn.new) → (state S.Store conn.new).committed ≡ (state S.Store conn.old).committed }
+    ensures answer { Answers (state S.Store conn.old) (state S.Store conn.new) result (λ r followed.
+        followed ≡ is_later number (last_or None (in_series row.now.declaration row.now.rec (placed_of agent.now r)))) }
+{
+    match found_statement(conn, alloc, agent, &row.declaration, &row.rec)? {
+        Some(last) => Ok(number < last.at.filing),
+        None => Ok(false),
+    }
+}
+
+/// Whether that is so of one of these statements.
+fn any_followed<S: Alter>(
+    conn: &mut Connection<S>,
+    alloc: Global,
+    agent: &AgentName,
+    number: u32,
+    rows: &[StatementRow],
+) -> Result<bool, ReadError>
+    requires { conn.old.in_transaction ≡ false }
+    ensures mode { conn.new.in_transaction ≡ false }
+    ensures began { IsClean (state S.Store conn.new) → IsClean (state S.Store conn.old) }
+    ensures kept { IsClean (state S.Store conn.new) → (state S.Store conn.new).committed ≡ (state S.Store conn.old).committed }
+    ensures answer { Answers (state S.Store conn.old) (state S.Store conn.new) result (λ r any.
+        any ≡ list_any (λ row. is_later number (last_or None (in_series row.declaration row.rec (placed_of agent.now r)))) rows.now) }
+{
+    for row in rows {
+        if is_followed(conn, alloc, agent, number, row)? {
+            return Ok(true);
+        }
+    }
+    Ok(false)
+}
+
+/// Whether a filing of the agent that was accepted after the one with this number has a live statement
+/// of one of its records. `false` where the agent has no such filing, and where that one is withdrawn:
+/// its statements are gone.
+pub fn has_successor<S: Alter>(
+    conn: &mut Connection<S>,
+    alloc: Global,
+    agent: &AgentName,
+    number: u32,
+) -> Result<bool, ReadError>
+    requires { conn.old.in_transaction ≡ false }
+    ensures mode { conn.new.in_transaction ≡ false }
+    ensures began { IsClean (state S.Store conn.new) → IsClean (state S.Store conn.old) }
+    ensures kept { IsClean (state S.Store conn.new) → (state S.Store conn.new).committed ≡ (state S.Store conn.old).committed }
+    ensures answer { Answers (state S.Store conn.old) (state S.Store conn.new) result (λ r has.
+        has ≡ has_successor number (filings_of agent.now r.members)) }
+{
+    let rows = found_statements(conn, alloc, agent, number)?;
+    any_followed(conn, alloc, agent, number, rows.as_slice())
+}
