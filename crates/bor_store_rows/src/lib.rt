@@ -29,3 +29,4 @@ pub use reader::{TableRow, read_rows};
 pub use rows::{
     AgentRow, FilingRow, IdentifierRow, InterestRow, Part, Placed, RegisterRow, StatementRow,
 };
+pub use seen::any_visible;

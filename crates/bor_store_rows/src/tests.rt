@@ -2,8 +2,8 @@
 //! filings.
 
 use crate::{
-    AgentRow, At, FilingRow, IdentifierRow, InterestRow, Part, Placed, StatementRow, filings_of,
-    joined, lines_of, members_joined, members_of,
+    AgentRow, At, FilingRow, IdentifierRow, InterestRow, Part, Placed, StatementRow, any_visible,
+    filings_of, joined, lines_of, members_joined, members_of,
 };
 use bods_read::{
     Details, Directness, EntityKind, FreeText, Identifier, Interest, InterestKind, RecordType,
@@ -157,6 +157,7 @@ fn a_draft_stays_invisible_to_others(rt: HostRuntime) {
     let due = row.due;
     let mut filings = Vec::new(alloc);
     filings.push(row).expect(&rt, "fits");
+    assert!(&rt; !any_visible(filings.as_slice(), &birch.name, before));
     let lines = lines_of(alloc, filings, due).expect(&rt, "lines");
     assert!(&rt; lines.len() == 1 && lines[0].state == State::Published);
 }
