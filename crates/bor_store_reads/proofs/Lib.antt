@@ -4,3 +4,4 @@ pub mod FoundAgents
 pub mod FoundFilings
 pub mod LastOnes
 pub mod FoundStatements
+pub mod Whole

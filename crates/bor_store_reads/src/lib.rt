@@ -12,7 +12,9 @@ mod filings;
 mod register;
 mod statements;
 mod successors;
+mod tables;
 mod values;
+mod views;
 
 pub use agents::{has_agent, read_who};
 pub use fault::ReadError;
@@ -20,3 +22,4 @@ pub use filings::{filing_count, has_file, read_filing, read_filings, read_line};
 pub use register::read_day;
 pub use statements::{has_statement, read_last};
 pub use successors::has_successor;
+pub use views::{read_published, read_visible};
