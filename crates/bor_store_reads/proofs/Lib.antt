@@ -5,3 +5,4 @@ pub mod FoundFilings
 pub mod LastOnes
 pub mod FoundStatements
 pub mod Whole
+pub mod Declared

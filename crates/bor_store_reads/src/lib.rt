@@ -7,6 +7,7 @@
 #![tactic(auto)]
 
 mod agents;
+mod declarations;
 mod fault;
 mod filings;
 mod register;
@@ -17,6 +18,7 @@ mod values;
 mod views;
 
 pub use agents::{has_agent, read_who};
+pub use declarations::read_rows_of;
 pub use fault::ReadError;
 pub use filings::{filing_count, has_file, read_filing, read_filings, read_line};
 pub use register::read_day;
