@@ -107,10 +107,10 @@ pub(crate) fn read_reply<K: Keep, R: Read>(
     reader: &mut Counted<R>,
 ) -> Option<Outgoing>
     ensures began { K.is_clean keep.new → K.is_clean keep.old }
-    ensures reply { IfSome (R.remaining reader.old.inner) (λ input. ByOutgoing result input
+    ensures reply { ByOutgoing result (R.remaining reader.old.inner)
         (λ spelled status bytes. Promised K.shows K.is_clean keep.old keep.new (λ r.
         IsLegal r → IsSent (K.shows keep.new) r spelled status bytes))
-        (Promised K.shows K.is_clean keep.old keep.new (λ r. IsLegal r → K.shows keep.new r))) }
+        (Promised K.shows K.is_clean keep.old keep.new (λ r. IsLegal r → K.shows keep.new r)) }
     ensures status { IfSome result HasStatus }
     ensures taken { TakesAtMost 1064960 (R.remaining reader.old.inner) (R.remaining reader.new.inner) }
     ensures faults { reader.new.faults ≡ faults_unread result reader.old.faults }
