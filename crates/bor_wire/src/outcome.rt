@@ -3,6 +3,7 @@
 ghost use Rattle.std.specs.Prelude.{◌≡◌};
 ghost use Rattle.bor_records.specs.Promises.{Promised};
 ghost use Rattle.bor_machine.specs.Legality.{IsLegal};
+ghost use Rattle.bor_wire_read.specs.Message.{request_limit};
 ghost use Rattle.bor_wire_read.specs.Reading.{TakesAtMost};
 ghost use Rattle.bor_wire.specs.Exchanges.{IsExchanged, IsWritten, read_faults, write_faults};
 
@@ -54,7 +55,7 @@ pub fn exchange<K: Keep, R: Read, W: Write>(
     ensures began { K.is_clean keep.new → K.is_clean keep.old }
     ensures exchanged { Promised K.shows K.is_clean keep.old keep.new (λ r. IsLegal r →
         IsExchanged result (K.shows keep.new) r (R.remaining reader.old.inner) (W.contents writer.old.inner) (W.contents writer.new.inner)) }
-    ensures taken { TakesAtMost 1064960 (R.remaining reader.old.inner) (R.remaining reader.new.inner) }
+    ensures taken { TakesAtMost request_limit (R.remaining reader.old.inner) (R.remaining reader.new.inner) }
     ensures read_faults { reader.new.faults ≡ read_faults result reader.old.faults }
     ensures write_faults { writer.new.faults ≡ write_faults result writer.old.faults }
 {
