@@ -52,7 +52,7 @@ any_identified id agent fs = any_left place_columns (λ (p : Placed). is_same p.
 
 -- ---- forms
 
-own_placed : (P : Placed → Type 0) (agent : List ℕ) (ms : List Member) → All P (placed ms) → All P (placed_by agent (filings_of agent ms))
+pub own_placed : (P : Placed → Type 0) (agent : List ℕ) (ms : List Member) → All P (placed ms) → All P (placed_by agent (filings_of agent ms))
 own_placed P agent [] h = h
 own_placed P agent (m ∷ ms) h = go (is_same m.name agent) refl (own_placed P agent ms (all_back P (placed_by m.name m.filings) (placed ms) h))
   where

@@ -4,3 +4,5 @@ pub mod FoundAgents
 pub mod FoundFilings
 pub mod LastOnes
 pub mod FoundStatements
+pub mod Whole
+pub mod Declared

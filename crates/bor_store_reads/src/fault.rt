@@ -6,7 +6,7 @@ ghost use Rattle.bor_store_reads.specs.declared.fault.ReadError.TheVariants as e
 use bor_register::StoreFault;
 use bor_store_rows::RowFault;
 use sqlite::{Error, ErrorCode};
-use std::alloc::AllocError;
+use std::alloc::{AllocError, AllocFailed};
 use thiserror::Error as ThisError;
 
 /// Why a read gives no answer.
@@ -27,6 +27,14 @@ impl From<AllocError> for ReadError {
     ghost from_gives = { λ _ error. error ≡ errors.Memory };
 
     fn from(_error: AllocError) -> Self {
+        ReadError::Memory
+    }
+}
+
+impl<T: Drop> From<AllocFailed<T>> for ReadError {
+    ghost from_gives = { λ _ error. error ≡ errors.Memory };
+
+    fn from(_error: AllocFailed<T>) -> Self {
         ReadError::Memory
     }
 }

@@ -7,16 +7,21 @@
 #![tactic(auto)]
 
 mod agents;
+mod declarations;
 mod fault;
 mod filings;
 mod register;
 mod statements;
 mod successors;
+mod tables;
 mod values;
+mod views;
 
 pub use agents::{has_agent, read_who};
+pub use declarations::read_rows_of;
 pub use fault::ReadError;
 pub use filings::{filing_count, has_file, read_filing, read_filings, read_line};
 pub use register::read_day;
 pub use statements::{has_statement, read_last};
 pub use successors::has_successor;
+pub use views::{read_published, read_visible};

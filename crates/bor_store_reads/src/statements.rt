@@ -60,7 +60,7 @@ pub(crate) fn found_statement<S: Alter>(
 }
 
 /// The row of the agent's filing with this number.
-fn found_filing<S: Alter>(
+pub(crate) fn found_filing<S: Alter>(
     conn: &mut Connection<S>,
     alloc: Global,
     agent: &AgentName,

@@ -1,8 +1,9 @@
 //! A register as rows of six tables, and back.
 //!
 //! `specs/Encoding` says what rows the tables have of a register, column by column. [`TableRow`] reads
-//! a row of SQL as the value whose columns it has, and [`joined`] puts statements together from the
-//! rows of their tables. Nothing here speaks to a store.
+//! a row of SQL as the value whose columns it has. [`joined`] puts statements together from the rows of
+//! their tables, and [`members_of`] the members of a register from agents, filings and statements,
+//! without the files of the filings. Nothing here speaks to a store.
 #![tactic(auto)]
 
 mod answers;
@@ -23,9 +24,10 @@ mod words;
 pub use answers::{first_flag, first_row, lines_of};
 pub use fault::RowFault;
 pub use joining::joined;
-pub use members::{filings_of, members_joined, members_of};
+pub use members::members_of;
 pub use places::At;
 pub use reader::{TableRow, read_rows};
 pub use rows::{
     AgentRow, FilingRow, IdentifierRow, InterestRow, Part, Placed, RegisterRow, StatementRow,
 };
+pub use seen::any_visible;

@@ -1,14 +1,13 @@
 //! The members of a register from the rows of its tables, without their files.
 
 ghost use Rattle.std.specs.Prelude.{◌≡◌, ◌++◌, ℕ, List, [], IfOk, map, true, false, not, ◌==◌, length, IfSome, ◌<◌};
-ghost use Rattle.std.specs.List.{AllByRecursion, flat_map, position_from};
+ghost use Rattle.std.specs.List.{AllByRecursion, position_from};
 ghost use Rattle.bor_terms.specs.Texts.{is_same};
 ghost use Rattle.bor_register.specs.Register.{IsOrdered};
-ghost use Rattle.bor_store_rows.specs.Placed.{bare, interest_rows, identifier_rows, agent_row, filing_row, filing_lines, placed, placed_by, without_file, without_files, member_without_files};
+ghost use Rattle.bor_store_rows.specs.Placed.{agent_row, filing_row, filing_lines, placed, placed_by, without_file, without_files, member_without_files};
 ghost use Rattle.bor_store_rows.specs.Stored.{AreNumbered, AllNumbered};
 
-use crate::joining::joined;
-use crate::rows::{AgentRow, FilingRow, IdentifierRow, InterestRow, Placed, StatementRow};
+use crate::rows::{AgentRow, FilingRow, Placed};
 use bods_read::Statement;
 use bor_register::{AcceptedFiling, Member};
 use bor_terms::{AgentName, Listed};
@@ -38,31 +37,6 @@ pub fn members_of(
     Ok(members)
 }
 
-/// The same from the rows of all five tables.
-#[tactic(auto, using(crate::proofs::Apart::all_apart))]
-pub fn members_joined(
-    alloc: Global,
-    agents: &[AgentRow],
-    filings: &[FilingRow],
-    statements: Vec<StatementRow>,
-    interests: Vec<InterestRow>,
-    identifiers: Vec<IdentifierRow>,
-) -> Result<Vec<Member>, AllocError>
-    ensures { IfOk result (λ members. (ms : List Member) → IsOrdered ms → AllNumbered ms → agents.now ≡ map agent_row ms
-        → filings.now ≡ filing_lines ms → statements.items ≡ map bare (placed ms) → interests.items ≡ flat_map interest_rows (placed ms)
-        → identifiers.items ≡ flat_map identifier_rows (placed ms) → members.items ≡ without_files ms) }
-{
-    let placed = joined(
-        alloc,
-        statements,
-        interests.as_slice(),
-        identifiers.as_slice(),
-    )?;
-    drop(interests);
-    drop(identifiers);
-    members_of(alloc, agents, filings, placed.as_slice())
-}
-
 fn member(
     alloc: Global,
     agent: &AgentRow,
@@ -81,7 +55,7 @@ fn member(
 }
 
 /// The filings of an agent, from rows that are its own.
-pub fn filings_of(
+fn filings_of(
     alloc: Global,
     filings: &[FilingRow],
     statements: &[Placed],

@@ -2,8 +2,8 @@
 //! filings.
 
 use crate::{
-    AgentRow, At, FilingRow, IdentifierRow, InterestRow, Part, Placed, StatementRow, filings_of,
-    joined, lines_of, members_joined, members_of,
+    AgentRow, At, FilingRow, IdentifierRow, InterestRow, Part, Placed, StatementRow, any_visible,
+    joined, lines_of, members_of,
 };
 use bods_read::{
     Details, Directness, EntityKind, FreeText, Identifier, Interest, InterestKind, RecordType,
@@ -157,6 +157,7 @@ fn a_draft_stays_invisible_to_others(rt: HostRuntime) {
     let due = row.due;
     let mut filings = Vec::new(alloc);
     filings.push(row).expect(&rt, "fits");
+    assert!(&rt; !any_visible(filings.as_slice(), &birch.name, before));
     let lines = lines_of(alloc, filings, due).expect(&rt, "lines");
     assert!(&rt; lines.len() == 1 && lines[0].state == State::Published);
 }
@@ -193,12 +194,4 @@ fn each_agent_gets_its_own_filings(rt: HostRuntime) {
     assert!(&rt; own.len() == 2 && members[1].filings.as_slice().len() == 0);
     assert!(&rt; own[0].statements.as_slice().len() == 1);
     assert!(&rt; own[1].withdrawn && own[1].statements.as_slice().len() == 0);
-    let again = filings_of(alloc, &filings, &statements).expect(&rt, "filings");
-    assert!(&rt; again.len() == 2);
-    let mut rows = Vec::new(alloc);
-    rows.push(entity(alloc).expect(&rt, "an entity"))
-        .expect(&rt, "fits");
-    let (none, nothing) = (Vec::new(alloc), Vec::new(alloc));
-    let joined = members_joined(alloc, &agents, &filings, rows, none, nothing);
-    assert!(&rt; joined.expect(&rt, "members").len() == 2);
 }

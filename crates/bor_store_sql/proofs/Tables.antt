@@ -54,17 +54,6 @@ module _ (t : ℕ) (low : nat_le (2 ^ 31) t ≡ false) (tests : List Term) (para
   asked = table_query t tests project order
 
   module _ (shown : Row → Output) (same_out : (id : ℕ) (x : Row) → output asked (env t tests params (Int (pos id) ∷ x)) ≡ shown x) where
-    -- the rows come from those that pass, in some order
-    pub come_from : (db : Trees) (xs rows : List Row) → Keeps xs (db t) → IsAnswer asked (overlay db []) params rows
-        → (ordered : List Output) × IsPermutation (map shown (filter q xs)) ordered × (rows ≡ map (λ (o : Output). o.1) ordered)
-    come_from db xs rows k a =
-        let it = answered t tests params project order low db rows a in
-        let outs : map (output asked) (map (env t tests params) (filter (keeps t tests params) (db t))) ≡ map shown (filter q k.stored) =
-        map-map (output asked) (env t tests params) _ ∙ picked (keeps t tests params) q same_test _ shown same_out 1 k.stored (db t) k.under in
-        let back : IsPermutation (map shown (filter q xs)) (map shown (filter q k.stored)) =
-        IsPermutation-sym _ _ (IsPermutation-map shown _ _ (IsPermutation-filter q k.stored xs k.same)) in
-        (it.0, IsPermutation-trans _ _ _ back (subst (λ l. IsPermutation l it.0) outs it.1), it.3)
-
     -- where the rows rise in the order that is asked for, they come in their own order
     pub selected : (db : Trees) (xs rows : List Row) → Keeps xs (db t) → IsAnswer asked (overlay db []) params rows
         → IsAscending (λ a b. output_cmp asked (shown a) (shown b) ≡ Less) (filter q xs) → rows ≡ map (λ x. (shown x).1) (filter q xs)

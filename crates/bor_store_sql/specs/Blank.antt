@@ -1,8 +1,7 @@
 -- The tables while they are made, all without rows.
-use Rattle.std.specs.Prelude.{◌≡◌, [], ◌∷◌, ◌++◌, OnOk, Result, IsTrue}
+use Rattle.std.specs.Prelude.{◌≡◌, [], OnOk, Result, IsTrue}
 use Rattle.std.specs.List.{AllByRecursion}
 use Rattle.sqlite.specs.Effect.{Database}
-use Rattle.sqlite.specs.Order.{Row}
 use Rattle.sqlite.specs.Schema.{Schema}
 use Rattle.sqlite.specs.State.{State}
 use Rattle.bor_store_rows.specs.Encoding.{Contents}
@@ -22,7 +21,3 @@ pub record Leads {X E : Type 0} (before after : Database → Type 0) (old new : 
 -- what six tables without rows have
 abbrev pub no_contents : Contents
 no_contents = record { register = []; agents = []; filings = []; statements = []; interests = []; identifiers = [] }
-
--- what they have once the register's row is there
-abbrev pub with_register_row : Row → Contents → Contents
-with_register_row x t = record t { register = t.register ++ x ∷ [] }

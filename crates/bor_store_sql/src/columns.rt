@@ -25,10 +25,9 @@ pub(crate) fn one_text(text: &str) -> [ValueRef<'_>; 1]
 pub(crate) fn two_texts<'a>(first: &'a str, second: &'a str) -> [ValueRef<'a>; 2]
     ensures { bound result ≡ Text first.now ∷ Text second.now ∷ [] }
 {
-    [
-        ValueRef::Text(first.as_bytes()),
-        ValueRef::Text(second.as_bytes()),
-    ]
+    let first = ValueRef::Text(first.as_bytes());
+    let second = ValueRef::Text(second.as_bytes());
+    [first, second]
 }
 
 /// Three texts.
@@ -46,10 +45,8 @@ pub(crate) fn three_texts<'a>(first: &'a str, second: &'a str, third: &'a str) -
 pub(crate) fn filing_key(agent: &str, number: u32) -> [ValueRef<'_>; 2]
     ensures { bound result ≡ Text agent.now ∷ Int (pos number) ∷ [] }
 {
-    [
-        ValueRef::Text(agent.as_bytes()),
-        ValueRef::Int(i64::from(number)),
-    ]
+    let owner = ValueRef::Text(agent.as_bytes());
+    [owner, ValueRef::Int(i64::from(number))]
 }
 
 /// A statement by agent, filing and place.

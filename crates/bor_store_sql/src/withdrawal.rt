@@ -7,10 +7,11 @@ ghost use Rattle.bor_store_sql.specs.Shown.{Steps, IsClean, ShowsIn};
 ghost use Rattle.bor_store_sql.specs.Changing.{IsOnce, Any, with_mark, without_identifiers, without_interests, without_statements, withdrawn_in, withdrawn};
 ghost use Rattle.bor_register.specs.Register.{Register};
 
+use crate::columns::filing_key;
 use bor_store_texts::changes::{
     DELETE_IDENTIFIERS, DELETE_INTERESTS, DELETE_STATEMENTS, MARK_WITHDRAWN,
 };
-use sqlite::{Alter, Connection, Error, Transaction, params};
+use sqlite::{Alter, Connection, Error, Transaction};
 
 fn mark_withdrawn<S: Alter>(
     tx: &mut Transaction<'_, S>,
@@ -22,7 +23,7 @@ fn mark_withdrawn<S: Alter>(
     ensures steps { HasCleanDisk (state S.Store tx.new.conn.now) → IsTrue (state S.Store tx.old.conn.now).in_transaction
         → Steps (IsOnce agent.now number) (with_mark agent.now number) (state S.Store tx.old.conn.now) (state S.Store tx.new.conn.now) result }
 {
-    tx.execute(MARK_WITHDRAWN, params![agent, number])
+    tx.execute(MARK_WITHDRAWN, &filing_key(agent, number))
 }
 
 fn delete_identifiers<S: Alter>(
@@ -35,7 +36,7 @@ fn delete_identifiers<S: Alter>(
     ensures steps { HasCleanDisk (state S.Store tx.new.conn.now) → IsTrue (state S.Store tx.old.conn.now).in_transaction
         → Steps Any (without_identifiers agent.now number) (state S.Store tx.old.conn.now) (state S.Store tx.new.conn.now) result }
 {
-    tx.execute(DELETE_IDENTIFIERS, params![agent, number])
+    tx.execute(DELETE_IDENTIFIERS, &filing_key(agent, number))
 }
 
 fn delete_interests<S: Alter>(
@@ -48,7 +49,7 @@ fn delete_interests<S: Alter>(
     ensures steps { HasCleanDisk (state S.Store tx.new.conn.now) → IsTrue (state S.Store tx.old.conn.now).in_transaction
         → Steps Any (without_interests agent.now number) (state S.Store tx.old.conn.now) (state S.Store tx.new.conn.now) result }
 {
-    tx.execute(DELETE_INTERESTS, params![agent, number])
+    tx.execute(DELETE_INTERESTS, &filing_key(agent, number))
 }
 
 fn delete_statements<S: Alter>(
@@ -61,7 +62,7 @@ fn delete_statements<S: Alter>(
     ensures steps { HasCleanDisk (state S.Store tx.new.conn.now) → IsTrue (state S.Store tx.old.conn.now).in_transaction
         → Steps Any (without_statements agent.now number) (state S.Store tx.old.conn.now) (state S.Store tx.new.conn.now) result }
 {
-    tx.execute(DELETE_STATEMENTS, params![agent, number])
+    tx.execute(DELETE_STATEMENTS, &filing_key(agent, number))
 }
 
 fn withdraw_rows<S: Alter>(

@@ -1,5 +1,5 @@
 -- Exchanges one after the other are a run.
-use Rattle.std.proofs.Common.{◌≡◌, ◌⊎◌, inl, inr, ℕ, List, [], ◌∷◌, map, Option, Bool, true, false, not, refl, sym, ap, subst, ◌==◌, take}
+use Rattle.std.proofs.Common.{◌≡◌, ◌⊎◌, inl, inr, ℕ, List, [], ◌∷◌, map, Option, Some, Bool, true, false, not, refl, sym, ap, subst, ◌==◌, take}
 use Rattle.std.specs.Prelude.{if◌then◌else◌}
 use Rattle.std.specs.Io.KnownBytes.{Appends}
 use Rattle.std.proofs.lemmas.Bool.{eqb-true, eqb-false}
@@ -26,14 +26,14 @@ Replies shown r input written = (s : Spelled) × Spells input s × (bytes : List
 abbrev Either : Outcome → (Register → Type 0) → Register → List ℕ → (List ℕ → Type 0) → Type 0
 Either o shown r input written = ((is_answered o ≡ true) × Replies shown r input written) ⊎ ((is_answered o ≡ false) × shown r)
 
-by_status : (b : Bool) (status : ℕ) (shown : Register → Type 0) (r : Register) (input : List ℕ) (written : List ℕ → Type 0) → (status == 503) ≡ b → IsReplied shown r input status written
+by_status : (b : Bool) (status : ℕ) (shown : Register → Type 0) (r : Register) (input : List ℕ) (written : List ℕ → Type 0) → (status == 503) ≡ b → IsReplied shown r (Some input) status written
     → ((not (status == 503) ≡ true) × Replies shown r input written) ⊎ ((not (status == 503) ≡ false) × shown r)
 by_status true status shown r input written is h = inr (ap not is, (h.unavailable (eqb-true status 503 is)).0)
 by_status false status shown r input written is h =
     let full = h.full (eqb-false status 503 is) in
     inl (ap not is, (full.0, full.1, full.2, (full.3.0, full.3.1, full.3.2), full.4, full.3.4))
 
-by_outcome : (o : Outcome) (shown : Register → Type 0) (r : Register) (input : List ℕ) (held holds : Option (List ℕ)) → IsExchanged o shown r input held holds → Either o shown r input (IsWrittenBy o held holds)
+by_outcome : (o : Outcome) (shown : Register → Type 0) (r : Register) (input : List ℕ) (held holds : Option (List ℕ)) → IsExchanged o shown r (Some input) held holds → Either o shown r input (IsWrittenBy o held holds)
 by_outcome (Replied status) shown r input held holds h = by_status (status == 503) status shown r input (λ bytes. Appends held holds bytes) refl h
 by_outcome ReadFailed shown r input held holds h = inr (refl, h.0)
 by_outcome (WriteFailed status) shown r input held holds h = by_status (status == 503) status shown r input (λ bytes. (n : ℕ) × Appends held holds (take n bytes)) refl h

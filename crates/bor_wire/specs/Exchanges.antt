@@ -1,5 +1,5 @@
 -- What one exchange over a reader and a writer does.
-use Rattle.std.specs.Prelude.{◌≡◌, ◌≢◌, ℕ, List, take, Option, Some, None, ⊤}
+use Rattle.std.specs.Prelude.{◌≡◌, ◌≢◌, ℕ, List, take, Option, Some, None, IfSome, ⊤}
 use Rattle.std.specs.Io.KnownBytes.{Appends, Keeps}
 use Rattle.bor_register.specs.Register.{Register}
 use Rattle.bor_desk.specs.declared.reply.DeskReply.{DeskReply}
@@ -43,11 +43,15 @@ abbrev pub IsDeskReply : Option DeskReply → (Register → Type 0) → Register
 IsDeskReply (Some reply) shown r asked = IsTold (exchange r asked).answer reply × shown (exchange r asked).register
 IsDeskReply None shown r asked = shown r
 
+-- the input spells this, where it is known
+abbrev pub IsSpelled : Option (List ℕ) → Spelled → Type 0
+IsSpelled known spelled = IfSome known (λ input. Spells input spelled)
+
 -- of a whole reply there is something that the input spells, of which P holds with its status and bytes; of anything else Q does
-abbrev pub ByOutgoing : Option Outgoing → List ℕ → (Spelled → ℕ → List ℕ → Type 0) → Type 0 → Type 0
-ByOutgoing (Some (outgoing.Full status bytes)) input P Q = (spelled : Spelled) × Spells input spelled × P spelled status bytes.items
-ByOutgoing (Some outgoing.Unavailable) input P Q = Q
-ByOutgoing None input P Q = Q
+abbrev pub ByOutgoing : Option Outgoing → Option (List ℕ) → (Spelled → ℕ → List ℕ → Type 0) → Type 0 → Type 0
+ByOutgoing (Some (outgoing.Full status bytes)) known P Q = (spelled : Spelled) × IsSpelled known spelled × P spelled status bytes.items
+ByOutgoing (Some outgoing.Unavailable) known P Q = Q
+ByOutgoing None known P Q = Q
 
 -- a reader's fault is counted where there is nothing to go out
 abbrev pub faults_unread : Option Outgoing → ℕ → ℕ
@@ -57,16 +61,16 @@ faults_unread (Some reply) n = n
 -- ---- the exchange
 
 -- What was replied with a status; `written` says of bytes that they, or a front of them, were written and nothing else.
-pub record IsReplied (shown : Register → Type 0) (r : Register) (input : List ℕ) (status : ℕ) (written : List ℕ → Type 0) : Type 0 where
+pub record IsReplied (shown : Register → Type 0) (r : Register) (known : Option (List ℕ)) (status : ℕ) (written : List ℕ → Type 0) : Type 0 where
   pub unavailable : status ≡ 503 → shown r × written UNAVAILABLE.now
-  pub full : status ≢ 503 → (spelled : Spelled) × Spells input spelled × (bytes : List ℕ) × IsSent shown r spelled status bytes × written bytes
-  pub report : status ≡ 200 → (spelled : Spelled) × Spells input spelled × (bytes : List ℕ) × IsReport r spelled bytes × written bytes
+  pub full : status ≢ 503 → (spelled : Spelled) × IsSpelled known spelled × (bytes : List ℕ) × IsSent shown r spelled status bytes × written bytes
+  pub report : status ≡ 200 → (spelled : Spelled) × IsSpelled known spelled × (bytes : List ℕ) × IsReport r spelled bytes × written bytes
 
--- What an exchange did with a reader of these bytes and a writer.
-abbrev pub IsExchanged : Outcome → (Register → Type 0) → Register → List ℕ → Option (List ℕ) → Option (List ℕ) → Type 0
-IsExchanged (Replied status) shown r input old new = IsReplied shown r input status (λ bytes. Appends old new bytes)
-IsExchanged ReadFailed shown r input old new = shown r × Keeps old new
-IsExchanged (WriteFailed status) shown r input old new = IsReplied shown r input status (λ bytes. (n : ℕ) × Appends old new (take n bytes))
+-- What an exchange did with a reader and a writer, of whichever the bytes are known: what is said of the register and of the status holds of any.
+abbrev pub IsExchanged : Outcome → (Register → Type 0) → Register → Option (List ℕ) → Option (List ℕ) → Option (List ℕ) → Type 0
+IsExchanged (Replied status) shown r known old new = IsReplied shown r known status (λ bytes. Appends old new bytes)
+IsExchanged ReadFailed shown r known old new = shown r × Keeps old new
+IsExchanged (WriteFailed status) shown r known old new = IsReplied shown r known status (λ bytes. (n : ℕ) × Appends old new (take n bytes))
 
 -- the faults that the reader and the writer counted are those that the outcome tells
 abbrev pub read_faults : Outcome → ℕ → ℕ

@@ -1,5 +1,5 @@
 -- Exchanges one after the other, as a run.
-use Rattle.std.specs.Prelude.{ℕ, List, [], ◌∷◌, map, filter, take, Option, Bool, false, not, ◌==◌}
+use Rattle.std.specs.Prelude.{ℕ, List, [], ◌∷◌, map, filter, take, Option, Some, Bool, false, not, ◌==◌}
 use Rattle.std.specs.List.{AllZip}
 use Rattle.std.specs.Io.KnownBytes.{Appends}
 use Rattle.bor_records.specs.Promises.{Promised}
@@ -31,7 +31,7 @@ abbrev pub AreExchanged : {K : Type 0} → (K → Register → Type 0) → (K �
 AreExchanged shows is_clean keep [] = Unit {0}
 AreExchanged shows is_clean keep (e ∷ rest) =
     (is_clean e.keep → is_clean keep)
-    × Promised shows is_clean keep e.keep (λ r. IsLegal r → IsExchanged e.outcome (shows e.keep) r e.input e.held e.holds)
+    × Promised shows is_clean keep e.keep (λ r. IsLegal r → IsExchanged e.outcome (shows e.keep) r (Some e.input) e.held e.holds)
     × AreExchanged shows is_clean e.keep rest
 
 -- whether the request was answered: the reader didn't fail, and the reply isn't 503

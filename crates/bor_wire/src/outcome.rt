@@ -1,8 +1,9 @@
 //! One exchange over a reader and a writer, and how it ends.
 
-ghost use Rattle.std.specs.Prelude.{◌≡◌, IfSome};
+ghost use Rattle.std.specs.Prelude.{◌≡◌};
 ghost use Rattle.bor_records.specs.Promises.{Promised};
 ghost use Rattle.bor_machine.specs.Legality.{IsLegal};
+ghost use Rattle.bor_wire_read.specs.Message.{request_limit};
 ghost use Rattle.bor_wire_read.specs.Reading.{TakesAtMost};
 ghost use Rattle.bor_wire.specs.Exchanges.{IsExchanged, IsWritten, read_faults, write_faults};
 ghost use Rattle.bor_wire.specs.Agents.{IsExchangedAlone};
@@ -42,9 +43,11 @@ fn write_reply<W: Write>(writer: &mut Counted<W>, status: u16, bytes: &[u8]) -> 
 ///
 /// With a status other than 503 the bytes that are written, of which a failing writer takes a front,
 /// are the reply to the one input, which each agent receives as it would alone, and the register left
-/// is the one after it; with 503 they are [`UNAVAILABLE`], and nothing changed. At most 1,064,960 bytes are read. A failed read, an
-/// interruption too, ends the exchange as [`Outcome::ReadFailed`], and a write that fails or takes
-/// nothing as [`Outcome::WriteFailed`]: each comes exactly where that end's count of faults moved.
+/// is the one after it; with 503 they are [`UNAVAILABLE`], and nothing changed. The bytes are said of
+/// readers and writers that tell theirs, as those over memory do; the rest of any. At most 1,064,960
+/// bytes are read. A failed read, an interruption too, ends the exchange as [`Outcome::ReadFailed`], and
+/// a write that fails or takes nothing as [`Outcome::WriteFailed`]: each comes exactly where that end's
+/// count of faults moved.
 pub fn exchange<K: Keep, R: Read, W: Write>(
     alloc: Global,
     keep: &mut K,
@@ -52,13 +55,11 @@ pub fn exchange<K: Keep, R: Read, W: Write>(
     writer: &mut Counted<W>,
 ) -> Outcome
     ensures began { K.is_clean keep.new → K.is_clean keep.old }
-    ensures exchanged { IfSome (R.remaining reader.old.inner) (λ input.
-        Promised K.shows K.is_clean keep.old keep.new (λ r. IsLegal r →
-        IsExchanged result (K.shows keep.new) r input (W.contents writer.old.inner) (W.contents writer.new.inner))) }
-    ensures alone { IfSome (R.remaining reader.old.inner) (λ input.
-        Promised K.shows K.is_clean keep.old keep.new (λ r. IsLegal r →
-        IsExchangedAlone result r input (W.contents writer.old.inner) (W.contents writer.new.inner))) }
-    ensures taken { TakesAtMost 1064960 (R.remaining reader.old.inner) (R.remaining reader.new.inner) }
+    ensures exchanged { Promised K.shows K.is_clean keep.old keep.new (λ r. IsLegal r →
+        IsExchanged result (K.shows keep.new) r (R.remaining reader.old.inner) (W.contents writer.old.inner) (W.contents writer.new.inner)) }
+    ensures alone { Promised K.shows K.is_clean keep.old keep.new (λ r. IsLegal r →
+        IsExchangedAlone result r (R.remaining reader.old.inner) (W.contents writer.old.inner) (W.contents writer.new.inner)) }
+    ensures taken { TakesAtMost request_limit (R.remaining reader.old.inner) (R.remaining reader.new.inner) }
     ensures read_faults { reader.new.faults ≡ read_faults result reader.old.faults }
     ensures write_faults { writer.new.faults ≡ write_faults result writer.old.faults }
 {

@@ -3,6 +3,7 @@
 ghost use Rattle.std.specs.Prelude.{◌≡◌, ◌≢◌, Ok, Err, IfSome};
 ghost use Rattle.bor_records.specs.Promises.{Promised};
 ghost use Rattle.bor_machine.specs.Legality.{IsLegal};
+ghost use Rattle.bor_wire_read.specs.Message.{request_limit};
 ghost use Rattle.bor_wire_read.specs.Reading.{TakesAtMost};
 ghost use Rattle.bor_wire_spell.specs.Spell.{asked_view, spell};
 ghost use Rattle.bor_wire_spell.specs.Steps.{Finds};
@@ -107,12 +108,12 @@ pub(crate) fn read_reply<K: Keep, R: Read>(
     reader: &mut Counted<R>,
 ) -> Option<Outgoing>
     ensures began { K.is_clean keep.new → K.is_clean keep.old }
-    ensures reply { IfSome (R.remaining reader.old.inner) (λ input. ByOutgoing result input
+    ensures reply { ByOutgoing result (R.remaining reader.old.inner)
         (λ spelled status bytes. Promised K.shows K.is_clean keep.old keep.new (λ r.
         IsLegal r → IsSent (K.shows keep.new) r spelled status bytes))
-        (Promised K.shows K.is_clean keep.old keep.new (λ r. IsLegal r → K.shows keep.new r))) }
+        (Promised K.shows K.is_clean keep.old keep.new (λ r. IsLegal r → K.shows keep.new r)) }
     ensures status { IfSome result HasStatus }
-    ensures taken { TakesAtMost 1064960 (R.remaining reader.old.inner) (R.remaining reader.new.inner) }
+    ensures taken { TakesAtMost request_limit (R.remaining reader.old.inner) (R.remaining reader.new.inner) }
     ensures faults { reader.new.faults ≡ faults_unread result reader.old.faults }
 {
     match read_request(alloc, reader) {

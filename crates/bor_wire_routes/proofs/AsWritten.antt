@@ -1,7 +1,6 @@
 -- What is found of a text is the path that it is as it stands.
-use Rattle.std.proofs.Common.{◌≡◌, ℕ, ◌<◌, inl, inr, List, [], ◌∷◌, ◌++◌, Option, Some, None, Ok, Err, Bool, true, false, cond, ◌||◌, ◌==◌, codes, refl, sym, ap, ◌∙◌, subst, arith, ◌↔◌}
-use Rattle.std.specs.Prelude.{Result, All}
-use Rattle.std.proofs.lemmas.List.Elements.{All-head, All-tail}
+use Rattle.std.proofs.Common.{◌≡◌, ℕ, inl, inr, List, [], ◌∷◌, ◌++◌, Option, Some, None, Ok, Err, Bool, true, false, cond, ◌||◌, ◌==◌, codes, refl, sym, ap, ◌∙◌, subst, arith, ◌↔◌}
+use Rattle.std.specs.Prelude.{Result, IsUtf8}
 use Rattle.std.specs.List.{list_any}
 use Rattle.std.specs.Option.{option_map}
 use Rattle.matchit.specs.Level.{IsText}
@@ -16,6 +15,7 @@ use Rattle.bor_wire_read.specs.declared.fault.Path.TheVariants as paths
 use Rattle.bor_wire_routes.specs.Routes.{path_word}
 use Rattle.bor_wire_routes.specs.Paths.{router, path_of, IsSegment, IsPath}
 use Rattle.bor_wire_routes.proofs.Rows.{led, along, along-found, into, past, found, only_end, seek-none}
+use Rattle.bor_wire_routes.proofs.Utf8Bytes.{text_bytes}
 use Rattle.bor_wire_routes.proofs.Keys.{keyed, text_of, filing_found, file_found, FoundBehind, filing_of, file_of, found_behind}
 
 -- ---- the router, as rows that begin alike
@@ -63,11 +63,7 @@ router_is : router ≡ led (codes "/") from_agents
 unfolding matchit_on_literals router entry scanned
 router_is = refl
 
--- ---- bytes and slashes
-
-bytes_of : (text : List ℕ) → All (λ b. b < 256) text → IsText text
-bytes_of [] h = tt
-bytes_of (b ∷ text) h = (All-head (λ c. c < 256) b text h, bytes_of text (All-tail (λ c. c < 256) b text h))
+-- ---- slashes, and parts of texts
 
 slash_is : (xs : List ℕ) → has_slash xs ≡ list_any (λ b. b == 47) xs
 slash_is [] = refl
@@ -215,5 +211,7 @@ is_path path text bytes e =
     let rest : IsText from.0 = text_behind (codes "/") from.0 (subst IsText from.1 bytes) in
     subst (λ q. IsPath q text) row.2 (subst (λ t. IsPath row.0.value t) (sym from.1) (from_agents_on from.0 row.0 rest from.2))
 
-pub as_written : (text : List ℕ) (path : Path) → All (λ b. b < 256) text → (path_of text ≡ Some path) ↔ IsPath path text
-as_written text path bytes = (is_path path text (bytes_of text bytes), is_found path text (bytes_of text bytes))
+pub written : (text : List ℕ) → IsUtf8 text → (found : Option Path) → found ≡ path_of text → (path : Path) → (found ≡ Some path) ↔ IsPath path text
+written text h found is path =
+    let bytes = text_bytes text h in
+    (λ e. is_path path text bytes (sym is ∙ e), λ e. is ∙ is_found path text bytes e)

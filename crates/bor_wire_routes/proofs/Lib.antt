@@ -2,5 +2,6 @@ pub mod OnLiterals
 pub mod Inserts
 pub mod Rows
 pub mod Keys
+pub mod Utf8Bytes
 pub mod AsWritten
 pub mod Examples

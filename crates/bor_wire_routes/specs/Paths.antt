@@ -1,5 +1,5 @@
 -- The path that a text is, as matchit keeps the paths of the table and finds one.
-use Rattle.std.specs.Prelude.{◌≡◌, ◌<◌, ◌==◌, ◌↔◌, ℕ, List, [], ◌∷◌, ◌++◌, length, false, not, Option, Some, Result, Ok, Err, codes, All}
+use Rattle.std.specs.Prelude.{◌≡◌, ◌<◌, ◌==◌, ℕ, List, [], ◌∷◌, ◌++◌, length, false, not, Option, Result, Ok, Err, codes}
 use Rattle.std.specs.List.{filter, list_any}
 use Rattle.std.specs.Option.{option_map}
 use Rattle.matchit.specs.Rows.{RowsOf}
@@ -53,7 +53,3 @@ abbrev pub IsPath : Path → List ℕ → Type 0
 IsPath paths.Filing text = (key : List ℕ) × IsSegment key × (text ≡ codes "/filings/" ++ key)
 IsPath paths.File text = (key : List ℕ) × IsSegment key × (text ≡ codes "/filings/" ++ key ++ codes "/file")
 IsPath path text = text ≡ path_word path
-
--- what is found of a text is the path that it is as it stands
-abbrev pub PathsAreAsWritten : Type 0
-PathsAreAsWritten = (text : List ℕ) (path : Path) → All (λ b. b < 256) text → (path_of text ≡ Some path) ↔ IsPath path text

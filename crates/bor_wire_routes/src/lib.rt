@@ -12,7 +12,6 @@
 //! tokens are not looked at here.
 #![tactic(auto)]
 
-pub mod laws;
 mod path;
 mod route;
 #[cfg(test)]

@@ -1,6 +1,7 @@
 //! The path that a text is.
-ghost use Rattle.std.specs.Prelude.{◌≡◌, IfOk};
-ghost use Rattle.bor_wire_routes.specs.Paths.{path_of, router};
+ghost use Rattle.std.specs.Prelude.{◌≡◌, ◌↔◌, Some, IfOk};
+ghost use Rattle.bor_wire_read.specs.declared.fault.Path.{Path};
+ghost use Rattle.bor_wire_routes.specs.Paths.{IsPath, path_in, path_of, router};
 
 use bor_wire_read::Path;
 use matchit::{InsertError, Router};
@@ -22,16 +23,25 @@ fn router_of_paths(alloc: Global) -> Result<Router<Path>, InsertError>
     Ok(router)
 }
 
+/// The path of a router that a text matches.
+fn matched(router: &Router<Path>, text: &str) -> Option<Path>
+    ensures { result ≡ path_in router.now text.now }
+{
+    match router.at(text) {
+        Ok(found) => Some(*found.value),
+        Err(_) => None,
+    }
+}
+
 /// The path that a text is, if it is one. The text is what stands before a target's first `?`.
 #[tactic(auto, unfolding(crate::specs::Paths::path_of))]
 pub fn find_path(alloc: Global, text: &str) -> Result<Option<Path>, AllocError>
-    ensures { IfOk result (λ path. path ≡ path_of text.now) }
+    ensures value { IfOk result (λ found. found ≡ path_of text.now) }
+    // Of each path: it is found exactly where the text is the path as it is written.
+    ensures written { IfOk result (λ found. (path : Path) → (found ≡ Some path) ↔ IsPath path text.now) }
 {
     let Ok(router) = router_of_paths(alloc) else {
         return Err(AllocError);
     };
-    match router.at(text) {
-        Ok(found) => Ok(Some(*found.value)),
-        Err(_) => Ok(None),
-    }
+    Ok(matched(&router, text))
 }

@@ -6,7 +6,7 @@ use Rattle.std.proofs.lemmas.List.{take-append-drop, take-append-le, drop-append
 use Rattle.std.proofs.lemmas.Bool.Decides.{nat_tests}
 use Rattle.bor_wire_read.specs.declared.fault.Refusal.{Refusal}
 use Rattle.bor_wire_read.specs.declared.fault.Refusal.TheVariants.{HeadTooLarge, CutShort, BadHead}
-use Rattle.bor_wire_read.specs.Head.{head_len, head_at, head_within, head_limit, line_feeds, with_few_lines, without_head}
+use Rattle.bor_wire_read.specs.Head.{head_len, head_at, head_within, head_limit, line_limit, line_feeds, with_few_lines, without_head}
 use Rattle.bor_wire_read.specs.Message.{◌>>=◌, and_then, Parts, HasParts, body_len, body_of, with_body}
 use Rattle.bor_wire_read.proofs.HeadLemmas.{head_len-le}
 use Rattle.bor_wire_read.proofs.ReadingLemmas.{head-found, head-too_large, head-cut_short}
@@ -64,7 +64,7 @@ inside limit input = by_end (head_len (take limit input)) refl
     by_end : (end : Option ℕ) → head_len (take limit input) ≡ end → IsInside input (option_map_or (with_few_lines input) end (without_head limit input))
     by_end None e = outside (nat_lt (length input) limit)
     by_end (Some n) e =
-        at_most n (nat_lt 66 (line_feeds (take n input))) (omega (arith, head_len-le (take limit input) n e, length-take limit input))
+        at_most n (nat_lt line_limit (line_feeds (take n input))) (omega (arith, head_len-le (take limit input) n e, length-take limit input))
 
 -- ---- the body is the one it was
 

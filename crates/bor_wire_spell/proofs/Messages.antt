@@ -6,7 +6,7 @@ use Rattle.bods_read.specs.Outcome.{table, outcome}
 use Rattle.bor_desk.specs.Runs.{Asked}
 use Rattle.bor_wire_read.specs.declared.fault.Refusal.{Refusal}
 use Rattle.bor_wire_read.specs.declared.fault.Refusal.TheVariants.{HeadTooLarge, CutShort, BadHead}
-use Rattle.bor_wire_read.specs.Head.{head_at, head_limit, line_feeds, with_few_lines, without_head}
+use Rattle.bor_wire_read.specs.Head.{head_at, head_limit, line_limit, line_feeds, with_few_lines, without_head}
 use Rattle.bor_wire_read.specs.Message.{◌>>=◌, and_then, Parts, Message, HasParts, IsAt, IsMessage, with_body}
 use Rattle.bor_wire_read.proofs.Laws.{message_unique}
 use Rattle.bor_wire_spell.specs.Refusals.{refuse, head_end, refusals, lines_of_head, lines_behind}
@@ -47,7 +47,7 @@ at_end : (input : List ℕ) (end : Option ℕ) (head : Option Parts)
     → outcome (lines_of_head input end head ++ lines_behind input end head) (asked_behind input end head)
     ≡ (message_at input (option_map_or (with_few_lines input) end (without_head head_limit input)) head >>= spell)
 at_end input None head = without input (nat_lt (length input) head_limit) head (asked_behind input None head)
-at_end input (Some n) head = within input n (nat_lt 66 (line_feeds (take n input))) head
+at_end input (Some n) head = within input n (nat_lt line_limit (line_feeds (take n input))) head
 
 pub spelling_is : (input : List ℕ) (head : Option Parts) → spelling input head ≡ (message_at input (head_at input) head >>= spell)
 unfolding spelling refusals

@@ -9,7 +9,7 @@ use Rattle.bor_wire_read.specs.declared.fault.Name.{Name}
 use Rattle.bor_wire_read.specs.declared.fault.Name.TheVariants as names
 use Rattle.bor_wire_read.specs.declared.fault.Refusal.{Refusal}
 use Rattle.bor_wire_read.specs.declared.fault.Refusal.TheVariants.{HeadTooLarge, CutShort, BadHead, BadLength, BodyTooLarge, NoPath, WrongMethod, NoToken, BadQuery}
-use Rattle.bor_wire_read.specs.Head.{head_len, head_limit, line_feeds}
+use Rattle.bor_wire_read.specs.Head.{head_len, head_limit, line_limit, line_feeds}
 use Rattle.bor_wire_read.specs.Message.{Parts, Message, FieldText, is_named, is_numeral, body_limit}
 use Rattle.bor_wire_routes.specs.declared.route.Route.{Route}
 use Rattle.bor_wire_routes.specs.declared.route.Route.TheVariants as routes
@@ -29,7 +29,7 @@ head_end input = head_len (take head_limit input)
 -- none ends within the limit, of as many bytes; or the one that does has too many lines
 abbrev pub is_too_large : List ℕ → Option ℕ → Bool
 is_too_large input None = not (nat_lt (length input) head_limit)
-is_too_large input (Some n) = nat_lt 66 (line_feeds (take n input))
+is_too_large input (Some n) = nat_lt line_limit (line_feeds (take n input))
 
 -- about an input, where its head ends, and the head taken apart
 abbrev pub lines_of_head : List ℕ → Option ℕ → Option Parts → List Refusal

@@ -11,5 +11,5 @@ returns-clause-steps g c clean inside =
     let old = state g.S.Store c.args.tx.now.conn.now in
     let new = state g.S.Store c.execute.new.self.conn.now in
     let run : ExecutesInside 0 delete_identifiers_text (filing_params c.args.agent.now c.args.number) old new c.execute.result =
-    rw (c.params-to_sql.ensures, c.params-to_sql-2.ensures) at (c.execute.ensures.runs clean inside) in
+    rw (c.filing_key.ensures) at (c.execute.ensures.runs clean inside) in
     one_step Any (without_identifiers c.args.agent.now c.args.number) delete_identifiers_text (filing_params c.args.agent.now c.args.number) old new c.execute.result run (λ count t h has fit. identifiers_deleted c.args.agent.now c.args.number _ _ count t has h)

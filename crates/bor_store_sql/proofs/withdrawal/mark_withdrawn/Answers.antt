@@ -11,5 +11,5 @@ returns-clause-steps g c clean inside =
     let old = state g.S.Store c.args.tx.now.conn.now in
     let new = state g.S.Store c.execute.new.self.conn.now in
     let run : ExecutesInside 0 mark_withdrawn_text (filing_params c.args.agent.now c.args.number) old new c.execute.result =
-    rw (c.params-to_sql.ensures, c.params-to_sql-2.ensures) at (c.execute.ensures.runs clean inside) in
+    rw (c.filing_key.ensures) at (c.execute.ensures.runs clean inside) in
     one_step (IsOnce c.args.agent.now c.args.number) (with_mark c.args.agent.now c.args.number) mark_withdrawn_text (filing_params c.args.agent.now c.args.number) old new c.execute.result run (λ count t h has fit. filing_marked c.args.agent.now c.args.number _ _ count t has fit h)

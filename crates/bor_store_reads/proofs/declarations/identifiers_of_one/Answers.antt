@@ -1,0 +1,23 @@
+use Rattle.std.proofs.Common.{◌≡◌, List, map, ap}
+use Rattle.std.specs.Prelude.{filter}
+use Rattle.sqlite.specs.Held.{state}
+use Rattle.bor_store_rows.specs.declared.places.At.{At}
+use Rattle.bor_store_rows.specs.declared.rows.Placed.{Placed}
+use Rattle.bor_store_rows.specs.Placed.{placed, same_place}
+use Rattle.bor_store_rows.specs.Encoding.{identifier_columns}
+use Rattle.bor_store_rows.specs.RowForms.{IsFormedPlaced, IsFormedIdentifierRow}
+use Rattle.bor_store_rows.proofs.Formed.{placed_formed, all_identifiers_formed}
+use Rattle.bor_store_sql.specs.Selected.{identifiers_at}
+use Rattle.bor_store_reads.proofs.Found.{told}
+use Rattle.bor_store_reads.proofs.Lists.{all_left}
+use Rattle.bor_store_reads.proofs.declarations.identifiers_of_one.Goals as goal
+
+pub returns-clause-answer : goal.returns-clause-answer
+returns-clause-answer g c =
+    let at = c.args.at.now in
+    let shown : List _ → At = λ a. record { agent = a; filing = at.filing; place = at.place } in
+    told identifier_columns IsFormedIdentifierRow (state g.S.Store c.args.conn.now) (state g.S.Store c.identifiers_of_statement.new.conn) c.identifiers_of_statement.result (λ r. map identifier_columns (identifiers_at (shown c.as_str.result.now) r.members)) c.identifiers_of_statement.ensures.finds
+    (λ r. identifiers_at at r.members)
+    (λ r. ap (λ a. map identifier_columns (identifiers_at (shown a) r.members)) c.as_str.ensures.value)
+    (λ r stored. all_identifiers_formed (filter (λ p. same_place p.at at) (placed r.members)) (all_left IsFormedPlaced (λ (p : Placed). same_place p.at at) (placed r.members) (placed_formed r stored)))
+    c.all.result (λ xs values. values.items ≡ xs) c.all.ensures

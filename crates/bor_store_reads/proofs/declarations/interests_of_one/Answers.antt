@@ -1,0 +1,23 @@
+use Rattle.std.proofs.Common.{◌≡◌, List, map, ap}
+use Rattle.std.specs.Prelude.{filter}
+use Rattle.sqlite.specs.Held.{state}
+use Rattle.bor_store_rows.specs.declared.places.At.{At}
+use Rattle.bor_store_rows.specs.declared.rows.Placed.{Placed}
+use Rattle.bor_store_rows.specs.Placed.{placed, same_place}
+use Rattle.bor_store_rows.specs.Encoding.{interest_columns}
+use Rattle.bor_store_rows.specs.RowForms.{IsFormedPlaced, IsFormedInterestRow}
+use Rattle.bor_store_rows.proofs.Formed.{placed_formed, all_interests_formed}
+use Rattle.bor_store_sql.specs.Selected.{interests_at}
+use Rattle.bor_store_reads.proofs.Found.{told}
+use Rattle.bor_store_reads.proofs.Lists.{all_left}
+use Rattle.bor_store_reads.proofs.declarations.interests_of_one.Goals as goal
+
+pub returns-clause-answer : goal.returns-clause-answer
+returns-clause-answer g c =
+    let at = c.args.at.now in
+    let shown : List _ → At = λ a. record { agent = a; filing = at.filing; place = at.place } in
+    told interest_columns IsFormedInterestRow (state g.S.Store c.args.conn.now) (state g.S.Store c.interests_of_statement.new.conn) c.interests_of_statement.result (λ r. map interest_columns (interests_at (shown c.as_str.result.now) r.members)) c.interests_of_statement.ensures.finds
+    (λ r. interests_at at r.members)
+    (λ r. ap (λ a. map interest_columns (interests_at (shown a) r.members)) c.as_str.ensures.value)
+    (λ r stored. all_interests_formed (filter (λ p. same_place p.at at) (placed r.members)) (all_left IsFormedPlaced (λ (p : Placed). same_place p.at at) (placed r.members) (placed_formed r stored)))
+    c.all.result (λ xs values. values.items ≡ xs) c.all.ensures

@@ -1,0 +1,28 @@
+use Rattle.std.proofs.Common.{ap, ◌∙◌}
+use Rattle.std.specs.List.{flat_map}
+use Rattle.sqlite.specs.Held.{state}
+use Rattle.bor_terms.specs.Texts.{is_same}
+use Rattle.bor_register.specs.Register.{filings_of}
+use Rattle.bor_store_rows.specs.declared.rows.Placed.{Placed}
+use Rattle.bor_store_rows.specs.declared.rows.StatementRow.{StatementRow}
+use Rattle.bor_store_rows.specs.Placed.{identifier_rows, interest_rows}
+use Rattle.bor_store_rows.proofs.Apart.{apart_by, apart_filter}
+use Rattle.bor_store_sql.specs.Selected.{identifiers_at, interests_at, in_declaration, placed_of}
+use Rattle.bor_store_reads.proofs.Declared.{lists_of}
+use Rattle.bor_store_reads.proofs.Found.{still_shows}
+use Rattle.bor_store_reads.proofs.FoundFilings.{own_numbered}
+use Rattle.bor_store_reads.proofs.declarations.placed.Goals as goal
+
+pub returns-clause-answer : goal.returns-clause-answer
+returns-clause-answer g c clean r shows =
+    let agent = c.args.agent.now in
+    let declaration = c.args.declaration.now in
+    let third = c.identifiers_of.ensures.began clean in
+    let second = c.interests_of.ensures.began third in
+    let shown = still_shows r (state g.S.Store c.args.conn.now) (state g.S.Store c.statements.new.conn) (c.statements.ensures.kept second) shows in
+    let still = still_shows r (state g.S.Store c.statements.new.conn) (state g.S.Store c.interests_of.new.conn) (c.interests_of.ensures.kept third) shown in
+    let statements = c.in_ok-statements.ensures.answer second r shows in
+    c.in_ok-joined.ensures (in_declaration declaration (placed_of agent r))
+    (apart_filter (λ (p : Placed). is_same p.statement.declaration declaration) (placed_of agent r) (apart_by agent 1 (filings_of agent r.members) (own_numbered agent r.members shows.stored.numbered))) statements
+    (c.as_slice-3.ensures.value ∙ c.in_ok-interests.ensures.answer third r shown ∙ ap (flat_map (λ (row : StatementRow). interests_at row.at r.members)) (c.as_slice.ensures.value ∙ statements) ∙ lists_of interest_rows agent declaration r shows.stored)
+    (c.as_slice-4.ensures.value ∙ c.in_ok-identifiers.ensures.answer clean r still ∙ ap (flat_map (λ (row : StatementRow). identifiers_at row.at r.members)) (c.as_slice-2.ensures.value ∙ statements) ∙ lists_of identifier_rows agent declaration r shows.stored)

@@ -1,0 +1,16 @@
+use Rattle.std.proofs.Common.{◌≡◌, map, sym}
+use Rattle.std.proofs.lemmas.Simd.{map-map}
+use Rattle.sqlite.specs.Held.{state}
+use Rattle.bor_store_rows.specs.Placed.{bare, placed}
+use Rattle.bor_store_rows.specs.Encoding.{statement_columns}
+use Rattle.bor_store_rows.specs.RowForms.{IsFormedStatementRow}
+use Rattle.bor_store_rows.proofs.Formed.{placed_formed, all_bare_formed}
+use Rattle.bor_store_reads.proofs.Found.{told}
+use Rattle.bor_store_reads.proofs.tables.statements.Goals as goal
+
+pub returns-clause-answer : goal.returns-clause-answer
+returns-clause-answer g c =
+    told statement_columns IsFormedStatementRow (state g.S.Store c.args.conn.now) (state g.S.Store c.all_statements.new.conn) c.all_statements.result (λ r. map (λ p. statement_columns (bare p)) (placed r.members)) c.all_statements.ensures.finds (λ r. map bare (placed r.members))
+    (λ r. sym (map-map statement_columns bare (placed r.members)))
+    (λ r stored. all_bare_formed (placed r.members) (placed_formed r stored))
+    c.all.result (λ xs values. values.items ≡ xs) c.all.ensures

@@ -1,0 +1,216 @@
+//! The rows of one declaration that a viewer sees.
+
+ghost use Rattle.std.specs.Prelude.{◌≡◌, ◌==◌, ◌&&◌, false, filter, map};
+ghost use Rattle.std.specs.List.{flat_map, list_any};
+ghost use Rattle.sqlite.specs.Held.{state};
+ghost use Rattle.bor_register.specs.Register.{filings_of};
+ghost use Rattle.bor_register.specs.Rows.{is_visible, rows_of};
+ghost use Rattle.bor_store_rows.specs.Placed.{bare};
+ghost use Rattle.bor_store_rows.specs.Seen.{is_seen, row_placed};
+ghost use Rattle.bor_store_sql.specs.Shown.{IsClean};
+ghost use Rattle.bor_store_sql.specs.Selected.{identifiers_at, in_declaration, interests_at, placed_of};
+ghost use Rattle.bor_store_reads.specs.Answering.{Answers};
+
+use crate::fault::ReadError;
+use crate::register::read_day;
+use crate::statements::found_filing;
+use crate::values::all;
+use bor_records::Row;
+use bor_store_rows::{At, IdentifierRow, InterestRow, Placed, StatementRow, joined};
+use bor_store_sql::{identifiers_of_statement, interests_of_statement, statements_of_declaration};
+use bor_terms::{AgentName, Day, Ident};
+use sqlite::{Alter, Connection};
+use std::alloc::Global;
+
+/// The rows of the declaration's statements, by filing and place.
+fn statements<S: Alter>(
+    conn: &mut Connection<S>,
+    alloc: Global,
+    agent: &AgentName,
+    declaration: &Ident,
+) -> Result<Vec<StatementRow>, ReadError>
+    requires { conn.old.in_transaction ≡ false }
+    ensures mode { conn.new.in_transaction ≡ false }
+    ensures began { IsClean (state S.Store conn.new) → IsClean (state S.Store conn.old) }
+    ensures kept { IsClean (state S.Store conn.new) → (state S.Store conn.new).committed ≡ (state S.Store conn.old).committed }
+    ensures answer { Answers (state S.Store conn.old) (state S.Store conn.new) result (λ r rows.
+        rows.items ≡ map bare (in_declaration declaration.now (placed_of agent.now r))) }
+{
+    all(
+        alloc,
+        statements_of_declaration(conn, agent.as_str(), declaration.as_str()),
+    )
+}
+
+/// The interests of the statement at this place.
+fn interests_of_one<S: Alter>(
+    conn: &mut Connection<S>,
+    alloc: Global,
+    at: &At,
+) -> Result<Vec<InterestRow>, ReadError>
+    requires { conn.old.in_transaction ≡ false }
+    ensures mode { conn.new.in_transaction ≡ false }
+    ensures began { IsClean (state S.Store conn.new) → IsClean (state S.Store conn.old) }
+    ensures kept { IsClean (state S.Store conn.new) → (state S.Store conn.new).committed ≡ (state S.Store conn.old).committed }
+    ensures answer { Answers (state S.Store conn.old) (state S.Store conn.new) result (λ r rows.
+        rows.items ≡ interests_at at.now r.members) }
+{
+    all(
+        alloc,
+        interests_of_statement(conn, at.agent.as_str(), at.filing, at.place),
+    )
+}
+
+/// The interests of these statements, one statement after the other.
+fn interests_of<S: Alter>(
+    conn: &mut Connection<S>,
+    alloc: Global,
+    rows: &[StatementRow],
+) -> Result<Vec<InterestRow>, ReadError>
+    requires { conn.old.in_transaction ≡ false }
+    ensures mode { conn.new.in_transaction ≡ false }
+    ensures began { IsClean (state S.Store conn.new) → IsClean (state S.Store conn.old) }
+    ensures kept { IsClean (state S.Store conn.new) → (state S.Store conn.new).committed ≡ (state S.Store conn.old).committed }
+    ensures answer { Answers (state S.Store conn.old) (state S.Store conn.new) result (λ r interests.
+        interests.items ≡ flat_map (λ row. interests_at row.at r.members) rows.now) }
+{
+    let mut interests = Vec::new(alloc);
+    for row in rows {
+        let mut own = interests_of_one(conn, alloc, &row.at)?;
+        interests.append(&mut own)?;
+    }
+    Ok(interests)
+}
+
+/// The identifiers of the statement at this place.
+fn identifiers_of_one<S: Alter>(
+    conn: &mut Connection<S>,
+    alloc: Global,
+    at: &At,
+) -> Result<Vec<IdentifierRow>, ReadError>
+    requires { conn.old.in_transaction ≡ false }
+    ensures mode { conn.new.in_transaction ≡ false }
+    ensures began { IsClean (state S.Store conn.new) → IsClean (state S.Store conn.old) }
+    ensures kept { IsClean (state S.Store conn.new) → (state S.Store conn.new).committed ≡ (state S.Store conn.old).committed }
+    ensures answer { Answers (state S.Store conn.old) (state S.Store conn.new) result (λ r rows.
+        rows.items ≡ identifiers_at at.now r.members) }
+{
+    all(
+        alloc,
+        identifiers_of_statement(conn, at.agent.as_str(), at.filing, at.place),
+    )
+}
+
+/// The identifiers of these statements, one statement after the other.
+fn identifiers_of<S: Alter>(
+    conn: &mut Connection<S>,
+    alloc: Global,
+    rows: &[StatementRow],
+) -> Result<Vec<IdentifierRow>, ReadError>
+    requires { conn.old.in_transaction ≡ false }
+    ensures mode { conn.new.in_transaction ≡ false }
+    ensures began { IsClean (state S.Store conn.new) → IsClean (state S.Store conn.old) }
+    ensures kept { IsClean (state S.Store conn.new) → (state S.Store conn.new).committed ≡ (state S.Store conn.old).committed }
+    ensures answer { Answers (state S.Store conn.old) (state S.Store conn.new) result (λ r identifiers.
+        identifiers.items ≡ flat_map (λ row. identifiers_at row.at r.members) rows.now) }
+{
+    let mut identifiers = Vec::new(alloc);
+    for row in rows {
+        let mut own = identifiers_of_one(conn, alloc, &row.at)?;
+        identifiers.append(&mut own)?;
+    }
+    Ok(identifiers)
+}
+
+/// The declaration's live statements.
+fn placed<S: Alter>(
+    conn: &mut Connection<S>,
+    alloc: Global,
+    agent: &AgentName,
+    declaration: &Ident,
+) -> Result<Vec<Placed>, ReadError>
+    requires { conn.old.in_transaction ≡ false }
+    ensures mode { conn.new.in_transaction ≡ false }
+    ensures began { IsClean (state S.Store conn.new) → IsClean (state S.Store conn.old) }
+    ensures kept { IsClean (state S.Store conn.new) → (state S.Store conn.new).committed ≡ (state S.Store conn.old).committed }
+    ensures answer { Answers (state S.Store conn.old) (state S.Store conn.new) result (λ r placed.
+        placed.items ≡ in_declaration declaration.now (placed_of agent.now r)) }
+{
+    let statements = statements(conn, alloc, agent, declaration)?;
+    let interests = interests_of(conn, alloc, statements.as_slice())?;
+    let identifiers = identifiers_of(conn, alloc, statements.as_slice())?;
+    Ok(joined(
+        alloc,
+        statements,
+        interests.as_slice(),
+        identifiers.as_slice(),
+    )?)
+}
+
+/// Whether the viewer sees the agent's filing with this number, on a day.
+fn is_number_seen<S: Alter>(
+    conn: &mut Connection<S>,
+    alloc: Global,
+    viewer: &AgentName,
+    agent: &AgentName,
+    day: Day,
+    number: u32,
+) -> Result<bool, ReadError>
+    requires { conn.old.in_transaction ≡ false }
+    ensures mode { conn.new.in_transaction ≡ false }
+    ensures began { IsClean (state S.Store conn.new) → IsClean (state S.Store conn.old) }
+    ensures kept { IsClean (state S.Store conn.new) → (state S.Store conn.new).committed ≡ (state S.Store conn.old).committed }
+    ensures answer { Answers (state S.Store conn.old) (state S.Store conn.new) result (λ r seen.
+        seen ≡ list_any (λ f. f.number == number && is_visible viewer.now day agent.now f) (filings_of agent.now r.members)) }
+{
+    match found_filing(conn, alloc, agent, number)? {
+        Some(filing) => Ok(filing.is_visible(viewer, day)),
+        None => Ok(false),
+    }
+}
+
+/// The rows of these statements of the agent that the viewer sees on a day.
+fn seen<S: Alter>(
+    conn: &mut Connection<S>,
+    alloc: Global,
+    viewer: &AgentName,
+    agent: &AgentName,
+    day: Day,
+    statements: Vec<Placed>,
+) -> Result<Vec<Row>, ReadError>
+    requires { conn.old.in_transaction ≡ false }
+    ensures mode { conn.new.in_transaction ≡ false }
+    ensures began { IsClean (state S.Store conn.new) → IsClean (state S.Store conn.old) }
+    ensures kept { IsClean (state S.Store conn.new) → (state S.Store conn.new).committed ≡ (state S.Store conn.old).committed }
+    ensures answer { Answers (state S.Store conn.old) (state S.Store conn.new) result (λ r rows.
+        rows.items ≡ map row_placed (filter (is_seen viewer.now day agent.now (filings_of agent.now r.members)) statements.items)) }
+{
+    let mut rows = Vec::new(alloc);
+    for placed in statements {
+        if is_number_seen(conn, alloc, viewer, agent, day, placed.at.filing)? {
+            rows.push(placed.into_row())?;
+        }
+    }
+    Ok(rows)
+}
+
+/// The rows of a declaration of the agent that the viewer sees: of its own live filings, and of
+/// another's published ones. They stand in order of acceptance and of place.
+pub fn read_rows_of<S: Alter>(
+    conn: &mut Connection<S>,
+    alloc: Global,
+    viewer: &AgentName,
+    agent: &AgentName,
+    declaration: &Ident,
+) -> Result<Vec<Row>, ReadError>
+    requires { conn.old.in_transaction ≡ false }
+    ensures mode { conn.new.in_transaction ≡ false }
+    ensures began { IsClean (state S.Store conn.new) → IsClean (state S.Store conn.old) }
+    ensures kept { IsClean (state S.Store conn.new) → (state S.Store conn.new).committed ≡ (state S.Store conn.old).committed }
+    ensures answer { Answers (state S.Store conn.old) (state S.Store conn.new) result (λ r rows.
+        rows.items ≡ rows_of viewer.now r.day agent.now declaration.now (filings_of agent.now r.members)) }
+{
+    let day = read_day(conn, alloc)?;
+    let statements = placed(conn, alloc, agent, declaration)?;
+    seen(conn, alloc, viewer, agent, day, statements)
+}

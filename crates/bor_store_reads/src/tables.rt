@@ -1,0 +1,130 @@
+//! Whole tables, and the members of the register that they are.
+
+ghost use Rattle.std.specs.Prelude.{◌≡◌, false, map};
+ghost use Rattle.std.specs.List.{flat_map};
+ghost use Rattle.sqlite.specs.Held.{state};
+ghost use Rattle.bor_store_rows.specs.Placed.{agent_row, bare, filing_lines, identifier_rows, interest_rows, placed, without_files};
+ghost use Rattle.bor_store_sql.specs.Shown.{IsClean};
+ghost use Rattle.bor_store_reads.specs.Answering.{Answers};
+
+use crate::fault::ReadError;
+use crate::values::all;
+use bor_register::Member;
+use bor_store_rows::{
+    AgentRow, FilingRow, IdentifierRow, InterestRow, Placed, StatementRow, joined, members_of,
+};
+use bor_store_sql::{all_agents, all_filings, all_identifiers, all_interests, all_statements};
+use sqlite::{Alter, Connection};
+use std::alloc::Global;
+
+/// The rows of all agents, by name.
+fn agents<S: Alter>(conn: &mut Connection<S>, alloc: Global) -> Result<Vec<AgentRow>, ReadError>
+    requires { conn.old.in_transaction ≡ false }
+    ensures mode { conn.new.in_transaction ≡ false }
+    ensures began { IsClean (state S.Store conn.new) → IsClean (state S.Store conn.old) }
+    ensures kept { IsClean (state S.Store conn.new) → (state S.Store conn.new).committed ≡ (state S.Store conn.old).committed }
+    ensures answer { Answers (state S.Store conn.old) (state S.Store conn.new) result (λ r rows.
+        rows.items ≡ map agent_row r.members) }
+{
+    all(alloc, all_agents(conn))
+}
+
+/// The rows of all filings without their files, by agent and number.
+fn filings<S: Alter>(conn: &mut Connection<S>, alloc: Global) -> Result<Vec<FilingRow>, ReadError>
+    requires { conn.old.in_transaction ≡ false }
+    ensures mode { conn.new.in_transaction ≡ false }
+    ensures began { IsClean (state S.Store conn.new) → IsClean (state S.Store conn.old) }
+    ensures kept { IsClean (state S.Store conn.new) → (state S.Store conn.new).committed ≡ (state S.Store conn.old).committed }
+    ensures answer { Answers (state S.Store conn.old) (state S.Store conn.new) result (λ r rows.
+        rows.items ≡ filing_lines r.members) }
+{
+    all(alloc, all_filings(conn))
+}
+
+/// The rows of all statements, by agent, filing and place.
+fn statements<S: Alter>(
+    conn: &mut Connection<S>,
+    alloc: Global,
+) -> Result<Vec<StatementRow>, ReadError>
+    requires { conn.old.in_transaction ≡ false }
+    ensures mode { conn.new.in_transaction ≡ false }
+    ensures began { IsClean (state S.Store conn.new) → IsClean (state S.Store conn.old) }
+    ensures kept { IsClean (state S.Store conn.new) → (state S.Store conn.new).committed ≡ (state S.Store conn.old).committed }
+    ensures answer { Answers (state S.Store conn.old) (state S.Store conn.new) result (λ r rows.
+        rows.items ≡ map bare (placed r.members)) }
+{
+    all(alloc, all_statements(conn))
+}
+
+/// The rows of all interests, by the place of their statement.
+fn interests<S: Alter>(
+    conn: &mut Connection<S>,
+    alloc: Global,
+) -> Result<Vec<InterestRow>, ReadError>
+    requires { conn.old.in_transaction ≡ false }
+    ensures mode { conn.new.in_transaction ≡ false }
+    ensures began { IsClean (state S.Store conn.new) → IsClean (state S.Store conn.old) }
+    ensures kept { IsClean (state S.Store conn.new) → (state S.Store conn.new).committed ≡ (state S.Store conn.old).committed }
+    ensures answer { Answers (state S.Store conn.old) (state S.Store conn.new) result (λ r rows.
+        rows.items ≡ flat_map interest_rows (placed r.members)) }
+{
+    all(alloc, all_interests(conn))
+}
+
+/// The rows of all identifiers, by the place of their statement.
+fn identifiers<S: Alter>(
+    conn: &mut Connection<S>,
+    alloc: Global,
+) -> Result<Vec<IdentifierRow>, ReadError>
+    requires { conn.old.in_transaction ≡ false }
+    ensures mode { conn.new.in_transaction ≡ false }
+    ensures began { IsClean (state S.Store conn.new) → IsClean (state S.Store conn.old) }
+    ensures kept { IsClean (state S.Store conn.new) → (state S.Store conn.new).committed ≡ (state S.Store conn.old).committed }
+    ensures answer { Answers (state S.Store conn.old) (state S.Store conn.new) result (λ r rows.
+        rows.items ≡ flat_map identifier_rows (placed r.members)) }
+{
+    all(alloc, all_identifiers(conn))
+}
+
+/// All live statements, by agent, filing and place.
+fn placed<S: Alter>(conn: &mut Connection<S>, alloc: Global) -> Result<Vec<Placed>, ReadError>
+    requires { conn.old.in_transaction ≡ false }
+    ensures mode { conn.new.in_transaction ≡ false }
+    ensures began { IsClean (state S.Store conn.new) → IsClean (state S.Store conn.old) }
+    ensures kept { IsClean (state S.Store conn.new) → (state S.Store conn.new).committed ≡ (state S.Store conn.old).committed }
+    ensures answer { Answers (state S.Store conn.old) (state S.Store conn.new) result (λ r statements.
+        statements.items ≡ placed r.members) }
+{
+    let statements = statements(conn, alloc)?;
+    let interests = interests(conn, alloc)?;
+    let identifiers = identifiers(conn, alloc)?;
+    Ok(joined(
+        alloc,
+        statements,
+        interests.as_slice(),
+        identifiers.as_slice(),
+    )?)
+}
+
+/// The members of the register, each filing without its file.
+pub(crate) fn members<S: Alter>(
+    conn: &mut Connection<S>,
+    alloc: Global,
+) -> Result<Vec<Member>, ReadError>
+    requires { conn.old.in_transaction ≡ false }
+    ensures mode { conn.new.in_transaction ≡ false }
+    ensures began { IsClean (state S.Store conn.new) → IsClean (state S.Store conn.old) }
+    ensures kept { IsClean (state S.Store conn.new) → (state S.Store conn.new).committed ≡ (state S.Store conn.old).committed }
+    ensures answer { Answers (state S.Store conn.old) (state S.Store conn.new) result (λ r members.
+        members.items ≡ without_files r.members) }
+{
+    let agents = agents(conn, alloc)?;
+    let filings = filings(conn, alloc)?;
+    let statements = placed(conn, alloc)?;
+    Ok(members_of(
+        alloc,
+        agents.as_slice(),
+        filings.as_slice(),
+        statements.as_slice(),
+    )?)
+}

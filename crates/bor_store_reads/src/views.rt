@@ -1,0 +1,56 @@
+//! The rows that a viewer sees, and what is published.
+
+ghost use Rattle.std.specs.Prelude.{◌≡◌, false};
+ghost use Rattle.sqlite.specs.Held.{state};
+ghost use Rattle.bor_register.specs.Publication.{published};
+ghost use Rattle.bor_register.specs.Rows.{visible};
+ghost use Rattle.bor_store_sql.specs.Shown.{IsClean};
+ghost use Rattle.bor_store_reads.specs.Answering.{Answers};
+
+use crate::fault::ReadError;
+use crate::register::read_day;
+use crate::tables::members;
+use bor_records::Row;
+use bor_register::{Outward, all_published, all_visible};
+use bor_terms::AgentName;
+use sqlite::{Alter, Connection};
+use std::alloc::Global;
+
+/// The rows of all agents that the viewer sees: of its own live filings, and of the others' published
+/// ones. They stand by agent, then in order of acceptance and of place. A viewer that isn't enrolled sees
+/// what is published.
+#[tactic(auto, using(crate::proofs::Whole::visible_is))]
+pub fn read_visible<S: Alter>(
+    conn: &mut Connection<S>,
+    alloc: Global,
+    viewer: &AgentName,
+) -> Result<Vec<Row>, ReadError>
+    requires { conn.old.in_transaction ≡ false }
+    ensures mode { conn.new.in_transaction ≡ false }
+    ensures began { IsClean (state S.Store conn.new) → IsClean (state S.Store conn.old) }
+    ensures kept { IsClean (state S.Store conn.new) → (state S.Store conn.new).committed ≡ (state S.Store conn.old).committed }
+    ensures answer { Answers (state S.Store conn.old) (state S.Store conn.new) result (λ r rows.
+        rows.items ≡ visible viewer.now r.day r.members) }
+{
+    let day = read_day(conn, alloc)?;
+    let members = members(conn, alloc)?;
+    Ok(all_visible(alloc, viewer, day, members.as_slice())?)
+}
+
+/// What all see of the published filings: by agent, those of an agent in order of acceptance.
+#[tactic(auto, using(crate::proofs::Whole::published_is))]
+pub fn read_published<S: Alter>(
+    conn: &mut Connection<S>,
+    alloc: Global,
+) -> Result<Vec<Outward>, ReadError>
+    requires { conn.old.in_transaction ≡ false }
+    ensures mode { conn.new.in_transaction ≡ false }
+    ensures began { IsClean (state S.Store conn.new) → IsClean (state S.Store conn.old) }
+    ensures kept { IsClean (state S.Store conn.new) → (state S.Store conn.new).committed ≡ (state S.Store conn.old).committed }
+    ensures answer { Answers (state S.Store conn.old) (state S.Store conn.new) result (λ r outwards.
+        outwards.items ≡ published r.day r.members) }
+{
+    let day = read_day(conn, alloc)?;
+    let members = members(conn, alloc)?;
+    Ok(all_published(alloc, members.as_slice(), day)?)
+}
