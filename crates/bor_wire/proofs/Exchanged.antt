@@ -14,7 +14,7 @@ replied : (shown : Register → Type 0) (r : Register) (known : Option (List ℕ
 replied shown r known s status told bytes written same sure spells sent w = record {
   unavailable = λ e. absurd (sure (sym same ∙ e));
   full = λ _. (s, spells, bytes, (sent.0, sent.1, sent.2, same ∙ sent.3, sent.4), w);
-  report = λ _. (s, spells, bytes, (sent.0, exact r s sent.0 sent.1, sent.2), w);
+  report = λ _. (s, spells, bytes, (sent.0, sent.1, exact r s sent.0 sent.1, sent.2), w);
 }
 
 pub exchanged : (outcome : Outcome) (shown : Register → Type 0) (r : Register) (known : Option (List ℕ)) (s : Spelled) (status : ℕ) (bytes : List ℕ) (old new : Option (List ℕ)) → status ≢ 503

@@ -57,4 +57,4 @@ pub reports : (r : Register) (ss : List Spelled) (bs : List (List ℕ)) → AreR
 reports r [] [] h = tt
 reports r [] (b ∷ bs) h = elim h [ ]
 reports r (s ∷ ss) [] h = elim h [ ]
-reports r (s ∷ ss) (b ∷ bs) h = ((h.0.0, exact r s h.0.0 h.0.1, h.0.2), reports (after r s) ss bs h.1)
+reports r (s ∷ ss) (b ∷ bs) h = ((h.0.0, h.0.1, exact r s h.0.0 h.0.1, h.0.2), reports (after r s) ss bs h.1)

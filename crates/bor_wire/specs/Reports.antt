@@ -11,7 +11,7 @@ use Rattle.bor_desk.specs.declared.request.Request.TheVariants as ask
 use Rattle.bor_desk.specs.declared.reply.DeskReply.TheVariants as tell
 use Rattle.bor_wire_spell.specs.Spell.{Spelled}
 use Rattle.bor_wire_reply.specs.Replies.{Said, answered, status_of, bytes_of}
-use Rattle.bor_wire.specs.Inputs.{after}
+use Rattle.bor_wire.specs.Inputs.{IsSaid, after}
 
 -- The report names exactly the persons that are joined to the entity by chains in what the caller, an agent, sees on the day.
 pub record NamesTheJoined (r : Register) (token : List ℕ) (entity : Node) (date : Option ℤ) (said : Said) : Type 0 where
@@ -26,9 +26,9 @@ abbrev pub IsExact : Register → Spelled → Said → Type 0
 IsExact r (Err why) said = Unit {0}
 IsExact r (Ok asked) said = (entity : Node) (date : Option ℤ) → asked.request ≡ ask.Chains entity date → status_of said ≡ 200 → NamesTheJoined r asked.token entity date said
 
--- the bytes of something of that kind
+-- the bytes of what is said to the input, which is of that kind
 abbrev pub IsReport : Register → Spelled → List ℕ → Type 0
-IsReport r spelled bytes = (said : Said) × IsExact r spelled said × (bytes ≡ bytes_of said)
+IsReport r spelled bytes = (said : Said) × IsSaid r spelled said × IsExact r spelled said × (bytes ≡ bytes_of said)
 
 -- each reply of a run is such
 abbrev pub AreReports : Register → List Spelled → List (List ℕ) → Type 0

@@ -5,8 +5,9 @@ mod streams;
 
 use super::*;
 use std::alloc::Global;
+use std::io::ErrorKind;
 use std::test::Fail;
-use streams::{Drip, Gate};
+use streams::{Drip, Gate, Once};
 
 const LODGING: &[u8] =
     b"PUT /filings/f1?due=2024-02-01 HTTP/1.1\r\nHost: localhost\r\nAuthorization: Bearer alder-token-000001\r\nContent-Length: 4\r\n\r\n[{}]";
@@ -174,4 +175,28 @@ fn a_reply_is_written_whole_or_not(rt: HostRuntime) {
             assert_eq!(rt; writer.faults(), 1);
         }
     }
+}
+
+// Nothing is tried a second time behind the caller's back.
+#[test]
+fn a_fault_is_handed_on_and_counted_once(rt: HostRuntime) -> Result<(), Fail> {
+    let mut reader = Counted::new(Once::new(LODGING));
+    let mut bytes = [0; 8];
+    let told = reader.read(&mut bytes).map_err(|error| error.kind());
+    assert_eq!(rt; told, Err(ErrorKind::Interrupted));
+    assert_eq!(rt; reader.faults(), 1);
+    assert_eq!(rt; reader.read(&mut bytes).ok(), Some(8));
+    assert_eq!(rt; reader.faults(), 1);
+    let mut reader = Counted::new(Once::new(LODGING));
+    let told = read_request(rt.alloc(), &mut reader).err();
+    assert_eq!(rt; told, Some(WireFault::Read));
+    assert_eq!(rt; reader.faults(), 1);
+    let mut writer = Counted::new(Once::new(b""));
+    let told = writer.write(b"HTTP/1.1").map_err(|error| error.kind());
+    assert_eq!(rt; told, Err(ErrorKind::BrokenPipe));
+    assert_eq!(rt; writer.write(b"HTTP/1.1").ok(), Some(8));
+    let mut writer = Counted::new(Once::new(b""));
+    assert!(rt; !send(&mut writer, b"HTTP/1.1"));
+    assert_eq!(rt; writer.faults(), 1);
+    Ok(())
 }

@@ -72,3 +72,46 @@ impl Write for Gate {
         Ok(())
     }
 }
+
+/// Fails once, and then gives all of its bytes, and takes whatever is written.
+#[derive(Drop)]
+pub(crate) struct Once<'a> {
+    bytes: &'a [u8],
+    failed: bool,
+}
+
+impl<'a> Once<'a> {
+    pub(crate) fn new(bytes: &'a [u8]) -> Once<'a> {
+        Once {
+            bytes,
+            failed: false,
+        }
+    }
+}
+
+impl<'a> Read for Once<'a> {
+    fn read(&mut self, buf: &mut [u8]) -> io::Result<usize> {
+        if !self.failed {
+            self.failed = true;
+            return Err(io::Error::from(ErrorKind::Interrupted));
+        }
+        let count = buf.len().min(self.bytes.len());
+        buf[..count].copy_from_slice(&self.bytes[..count]);
+        self.bytes = &self.bytes[count..];
+        Ok(count)
+    }
+}
+
+impl<'a> Write for Once<'a> {
+    fn write(&mut self, buf: &[u8]) -> io::Result<usize> {
+        if !self.failed {
+            self.failed = true;
+            return Err(io::Error::from(ErrorKind::BrokenPipe));
+        }
+        Ok(buf.len())
+    }
+
+    fn flush(&mut self) -> io::Result<()> {
+        Ok(())
+    }
+}
