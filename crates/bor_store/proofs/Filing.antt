@@ -1,0 +1,30 @@
+-- What the addition of a filing leaves and tells.
+use Rattle.std.proofs.Common.{◌≡◌, ℕ, Result, Ok, Err, sym, subst, refl, ◌∙◌, ap}
+use Rattle.std.specs.Prelude.{IfOk, IfErr, OnErr, ⊤}
+use Rattle.sqlite.specs.State.{State}
+use Rattle.bor_records.specs.Promises.{counted, left_by}
+use Rattle.bor_register.specs.Register.{Register}
+use Rattle.bor_register.specs.declared.fault.StoreFault.{StoreFault}
+use Rattle.bor_store_reads.specs.declared.fault.ReadError.{ReadError}
+use Rattle.bor_store_sql.specs.Shown.{ShowsIn}
+use Rattle.bor_store.specs.Telling.{tells, IsNextFiling}
+use Rattle.bor_store.proofs.Kept.{still_shows}
+
+pub left_shown : (made : Result ℕ ReadError) (told : Result ℕ StoreFault) (count : ℕ) (r changed : Register) (old new : State) → told ≡ tells made
+    → IfOk made (λ number. IsNextFiling number count changed new) → OnErr made (new.committed ≡ old.committed)
+    → ShowsIn r old → ShowsIn (left_by told changed r) new
+left_shown (Ok number) told count r changed old new e next kept shows =
+    subst (λ (t : Result ℕ StoreFault). ShowsIn (left_by t changed r) new) (sym e) next.shown
+left_shown (Err error) told count r changed old new e next kept shows =
+    subst (λ (t : Result ℕ StoreFault). ShowsIn (left_by t changed r) new) (sym e) (still_shows r old new kept shows)
+
+counted_same : (made : Result ℕ ReadError) (n : ℕ) → counted made n ≡ counted (tells made) n
+counted_same (Ok number) n = refl
+counted_same (Err error) n = refl
+
+pub counted_told : (made : Result ℕ ReadError) (told : Result ℕ StoreFault) (n m : ℕ) → told ≡ tells made → m ≡ counted made n → m ≡ counted told n
+counted_told made told n m e is = is ∙ counted_same made n ∙ ap (λ (t : Result ℕ StoreFault). counted t n) (sym e)
+
+pub any_fault : (told : Result ℕ StoreFault) → IfErr told (λ fault. ⊤)
+any_fault (Ok number) = tt
+any_fault (Err fault) = tt

@@ -1,0 +1,4 @@
+pub mod Kept
+pub mod Taken
+pub mod Filing
+pub mod Adopting

@@ -1,0 +1,25 @@
+use Rattle.std.proofs.Common.{sym, subst, length}
+use Rattle.sqlite.specs.Held.{state}
+use Rattle.bor_records.specs.Promises.{left_by}
+use Rattle.bor_register.specs.Register.{filings_of}
+use Rattle.bor_store_sql.specs.Shown.{IsClean, ShowsIn}
+use Rattle.bor_store_sql.specs.Changing.{added}
+use Rattle.bor_store.proofs.Filing.{left_shown, counted_told, any_fault}
+use Rattle.bor_store.proofs.sql_keep.SqlKeepKeep.add_filing.Goals as goal
+
+pub returns-clause-changes : goal.returns-clause-changes
+returns-clause-changes g c =
+    let made = c.add_next_filing-made.ensures in
+    let told = c.told.ensures in
+    record {
+      began = λ clean. made.began (subst (λ k. IsClean (state g.S.Store k)) told.conn clean);
+      counts = counted_told c.add_next_filing-made.result c.told.result c.args.self.now.faults c.told.new.self.faults told.told told.counts;
+      told = any_fault c.told.result;
+      changed = λ r shows clean.
+          subst (λ k. ShowsIn (left_by c.told.result (added c.args.agent.now c.args.key.now c.args.due c.args.bytes.now c.args.statements.now r) r) (state g.S.Store k)) (sym told.conn)
+          (left_shown c.add_next_filing-made.result c.told.result (length (filings_of c.args.agent.now r.members)) r
+          (added c.args.agent.now c.args.key.now c.args.due c.args.bytes.now c.args.statements.now r)
+          (state g.S.Store c.args.self.now.conn) (state g.S.Store c.add_next_filing-made.new.conn) told.told
+          (made.made (subst (λ k. IsClean (state g.S.Store k)) told.conn clean) r shows (c.requires.enrolled r shows (made.began (subst (λ k. IsClean (state g.S.Store k)) told.conn clean))) (c.requires.room r shows (made.began (subst (λ k. IsClean (state g.S.Store k)) told.conn clean))))
+          (made.kept (subst (λ k. IsClean (state g.S.Store k)) told.conn clean)) shows);
+    }

@@ -1,0 +1,112 @@
+//! That the values of statements have their forms, as the types of their parts tell.
+
+ghost use Rattle.std.specs.Prelude.{All};
+ghost use Rattle.bods_read.specs.Forms.{IsFormedStatement, IsFormedDetails, IsFormedInterest, IsFormedIdentifier, IsIdent, IsFreeText};
+ghost use Rattle.std.specs.Prelude.{IfSome};
+
+use bods_read::{Details, FreeText, Identifier, Interest, Statement};
+use bor_terms::Ident;
+
+fn ident_formed(ident: &Ident)
+    ensures { IsIdent ident.now }
+{
+    let _text = ident.as_str();
+}
+
+fn text_formed(text: &FreeText)
+    ensures { IsFreeText text.now }
+{
+    let _text = text.as_str();
+}
+
+fn identifier_formed(identifier: &Identifier)
+    ensures { IsFormedIdentifier identifier.now }
+{
+    text_formed(&identifier.scheme);
+    text_formed(&identifier.id);
+}
+
+fn identifiers_formed(identifiers: &[Identifier])
+    ensures { All IsFormedIdentifier identifiers.now }
+{
+    for identifier in identifiers {
+        identifier_formed(identifier);
+    }
+}
+
+fn interest_formed(interest: &Interest)
+    ensures { IsFormedInterest interest.now }
+{
+    if let Some(share) = interest.share {
+        let _high = share.high();
+        let _above = share.above_half();
+    }
+}
+
+fn interests_formed(interests: &[Interest])
+    ensures { All IsFormedInterest interests.now }
+{
+    for interest in interests {
+        interest_formed(interest);
+    }
+}
+
+fn name_formed(name: &Option<FreeText>)
+    ensures { IfSome name.now IsFreeText }
+{
+    if let Some(name) = name {
+        text_formed(name);
+    }
+}
+
+fn end_formed(end: &Option<Ident>)
+    ensures { IfSome end.now IsIdent }
+{
+    if let Some(end) = end {
+        ident_formed(end);
+    }
+}
+
+fn details_formed(details: &Details)
+    ensures { IsFormedDetails details.now }
+{
+    match details {
+        Details::Entity {
+            name,
+            identifiers,
+            ..
+        } => {
+            name_formed(name);
+            identifiers_formed(identifiers.as_slice());
+        }
+        Details::Person { name, .. } => name_formed(name),
+        Details::Relationship {
+            subject,
+            party,
+            interests,
+        } => {
+            end_formed(subject);
+            end_formed(party);
+            interests_formed(interests.as_slice());
+        }
+    }
+}
+
+fn statement_formed(statement: &Statement)
+    ensures { IsFormedStatement statement.now }
+{
+    ident_formed(&statement.id);
+    let _day = statement.day.number();
+    ident_formed(&statement.declaration);
+    ident_formed(&statement.rec);
+    details_formed(&statement.details);
+}
+
+/// Statements have their forms. The call does nothing.
+pub(crate) fn all_formed(statements: &[Statement])
+    ensures { All IsFormedStatement statements.now }
+{
+    for statement in statements {
+        statement_formed(statement);
+    }
+}

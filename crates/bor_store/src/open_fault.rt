@@ -1,0 +1,48 @@
+//! Why a store holds no register that can be used.
+
+ghost use Rattle.bor_store.specs.Opening.{IsFailure};
+
+use sqlite::{Error, ErrorCode};
+use std::alloc::AllocError;
+use thiserror::Error as ThisError;
+
+/// Why a register was not set up, or the tables of a store were not taken for one.
+#[derive(Clone, Copy, Debug, PartialEq, Eq, ThisError)]
+pub enum OpenFault {
+    /// A table or a column of a register is missing, or the table `register` doesn't have exactly one
+    /// row with a whole version. The tables are as they were.
+    #[error("no register")]
+    NoRegister,
+    /// The table `register` has this version, which isn't 1. The tables are as they were.
+    #[error("register of version {0}")]
+    OtherVersion(i64),
+    /// Where a register was to be set up, a table, an index or a view has a name of a register's. The
+    /// store is as it was.
+    #[error("not free for a register")]
+    Taken,
+    /// Memory was wanting. The last commit stays.
+    #[error("out of memory")]
+    Memory,
+    /// The store failed, or the file is no database. The last commit stays.
+    #[error("the store failed")]
+    Store,
+}
+
+impl From<AllocError> for OpenFault {
+    ghost from_gives = { λ _ fault. IsFailure fault };
+
+    fn from(_error: AllocError) -> Self {
+        OpenFault::Memory
+    }
+}
+
+impl From<Error> for OpenFault {
+    ghost from_gives = { λ _ fault. IsFailure fault };
+
+    fn from(error: Error) -> Self {
+        match error {
+            Error::SqliteFailure(ErrorCode::OutOfMemory) => OpenFault::Memory,
+            _ => OpenFault::Store,
+        }
+    }
+}

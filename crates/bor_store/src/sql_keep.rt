@@ -1,0 +1,201 @@
+//! A register in tables.
+
+ghost use Rattle.std.specs.Prelude.{◌≡◌, ⊤, false, Result};
+ghost use Rattle.sqlite.specs.Held.{state};
+ghost use Rattle.bor_records.specs.Promises.{counted};
+ghost use Rattle.bor_store_sql.specs.Shown.{IsClean, ShowsIn};
+ghost use Rattle.bor_store.specs.Telling.{tells, fails};
+
+use crate::lodging::add_next_filing;
+use bods_read::Statement;
+use bor_records::{Last, Row};
+use bor_register::{Caller, Filing, FilingLine, Keep, Outward, StoreFault};
+use bor_store_reads::{
+    ReadError, filing_count, has_agent, has_file, has_statement, has_successor, read_day,
+    read_filing, read_filings, read_last, read_line, read_published, read_rows_of, read_visible,
+    read_who,
+};
+use bor_store_sql::{add_agent, set_day, withdraw_filing};
+use bor_terms::{AgentName, Day, Ident, LodgeKey, Token};
+use sqlite::{Alter, Connection, Error};
+use std::alloc::Global;
+
+/// A register in the tables of a connection. No transaction is open between its calls.
+#[derive(Drop)]
+pub struct SqlKeep<S: Alter + Drop> {
+    pub(crate) alloc: Global,
+    pub(crate) conn: Connection<S>,
+    pub(crate) faults: u64,
+    ghost settled: { conn.in_transaction ≡ false },
+}
+
+impl<S: Alter + Drop> SqlKeep<S> {
+    // The answer, or the fault that an error is told as, which is counted.
+    fn told<T>(&mut self, answer: Result<T, ReadError>) -> Result<T, StoreFault>
+        ensures conn { self.new.conn ≡ self.old.conn }
+        ensures told { result ≡ tells answer }
+        ensures counts { self.new.faults ≡ counted answer self.old.faults }
+    {
+        match answer {
+            Ok(answer) => Ok(answer),
+            Err(error) => {
+                self.faults = self.faults.wrapping_add(1);
+                Err(StoreFault::from(error))
+            }
+        }
+    }
+
+    // The same of a change.
+    fn made<T>(&mut self, made: Result<T, Error>) -> Result<T, StoreFault>
+        ensures conn { self.new.conn ≡ self.old.conn }
+        ensures told { fails made result }
+        ensures counts { self.new.faults ≡ counted made self.old.faults }
+    {
+        match made {
+            Ok(made) => Ok(made),
+            Err(error) => {
+                self.faults = self.faults.wrapping_add(1);
+                Err(StoreFault::from(ReadError::from(error)))
+            }
+        }
+    }
+}
+
+#[tactic(auto, using(crate::proofs::Kept::still_kept, crate::proofs::Kept::still_shows))]
+impl<S: Alter + Drop> Keep for SqlKeep<S> {
+    ghost shows = { λ k r. ShowsIn r (state S.Store k.conn) };
+
+    ghost is_clean = { λ k. IsClean (state S.Store k.conn) };
+
+    ghost fault_count = { λ k. k.faults };
+
+    ghost may_tell = { λ _. ⊤ };
+
+    fn faults(&self) -> u64 {
+        self.faults
+    }
+
+    fn who(&mut self, token: &Token) -> Result<Option<Caller>, StoreFault> {
+        let answer = read_who(&mut self.conn, self.alloc, token);
+        self.told(answer)
+    }
+
+    fn has_agent(&mut self, agent: &AgentName) -> Result<bool, StoreFault> {
+        let answer = has_agent(&mut self.conn, agent);
+        self.told(answer)
+    }
+
+    fn day(&mut self) -> Result<Day, StoreFault> {
+        let answer = read_day(&mut self.conn, self.alloc);
+        self.told(answer)
+    }
+
+    fn filing(&mut self, agent: &AgentName, key: &LodgeKey) -> Result<Option<Filing>, StoreFault> {
+        let answer = read_filing(&mut self.conn, self.alloc, agent, key);
+        self.told(answer)
+    }
+
+    fn line(
+        &mut self,
+        agent: &AgentName,
+        key: &LodgeKey,
+    ) -> Result<Option<FilingLine>, StoreFault> {
+        let answer = read_line(&mut self.conn, self.alloc, agent, key);
+        self.told(answer)
+    }
+
+    fn has_file(
+        &mut self,
+        agent: &AgentName,
+        key: &LodgeKey,
+        bytes: &[u8],
+    ) -> Result<bool, StoreFault> {
+        let answer = has_file(&mut self.conn, agent, key, bytes);
+        self.told(answer)
+    }
+
+    fn filing_count(&mut self, agent: &AgentName) -> Result<usize, StoreFault> {
+        let answer = filing_count(&mut self.conn, self.alloc, agent);
+        self.told(answer)
+    }
+
+    fn filings(&mut self, agent: &AgentName) -> Result<Vec<FilingLine>, StoreFault> {
+        let answer = read_filings(&mut self.conn, self.alloc, agent);
+        self.told(answer)
+    }
+
+    fn last(
+        &mut self,
+        agent: &AgentName,
+        declaration: &Ident,
+        rec: &Ident,
+    ) -> Result<Option<Last>, StoreFault> {
+        let answer = read_last(&mut self.conn, self.alloc, agent, declaration, rec);
+        self.told(answer)
+    }
+
+    fn has_statement(&mut self, agent: &AgentName, id: &Ident) -> Result<bool, StoreFault> {
+        let answer = has_statement(&mut self.conn, agent, id);
+        self.told(answer)
+    }
+
+    fn has_successor(&mut self, agent: &AgentName, number: u32) -> Result<bool, StoreFault> {
+        let answer = has_successor(&mut self.conn, self.alloc, agent, number);
+        self.told(answer)
+    }
+
+    fn rows_of(
+        &mut self,
+        viewer: &AgentName,
+        agent: &AgentName,
+        declaration: &Ident,
+    ) -> Result<Vec<Row>, StoreFault> {
+        let answer = read_rows_of(&mut self.conn, self.alloc, viewer, agent, declaration);
+        self.told(answer)
+    }
+
+    fn visible_rows(&mut self, viewer: &AgentName) -> Result<Vec<Row>, StoreFault> {
+        let answer = read_visible(&mut self.conn, self.alloc, viewer);
+        self.told(answer)
+    }
+
+    fn published(&mut self) -> Result<Vec<Outward>, StoreFault> {
+        let answer = read_published(&mut self.conn, self.alloc);
+        self.told(answer)
+    }
+
+    fn add_filing(
+        &mut self,
+        agent: &AgentName,
+        key: &LodgeKey,
+        due: Day,
+        bytes: &[u8],
+        statements: &[Statement],
+    ) -> Result<u32, StoreFault> {
+        let made = add_next_filing(
+            &mut self.conn,
+            self.alloc,
+            agent,
+            key,
+            due,
+            bytes,
+            statements,
+        );
+        self.told(made)
+    }
+
+    fn withdraw(&mut self, agent: &AgentName, number: u32) -> Result<(), StoreFault> {
+        let made = withdraw_filing(&mut self.conn, agent.as_str(), number);
+        self.made(made)
+    }
+
+    fn set_day(&mut self, day: Day) -> Result<(), StoreFault> {
+        let made = set_day(&mut self.conn, day);
+        self.made(made)
+    }
+
+    fn add_agent(&mut self, agent: &AgentName, token: &Token) -> Result<(), StoreFault> {
+        let made = add_agent(&mut self.conn, agent, token);
+        self.made(made)
+    }
+}
