@@ -15,9 +15,9 @@ wire_refusal_status BadHead = 400
 wire_refusal_status BadLength = 400
 wire_refusal_status BodyTooLarge = 413
 wire_refusal_status NoPath = 404
-wire_refusal_status (WrongMethod path) = 405
+wire_refusal_status (WrongMethod _) = 405
 wire_refusal_status NoToken = 401
-wire_refusal_status (BadQuery name) = 400
+wire_refusal_status (BadQuery _) = 400
 
 -- what the desk refuses
 abbrev pub desk_refusal_status : desk.Refusal → ℕ
