@@ -10,7 +10,7 @@ use Rattle.sqlite.specs.Command.{Command}
 use Rattle.sqlite.specs.Command.TheVariants.{Select}
 use Rattle.sqlite_sql.specs.declared.ops.BinaryOp.TheVariants.{Compare}
 use Rattle.sqlite_sql.specs.declared.ops.CompareOp.TheVariants.{Eq}
-use Rattle.bor_store_texts.specs.declared.queries.TheConstants.{ALL_REGISTER, ALL_AGENTS, ALL_FILINGS, ALL_STATEMENTS, ALL_INTERESTS, ALL_IDENTIFIERS, AGENT_BY_NAME, AGENT_BY_TOKEN, FILING_BY_KEY, LINE_BY_KEY, LINE_BY_NUMBER, SAME_BYTES, FILINGS_OF_AGENT, LAST_FILING, LAST_OF_SERIES, STATEMENT_BY_ID, STATEMENTS_OF_FILING, STATEMENTS_OF_DECLARATION, INTERESTS_OF_STATEMENT, IDENTIFIERS_OF_STATEMENT}
+use Rattle.bor_store_texts.specs.declared.queries.TheConstants.{ALL_REGISTER, ALL_AGENTS, ALL_FILINGS, ALL_STATEMENTS, ALL_INTERESTS, ALL_IDENTIFIERS, AGENT_BY_NAME, AGENT_BY_TOKEN, FILING_BY_KEY, LINE_BY_KEY, LINE_BY_NUMBER, SAME_BYTES, FILINGS_OF_AGENT, LAST_FILING, LAST_OF_SERIES, STATEMENT_BY_ID, STATEMENTS_OF_FILING, STATEMENTS_OF_DECLARATION, INTERESTS_OF_STATEMENT, IDENTIFIERS_OF_STATEMENT, STATEMENTS_OF_SERIES, STATEMENTS_OF_RECORD, STATEMENTS_OF_SUBJECT, STATEMENT_BY_PLACE, IDENTIFIERS_BY_ID}
 
 -- Columns are counted from 1, parameters from 0.
 
@@ -227,3 +227,48 @@ identifiers_of_statement_query = table_query 13 (equals 1 0 ∷ equals 2 1 ∷ e
 
 abbrev pub identifiers_of_statement_command : Command
 identifiers_of_statement_command = shows_rows identifiers_of_statement_query (codes "agent" ∷ codes "filing" ∷ codes "place" ∷ codes "item" ∷ codes "scheme" ∷ codes "id" ∷ [])
+
+abbrev pub statements_of_series_text : List ℕ
+statements_of_series_text = STATEMENTS_OF_SERIES.now
+
+abbrev pub statements_of_series_query : Query
+statements_of_series_query = table_query 8 (equals 1 0 ∷ equals 6 1 ∷ equals 7 2 ∷ []) (col 1 1 ∷ col 1 2 ∷ col 1 3 ∷ col 1 4 ∷ col 1 5 ∷ col 1 6 ∷ col 1 7 ∷ col 1 8 ∷ col 1 9 ∷ col 1 10 ∷ col 1 11 ∷ col 1 12 ∷ col 1 13 ∷ []) (rising 1 ∷ rising 2 ∷ rising 3 ∷ [])
+
+abbrev pub statements_of_series_command : Command
+statements_of_series_command = shows_rows statements_of_series_query (codes "agent" ∷ codes "filing" ∷ codes "place" ∷ codes "id" ∷ codes "day" ∷ codes "declaration" ∷ codes "rec" ∷ codes "kind" ∷ codes "status" ∷ codes "sub_kind" ∷ codes "name" ∷ codes "subject" ∷ codes "party" ∷ [])
+
+abbrev pub statements_of_record_text : List ℕ
+statements_of_record_text = STATEMENTS_OF_RECORD.now
+
+abbrev pub statements_of_record_query : Query
+statements_of_record_query = table_query 8 (equals 1 0 ∷ equals 7 1 ∷ []) (col 1 1 ∷ col 1 2 ∷ col 1 3 ∷ col 1 4 ∷ col 1 5 ∷ col 1 6 ∷ col 1 7 ∷ col 1 8 ∷ col 1 9 ∷ col 1 10 ∷ col 1 11 ∷ col 1 12 ∷ col 1 13 ∷ []) (rising 1 ∷ rising 2 ∷ rising 3 ∷ [])
+
+abbrev pub statements_of_record_command : Command
+statements_of_record_command = shows_rows statements_of_record_query (codes "agent" ∷ codes "filing" ∷ codes "place" ∷ codes "id" ∷ codes "day" ∷ codes "declaration" ∷ codes "rec" ∷ codes "kind" ∷ codes "status" ∷ codes "sub_kind" ∷ codes "name" ∷ codes "subject" ∷ codes "party" ∷ [])
+
+abbrev pub statements_of_subject_text : List ℕ
+statements_of_subject_text = STATEMENTS_OF_SUBJECT.now
+
+abbrev pub statements_of_subject_query : Query
+statements_of_subject_query = table_query 8 (equals 1 0 ∷ equals 6 1 ∷ equals 12 2 ∷ []) (col 1 1 ∷ col 1 2 ∷ col 1 3 ∷ col 1 4 ∷ col 1 5 ∷ col 1 6 ∷ col 1 7 ∷ col 1 8 ∷ col 1 9 ∷ col 1 10 ∷ col 1 11 ∷ col 1 12 ∷ col 1 13 ∷ []) (rising 1 ∷ rising 2 ∷ rising 3 ∷ [])
+
+abbrev pub statements_of_subject_command : Command
+statements_of_subject_command = shows_rows statements_of_subject_query (codes "agent" ∷ codes "filing" ∷ codes "place" ∷ codes "id" ∷ codes "day" ∷ codes "declaration" ∷ codes "rec" ∷ codes "kind" ∷ codes "status" ∷ codes "sub_kind" ∷ codes "name" ∷ codes "subject" ∷ codes "party" ∷ [])
+
+abbrev pub statement_by_place_text : List ℕ
+statement_by_place_text = STATEMENT_BY_PLACE.now
+
+abbrev pub statement_by_place_query : Query
+statement_by_place_query = table_query 8 (equals 1 0 ∷ equals 2 1 ∷ equals 3 2 ∷ []) (col 1 1 ∷ col 1 2 ∷ col 1 3 ∷ col 1 4 ∷ col 1 5 ∷ col 1 6 ∷ col 1 7 ∷ col 1 8 ∷ col 1 9 ∷ col 1 10 ∷ col 1 11 ∷ col 1 12 ∷ col 1 13 ∷ []) (rising 1 ∷ rising 2 ∷ rising 3 ∷ [])
+
+abbrev pub statement_by_place_command : Command
+statement_by_place_command = shows_rows statement_by_place_query (codes "agent" ∷ codes "filing" ∷ codes "place" ∷ codes "id" ∷ codes "day" ∷ codes "declaration" ∷ codes "rec" ∷ codes "kind" ∷ codes "status" ∷ codes "sub_kind" ∷ codes "name" ∷ codes "subject" ∷ codes "party" ∷ [])
+
+abbrev pub identifiers_by_id_text : List ℕ
+identifiers_by_id_text = IDENTIFIERS_BY_ID.now
+
+abbrev pub identifiers_by_id_query : Query
+identifiers_by_id_query = table_query 13 (equals 5 0 ∷ equals 6 1 ∷ []) (col 1 1 ∷ col 1 2 ∷ col 1 3 ∷ col 1 4 ∷ col 1 5 ∷ col 1 6 ∷ []) (rising 1 ∷ rising 2 ∷ rising 3 ∷ rising 4 ∷ [])
+
+abbrev pub identifiers_by_id_command : Command
+identifiers_by_id_command = shows_rows identifiers_by_id_query (codes "agent" ∷ codes "filing" ∷ codes "place" ∷ codes "item" ∷ codes "scheme" ∷ codes "id" ∷ [])

@@ -89,3 +89,31 @@ pub const INTERESTS_OF_STATEMENT: &str =
 pub const IDENTIFIERS_OF_STATEMENT: &str = "SELECT agent, filing, place, item, scheme, id \
      FROM identifier WHERE agent = ?1 AND filing = ?2 AND place = ?3 \
      ORDER BY agent, filing, place, item";
+
+/// The statements of a record of a declaration of an agent.
+pub const STATEMENTS_OF_SERIES: &str =
+    "SELECT agent, filing, place, id, day, declaration, rec, kind, status, sub_kind, name, \
+     subject, party FROM statement WHERE agent = ?1 AND declaration = ?2 AND rec = ?3 \
+     ORDER BY agent, filing, place";
+
+/// The statements of an agent's records with this identifier, of whatever declaration.
+pub const STATEMENTS_OF_RECORD: &str =
+    "SELECT agent, filing, place, id, day, declaration, rec, kind, status, sub_kind, name, \
+     subject, party FROM statement WHERE agent = ?1 AND rec = ?2 \
+     ORDER BY agent, filing, place";
+
+/// The statements of a declaration of an agent with this subject.
+pub const STATEMENTS_OF_SUBJECT: &str =
+    "SELECT agent, filing, place, id, day, declaration, rec, kind, status, sub_kind, name, \
+     subject, party FROM statement WHERE agent = ?1 AND declaration = ?2 AND subject = ?3 \
+     ORDER BY agent, filing, place";
+
+/// The statement at a place of a filing, by agent and number.
+pub const STATEMENT_BY_PLACE: &str =
+    "SELECT agent, filing, place, id, day, declaration, rec, kind, status, sub_kind, name, \
+     subject, party FROM statement WHERE agent = ?1 AND filing = ?2 AND place = ?3 \
+     ORDER BY agent, filing, place";
+
+/// The identifiers of all statements that are these, by scheme and identifier.
+pub const IDENTIFIERS_BY_ID: &str = "SELECT agent, filing, place, item, scheme, id \
+     FROM identifier WHERE scheme = ?1 AND id = ?2 ORDER BY agent, filing, place, item";
