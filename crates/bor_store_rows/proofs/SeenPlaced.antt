@@ -20,13 +20,13 @@ rows_from-placed : (agent : List ℕ) (number place : ℕ) (ss : List Statement)
 rows_from-placed agent number place [] = refl
 rows_from-placed agent number place (s ∷ ss) = ap (λ l. row_of agent number place s ∷ l) (rows_from-placed agent number (place + 1) ss)
 
-rows_in-placed : (agent : List ℕ) (fs : List AcceptedFiling) → rows_in agent fs ≡ map row_placed (placed_by agent fs)
+pub rows_in-placed : (agent : List ℕ) (fs : List AcceptedFiling) → rows_in agent fs ≡ map row_placed (placed_by agent fs)
 rows_in-placed agent [] = refl
 rows_in-placed agent (f ∷ fs) =
     ap₂ (λ xs ys. xs ++ ys) (rows_from-placed agent f.number 1 f.statements) (rows_in-placed agent fs)
     ∙ sym (map-append row_placed (placed_from agent f.number 1 f.statements) (placed_by agent fs))
 
-filter_same : {X : Type 0} (p q : X → Bool) (xs : List X) → AllByRecursion (λ x. p x ≡ q x) xs → filter p xs ≡ filter q xs
+pub filter_same : {X : Type 0} (p q : X → Bool) (xs : List X) → AllByRecursion (λ x. p x ≡ q x) xs → filter p xs ≡ filter q xs
 filter_same p q [] h = refl
 filter_same p q (x ∷ xs) h = rw (h.0, filter_same p q xs h.1) refl
 
@@ -34,7 +34,7 @@ filter_none : {X : Type 0} (p : X → Bool) (xs : List X) → AllByRecursion (λ
 filter_none p [] h = refl
 filter_none p (x ∷ xs) h = rw h.0 (filter_none p xs h.1)
 
-filters_swap : {X : Type 0} (p q : X → Bool) (xs : List X) → filter p (filter q xs) ≡ filter q (filter p xs)
+pub filters_swap : {X : Type 0} (p q : X → Bool) (xs : List X) → filter p (filter q xs) ≡ filter q (filter p xs)
 filters_swap p q [] = refl
 filters_swap p q (x ∷ xs) = go (p x) (q x) refl refl (filters_swap p q xs)
   where
@@ -90,7 +90,7 @@ module _ (viewer : List ℕ) (day : ℤ) (agent : List ℕ) where
   all_own true q ps h = filter_all q ps h
   all_own false q ps h = filter_none q ps h
 
-  visible_placed : (n : ℕ) (fs : List AcceptedFiling) → AreNumbered n fs → placed_by agent (filter (is_visible viewer day agent) fs) ≡ filter (is_seen viewer day agent fs) (placed_by agent fs)
+  pub visible_placed : (n : ℕ) (fs : List AcceptedFiling) → AreNumbered n fs → placed_by agent (filter (is_visible viewer day agent) fs) ≡ filter (is_seen viewer day agent fs) (placed_by agent fs)
   visible_placed n [] numbered = refl
   visible_placed n (f ∷ fs) numbered =
       let low : f.number < n + 1 = let is = numbered.0 in omega (arith, is) in

@@ -90,7 +90,7 @@ pub struct IdentifierRow {
 
 impl StatementRow {
     /// The statement with these interests and identifiers.
-    pub(crate) fn with(self, interests: Vec<Interest>, identifiers: Vec<Identifier>) -> Placed
+    pub fn with(self, interests: Vec<Interest>, identifiers: Vec<Identifier>) -> Placed
         ensures { result ≡ with_lists self interests.items identifiers.items }
     {
         Placed {

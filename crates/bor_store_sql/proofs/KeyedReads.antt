@@ -8,13 +8,13 @@ use Rattle.sqlite.specs.State.{State}
 use Rattle.bor_terms.specs.Texts.{is_same}
 use Rattle.bor_register.specs.Register.{filings_of}
 use Rattle.bor_register.specs.Publication.{filing_shown}
-use Rattle.bor_store_texts.specs.Queries.{agent_by_name_text, agent_by_token_text, filing_by_key_text, line_by_key_text, line_by_number_text, same_bytes_text, filings_of_agent_text, last_filing_text, last_of_series_text, statement_by_id_text, statements_of_filing_text, statements_of_declaration_text, interests_of_statement_text, identifiers_of_statement_text}
+use Rattle.bor_store_texts.specs.Queries.{agent_by_name_text, agent_by_token_text, filing_by_key_text, line_by_key_text, line_by_number_text, same_bytes_text, filings_of_agent_text, last_filing_text, last_of_series_text, statement_by_id_text, statements_of_filing_text, statements_of_declaration_text, interests_of_statement_text, identifiers_of_statement_text, statements_of_series_text, statements_of_record_text, statements_of_subject_text, statement_by_place_text, identifiers_by_id_text}
 use Rattle.bor_store_rows.specs.Placed.{bare, filing_row}
 use Rattle.bor_store_rows.specs.Encoding.{truth, agent_columns, line_columns, shown_columns, statement_columns, interest_columns, identifier_columns}
-use Rattle.bor_store_sql.specs.Selected.{named, with_token, keyed, numbered, last, placed_of, in_filing, in_declaration, in_series, identified, interests_at, identifiers_at, place_columns}
+use Rattle.bor_store_sql.specs.Selected.{named, with_token, keyed, numbered, last, placed_of, in_filing, in_declaration, in_series, identified, interests_at, identifiers_at, place_columns, in_record, with_subject, standing_at, identified_by}
 use Rattle.bor_store_sql.specs.Found.{Asked, Finds}
 use Rattle.bor_store_sql.proofs.Finding.{finds}
-use Rattle.bor_store_sql.proofs.Selecting.{agent_by_name_found, agent_by_token_found, filing_by_key_found, line_by_key_found, line_by_number_found, same_bytes_found, filings_of_agent_found, last_filing_found, last_of_series_found, statement_by_id_found, statements_of_filing_found, statements_of_declaration_found, interests_of_statement_found, identifiers_of_statement_found}
+use Rattle.bor_store_sql.proofs.Selecting.{agent_by_name_found, agent_by_token_found, filing_by_key_found, line_by_key_found, line_by_number_found, same_bytes_found, filings_of_agent_found, last_filing_found, last_of_series_found, statement_by_id_found, statements_of_filing_found, statements_of_declaration_found, interests_of_statement_found, identifiers_of_statement_found, statements_of_series_found, statements_of_record_found, statements_of_subject_found, statement_by_place_found, identifiers_by_id_found}
 
 pub agent_by_name_finds : (name : List ℕ) (old new : State) (result : Result (Vec Row Global) Error) → Asked agent_by_name_text (Text name ∷ []) old new result → Finds old new result (λ r. map agent_columns (named name r.members))
 agent_by_name_finds name old new result asked = finds agent_by_name_text (Text name ∷ []) (Text name ∷ []) (λ r. map agent_columns (named name r.members)) old new result asked refl (λ r rows shows h. agent_by_name_found r old new shows rows name h)
@@ -57,3 +57,18 @@ interests_of_statement_finds agent number place old new result asked = finds int
 
 pub identifiers_of_statement_finds : (agent : List ℕ) (number : ℕ) (place : ℕ) (old new : State) (result : Result (Vec Row Global) Error) → Asked identifiers_of_statement_text (Text agent ∷ Int (pos number) ∷ Int (pos place) ∷ []) old new result → Finds old new result (λ r. map identifier_columns (identifiers_at (record { agent = agent; filing = number; place = place }) r.members))
 identifiers_of_statement_finds agent number place old new result asked = finds identifiers_of_statement_text (Text agent ∷ Int (pos number) ∷ Int (pos place) ∷ []) (Text agent ∷ Int (pos number) ∷ Int (pos place) ∷ []) (λ r. map identifier_columns (identifiers_at (record { agent = agent; filing = number; place = place }) r.members)) old new result asked refl (λ r rows shows h. identifiers_of_statement_found r old new shows rows (record { agent = agent; filing = number; place = place }) h)
+
+pub statements_of_series_finds : (agent : List ℕ) (declaration : List ℕ) (rec : List ℕ) (old new : State) (result : Result (Vec Row Global) Error) → Asked statements_of_series_text (Text agent ∷ Text declaration ∷ Text rec ∷ []) old new result → Finds old new result (λ r. map (λ p. statement_columns (bare p)) (in_series declaration rec (placed_of agent r)))
+statements_of_series_finds agent declaration rec old new result asked = finds statements_of_series_text (Text agent ∷ Text declaration ∷ Text rec ∷ []) (Text agent ∷ Text declaration ∷ Text rec ∷ []) (λ r. map (λ p. statement_columns (bare p)) (in_series declaration rec (placed_of agent r))) old new result asked refl (λ r rows shows h. statements_of_series_found r old new shows rows agent declaration rec h)
+
+pub statements_of_record_finds : (agent : List ℕ) (rec : List ℕ) (old new : State) (result : Result (Vec Row Global) Error) → Asked statements_of_record_text (Text agent ∷ Text rec ∷ []) old new result → Finds old new result (λ r. map (λ p. statement_columns (bare p)) (in_record rec (placed_of agent r)))
+statements_of_record_finds agent rec old new result asked = finds statements_of_record_text (Text agent ∷ Text rec ∷ []) (Text agent ∷ Text rec ∷ []) (λ r. map (λ p. statement_columns (bare p)) (in_record rec (placed_of agent r))) old new result asked refl (λ r rows shows h. statements_of_record_found r old new shows rows agent rec h)
+
+pub statements_of_subject_finds : (agent : List ℕ) (declaration : List ℕ) (rec : List ℕ) (old new : State) (result : Result (Vec Row Global) Error) → Asked statements_of_subject_text (Text agent ∷ Text declaration ∷ Text rec ∷ []) old new result → Finds old new result (λ r. map (λ p. statement_columns (bare p)) (with_subject declaration rec (placed_of agent r)))
+statements_of_subject_finds agent declaration rec old new result asked = finds statements_of_subject_text (Text agent ∷ Text declaration ∷ Text rec ∷ []) (Text agent ∷ Text declaration ∷ Text rec ∷ []) (λ r. map (λ p. statement_columns (bare p)) (with_subject declaration rec (placed_of agent r))) old new result asked refl (λ r rows shows h. statements_of_subject_found r old new shows rows agent declaration rec h)
+
+pub statement_by_place_finds : (agent : List ℕ) (number : ℕ) (place : ℕ) (old new : State) (result : Result (Vec Row Global) Error) → Asked statement_by_place_text (Text agent ∷ Int (pos number) ∷ Int (pos place) ∷ []) old new result → Finds old new result (λ r. map (λ p. statement_columns (bare p)) (standing_at (record { agent = agent; filing = number; place = place }) r.members))
+statement_by_place_finds agent number place old new result asked = finds statement_by_place_text (Text agent ∷ Int (pos number) ∷ Int (pos place) ∷ []) (Text agent ∷ Int (pos number) ∷ Int (pos place) ∷ []) (λ r. map (λ p. statement_columns (bare p)) (standing_at (record { agent = agent; filing = number; place = place }) r.members)) old new result asked refl (λ r rows shows h. statement_by_place_found r old new shows rows (record { agent = agent; filing = number; place = place }) h)
+
+pub identifiers_by_id_finds : (scheme : List ℕ) (id : List ℕ) (old new : State) (result : Result (Vec Row Global) Error) → Asked identifiers_by_id_text (Text scheme ∷ Text id ∷ []) old new result → Finds old new result (λ r. map identifier_columns (identified_by scheme id r.members))
+identifiers_by_id_finds scheme id old new result asked = finds identifiers_by_id_text (Text scheme ∷ Text id ∷ []) (Text scheme ∷ Text id ∷ []) (λ r. map identifier_columns (identified_by scheme id r.members)) old new result asked refl (λ r rows shows h. identifiers_by_id_found r old new shows rows scheme id h)

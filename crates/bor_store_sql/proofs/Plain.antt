@@ -15,7 +15,7 @@ use Rattle.sqlite_schema.specs.declared.command.Returning.{Returning}
 use Rattle.sqlite_resolve.specs.Lowering.{and_then}
 use Rattle.sqlite_resolve.specs.Scope.{Name}
 use Rattle.sqlite.specs.Given.{Returns}
-use Rattle.bor_store_texts.specs.Queries.{all_register_text, all_agents_text, all_filings_text, all_statements_text, all_interests_text, all_identifiers_text, agent_by_name_text, agent_by_token_text, filing_by_key_text, line_by_key_text, line_by_number_text, same_bytes_text, filings_of_agent_text, last_filing_text, last_of_series_text, statement_by_id_text, statements_of_filing_text, statements_of_declaration_text, interests_of_statement_text, identifiers_of_statement_text}
+use Rattle.bor_store_texts.specs.Queries.{all_register_text, all_agents_text, all_filings_text, all_statements_text, all_interests_text, all_identifiers_text, agent_by_name_text, agent_by_token_text, filing_by_key_text, line_by_key_text, line_by_number_text, same_bytes_text, filings_of_agent_text, last_filing_text, last_of_series_text, statement_by_id_text, statements_of_filing_text, statements_of_declaration_text, interests_of_statement_text, identifiers_of_statement_text, statements_of_series_text, statements_of_record_text, statements_of_subject_text, statement_by_place_text, identifiers_by_id_text}
 use Rattle.bor_store_sql.specs.Found.{IsQuery}
 
 -- what comes of a command, where nothing is returned
@@ -231,3 +231,38 @@ identifiers_of_statement_reads = refl
 
 pub identifiers_of_statement_asks : IsQuery identifiers_of_statement_text
 identifiers_of_statement_asks schema = understood_never schema identifiers_of_statement_text identifiers_of_statement_reads
+
+statements_of_series_reads : reads_first (first statements_of_series_text) ≡ true
+unfolding everything
+statements_of_series_reads = refl
+
+pub statements_of_series_asks : IsQuery statements_of_series_text
+statements_of_series_asks schema = understood_never schema statements_of_series_text statements_of_series_reads
+
+statements_of_record_reads : reads_first (first statements_of_record_text) ≡ true
+unfolding everything
+statements_of_record_reads = refl
+
+pub statements_of_record_asks : IsQuery statements_of_record_text
+statements_of_record_asks schema = understood_never schema statements_of_record_text statements_of_record_reads
+
+statements_of_subject_reads : reads_first (first statements_of_subject_text) ≡ true
+unfolding everything
+statements_of_subject_reads = refl
+
+pub statements_of_subject_asks : IsQuery statements_of_subject_text
+statements_of_subject_asks schema = understood_never schema statements_of_subject_text statements_of_subject_reads
+
+statement_by_place_reads : reads_first (first statement_by_place_text) ≡ true
+unfolding everything
+statement_by_place_reads = refl
+
+pub statement_by_place_asks : IsQuery statement_by_place_text
+statement_by_place_asks schema = understood_never schema statement_by_place_text statement_by_place_reads
+
+identifiers_by_id_reads : reads_first (first identifiers_by_id_text) ≡ true
+unfolding everything
+identifiers_by_id_reads = refl
+
+pub identifiers_by_id_asks : IsQuery identifiers_by_id_text
+identifiers_by_id_asks schema = understood_never schema identifiers_by_id_text identifiers_by_id_reads

@@ -1,5 +1,5 @@
 -- What each query gives of a register that is shown.
-use Rattle.std.proofs.Common.{◌≡◌, ℕ, pos, ◌+◌, ◌<◌, Bool, true, false, ◌&&◌, ◌==◌, List, [], ◌∷◌, ◌++◌, map, filter, take, reverse, Some, refl, sym, ap, ap₂, subst, ◌∙◌, arith}
+use Rattle.std.proofs.Common.{◌≡◌, ℕ, pos, ◌+◌, ◌<◌, Bool, true, false, ◌&&◌, ◌==◌, List, [], ◌∷◌, ◌++◌, map, filter, take, reverse, Some, None, refl, sym, ap, ap₂, subst, ◌∙◌, arith}
 use Rattle.std.specs.List.{AllByRecursion, flat_map}
 use Rattle.std.specs.Ordering.{is_eq, int_cmp}
 use Rattle.std.specs.Str.{bytes_eq}
@@ -7,32 +7,35 @@ use Rattle.std.proofs.lemmas.Int.{ints}
 use Rattle.std.proofs.lemmas.Bool.Decides.{nat_tests}
 use Rattle.std.proofs.lemmas.List.{map-append, reverse-append}
 use Rattle.std.proofs.lemmas.Map.Text.{is_eq-slice_cmp}
-use Rattle.sqlite.specs.declared.types.Value.TheVariants.{Int, Text, Blob}
+use Rattle.sqlite.specs.declared.types.Value.TheVariants.{Null, Int, Text, Blob}
 use Rattle.sqlite.specs.Order.{Row}
 use Rattle.sqlite.specs.Tree.{IsAscending}
 use Rattle.sqlite.specs.State.{State}
-use Rattle.sqlite.specs.Ops.{binary, from_truth}
+use Rattle.sqlite.specs.Ops.{binary, from_truth, is_true}
 use Rattle.sqlite.specs.Collation.TheVariants.{Binary}
 use Rattle.sqlite_sql.specs.declared.ops.BinaryOp.TheVariants.{Compare}
 use Rattle.sqlite_sql.specs.declared.ops.CompareOp.TheVariants.{Eq}
 use Rattle.sqlite_value.proofs.OrderLemmas.{value_cmp-Blob}
 use Rattle.sqlite_keyed.proofs.ListLemmas.{map-map, filter-map, ascending-filter, filter_all, filter_none}
 use Rattle.bor_terms.specs.Texts.{is_same}
+use Rattle.bods_read.specs.declared.details.Details.{Details}
+use Rattle.bods_read.specs.declared.details.Details.TheVariants as details
 use Rattle.bods_read.specs.declared.details.Identifier.{Identifier}
 use Rattle.bods_read.specs.declared.interest.Interest.{Interest}
 use Rattle.bor_register.specs.declared.filing.AcceptedFiling.{AcceptedFiling}
 use Rattle.bor_register.specs.declared.member.Member.{Member}
 use Rattle.bor_register.specs.Register.{Register, IsOrdered, filings_of}
 use Rattle.bor_register.specs.Publication.{filing_shown}
-use Rattle.bor_store_texts.specs.Queries.{falling, all_register_text, all_register_query, all_agents_text, all_agents_query, all_filings_text, all_filings_query, all_statements_text, all_statements_query, all_interests_text, all_interests_query, all_identifiers_text, all_identifiers_query, agent_by_name_text, agent_by_name_query, agent_by_token_text, agent_by_token_query, filing_by_key_text, filing_by_key_query, line_by_key_text, line_by_key_query, line_by_number_text, line_by_number_query, same_bytes_text, same_bytes_query, filings_of_agent_text, filings_of_agent_query, last_filing_text, last_filing_query, last_of_series_text, last_of_series_query, statement_by_id_text, statement_by_id_query, statements_of_filing_text, statements_of_filing_query, statements_of_declaration_text, statements_of_declaration_query, interests_of_statement_text, interests_of_statement_query, identifiers_of_statement_text, identifiers_of_statement_query}
-use Rattle.bor_store_texts.proofs.QueryMeanings.{all_register_is, all_agents_is, all_filings_is, all_statements_is, all_interests_is, all_identifiers_is, agent_by_name_is, agent_by_token_is, filing_by_key_is, line_by_key_is, line_by_number_is, same_bytes_is, filings_of_agent_is, last_filing_is, last_of_series_is, statement_by_id_is, statements_of_filing_is, statements_of_declaration_is, interests_of_statement_is, identifiers_of_statement_is}
+use Rattle.bor_store_texts.specs.Queries.{falling, all_register_text, all_register_query, all_agents_text, all_agents_query, all_filings_text, all_filings_query, all_statements_text, all_statements_query, all_interests_text, all_interests_query, all_identifiers_text, all_identifiers_query, agent_by_name_text, agent_by_name_query, agent_by_token_text, agent_by_token_query, filing_by_key_text, filing_by_key_query, line_by_key_text, line_by_key_query, line_by_number_text, line_by_number_query, same_bytes_text, same_bytes_query, filings_of_agent_text, filings_of_agent_query, last_filing_text, last_filing_query, last_of_series_text, last_of_series_query, statement_by_id_text, statement_by_id_query, statements_of_filing_text, statements_of_filing_query, statements_of_declaration_text, statements_of_declaration_query, interests_of_statement_text, interests_of_statement_query, identifiers_of_statement_text, identifiers_of_statement_query, statements_of_series_text, statements_of_series_query, statements_of_record_text, statements_of_record_query, statements_of_subject_text, statements_of_subject_query, statement_by_place_text, statement_by_place_query, identifiers_by_id_text, identifiers_by_id_query}
+use Rattle.bor_store_texts.proofs.QueryMeanings.{all_register_is, all_agents_is, all_filings_is, all_statements_is, all_interests_is, all_identifiers_is, agent_by_name_is, agent_by_token_is, filing_by_key_is, line_by_key_is, line_by_number_is, same_bytes_is, filings_of_agent_is, last_filing_is, last_of_series_is, statement_by_id_is, statements_of_filing_is, statements_of_declaration_is, interests_of_statement_is, identifiers_of_statement_is, statements_of_series_is, statements_of_record_is, statements_of_subject_is, statement_by_place_is, identifiers_by_id_is}
 use Rattle.bor_store_rows.specs.declared.places.At.{At}
 use Rattle.bor_store_rows.specs.declared.rows.Placed.{Placed}
 use Rattle.bor_store_rows.specs.declared.rows.InterestRow.{InterestRow}
 use Rattle.bor_store_rows.specs.declared.rows.IdentifierRow.{IdentifierRow}
 use Rattle.bor_store_rows.specs.Placed.{same_place, bare, filing_row, filing_lines, placed, placed_by, interest_rows, identifier_rows, interests_from, identifiers_from, interests_of, identifiers_of}
 use Rattle.bor_store_rows.specs.Encoding.{truth, register_columns, agent_columns, filing_rows, line_columns, shown_columns, statement_columns, interest_columns, identifier_columns}
-use Rattle.bor_store_sql.specs.Selected.{named, with_token, keyed, numbered, last, placed_of, in_filing, in_declaration, in_series, identified, interests_at, identifiers_at, place_columns}
+use Rattle.bor_store_sql.specs.Selected.{named, with_token, keyed, numbered, last, placed_of, in_filing, in_declaration, in_series, identified, interests_at, identifiers_at, place_columns, in_record, names_subject, with_subject, standing_at, identified_by}
+use Rattle.bor_store_sql.specs.Changing.{passes}
 use Rattle.bor_store_sql.specs.Shown.{ShowsIn}
 use Rattle.bor_store_sql.proofs.Finding.{Shows, answers, has_now}
 use Rattle.bor_store_sql.proofs.FromTables.{from_agents, from_filings, from_statements, from_interests, from_identifiers, statement_shown, interest_shown}
@@ -56,6 +59,21 @@ as_truth false = refl
 blob_test : (a b : List ℕ) → binary (Compare Eq Binary) (Blob a) (Blob b) ≡ truth (is_same a b)
 unfolding binary
 blob_test a b = ap (λ t. from_truth (Some t)) (ap is_eq (value_cmp-Blob a b) ∙ is_eq-slice_cmp a b) ∙ as_truth (bytes_eq a b)
+
+null_test : (a : List ℕ) → is_true (binary (Compare Eq Binary) Null (Text a)) ≡ false
+unfolding binary
+null_test a = refl
+
+subject_test : (agent declaration rec : List ℕ) (q : Placed) → passes statements_of_subject_query.filter (Text agent ∷ Text declaration ∷ Text rec ∷ []) (statement_columns (bare q))
+    ≡ (is_same q.at.agent agent && (is_same q.statement.declaration declaration && names_subject rec q.statement.details))
+subject_test agent declaration rec q = go q.statement.details
+  where
+    go : (d : Details) → passes statements_of_subject_query.filter (Text agent ∷ Text declaration ∷ Text rec ∷ []) (statement_columns (bare (record q { statement = record q.statement { details = d } })))
+        ≡ (is_same q.at.agent agent && (is_same q.statement.declaration declaration && names_subject rec d))
+    go (details.Entity kind name identifiers) = ap₂ (λ x y. x && y) (text_test q.at.agent agent) (ap₂ (λ x y. x && y) (text_test q.statement.declaration declaration) (and_true _ ∙ null_test rec))
+    go (details.Person kind name) = ap₂ (λ x y. x && y) (text_test q.at.agent agent) (ap₂ (λ x y. x && y) (text_test q.statement.declaration declaration) (and_true _ ∙ null_test rec))
+    go (details.Relationship None party interests) = ap₂ (λ x y. x && y) (text_test q.at.agent agent) (ap₂ (λ x y. x && y) (text_test q.statement.declaration declaration) (and_true _ ∙ null_test rec))
+    go (details.Relationship (Some subject) party interests) = ap₂ (λ x y. x && y) (text_test q.at.agent agent) (ap₂ (λ x y. x && y) (text_test q.statement.declaration declaration) (and_true _ ∙ text_test subject rec))
 
 -- ---- those of one agent
 
@@ -253,6 +271,33 @@ module _ (r : Register) (old new : State) (shows : ShowsIn r old) (rows : List R
       (λ p. ap₂ (λ x y. x && y) (text_test p.at.agent agent) (and_true _ ∙ text_test p.statement.declaration declaration)) statements_of_declaration_is (λ id x. refl) (λ id x. refl) (λ p. statement_shown (bare p))
       ∙ ap (map (λ p. statement_columns (bare p))) (own_statements agent r.members shows.stored.ordered (λ p. is_same p.statement.declaration declaration))
 
+  pub statements_of_series_found : (agent declaration rec : List ℕ) → Shows statements_of_series_text (Text agent ∷ Text declaration ∷ Text rec ∷ []) old new rows
+      → rows ≡ map (λ p. statement_columns (bare p)) (in_series declaration rec (placed_of agent r))
+  statements_of_series_found agent declaration rec h =
+      from_statements r old new shows rows statements_of_series_text (Text agent ∷ Text declaration ∷ Text rec ∷ []) _ statements_of_series_query.filter statements_of_series_query.project h (λ p. statement_columns (bare p))
+      (λ p. is_same p.at.agent agent && (is_same p.statement.declaration declaration && is_same p.statement.rec rec))
+      (λ p. ap₂ (λ x y. x && y) (text_test p.at.agent agent) (ap₂ (λ x y. x && y) (text_test p.statement.declaration declaration) (and_true _ ∙ text_test p.statement.rec rec))) statements_of_series_is (λ id x. refl) (λ id x. refl) (λ p. statement_shown (bare p))
+      ∙ ap (map (λ p. statement_columns (bare p))) (own_statements agent r.members shows.stored.ordered (λ p. is_same p.statement.declaration declaration && is_same p.statement.rec rec))
+
+  pub statements_of_record_found : (agent rec : List ℕ) → Shows statements_of_record_text (Text agent ∷ Text rec ∷ []) old new rows → rows ≡ map (λ p. statement_columns (bare p)) (in_record rec (placed_of agent r))
+  statements_of_record_found agent rec h =
+      from_statements r old new shows rows statements_of_record_text (Text agent ∷ Text rec ∷ []) _ statements_of_record_query.filter statements_of_record_query.project h (λ p. statement_columns (bare p)) (λ p. is_same p.at.agent agent && is_same p.statement.rec rec)
+      (λ p. ap₂ (λ x y. x && y) (text_test p.at.agent agent) (and_true _ ∙ text_test p.statement.rec rec)) statements_of_record_is (λ id x. refl) (λ id x. refl) (λ p. statement_shown (bare p))
+      ∙ ap (map (λ p. statement_columns (bare p))) (own_statements agent r.members shows.stored.ordered (λ p. is_same p.statement.rec rec))
+
+  pub statements_of_subject_found : (agent declaration rec : List ℕ) → Shows statements_of_subject_text (Text agent ∷ Text declaration ∷ Text rec ∷ []) old new rows
+      → rows ≡ map (λ p. statement_columns (bare p)) (with_subject declaration rec (placed_of agent r))
+  statements_of_subject_found agent declaration rec h =
+      from_statements r old new shows rows statements_of_subject_text (Text agent ∷ Text declaration ∷ Text rec ∷ []) _ statements_of_subject_query.filter statements_of_subject_query.project h (λ p. statement_columns (bare p))
+      (λ p. is_same p.at.agent agent && (is_same p.statement.declaration declaration && names_subject rec p.statement.details))
+      (subject_test agent declaration rec) statements_of_subject_is (λ id x. refl) (λ id x. refl) (λ p. statement_shown (bare p))
+      ∙ ap (map (λ p. statement_columns (bare p))) (own_statements agent r.members shows.stored.ordered (λ p. is_same p.statement.declaration declaration && names_subject rec p.statement.details))
+
+  pub identifiers_by_id_found : (scheme id : List ℕ) → Shows identifiers_by_id_text (Text scheme ∷ Text id ∷ []) old new rows → rows ≡ map identifier_columns (identified_by scheme id r.members)
+  identifiers_by_id_found scheme id h =
+      from_identifiers r old new shows rows identifiers_by_id_text (Text scheme ∷ Text id ∷ []) _ identifiers_by_id_query.filter identifiers_by_id_query.project h (λ i. is_same i.identifier.scheme scheme && is_same i.identifier.id id)
+      (λ i. ap₂ (λ x y. x && y) (text_test i.identifier.scheme scheme) (and_true _ ∙ text_test i.identifier.id id)) identifiers_by_id_is (λ id x. refl) (λ id x. refl) (λ i. refl)
+
   module _ (at : At) where
     abbrev place_params : Row
     place_params = Text at.agent ∷ Int (pos at.filing) ∷ Int (pos at.place) ∷ []
@@ -270,3 +315,9 @@ module _ (r : Register) (old new : State) (shows : ShowsIn r old) (rows : List R
         (λ i. ap₂ (λ x y. x && y) (text_test i.at.agent at.agent) (ap₂ (λ x y. x && y) (int_test (pos i.at.filing) (pos at.filing) ∙ number_test i.at.filing at.filing) (and_true _ ∙ int_test (pos i.at.place) (pos at.place) ∙ number_test i.at.place at.place)))
         identifiers_of_statement_is (λ id x. refl) (λ id x. refl) (λ i. refl)
         ∙ ap (map identifier_columns) (rows_at (λ (i : IdentifierRow). i.at) (λ a. same_place a at) identifier_rows (λ p. identifiers_stand p.at 1 (identifiers_of p.statement.details)) (placed r.members))
+
+    pub statement_by_place_found : Shows statement_by_place_text place_params old new rows → rows ≡ map (λ p. statement_columns (bare p)) (standing_at at r.members)
+    statement_by_place_found h =
+        from_statements r old new shows rows statement_by_place_text place_params _ statement_by_place_query.filter statement_by_place_query.project h (λ p. statement_columns (bare p)) (λ p. same_place p.at at)
+        (λ p. ap₂ (λ x y. x && y) (text_test p.at.agent at.agent) (ap₂ (λ x y. x && y) (int_test (pos p.at.filing) (pos at.filing) ∙ number_test p.at.filing at.filing) (and_true _ ∙ int_test (pos p.at.place) (pos at.place) ∙ number_test p.at.place at.place)))
+        statement_by_place_is (λ id x. refl) (λ id x. refl) (λ p. statement_shown (bare p))

@@ -1,9 +1,11 @@
 -- The parts of a register that are asked for by key.
-use Rattle.std.specs.Prelude.{ℕ, pos, List, [], ◌∷◌, take, reverse, filter, ◌==◌, ◌&&◌}
+use Rattle.std.specs.Prelude.{ℕ, pos, List, [], ◌∷◌, take, reverse, filter, ◌==◌, ◌&&◌, Bool, false, Some, None}
 use Rattle.std.specs.List.{flat_map}
 use Rattle.sqlite.specs.declared.types.Value.TheVariants.{Int}
 use Rattle.sqlite.specs.Order.{Row}
 use Rattle.bor_terms.specs.Texts.{is_same}
+use Rattle.bods_read.specs.declared.details.Details.{Details}
+use Rattle.bods_read.specs.declared.details.Details.TheVariants as details
 use Rattle.bor_register.specs.declared.filing.AcceptedFiling.{AcceptedFiling}
 use Rattle.bor_register.specs.declared.member.Member.{Member}
 use Rattle.bor_register.specs.Register.{Register, filings_of}
@@ -48,6 +50,21 @@ in_declaration declaration ps = filter (λ p. is_same p.statement.declaration de
 abbrev pub in_series : List ℕ → List ℕ → List Placed → List Placed
 in_series declaration rec ps = filter (λ p. is_same p.statement.declaration declaration && is_same p.statement.rec rec) ps
 
+-- those of the records with this identifier, of whatever declaration
+abbrev pub in_record : List ℕ → List Placed → List Placed
+in_record rec ps = filter (λ p. is_same p.statement.rec rec) ps
+
+-- a relationship that names this record as its subject
+abbrev pub names_subject : List ℕ → Details → Bool
+names_subject rec (details.Entity kind name identifiers) = false
+names_subject rec (details.Person kind name) = false
+names_subject rec (details.Relationship None party interests) = false
+names_subject rec (details.Relationship (Some subject) party interests) = is_same subject rec
+
+-- those of a declaration that name this record as their subject
+abbrev pub with_subject : List ℕ → List ℕ → List Placed → List Placed
+with_subject declaration rec ps = filter (λ p. is_same p.statement.declaration declaration && names_subject rec p.statement.details) ps
+
 -- those under an identifier
 abbrev pub identified : List ℕ → List Placed → List Placed
 identified id ps = filter (λ p. is_same p.statement.id id) ps
@@ -61,6 +78,16 @@ interests_at at ms = flat_map interest_rows (filter (λ p. same_place p.at at) (
 -- the identifiers of the statement at this place
 abbrev pub identifiers_at : At → List Member → List IdentifierRow
 identifiers_at at ms = flat_map identifier_rows (filter (λ p. same_place p.at at) (placed ms))
+
+-- ---- over all agents
+
+-- the live statement at this place, where there is one
+abbrev pub standing_at : At → List Member → List Placed
+standing_at at ms = filter (λ p. same_place p.at at) (placed ms)
+
+-- the rows of the identifiers that have this scheme and this identifier
+abbrev pub identified_by : List ℕ → List ℕ → List Member → List IdentifierRow
+identified_by scheme id ms = filter (λ i. is_same i.identifier.scheme scheme && is_same i.identifier.id id) (flat_map identifier_rows (placed ms))
 
 -- ---- what else is shown
 

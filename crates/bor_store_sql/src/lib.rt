@@ -12,6 +12,7 @@ mod creation;
 mod keyed;
 mod queries;
 mod reads;
+mod records;
 mod register;
 mod withdrawal;
 
@@ -24,6 +25,10 @@ pub use keyed::{
 };
 pub use reads::{
     all_agents, all_filings, all_identifiers, all_interests, all_register, all_statements,
+};
+pub use records::{
+    identifiers_by_id, statement_by_place, statements_of_record, statements_of_series,
+    statements_of_subject,
 };
 pub use register::{add_agent, set_day};
 pub use withdrawal::withdraw_filing;
