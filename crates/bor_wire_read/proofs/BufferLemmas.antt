@@ -1,8 +1,7 @@
 -- What a buffer has once more bytes have come, and what a body is made of.
-use Rattle.std.proofs.Common.{◌≡◌, ◌≤◌, ◌<◌, ℕ, ◌+◌, List, [], ◌∷◌, ◌++◌, length, take, drop, refl, sym, ap, ◌∙◌, append_assoc, append-nil, arith, nat_le, true, false, Option, Result, Ok, Err, length-append, length-drop, inl, inr}
+use Rattle.std.proofs.Common.{◌≡◌, ◌≤◌, ◌<◌, ℕ, ◌+◌, List, [], ◌∷◌, ◌++◌, length, take, drop, refl, sym, ap, ◌∙◌, append_assoc, append-nil, arith, Option, Result, Ok, Err, length-append, length-drop, inl, inr}
 use Rattle.std.proofs.lemmas.List.{take-take, take-append-le, take_all, drop_all, length-take, length-take-le, take-append-drop}
 use Rattle.std.proofs.lemmas.Bool.{cases_lt}
-use Rattle.std.proofs.lemmas.Bool.Decides.{nat_tests}
 use Rattle.std.proofs.Math.Seq.{take-append-add}
 use Rattle.bor_wire_read.specs.declared.fault.WireFault.{WireFault}
 use Rattle.bor_wire_read.specs.declared.fault.WireFault.TheVariants.{Refused, Read, Memory}
@@ -17,12 +16,6 @@ filled_more front new behind tail filled n len e few le =
     ∙ ap (λ k. take (k + n) (front ++ (new ++ (behind ++ tail)))) (sym e)
     ∙ take-append-add front (new ++ (behind ++ tail)) n
     ∙ ap (λ l. front ++ l) (take-append-le n new (behind ++ tail) few)
-
-pub full : (size len : ℕ) → nat_le size len ≡ true → len ≤ size → len ≡ size
-full size len e le = grind (arith, nat_tests)
-
-pub not_full : (size len : ℕ) → nat_le size len ≡ false → len < size
-not_full size len e = grind (arith, nat_tests)
 
 -- where there is more than is wanted, nothing was read
 nothing_more : (behind bytes more : List ℕ) (n : ℕ) → bytes ≡ take n behind ++ more → length bytes ≤ n → n < length behind → more ≡ []

@@ -6,7 +6,7 @@ use Rattle.std.proofs.lemmas.Bool.Decides.{nat_tests}
 use Rattle.httparse.proofs.GrammarLemmas.{request_unique}
 use Rattle.bor_wire_read.specs.declared.fault.Refusal.{Refusal}
 use Rattle.bor_wire_read.specs.declared.fault.Refusal.TheVariants.{HeadTooLarge, CutShort}
-use Rattle.bor_wire_read.specs.Head.{head_at, head_len, head_within, without_head, with_few_lines, line_feeds}
+use Rattle.bor_wire_read.specs.Head.{head_at, head_len, head_within, without_head, with_few_lines, line_feeds, line_limit, head_limit}
 use Rattle.bor_wire_read.specs.Laws.{OneRequest, RestIsIgnored}
 use Rattle.bor_wire_read.proofs.HeadLemmas.{head_len-le}
 use Rattle.bor_wire_read.proofs.ReadingLemmas.{head-found}
@@ -31,7 +31,7 @@ message_unique input a b x y = at_unique input (head_at input) a b x y
 -- ---- what stands behind
 
 few : (buffer : List ℕ) (k n : ℕ) → with_few_lines buffer k ≡ Ok n → k ≡ n
-few buffer k n e = go (nat_lt 66 (line_feeds (take k buffer))) e
+few buffer k n e = go (nat_lt line_limit (line_feeds (take k buffer))) e
   where
     go : (b : Bool) → cond b (Err HeadTooLarge) (Ok k) ≡ Ok n → k ≡ n
     go true e = cc
@@ -84,7 +84,7 @@ behind_kept rest more m (Ok parts) e = sym (with_body_kept parts rest more m (bo
 at_kept : (input more : List ℕ) (m : Message) (at : Result ℕ Refusal) → head_at input ≡ at → IsAt input at (Ok m) → IsMessage (input ++ more) (Ok m)
 at_kept input more m (Err r) is h = absurd (let f : Ok m ≡ Err r = h in cc)
 at_kept input more m (Ok n) is h =
-    let kept = head_kept 16384 input more n is in
+    let kept = head_kept head_limit input more n is in
     let front : take n (input ++ more) ≡ take n input = take-append-le n input more kept.0 in
     let back : drop n (input ++ more) ≡ drop n input ++ more = drop-append-le n input more kept.0 in
     subst (λ a. IsAt (input ++ more) a (Ok m)) (sym kept.1)

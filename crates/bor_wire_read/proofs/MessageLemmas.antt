@@ -10,9 +10,9 @@ use Rattle.bor_wire_read.specs.declared.fault.Refusal.{Refusal}
 use Rattle.bor_wire_read.specs.declared.fault.Refusal.TheVariants.{BadLength, BodyTooLarge, CutShort}
 use Rattle.bor_wire_read.specs.declared.fault.WireFault.{WireFault}
 use Rattle.bor_wire_read.specs.declared.fault.WireFault.TheVariants.{Refused, Read, Memory}
-use Rattle.bor_wire_read.specs.Head.{head_at}
+use Rattle.bor_wire_read.specs.Head.{head_at, head_limit}
 use Rattle.bor_wire_read.specs.Reading.{Grows, FaultFits, EndsBefore, IsBody, ReadsBody, Tells, TakesAtMost}
-use Rattle.bor_wire_read.specs.Message.{Parts, Message, FieldText, HasParts, HeadFault, IsMessage, IsAt, IsBehind, and_then, with_body, body_of, body_len, length_of, is_numeral, how_many, first_value}
+use Rattle.bor_wire_read.specs.Message.{Parts, Message, FieldText, HasParts, HeadFault, IsMessage, IsAt, IsBehind, and_then, with_body, body_of, body_len, length_of, is_numeral, how_many, first_value, body_limit, request_limit}
 use Rattle.bor_wire_read.proofs.ReadingLemmas.{from_whole_with, from_end_with, grows_behind}
 
 -- with its head and what stands behind it, an input is what its parts make of it
@@ -130,24 +130,24 @@ length_of-le limit len bytes e = outer (is_numeral bytes) (digits_value 10 bytes
     outer true v e = inner (nat_le v limit) v refl e
     outer false v e = cc
 
-pub body_len-le : (fields : List FieldText) (len : ℕ) → body_len fields ≡ Ok len → len ≤ 1048576
+pub body_len-le : (fields : List FieldText) (len : ℕ) → body_len fields ≡ Ok len → len ≤ body_limit
 body_len-le fields len e =
     go (nat_lt 0 (how_many (codes "transfer-encoding") fields)) (nat_lt 1 (how_many (codes "content-length") fields))
     (first_value (codes "content-length") fields) e
   where
-    last : (o : Option (List ℕ)) → option_map_or (length_of 1048576) o (Ok 0) ≡ Ok len → len ≤ 1048576
+    last : (o : Option (List ℕ)) → option_map_or (length_of body_limit) o (Ok 0) ≡ Ok len → len ≤ body_limit
     last None e = let same : 0 ≡ len = cc in omega arith
-    last (Some bytes) e = length_of-le 1048576 len bytes e
+    last (Some bytes) e = length_of-le body_limit len bytes e
 
     go : (s t : Bool) (o : Option (List ℕ))
-        → cond s (Err BadLength) (cond t (Err BadLength) (option_map_or (length_of 1048576) o (Ok 0))) ≡ Ok len → len ≤ 1048576
+        → cond s (Err BadLength) (cond t (Err BadLength) (option_map_or (length_of body_limit) o (Ok 0))) ≡ Ok len → len ≤ body_limit
     go true t o e = cc
     go false true o e = cc
     go false false o e = last o e
 
 pub taken_whole : {X : Type 0} (view : X → List ℕ) {known middle left : Option (List ℕ)} {buffer : List ℕ} (n len : ℕ) (result : Result X WireFault)
-    → Grows known middle [] buffer → ReadsBody view middle left (drop n buffer) len result → n ≤ length buffer → length buffer ≤ 16384
-    → len ≤ 1048576 → TakesAtMost 1064960 known left
+    → Grows known middle [] buffer → ReadsBody view middle left (drop n buffer) len result → n ≤ length buffer → length buffer ≤ head_limit
+    → len ≤ body_limit → TakesAtMost request_limit known left
 taken_whole {X} view {known} {middle} {left} {buffer} n len result g h le short small =
     let joined = grows_behind n g h.grown in (
       joined.bytes,

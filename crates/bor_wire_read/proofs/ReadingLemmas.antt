@@ -6,7 +6,7 @@ use Rattle.std.proofs.lemmas.Bool.Decides.{nat_tests}
 use Rattle.std.proofs.Math.Seq.{take-append-add}
 use Rattle.bor_wire_read.specs.declared.fault.Refusal.{Refusal}
 use Rattle.bor_wire_read.specs.declared.fault.Refusal.TheVariants.{HeadTooLarge, CutShort}
-use Rattle.bor_wire_read.specs.Head.{head_len, head_within, without_head, with_few_lines, line_feeds}
+use Rattle.bor_wire_read.specs.Head.{head_len, head_within, without_head, with_few_lines, line_feeds, line_limit}
 use Rattle.bor_wire_read.specs.declared.fault.WireFault.{WireFault}
 use Rattle.bor_wire_read.specs.declared.fault.WireFault.TheVariants.{Refused, Read, Memory}
 use Rattle.bor_wire_read.specs.Reading.{Grows, IsNoRefusal, GivesFault}
@@ -85,16 +85,16 @@ head-cut_short limit buffer lt none =
     let front : take limit buffer ≡ buffer = take_all limit buffer (omega arith) in
     rw front (rw none (without_head-short limit buffer lt))
 
-pub few_lines : (buffer : List ℕ) (n : ℕ) → not (nat_lt 66 (line_feeds (take n buffer))) ≡ true → with_few_lines buffer n ≡ Ok n
-few_lines buffer n e = go (nat_lt 66 (line_feeds (take n buffer))) e
+pub few_lines : (buffer : List ℕ) (n : ℕ) → not (nat_lt line_limit (line_feeds (take n buffer))) ≡ true → with_few_lines buffer n ≡ Ok n
+few_lines buffer n e = go (nat_lt line_limit (line_feeds (take n buffer))) e
   where
     go : (b : Bool) → not b ≡ true → cond b (Err HeadTooLarge) (Ok n) ≡ Ok n
     go true e = cc
     go false e = refl
 
-pub many_lines : (buffer : List ℕ) (n : ℕ) → not (nat_lt 66 (line_feeds (take n buffer))) ≡ false
+pub many_lines : (buffer : List ℕ) (n : ℕ) → not (nat_lt line_limit (line_feeds (take n buffer))) ≡ false
     → with_few_lines buffer n ≡ Err HeadTooLarge
-many_lines buffer n e = go (nat_lt 66 (line_feeds (take n buffer))) e
+many_lines buffer n e = go (nat_lt line_limit (line_feeds (take n buffer))) e
   where
     go : (b : Bool) → not b ≡ false → cond b (Err HeadTooLarge) (Ok n) ≡ Err HeadTooLarge
     go true e = refl

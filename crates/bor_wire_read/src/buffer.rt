@@ -1,6 +1,6 @@
 //! Room for bytes, which reads fill from its front.
 
-ghost use Rattle.std.specs.Prelude.{◌≡◌, ◌≤◌, ◌<◌, [], length, take, IfOk, nat_le};
+ghost use Rattle.std.specs.Prelude.{◌≡◌, ◌≤◌, ◌<◌, [], length, take, IfOk, OnOk, nat_le};
 ghost use Rattle.bor_wire_read.specs.Reading.{Grows, ReadsPiece, FaultsTell};
 
 use crate::counted::Counted;
@@ -9,8 +9,12 @@ use std::alloc::{AllocError, Global};
 use std::io::Read;
 use std::marker::Model;
 
-/// Room of a size that stays, with the bytes that have come at its front. It is cleared once, and each
-/// read goes right into it.
+/// The first room of a buffer that grows. Most heads fit, and the C library gives and takes blocks below
+/// 1 KiB without merging what was freed.
+const FIRST_ROOM: usize = 960;
+
+/// Room with the bytes that have come at its front. Each byte of it is cleared once, and each read goes
+/// right into it.
 #[derive(Drop)]
 pub(crate) struct Buffer {
     room: Vec<u8>,
@@ -29,6 +33,17 @@ impl Model for Buffer {
 }
 
 impl Buffer {
+    /// No room yet.
+    pub(crate) fn new(alloc: Global) -> Buffer
+        ensures bytes { result.bytes ≡ [] }
+        ensures size { result.size ≡ 0 }
+    {
+        Buffer {
+            room: Vec::new(alloc),
+            filled: 0,
+        }
+    }
+
     /// Room of this size, with these bytes at its front.
     pub(crate) fn starting_with(
         alloc: Global,
@@ -54,6 +69,21 @@ impl Buffer {
         ensures within { length result.now ≤ self.now.size }
     {
         &self.room[..self.filled]
+    }
+
+    /// Sees to it that there is room left: where there is none, it is doubled, up to a limit, which the
+    /// bytes that have come are below.
+    pub(crate) fn make_room(&mut self, limit: usize) -> Result<(), AllocError>
+        requires { length self.old.bytes < limit }
+        ensures bytes { self.new.bytes ≡ self.old.bytes }
+        ensures room { OnOk result (length self.new.bytes < self.new.size) }
+        ensures limit { self.old.size ≤ limit → self.new.size ≤ limit }
+    {
+        if self.is_full() {
+            let doubled = self.filled.saturating_mul(2);
+            self.room.resize(doubled.max(FIRST_ROOM).min(limit), 0)?;
+        }
+        Ok(())
     }
 
     /// Whether there is no room left.

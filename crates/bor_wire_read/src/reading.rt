@@ -8,19 +8,11 @@ use crate::buffer::Buffer;
 use crate::counted::Counted;
 use crate::fault::{Refusal, WireFault};
 use crate::head::{has_few_lines, head_end_from};
-use std::alloc::{AllocError, Global};
+use std::alloc::Global;
 use std::io::Read;
 
 /// The most bytes of a head.
 const HEAD_LIMIT: usize = 16_384;
-
-/// Room for a head.
-pub(crate) fn room_for_head(alloc: Global) -> Result<Buffer, AllocError>
-    ensures empty { IfOk result (λ buffer. buffer.bytes ≡ []) }
-    ensures size { IfOk result (λ buffer. buffer.size ≡ head_limit) }
-{
-    Buffer::starting_with(alloc, &[], HEAD_LIMIT)
-}
 
 /// Reads into an empty buffer until a head is there, and gives its length.
 pub(crate) fn read_head<R: Read>(
@@ -28,7 +20,7 @@ pub(crate) fn read_head<R: Read>(
     buffer: &mut Buffer,
 ) -> Result<usize, WireFault>
     requires empty { buffer.old.bytes ≡ [] }
-    requires size { buffer.old.size ≡ head_limit }
+    requires size { buffer.old.size ≤ head_limit }
     ensures bytes { Grows (R.remaining reader.old.inner) (R.remaining reader.new.inner) [] buffer.new.bytes }
     ensures within { length buffer.new.bytes ≤ head_limit }
     ensures few { IfOk result (λ n. (n ≤ length buffer.new.bytes) × (line_feeds (take n buffer.new.bytes) ≤ line_limit)) }
@@ -44,11 +36,13 @@ pub(crate) fn read_head<R: Read>(
             }
             return Err(WireFault::Refused(Refusal::HeadTooLarge));
         }
-        if buffer.is_full() {
+        let len = buffer.bytes().len();
+        if len >= HEAD_LIMIT {
             return Err(WireFault::Refused(Refusal::HeadTooLarge));
         }
         // An empty line may have begun with the last two bytes.
-        from = buffer.bytes().len().saturating_sub(2);
+        from = len.saturating_sub(2);
+        buffer.make_room(HEAD_LIMIT)?;
         if buffer.read_from(reader)? == 0 {
             return Err(WireFault::Refused(Refusal::CutShort));
         }

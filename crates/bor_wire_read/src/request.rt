@@ -6,11 +6,12 @@ ghost use Rattle.bor_wire_read.specs.Head.{line_feeds, line_limit};
 ghost use Rattle.bor_wire_read.specs.Reading.{Answers, FaultsTell, TakesAtMost};
 ghost use Rattle.bor_wire_read.specs.Message.{AreWithin, HeadAnswers, parts_at, IsMessage, only_value, request_limit};
 
+use crate::buffer::Buffer;
 use crate::counted::Counted;
 use crate::fault::{Refusal, WireFault};
 use crate::fields::{count_named, find_value};
 use crate::lengths::body_length;
-use crate::reading::{read_body, read_head, room_for_head};
+use crate::reading::{read_body, read_head};
 use httparse::Status;
 use httparse::spans::{EMPTY_HEADER_SPAN, HeaderSpan, Span, parse_request};
 use std::alloc::Global;
@@ -126,7 +127,7 @@ pub fn read_request<R: Read>(
     ensures taken { TakesAtMost request_limit (R.remaining reader.old.inner) (R.remaining reader.new.inner) }
     ensures faults { FaultsTell result reader.old.faults reader.new.faults }
 {
-    let mut buffer = room_for_head(alloc)?;
+    let mut buffer = Buffer::new(alloc);
     let len = read_head(reader, &mut buffer)?;
     let (head, behind) = buffer.bytes().split_at(len);
     let spans = parse_head(alloc, head)?;

@@ -1,17 +1,17 @@
 use Rattle.std.proofs.Common.{◌≡◌, ◌≤◌, ◌-◌, [], length}
-use Rattle.bor_wire_read.specs.Head.{IsScanned}
+use Rattle.bor_wire_read.specs.Head.{IsScanned, head_limit}
 use Rattle.bor_wire_read.specs.Reading.{Grows}
 use Rattle.bor_wire_read.proofs.reading.read_head.Given as goal
 
 abbrev pub invariant-read : goal.invariant-read
 invariant-read g l = record {
   grown : Grows (g.R.Read.remaining l.initial.reader.inner) (g.R.Read.remaining l.reader.inner) [] l.buffer.bytes;
-  size : l.buffer.size ≡ 16384;
-  bound : length l.buffer.bytes ≤ 16384;
+  size : l.buffer.size ≤ head_limit;
+  bound : length l.buffer.bytes ≤ head_limit;
   within : l.from ≤ length l.buffer.bytes;
   scanned : IsScanned l.buffer.bytes l.from;
   faults : l.reader.faults ≡ l.initial.reader.faults;
 }
 
 abbrev pub decreases-read : goal.decreases-read
-decreases-read g l = 16384 - length l.buffer.bytes
+decreases-read g l = head_limit - length l.buffer.bytes
