@@ -39,7 +39,7 @@ place_turned : (a b : At) → same_place a b ≡ same_place b a
 place_turned a b = rw (same_sym a.agent b.agent, number_turned a.filing b.filing, number_turned a.place b.place) refl
 
 -- the statement alone stands at its place
-abbrev IsAlone : List Placed → Placed → Type 0
+abbrev pub IsAlone : List Placed → Placed → Type 0
 IsAlone ps p = filter (λ (q : Placed). same_place q.at p.at) ps ≡ p ∷ []
 
 none_at : (at : At) (ps : List Placed) → AllByRecursion (λ (q : Placed). same_place q.at at ≡ false) ps → filter (λ (q : Placed). same_place q.at at) ps ≡ []
@@ -51,7 +51,7 @@ still_alone p ps [] off h = All-nil (IsAlone (p ∷ ps))
 still_alone p ps (q ∷ qs) off h =
     All-cons (IsAlone (p ∷ ps)) q qs (rw (place_turned p.at q.at ∙ off.0) (All-head (IsAlone ps) q qs h)) (still_alone p ps qs off.1 (All-tail (IsAlone ps) q qs h))
 
-each_alone : (ps : List Placed) → AreApart ps → All (IsAlone ps) ps
+pub each_alone : (ps : List Placed) → AreApart ps → All (IsAlone ps) ps
 each_alone [] h = All-nil (IsAlone [])
 each_alone (p ∷ ps) h =
     All-cons (IsAlone (p ∷ ps)) p ps (rw (same_itself p.at) (ap (λ l. p ∷ l) (none_at p.at ps h.0))) (still_alone p ps ps h.0 (each_alone ps h.1))

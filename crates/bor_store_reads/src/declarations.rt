@@ -43,7 +43,7 @@ fn statements<S: Alter>(
 }
 
 /// The interests of the statement at this place.
-fn interests_of_one<S: Alter>(
+pub fn interests_of_one<S: Alter>(
     conn: &mut Connection<S>,
     alloc: Global,
     at: &At,
@@ -83,7 +83,7 @@ fn interests_of<S: Alter>(
 }
 
 /// The identifiers of the statement at this place.
-fn identifiers_of_one<S: Alter>(
+pub fn identifiers_of_one<S: Alter>(
     conn: &mut Connection<S>,
     alloc: Global,
     at: &At,
@@ -148,7 +148,7 @@ fn placed<S: Alter>(
 }
 
 /// Whether the viewer sees the agent's filing with this number, on a day.
-fn is_number_seen<S: Alter>(
+pub fn is_number_seen<S: Alter>(
     conn: &mut Connection<S>,
     alloc: Global,
     viewer: &AgentName,

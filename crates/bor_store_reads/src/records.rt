@@ -1,0 +1,117 @@
+//! The statements of records, by series, by record, by subject and by identifier.
+
+ghost use Rattle.std.specs.Prelude.{◌≡◌, false, map, option_map, slice_get};
+ghost use Rattle.sqlite.specs.Held.{state};
+ghost use Rattle.bor_store_rows.specs.Placed.{bare};
+ghost use Rattle.bor_store_sql.specs.Shown.{IsClean};
+ghost use Rattle.bor_store_sql.specs.Selected.{identified_by, in_record, in_series, placed_of, standing_at, with_subject};
+ghost use Rattle.bor_store_reads.specs.Answering.{Answers};
+
+use crate::fault::ReadError;
+use crate::values::{all, first};
+use bor_store_rows::{At, IdentifierRow, StatementRow};
+use bor_store_sql::{
+    identifiers_by_id, statement_by_place, statements_of_record, statements_of_series,
+    statements_of_subject,
+};
+use bor_terms::{AgentName, Ident};
+use sqlite::{Alter, Connection};
+use std::alloc::Global;
+
+/// The rows of a record's live statements, by filing and place; `rec` is its identifier.
+pub fn read_series<S: Alter>(
+    conn: &mut Connection<S>,
+    alloc: Global,
+    agent: &AgentName,
+    declaration: &Ident,
+    rec: &Ident,
+) -> Result<Vec<StatementRow>, ReadError>
+    requires { conn.old.in_transaction ≡ false }
+    ensures mode { conn.new.in_transaction ≡ false }
+    ensures began { IsClean (state S.Store conn.new) → IsClean (state S.Store conn.old) }
+    ensures kept { IsClean (state S.Store conn.new) → (state S.Store conn.new).committed ≡ (state S.Store conn.old).committed }
+    ensures answer { Answers (state S.Store conn.old) (state S.Store conn.new) result (λ r rows.
+        rows.items ≡ map bare (in_series declaration.now rec.now (placed_of agent.now r))) }
+{
+    all(
+        alloc,
+        statements_of_series(conn, agent.as_str(), declaration.as_str(), rec.as_str()),
+    )
+}
+
+/// The rows of the live statements of the agent's records with this identifier, of whatever
+/// declaration, by filing and place.
+pub fn read_record<S: Alter>(
+    conn: &mut Connection<S>,
+    alloc: Global,
+    agent: &str,
+    rec: &str,
+) -> Result<Vec<StatementRow>, ReadError>
+    requires { conn.old.in_transaction ≡ false }
+    ensures mode { conn.new.in_transaction ≡ false }
+    ensures began { IsClean (state S.Store conn.new) → IsClean (state S.Store conn.old) }
+    ensures kept { IsClean (state S.Store conn.new) → (state S.Store conn.new).committed ≡ (state S.Store conn.old).committed }
+    ensures answer { Answers (state S.Store conn.old) (state S.Store conn.new) result (λ r rows.
+        rows.items ≡ map bare (in_record rec.now (placed_of agent.now r))) }
+{
+    all(alloc, statements_of_record(conn, agent, rec))
+}
+
+/// The rows of the agent's live relationship statements of a declaration that name this record as their
+/// subject, by filing and place.
+pub fn read_subject<S: Alter>(
+    conn: &mut Connection<S>,
+    alloc: Global,
+    agent: &AgentName,
+    declaration: &Ident,
+    rec: &Ident,
+) -> Result<Vec<StatementRow>, ReadError>
+    requires { conn.old.in_transaction ≡ false }
+    ensures mode { conn.new.in_transaction ≡ false }
+    ensures began { IsClean (state S.Store conn.new) → IsClean (state S.Store conn.old) }
+    ensures kept { IsClean (state S.Store conn.new) → (state S.Store conn.new).committed ≡ (state S.Store conn.old).committed }
+    ensures answer { Answers (state S.Store conn.old) (state S.Store conn.new) result (λ r rows.
+        rows.items ≡ map bare (with_subject declaration.now rec.now (placed_of agent.now r))) }
+{
+    all(
+        alloc,
+        statements_of_subject(conn, agent.as_str(), declaration.as_str(), rec.as_str()),
+    )
+}
+
+/// The row of the live statement at this place; `None` where there is none.
+pub fn read_place<S: Alter>(
+    conn: &mut Connection<S>,
+    alloc: Global,
+    at: &At,
+) -> Result<Option<StatementRow>, ReadError>
+    requires { conn.old.in_transaction ≡ false }
+    ensures mode { conn.new.in_transaction ≡ false }
+    ensures began { IsClean (state S.Store conn.new) → IsClean (state S.Store conn.old) }
+    ensures kept { IsClean (state S.Store conn.new) → (state S.Store conn.new).committed ≡ (state S.Store conn.old).committed }
+    ensures answer { Answers (state S.Store conn.old) (state S.Store conn.new) result (λ r row.
+        row ≡ option_map bare (slice_get (standing_at at.now r.members) 0)) }
+{
+    first(
+        alloc,
+        statement_by_place(conn, at.agent.as_str(), at.filing, at.place),
+    )
+}
+
+/// The rows of the identifiers of all live statements that have this scheme and this identifier, by
+/// agent, filing, place and item.
+pub fn read_identified<S: Alter>(
+    conn: &mut Connection<S>,
+    alloc: Global,
+    scheme: &str,
+    id: &str,
+) -> Result<Vec<IdentifierRow>, ReadError>
+    requires { conn.old.in_transaction ≡ false }
+    ensures mode { conn.new.in_transaction ≡ false }
+    ensures began { IsClean (state S.Store conn.new) → IsClean (state S.Store conn.old) }
+    ensures kept { IsClean (state S.Store conn.new) → (state S.Store conn.new).committed ≡ (state S.Store conn.old).committed }
+    ensures answer { Answers (state S.Store conn.old) (state S.Store conn.new) result (λ r rows.
+        rows.items ≡ identified_by scheme.now id.now r.members) }
+{
+    all(alloc, identifiers_by_id(conn, scheme, id))
+}
