@@ -1,20 +1,67 @@
 -- Maps beside lists.
-use Rattle.std.proofs.Common.{◌≡◌, ◌+◌, ◌<◌, ◌++◌, ◌&&◌, ◌||◌, not, ℕ, ℤ, Bool, true, false, cond, Option, Some, None, List, [], ◌∷◌, drop, take, length, get_or, sym, refl, ap, ◌∙◌, map, reverse, Vec, Global}
+use Rattle.std.proofs.Common.{◌≡◌, ◌⊎◌, ◌+◌, ◌<◌, ◌&&◌, ℕ, Bool, true, false, cond, Option, Some, None, IsSome, option_map, List, ◌∷◌, drop, length, get_or, Contains, [], ◌++◌, ◌≢◌, nat_eq, sym, refl, ap, subst, inl, inr, arith, ◌∙◌, Bor, Vec, Global}
+use Rattle.std.specs.Prelude.{nat_lt}
+use Rattle.std.specs.List.{slice_get, filter_map}
 use Rattle.std.specs.Ordering.{is_eq}
-use Rattle.std.specs.BTreeMap.{BTreeMap, get}
-use Rattle.std.specs.BTreeSet.{BTreeSet, contains}
-use Rattle.std.proofs.lemmas.List.{drop_more, take_more, append-nil, map-append, reverse-append}
-use Rattle.std.proofs.lemmas.List.Elements.{filter-append}
-use Rattle.std.proofs.lemmas.Option.{slice_get-get_or}
+use Rattle.std.proofs.Math.ListN.{set, length-set}
+use Rattle.std.proofs.lemmas.List.{drop_more, get_or-set_same, get_or-set_other}
+use Rattle.std.proofs.lemmas.List.Elements.{Contains-push, Contains-append_left}
+use Rattle.std.proofs.lemmas.Option.{slice_get-get_or, slice_get_within, slice_get_cases, get_or_from_slice_get}
+use Rattle.std.proofs.lemmas.Bool.{and_parts, eqb-true, eqb-false, ltb-true, ltb-false}
+use Rattle.bods_read.specs.declared.details.Details.{Details}
+use Rattle.bods_read.specs.declared.details.Details.TheVariants as details
+use Rattle.bods_read.specs.declared.interest.Interest.{Interest}
+use Rattle.bor_records.specs.declared.row.Row.{Row}
 use Rattle.bor_links.specs.declared.node.Node.{Node}
 use Rattle.bor_links.specs.declared.node.Link.{Link}
 use Rattle.bor_links.specs.declared.node.OpenNode.{OpenNode}
 use Rattle.bor_links.specs.Nodes.{same_node, node_cmp}
-use Rattle.bor_links.specs.Orders.{node_ties}
-use Rattle.bor_links.specs.Shown.{listed_at}
-use Rattle.bor_chains.specs.Listing.{links_to}
-use Rattle.bor_chains.specs.Tables.{placed, items_of}
+use Rattle.bor_links.specs.Orders.{node_equiv, node_ties}
+use Rattle.bor_links.specs.Shown.{Shown, listed_at, info_in}
+use Rattle.bor_links.specs.Stakes.{is_stake, is_holding}
+use Rattle.bor_links.specs.Rows.{is_entity_info, is_some_info, beside, link_in, link_with}
+use Rattle.bor_links.specs.Answers.{AreLinksInto}
+use Rattle.bor_chains.specs.Tables.{placed, items_of, items_at, StayAt, ArePlaces, AreInto, IsBelow, link_to, links_at}
+use Rattle.bor_links.proofs.Found.{none, Contains-filter_map, Contains-from_filter_map}
 use Rattle.bor_links.proofs.SameNode.{same_node_is}
+
+some_link : (x y : Link) → Some x ≡ Some y → x ≡ y
+some_link x y h = cc
+
+-- what is told of a place is the link there, with the subject
+link_is : (n : Node) (o : Option Link) (l : Link) → link_to n o ≡ Some l → (o ≡ Some l) × (same_node l.subject n ≡ true)
+link_is n None l e = let z : None ≡ Some l = e in absurd cc
+link_is n (Some k) l e = at (same_node k.subject n) refl e
+  where
+    at : (t : Bool) → same_node k.subject n ≡ t → cond t (Some k) None ≡ Some l → (Some k ≡ Some l) × (same_node l.subject n ≡ true)
+    at true f q = (q, ap (λ (m : Link). same_node m.subject n) (sym (some_link k l q)) ∙ f)
+    at false f q = let z : None ≡ Some l = q in absurd cc
+
+-- a link is made where its subject is listed
+subject_listed : (nodes : List OpenNode) (r : Row) (l : Link) → link_in nodes r ≡ Some l → IsSome (listed_at nodes l.subject)
+subject_listed nodes r l h = by r.statement.details h
+  where
+    no_link : None ≡ Some l → IsSome (listed_at nodes l.subject)
+    no_link e = absurd cc
+
+    entity : (o : Option OpenNode) → is_entity_info (option_map (λ x. x.info) o) ≡ true → IsSome o
+    entity None e = absurd cc
+    entity (Some x) e = refl
+
+    between : (subject party : Node) (interests : List Interest) (t : Bool) → (is_entity_info (info_in nodes subject) && is_some_info (info_in nodes party)) ≡ t
+        → cond t (Some (record { party = party; subject = subject; stake = is_stake interests; holding = is_holding interests })) None ≡ Some l → IsSome (listed_at nodes l.subject)
+    between subject party interests true f e =
+        subst (λ (m : Node). IsSome (listed_at nodes m)) (ap (λ (k : Link). k.subject) (some_link _ l e))
+        (entity (listed_at nodes subject) (and_parts (is_entity_info (info_in nodes subject)) (is_some_info (info_in nodes party)) f).0)
+    between subject party interests false f e = no_link e
+
+    by : (d : Details) → link_with nodes r d ≡ Some l → IsSome (listed_at nodes l.subject)
+    by (details.Entity kind name identifiers) e = no_link e
+    by (details.Person kind name) e = no_link e
+    by (details.Relationship None party interests) e = no_link e
+    by (details.Relationship (Some subject) None interests) e = no_link e
+    by (details.Relationship (Some subject) (Some party) interests) e =
+        between (beside r subject) (beside r party) interests (is_entity_info (info_in nodes (beside r subject)) && is_some_info (info_in nodes (beside r party))) refl e
 
 -- a node before those that have a place
 pub places_before : (nodes : List OpenNode) (next k : ℕ) (x : OpenNode) (key : Node) (was now : Node → Option ℕ) → k + 1 ≡ next → k < length nodes → x ≡ get_or nodes k x → key ≡ x.node
@@ -30,41 +77,94 @@ places_before nodes next k x key was now one lt at named before more q =
     by true = slice_get-get_or nodes k x lt ∙ ap (λ (y : OpenNode). Some y) (sym at)
     by false = before q ∙ ap (λ (j : ℕ). listed_at (drop j nodes) q) (sym one)
 
+-- ---- the links into a node
+
+at_place : (lists : List (Vec ℕ Global)) (j : ℕ) (v : Vec ℕ Global) (x : ℕ) → slice_get lists j ≡ Some v → Contains v.items x → Contains (items_at (λ v. v.items) lists (Some j)) x
+at_place lists j v x at h = subst (λ (o : Option (Vec ℕ Global)). Contains (items_of (λ v. v.items) o) x) (sym at) h
+
+some_list : (x y : Vec ℕ Global) → Some x ≡ Some y → x ≡ y
+some_list x y h = cc
+
+pub some_place : (o : Option (Bor ℕ)) (place : Bor ℕ) (i : ℕ) → o ≡ Some place → option_map (λ x. x.now) o ≡ Some i → place.now ≡ i
+some_place o place i is at = number (sym (ap (λ (p : Option (Bor ℕ)). option_map (λ x. x.now) p) is) ∙ at)
+  where
+    number : Some place.now ≡ Some i → place.now ≡ i
+    number h = cc
+
+-- an item more in the list at a place
+pub list_there : (lists : List (Vec ℕ Global)) (i : ℕ) (old new : Vec ℕ Global) (x : ℕ) → i < length lists → new.items ≡ old.items ++ x ∷ [] → Contains (items_at (λ v. v.items) (set lists i new) (Some i)) x
+list_there lists i old new x lt is =
+    at_place (set lists i new) i new x
+    (slice_get-get_or (set lists i new) i new (subst (λ (n : ℕ). i < n) (sym (length-set lists i new)) lt) ∙ ap (λ (v : Vec ℕ Global). Some v) (get_or-set_same lists i new new lt))
+    (subst (λ (xs : List ℕ). Contains xs x) (sym is) (Contains-push old.items x))
+
+pub lists_stay : (lists : List (Vec ℕ Global)) (i : ℕ) (old new : Vec ℕ Global) (x : ℕ) → i < length lists → old ≡ get_or lists i old → new.items ≡ old.items ++ x ∷ [] → StayAt (λ v. v.items) lists (set lists i new)
+lists_stay lists i old new x lt at is None y h = h
+lists_stay lists i old new x lt at is (Some j) y h = elim (slice_get_cases lists j).1 [
+  | inl found ↦ by (nat_eq j i) refl found.0 found.1 found.2 found.3 (subst (λ (o : Option (Vec ℕ Global)). Contains (items_of (λ v. v.items) o) y) found.2 h)
+  | inr past ↦ absurd (none y (subst (λ (o : Option (Vec ℕ Global)). Contains (items_of (λ v. v.items) o) y) past.1 h))
+]
+  where
+    by : (b : Bool) → nat_eq j i ≡ b → (v : Vec ℕ Global) → j < length lists → slice_get lists j ≡ Some v → get_or lists j v ≡ v → Contains v.items y → Contains (items_at (λ v. v.items) (set lists i new) (Some j)) y
+    by true e v within here_is got on =
+        let same : j ≡ i = eqb-true j i e in
+        let own : v ≡ old = some_list v old (sym here_is ∙ ap (λ (k : ℕ). slice_get lists k) same ∙ slice_get-get_or lists i old lt ∙ ap (λ (w : Vec ℕ Global). Some w) (sym at)) in
+        at_place (set lists i new) j new y
+        (ap (λ (k : ℕ). slice_get (set lists i new) k) same ∙ slice_get-get_or (set lists i new) i new (subst (λ (n : ℕ). i < n) (sym (length-set lists i new)) lt)
+        ∙ ap (λ (w : Vec ℕ Global). Some w) (get_or-set_same lists i new new lt))
+        (subst (λ (xs : List ℕ). Contains xs y) (sym is) (Contains-append_left old.items (x ∷ []) y (subst (λ (w : Vec ℕ Global). Contains w.items y) own on)))
+    by false e v within here_is got on =
+        let differs : j ≢ i = eqb-false j i e in
+        at_place (set lists i new) j v y
+        (slice_get-get_or (set lists i new) j v (subst (λ (n : ℕ). j < n) (sym (length-set lists i new)) within) ∙ ap (λ (w : Vec ℕ Global). Some w) (get_or-set_other lists i j new v differs ∙ got))
+        on
+
 -- a link more
-pub into_more : (links : List Link) (i : ℕ) (l : Link) (was now : Node → List Link) → i < length links → l ≡ get_or links i l
-    → ((q : Node) → was q ≡ links_to (take i links) q) → ((q : Node) → now q ≡ cond (is_eq (node_cmp l.subject q)) (was l.subject ++ l ∷ []) (was q))
-    → (q : Node) → now q ≡ links_to (take (i + 1) links) q
-into_more links i l was now lt at before more q =
-    more q ∙ ap (λ (b : Bool). cond b (was l.subject ++ l ∷ []) (was q)) (sym (node_ties l.subject q))
-    ∙ by (same_node l.subject q) refl
-    ∙ sym (filter-append (λ (k : Link). same_node k.subject q) (take i links) (l ∷ []))
-    ∙ ap (λ (k : Link). links_to (take i links ++ k ∷ []) q) at
-    ∙ sym (ap (λ (ks : List Link). links_to ks q) (take_more links i l lt))
+pub into_more : (links : List Link) (n : ℕ) (one : Link) (was now : Node → List ℕ) → n < length links → one ≡ get_or links n one → AreInto n links was
+    → ((m : Node) (i : ℕ) → Contains (was m) i → Contains (now m) i) → Contains (now one.subject) n → AreInto (n + 1) links now
+into_more links n one was now lt is before stays there i l below at = elim (split i below) [
+  | inl less ↦ stays l.subject i (before i l less at)
+  | inr e ↦ subst (λ (j : ℕ). Contains (now l.subject) j) (sym e) (subst (λ (k : Link). Contains (now k.subject) n) (sym (same e)) there)
+]
   where
-    by : (b : Bool) → same_node l.subject q ≡ b → cond b (was l.subject ++ l ∷ []) (was q) ≡ links_to (take i links) q ++ cond (same_node l.subject q) (l ∷ []) []
-    by true e =
-        ap (λ (n : Node). was n ++ l ∷ []) (same_node_is l.subject q e) ∙ ap (λ (ks : List Link). ks ++ l ∷ []) (before q)
-        ∙ ap (λ (c : Bool). links_to (take i links) q ++ cond c (l ∷ []) []) (sym e)
-    by false e =
-        before q ∙ sym (append-nil (links_to (take i links) q))
-        ∙ ap (λ (c : Bool). links_to (take i links) q ++ cond c (l ∷ []) []) (sym e)
+    split : (j : ℕ) → j < n + 1 → (j < n) ⊎ (j ≡ n)
+    split j k = by (nat_lt j n) refl
+      where
+        by : (b : Bool) → nat_lt j n ≡ b → (j < n) ⊎ (j ≡ n)
+        by true e = inl (ltb-true j n e)
+        by false e = inr (let le = ltb-false j n e in omega (arith, k, le))
 
--- a link more in the map
-pub bucket_more : (links : List Link) (i : ℕ) (l : Link) (key : Node) (m less more : BTreeMap Node (Vec Link Global)) (old new : Vec Link Global) → i < length links → l ≡ get_or links i l → key ≡ l.subject
-    → ((q : Node) → items_of (λ v. v.items) (get node_cmp m q) ≡ links_to (take i links) q)
-    → old.items ≡ items_of (λ v. v.items) (get node_cmp m l.subject) → new.items ≡ old.items ++ l ∷ []
-    → ((q : Node) → get node_cmp less q ≡ cond (is_eq (node_cmp l.subject q)) None (get node_cmp m q))
-    → ((q : Node) → get node_cmp more q ≡ cond (is_eq (node_cmp key q)) (Some new) (get node_cmp less q))
-    → (q : Node) → items_of (λ v. v.items) (get node_cmp more q) ≡ links_to (take (i + 1) links) q
-bucket_more links i l key m less more old new lt at named before was is removed put =
-    into_more links i l (λ q. items_of (λ v. v.items) (get node_cmp m q)) (λ q. items_of (λ v. v.items) (get node_cmp more q)) lt at before now
+    same : i ≡ n → l ≡ one
+    same e = some_link l one (sym at ∙ ap (λ (j : ℕ). slice_get links j) e ∙ slice_get-get_or links n one lt ∙ ap (λ (k : Link). Some k) (sym is))
+
+-- the links at the places that are found by a node are those into it
+pub into_told : (s : Shown) (n : Node) (into : Node → List ℕ) → AreInto (length s.links) s.links into → AreLinksInto s n (links_at s.links n (into n))
+into_told s n into under l = (
+  (λ h.
+      let p = Contains-from_filter_map (λ i. link_to n (slice_get s.links i)) (into n) l h in
+      let k = link_is n (slice_get s.links p.0) l p.2 in
+      ((p.0, slice_get_within s.links p.0 l k.0, get_or_from_slice_get s.links p.0 l l k.0), same_node_is l.subject n k.1)),
+  (λ h.
+      let at : slice_get s.links (h.0).0 ≡ Some l = slice_get-get_or s.links (h.0).0 l (h.0).1 ∙ ap (λ (k : Link). Some k) (h.0).2 in
+      let found : Contains (into n) (h.0).0 = subst (λ (m : Node). Contains (into m) (h.0).0) h.1 (under (h.0).0 l (h.0).1 at) in
+      Contains-filter_map (λ i. link_to n (slice_get s.links i)) (into n) (h.0).0 l found
+      (ap (λ (o : Option Link). link_to n o) at ∙ ap (λ (b : Bool). cond b (Some l) None) (ap (λ (m : Node). same_node l.subject m) (sym h.1) ∙ node_equiv.refl l.subject))),
+)
+
+pub below_is : (n : ℕ) (o : Option ℕ) → IsBelow n o → (i : ℕ) × (o ≡ Some i) × (i < n)
+below_is n None h = absurd h
+below_is n (Some i) h = (i, refl, h)
+
+-- a link's subject is listed, so it has a place
+pub subject_placed : (nodes : List OpenNode) (rows : List Row) (place_of : Node → Option ℕ) → ArePlaces nodes place_of → (l : Link) → Contains (filter_map (link_in nodes) rows) l → IsBelow (length nodes) (place_of l.subject)
+subject_placed nodes rows place_of are l h =
+    let p = Contains-from_filter_map (link_in nodes) rows l h in
+    by (place_of l.subject) (are l.subject) (subject_listed nodes p.0 l p.2)
   where
-    by : (q : Node) (b : Bool) → items_of (λ v. v.items) (cond b (Some new) (cond b None (get node_cmp m q))) ≡ cond b (items_of (λ v. v.items) (get node_cmp m l.subject) ++ l ∷ []) (items_of (λ v. v.items) (get node_cmp m q))
-    by q true = is ∙ ap (λ (ks : List Link). ks ++ l ∷ []) was
-    by q false = refl
-
-    now : (q : Node) → items_of (λ v. v.items) (get node_cmp more q) ≡ cond (is_eq (node_cmp l.subject q)) (items_of (λ v. v.items) (get node_cmp m l.subject) ++ l ∷ []) (items_of (λ v. v.items) (get node_cmp m q))
-    now q =
-        ap (λ (o : Option (Vec Link Global)). items_of (λ v. v.items) o)
-        (put q ∙ ap (λ (z : Node). cond (is_eq (node_cmp z q)) (Some new) (get node_cmp less q)) named ∙ ap (λ (o : Option (Vec Link Global)). cond (is_eq (node_cmp l.subject q)) (Some new) o) (removed q))
-        ∙ by q (is_eq (node_cmp l.subject q))
+    by : (o : Option ℕ) → placed nodes o ≡ listed_at nodes l.subject → IsSome (listed_at nodes l.subject) → IsBelow (length nodes) o
+    by None e some = let no : IsSome {T = OpenNode} None = subst (λ (x : Option OpenNode). IsSome x) (sym e) some in absurd cc
+    by (Some i) e some = within (slice_get nodes i) refl (subst (λ (x : Option OpenNode). IsSome x) (sym e) some)
+      where
+        within : (o : Option OpenNode) → slice_get nodes i ≡ o → IsSome o → i < length nodes
+        within None q x = absurd cc
+        within (Some y) q x = slice_get_within nodes i y q

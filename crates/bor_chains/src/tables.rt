@@ -1,9 +1,11 @@
 //! Maps beside the lists of nodes and of links, so that a look-up takes no scan.
 
-ghost use Rattle.std.specs.Prelude.{◌≡◌, IfOk};
+ghost use Rattle.std.specs.Prelude.{◌≡◌, ◌<◌, ℕ, Some, IfOk, OnOk, Contains, length, option_map};
+ghost use Rattle.std.specs.List.{slice_get};
 ghost use Rattle.std.specs.BTreeMap.{get};
+ghost use Rattle.bor_links.specs.declared.node.Link.{Link};
 ghost use Rattle.bor_links.specs.Nodes.{node_cmp};
-ghost use Rattle.bor_chains.specs.Tables.{ArePlaces, AreInto, items_of};
+ghost use Rattle.bor_chains.specs.Tables.{ArePlaces, AreInto, IsBelow, StayAt, items_at, items_of, link_to, links_at};
 
 use bor_links::{Link, Node, OpenNode};
 use std::alloc::{AllocError, Global};
@@ -26,21 +28,93 @@ pub(crate) fn places_of(
     Ok(places)
 }
 
-// The links into each node, in their order.
+// So many lists with nothing in them.
+fn empty_lists(alloc: Global, count: usize) -> Result<Vec<Vec<usize>>, AllocError>
+    ensures { IfOk result (λ lists. length lists.items ≡ count) }
+{
+    let mut lists = Vec::with_capacity(alloc, count)?;
+    for _ in 0..count {
+        lists.push(Vec::new(alloc))?;
+    }
+    Ok(lists)
+}
+
+// Puts the place of a link into the list at a place, where there is one.
+fn put(lists: &mut Vec<Vec<usize>>, place: Option<&usize>, link: usize) -> Result<(), AllocError>
+    ensures len { length lists.new.items ≡ length lists.old.items }
+    ensures stays { OnOk result (StayAt (λ v. v.items) lists.old.items lists.new.items) }
+    ensures there { OnOk result ((i : ℕ) → option_map (λ x. x.now) place.entry ≡ Some i → i < length lists.old.items →
+        Contains (items_at (λ v. v.items) lists.new.items (Some i)) link) }
+{
+    match place {
+        Some(place) if *place < lists.len() => {
+            lists[*place].push(link)?;
+            Ok(())
+        }
+        _ => Ok(()),
+    }
+}
+
+// By the place of each node the places of the links into it, in their order.
 pub(crate) fn by_subject(
     alloc: Global,
+    places: &BTreeMap<Node, usize>,
+    count: usize,
     links: &[Link],
-) -> Result<BTreeMap<Node, Vec<Link>>, AllocError>
-    ensures { IfOk result (λ into. AreInto (λ n. items_of (λ v. v.items) (get node_cmp into n)) links.now) }
+) -> Result<Vec<Vec<usize>>, AllocError>
+    requires { (l : Link) → Contains links.now l → IsBelow count (get node_cmp places.now l.subject) }
+    ensures { IfOk result (λ into. AreInto (length links.now) links.now (λ n. items_at (λ v. v.items) into.items (get node_cmp places.now n))) }
 {
-    let mut into: BTreeMap<Node, Vec<Link>> = BTreeMap::new(alloc);
-    for link in links {
-        let mut items = match into.remove(&link.subject) {
-            Some(items) => items,
-            None => Vec::new(alloc),
-        };
-        items.push(link.copy(alloc)?)?;
-        into.insert(link.subject.copy(alloc)?, items)?;
+    let mut into = empty_lists(alloc, count)?;
+    for (place, link) in links.iter().enumerate() {
+        put(&mut into, places.get(&link.subject), place)?;
     }
     Ok(into)
+}
+
+// The list at the place of a node.
+pub(crate) fn list_at<'a>(
+    lists: &'a [Vec<usize>],
+    places: &BTreeMap<Node, usize>,
+    node: &Node,
+) -> Option<&'a Vec<usize>>
+    ensures { items_of (λ v. v.now.items) result ≡ items_at (λ v. v.items) lists.now (get node_cmp places.now node.now) }
+{
+    match places.get(node) {
+        Some(place) => lists.get(*place),
+        None => None,
+    }
+}
+
+// The link at a place, where it has this subject.
+fn link_at(
+    alloc: Global,
+    links: &[Link],
+    subject: &Node,
+    place: usize,
+) -> Result<Option<Link>, AllocError>
+    ensures { IfOk result (λ link. link ≡ link_to subject.now (slice_get links.now place)) }
+{
+    match links.get(place) {
+        Some(link) if link.subject == *subject => Ok(Some(link.copy(alloc)?)),
+        _ => Ok(None),
+    }
+}
+
+// Of the links at these places those with this subject.
+pub(crate) fn links_at(
+    alloc: Global,
+    links: &[Link],
+    subject: &Node,
+    places: &[usize],
+) -> Result<Vec<Link>, AllocError>
+    ensures { IfOk result (λ out. out.items ≡ links_at links.now subject.now places.now) }
+{
+    let mut out = Vec::new(alloc);
+    for place in places {
+        if let Some(link) = link_at(alloc, links, subject, *place)? {
+            out.push(link)?;
+        }
+    }
+    Ok(out)
 }
