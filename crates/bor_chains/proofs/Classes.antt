@@ -14,20 +14,24 @@ use Rattle.bor_terms.proofs.Texts.{is_same-of}
 use Rattle.bods_read.specs.declared.details.Identifier.{Identifier}
 use Rattle.bor_links.specs.declared.node.Node.{Node}
 use Rattle.bor_links.specs.declared.node.OpenNode.{OpenNode}
-use Rattle.bor_chains.specs.declared.alike.Sign.{Sign}
+use Rattle.bor_links.specs.declared.sign.Sign.{Sign}
 use Rattle.bor_links.specs.Nodes.{same_node}
 use Rattle.bor_links.specs.Shown.{Shown, listed_at, are_alike, is_entity, same_record, share_identifier, same_identifier}
 use Rattle.bor_links.specs.Aliases.{Alias, Same}
 use Rattle.bor_links.specs.Answers.{AreSame}
 use Rattle.bor_chains.specs.Laws.{SameAreAClass}
 use Rattle.bor_chains.specs.Tables.{placed}
-use Rattle.bor_chains.specs.Likeness.{sign_cmp, by_record, by_identifier, signs, AreUnder}
+use Rattle.bor_links.specs.Signs.{sign_cmp, by_record, by_identifier, signs}
+use Rattle.bor_chains.specs.Likeness.{AreUnder}
 use Rattle.bor_chains.specs.Classes.{is_like, node_at, entity_in, place_in, IsAmong, HasSign, Expands, AreGathered, Visits, AreAllSame}
 use Rattle.bor_links.proofs.SameNode.{same_node_is}
 use Rattle.bor_links.proofs.Found.{Contains-filter_map, Contains-from_filter_map, none, here, cases, Contains-filter, Contains-from_filter, Contains-from_map}
-use Rattle.bor_chains.proofs.Lists.{AreDistinct, found_is, listed_is}
-use Rattle.bor_chains.proofs.Signs.{exact_sign, identifiers_more, in_common, placed_in, in_place, some_is}
-use Rattle.bor_chains.proofs.Growing.{Contains-take_more}
+use Rattle.bor_links.proofs.Listed.{found_is}
+use Rattle.bor_chains.proofs.Lists.{AreDistinct, listed_is}
+use Rattle.bor_links.proofs.Exact.{exact_sign}
+use Rattle.bor_links.proofs.Signs.{in_common}
+use Rattle.bor_chains.proofs.Signs.{identifiers_more, placed_in, in_place, some_is}
+use Rattle.bor_links.proofs.Growth.{Contains-take_more}
 use Rattle.bor_links.proofs.Sames.{same_more, same_reached, same_alone}
 
 -- ---- signs looked up

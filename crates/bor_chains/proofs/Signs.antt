@@ -17,38 +17,18 @@ use Rattle.bor_terms.proofs.Texts.{same_is}
 use Rattle.bods_read.specs.declared.details.Identifier.{Identifier}
 use Rattle.bor_links.specs.declared.node.Node.{Node}
 use Rattle.bor_links.specs.declared.node.OpenNode.{OpenNode}
-use Rattle.bor_chains.specs.declared.alike.Sign.{Sign}
+use Rattle.bor_links.specs.declared.sign.Sign.{Sign}
 use Rattle.bor_links.specs.Nodes.{same_node, text_cmp}
 use Rattle.bor_links.specs.Shown.{Shown, listed_at, are_alike, is_entity, same_record, share_identifier, same_identifier}
 use Rattle.bor_chains.specs.Listing.{aliases_to, aliases_in}
 use Rattle.bor_links.specs.Answers.{AreAliases}
 use Rattle.bor_chains.specs.Tables.{items_of}
-use Rattle.bor_chains.specs.Likeness.{sign_cmp, by_record, by_identifier, signs, Stays, IsUnder, AreUnder, AreAll, alike_node, alike_at}
+use Rattle.bor_links.specs.Signs.{sign_cmp, by_record, by_identifier, signs}
+use Rattle.bor_chains.specs.Likeness.{Stays, IsUnder, AreUnder, AreAll, alike_node, alike_at}
 use Rattle.bor_links.proofs.Found.{Contains-filter_map, Contains-from_filter_map, none, here, there, cases, Contains-filter, Contains-from_filter, Contains-map, Contains-from_map}
+use Rattle.bor_links.proofs.Exact.{exact_sign}
+use Rattle.bor_links.proofs.Signs.{in_common}
 use Rattle.bor_chains.proofs.Lists.{aliases_told}
-
-parts : (p q : Ordering) → ordering_then p q ≡ Equal → (p ≡ Equal) × (q ≡ Equal)
-parts Less q h = absurd (cc)
-parts Equal q h = (cc, h)
-parts Greater q h = absurd (cc)
-
-sign_is : (a b : Sign) → a.of_record ≡ b.of_record → a.group ≡ b.group → a.name ≡ b.name → a ≡ b
-sign_is a b d e f =
-    ap (λ (t : Bool). let k : Sign = record { of_record = t; group = a.group; name = a.name } in k) d
-    ∙ ap (λ (t : List ℕ). let k : Sign = record { of_record = b.of_record; group = t; name = a.name } in k) e
-    ∙ ap (λ (t : List ℕ). let k : Sign = record { of_record = b.of_record; group = b.group; name = t } in k) f
-
-exact_bool : (x y : Bool) → bool_cmp x y ≡ Equal → x ≡ y
-exact_bool true true h = refl
-exact_bool true false h = absurd (cc)
-exact_bool false true h = absurd (cc)
-exact_bool false false h = refl
-
-pub exact_sign : CmpEqualImpliesEq sign_cmp
-exact_sign a b h =
-    let one = parts (bool_cmp a.of_record b.of_record) (ordering_then (text_cmp a.group b.group) (text_cmp a.name b.name)) h in
-    let two = parts (text_cmp a.group b.group) (text_cmp a.name b.name) one.1 in
-    sign_is a b (exact_bool a.of_record b.of_record one.0) (exact_bytes a.group b.group two.0) (exact_bytes a.name b.name two.1)
 
 abbrev pub under : BTreeMap Sign (Vec ℕ Global) → Sign → List ℕ
 under m k = items_of (λ v. v.items) (get sign_cmp m k)
@@ -145,48 +125,6 @@ all_signs x key places was now is e kept rest k i h at = elim (cases (by_record 
   | inl q ↦ kept i (subst (λ (xs : List ℕ). Contains xs i) (sym e) (subst (λ (z : Sign). Contains (places z) i) (sym (is ∙ q)) at))
   | inr r ↦ rest k i r at
 ]
-
--- ---- two that are alike have a sign in common
-
-or_cases : (a b : Bool) → (a || b) ≡ true → (a ≡ true) ⊎ (b ≡ true)
-or_cases true b e = inl refl
-or_cases false b e = inr e
-
-abbrev pub InCommon : OpenNode → OpenNode → Type 0
-InCommon a b = (k : Sign) × Contains (signs a) k × Contains (signs b) k
-
-same_any : {X : Type 0} (p : X → Bool) (xs : List X) → list_any p xs ≡ true → (x : X) × Contains xs x × (p x ≡ true)
-same_any p [] e = absurd cc
-same_any {X} p (x ∷ xs) e = elim (or_cases (p x) (list_any p xs) e) [
-  | inl h ↦ (x, here x xs, h)
-  | inr h ↦ let m = same_any p xs h in (m.0, there x xs m.0 m.1, m.2)
-]
-
-by_same_record : (a b : OpenNode) → same_record a.node b.node ≡ true → InCommon a b
-by_same_record a b h =
-    let p = and_parts (is_same a.node.agent b.node.agent) (is_same a.node.rec b.node.rec && not (is_same a.node.declaration b.node.declaration)) h in
-    let q = and_parts (is_same a.node.rec b.node.rec) (not (is_same a.node.declaration b.node.declaration)) p.1 in
-    let e = sign_is (by_record a.node) (by_record b.node) refl (same_is a.node.agent b.node.agent p.0) (same_is a.node.rec b.node.rec q.0) in
-    (by_record a.node, here (by_record a.node) (map by_identifier a.identifiers), subst (λ (z : Sign). Contains (signs b) z) (sym e) (here (by_record b.node) (map by_identifier b.identifiers)))
-
-by_same_identifier : (a b : OpenNode) → share_identifier a.identifiers b.identifiers ≡ true → InCommon a b
-by_same_identifier a b h =
-    let x = same_any (λ i. list_any (λ j. same_identifier i j) b.identifiers) a.identifiers h in
-    let y = same_any (λ j. same_identifier x.0 j) b.identifiers x.2 in
-    let p = and_parts (is_same (x.0).scheme (y.0).scheme) (is_same (x.0).id (y.0).id) y.2 in
-    let e = sign_is (by_identifier x.0) (by_identifier y.0) refl (same_is (x.0).scheme (y.0).scheme p.0) (same_is (x.0).id (y.0).id p.1) in (
-      by_identifier x.0,
-      there (by_record a.node) (map by_identifier a.identifiers) (by_identifier x.0) (Contains-map by_identifier a.identifiers x.0 x.1),
-      subst (λ (z : Sign). Contains (signs b) z) (sym e) (there (by_record b.node) (map by_identifier b.identifiers) (by_identifier y.0) (Contains-map by_identifier b.identifiers y.0 y.1)),
-    )
-
-pub in_common : (a b : OpenNode) → are_alike a b ≡ true → InCommon a b
-in_common a b h =
-    let q = and_parts (is_entity a.info && is_entity b.info) (same_record a.node b.node || (share_identifier a.identifiers b.identifiers && not (same_node a.node b.node))) h in
-    elim (or_cases (same_record a.node b.node) (share_identifier a.identifiers b.identifiers && not (same_node a.node b.node)) q.1) [
-      | inl r ↦ by_same_record a b r
-      | inr s ↦ by_same_identifier a b (and_parts (share_identifier a.identifiers b.identifiers) (not (same_node a.node b.node)) s).0
-    ]
 
 -- ---- the aliases
 

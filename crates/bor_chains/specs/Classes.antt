@@ -3,10 +3,10 @@ use Rattle.std.specs.Prelude.{◌≡◌, ◌⊎◌, ◌++◌, ℕ, Bool, true, f
 use Rattle.std.specs.List.{slice_get}
 use Rattle.bor_links.specs.declared.node.Node.{Node}
 use Rattle.bor_links.specs.declared.node.OpenNode.{OpenNode}
-use Rattle.bor_chains.specs.declared.alike.Sign.{Sign}
+use Rattle.bor_links.specs.declared.sign.Sign.{Sign}
 use Rattle.bor_links.specs.Shown.{Shown, is_entity, are_alike}
 use Rattle.bor_links.specs.Aliases.{Same}
-use Rattle.bor_chains.specs.Likeness.{signs}
+use Rattle.bor_links.specs.Signs.{signs}
 
 -- an open node is there, and is one step away
 abbrev pub is_like : OpenNode → Option OpenNode → Bool

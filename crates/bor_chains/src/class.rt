@@ -12,12 +12,12 @@ ghost use Rattle.bor_links.specs.Nodes.{same_node, node_cmp};
 ghost use Rattle.bor_links.specs.Shown.{Shown};
 ghost use Rattle.bor_links.specs.Answers.{AreSame};
 ghost use Rattle.bor_chains.specs.Tables.{items_of};
-ghost use Rattle.bor_chains.specs.Likeness.{sign_cmp, by_identifier, signs, AreUnder};
+ghost use Rattle.bor_links.specs.Signs.{sign_cmp, by_identifier, signs};
+ghost use Rattle.bor_chains.specs.Likeness.{AreUnder};
 ghost use Rattle.bor_chains.specs.Classes.{is_like, node_at, entity_in, place_in, Expands, Visits, AreAllSame};
 
-use crate::alike::{Sign, identifier_sign, once, record_sign};
 use bods_read::Identifier;
-use bor_links::{Node, OpenNode};
+use bor_links::{Node, OpenNode, Sign, once};
 use std::alloc::{AllocError, Global};
 use std::collections::{BTreeMap, BTreeSet};
 
@@ -110,7 +110,7 @@ fn add_identifiers(
         found.old.items found.new.items (λ k. contains sign_cmp seen.old k) (λ k. contains sign_cmp seen.new k)) }
 {
     for identifier in identifiers {
-        let key = identifier_sign(alloc, identifier)?;
+        let key = Sign::of_identifier(alloc, identifier)?;
         add_sign(found, seen, nodes, places, one, key)?;
     }
     Ok(())
@@ -128,7 +128,7 @@ fn add_signs(
     ensures { OnOk result (Expands nodes.now (λ k. items_of (λ v. v.items) (get sign_cmp places.now k)) one.now (signs one.now)
         found.old.items found.new.items (λ k. contains sign_cmp seen.old k) (λ k. contains sign_cmp seen.new k)) }
 {
-    let key = record_sign(alloc, &one.node)?;
+    let key = Sign::of_node(alloc, &one.node)?;
     add_sign(found, seen, nodes, places, one, key)?;
     add_identifiers(
         alloc,

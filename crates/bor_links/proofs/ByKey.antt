@@ -1,17 +1,15 @@
 -- What a series' latest statement tells of the nodes and links of all rows: an open record and an alias
 -- are read by their keys, and a link by candidates that cover those which may make it.
-use Rattle.std.proofs.Common.{◌≡◌, ◌↔◌, ◌⊎◌, ◌&&◌, ◌||◌, not, ℕ, ℤ, Bool, true, false, cond, Option, Some, None, option_and_then, option_map, List, [], ◌∷◌, Contains, sym, refl, ap, ◌∙◌, subst, inl, inr}
+use Rattle.std.proofs.Common.{◌≡◌, ◌&&◌, ◌||◌, not, ℤ, Bool, true, false, cond, Option, Some, None, option_and_then, List, [], ◌∷◌, Contains, sym, refl, ap, ◌∙◌, subst, inl, inr}
 use Rattle.std.specs.List.{find, filter, filter_map, cons_option, list_any}
 use Rattle.bor_terms.specs.Texts.{is_same}
 use Rattle.bods_read.specs.declared.details.Details.{Details}
 use Rattle.bods_read.specs.declared.details.Details.TheVariants as details
-use Rattle.bods_read.specs.declared.interest.Interest.{Interest}
 use Rattle.bor_records.specs.declared.row.Row.{Row}
 use Rattle.bor_records.specs.Admission.{is_closed}
 use Rattle.bor_records.specs.Snapshot.{is_dated, latest, unless_closed}
 use Rattle.bor_records.specs.OpenRows.{is_open_before, open_rows}
 use Rattle.bor_links.specs.declared.node.Node.{Node}
-use Rattle.bor_links.specs.declared.node.NodeInfo.{NodeInfo}
 use Rattle.bor_links.specs.declared.node.OpenNode.{OpenNode}
 use Rattle.bor_links.specs.declared.node.Link.{Link}
 use Rattle.bor_links.specs.Nodes.{same_node}
@@ -223,7 +221,7 @@ same_one : (x y : OpenNode) → Some x ≡ Some y → x ≡ y
 same_one x y h = cc
 
 -- a node that is alike is among candidates that cover those that may be
-alike_covered : (day : ℤ) (rows : List Row) (candidates : List Node) (a b : Node) (one : OpenNode) → node_at day a rows ≡ Some one → CoverAliases rows candidates one → AreAlikeAt day rows a b → Contains candidates b
+pub alike_covered : (day : ℤ) (rows : List Row) (candidates : List Node) (a b : Node) (one : OpenNode) → node_at day a rows ≡ Some one → CoverAliases rows candidates one → AreAlikeAt day rows a b → Contains candidates b
 alike_covered day rows candidates a b one here cover h = at (open_at day b rows) refl h.two_is
   where
     alike : are_alike one h.two ≡ true

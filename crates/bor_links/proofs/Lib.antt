@@ -6,3 +6,10 @@ pub mod EveryStake
 pub mod ByKey
 pub mod Examples
 pub mod Sames
+pub mod Exact
+pub mod Signs
+pub mod Growth
+pub mod Given
+pub mod InOrder
+pub mod Listed
+pub mod Reached

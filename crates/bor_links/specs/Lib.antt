@@ -8,3 +8,5 @@ pub mod Rows
 pub mod Answers
 pub mod ByKey
 pub mod Laws
+pub mod Signs
+pub mod Growth

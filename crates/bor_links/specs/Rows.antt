@@ -6,6 +6,7 @@ use Rattle.bods_read.specs.declared.details.Details.TheVariants as details
 use Rattle.bods_read.specs.declared.details.EntityKind.{EntityKind}
 use Rattle.bods_read.specs.declared.details.EntityKind.TheVariants as kinds
 use Rattle.bods_read.specs.declared.interest.Interest.{Interest}
+use Rattle.bods_read.specs.declared.statement.Statement.{Statement}
 use Rattle.bor_records.specs.declared.row.Row.{Row}
 use Rattle.bor_links.specs.declared.node.Node.{Node}
 use Rattle.bor_links.specs.declared.node.NodeInfo.{NodeInfo}
@@ -13,7 +14,7 @@ use Rattle.bor_links.specs.declared.node.NodeInfo.TheVariants.{Entity, Person}
 use Rattle.bor_links.specs.declared.node.OpenNode.{OpenNode}
 use Rattle.bor_links.specs.declared.node.Link.{Link}
 use Rattle.bor_records.specs.OpenRows.{open_rows}
-use Rattle.bor_links.specs.Series.{series_of}
+use Rattle.bor_links.specs.Series.{stated}
 use Rattle.bor_links.specs.Shown.{Shown, info_in, is_entity}
 use Rattle.bor_links.specs.Stakes.{is_stake, is_holding}
 
@@ -34,8 +35,18 @@ node_with n (details.Entity kind name identifiers) = Some (record { node = n; in
 node_with n (details.Person kind name) = Some (record { node = n; info = Person name; identifiers = [] })
 node_with n (details.Relationship subject party interests) = None
 
+-- the node that a statement of an agent makes
+abbrev pub node_stated : List ℕ → Statement → Option OpenNode
+node_stated agent s = node_with (stated agent s) s.details
+
 abbrev pub node_in : Row → Option OpenNode
-node_in r = node_with (series_of r) r.statement.details
+node_in r = node_stated r.agent r.statement
+
+-- what a chain asks of it
+abbrev pub info_stated : Details → Option NodeInfo
+info_stated (details.Entity kind name identifiers) = Some (Entity (is_legal_kind kind))
+info_stated (details.Person kind name) = Some (Person name)
+info_stated (details.Relationship subject party interests) = None
 
 -- the open entities and persons
 abbrev pub nodes_of : ℤ → List Row → List OpenNode

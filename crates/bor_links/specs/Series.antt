@@ -1,14 +1,19 @@
 -- A series: the statements of one record of an agent's declaration, and whether it is open on a day.
-use Rattle.std.specs.Prelude.{ℤ, List, Bool, Option, option_and_then}
+use Rattle.std.specs.Prelude.{ℕ, ℤ, List, Bool, Option, option_and_then}
 use Rattle.std.specs.List.{filter}
+use Rattle.bods_read.specs.declared.statement.Statement.{Statement}
 use Rattle.bor_records.specs.declared.row.Row.{Row}
 use Rattle.bor_records.specs.Snapshot.{latest, unless_closed}
 use Rattle.bor_links.specs.declared.node.Node.{Node}
 use Rattle.bor_links.specs.Nodes.{same_node}
 
+-- the record that a statement of an agent is of
+abbrev pub stated : List ℕ → Statement → Node
+stated agent s = record { agent = agent; declaration = s.declaration; rec = s.rec }
+
 -- the record that a row's statement is of
 abbrev pub series_of : Row → Node
-series_of r = record { agent = r.agent; declaration = r.statement.declaration; rec = r.statement.rec }
+series_of r = stated r.agent r.statement
 
 -- the row is of the series
 abbrev pub is_of : Node → Row → Bool

@@ -1,5 +1,5 @@
 -- What a source shows: the open entities and persons, and the links between them.
-use Rattle.std.specs.Prelude.{◌≡◌, ℕ, List, Bool, true, false, ◌&&◌, ◌||◌, not, Option, Some, find, option_map}
+use Rattle.std.specs.Prelude.{◌≡◌, ℕ, List, Bool, true, false, ◌&&◌, ◌||◌, not, Option, None, Some, find, option_map}
 use Rattle.std.specs.List.{list_any}
 use Rattle.bor_terms.specs.Texts.{is_same}
 use Rattle.bods_read.specs.declared.details.Identifier.{Identifier}
@@ -56,3 +56,8 @@ same_record a b = is_same a.agent b.agent && (is_same a.rec b.rec && not (is_sam
 abbrev pub are_alike : OpenNode → OpenNode → Bool
 are_alike a b =
     is_entity a.info && is_entity b.info && (same_record a.node b.node || share_identifier a.identifiers b.identifiers && not (same_node a.node b.node))
+
+-- an open node is there, and is one step away
+abbrev pub is_like : OpenNode → Option OpenNode → Bool
+is_like one None = false
+is_like one (Some x) = are_alike one x

@@ -21,13 +21,20 @@
 //! Left out: how links are followed, and who may see which rows.
 #![tactic(auto)]
 
+mod class;
 pub mod laws;
 mod node;
 mod rows;
+mod sign;
 mod stake;
 #[cfg(test)]
 mod tests;
 
+pub use class::{Class, once};
 pub use node::{Link, Node, NodeInfo, OpenNode};
-pub use rows::{node_of, record_of};
+pub use rows::{
+    info_stated, is_alias_stated, is_of, node_of, node_stated, record_beside, record_of,
+    record_stated,
+};
+pub use sign::Sign;
 pub use stake::{holding_of, stake_of};

@@ -104,7 +104,7 @@ impl OpenNode {
     }
 }
 
-fn share_identifier(ours: &[Identifier], theirs: &[Identifier]) -> bool
+pub(crate) fn share_identifier(ours: &[Identifier], theirs: &[Identifier]) -> bool
     ensures { result ≡ share_identifier ours.now theirs.now }
 {
     ours.iter()

@@ -93,3 +93,71 @@ fn a_share_without_ends_is_no_majority_of_the_board(rt: HostRuntime) -> Result<(
     }
     Ok(())
 }
+
+#[test]
+fn a_statement_tells_its_record_its_node_and_its_aliases(rt: HostRuntime) -> Result<(), Fail> {
+    let alloc = rt.alloc();
+    let rows = rows_with(alloc, "")?;
+    let [first, second, third] = rows.as_slice() else {
+        return Err(Fail::from("not three rows"));
+    };
+    let e1 = node_stated(alloc, &first.agent, &first.statement)?.ok_or("no node")?;
+    assert!(rt; is_of(&e1.node, &first.agent, &first.statement));
+    assert!(rt; !is_of(&e1.node, &second.agent, &second.statement));
+    assert!(rt; is_alias_stated(&e1, &second.agent, &second.statement));
+    assert!(rt; !is_alias_stated(&e1, &first.agent, &first.statement));
+    assert!(rt; info_stated(alloc, &third.statement.details)?.is_none());
+    assert!(rt;
+        matches!(
+            info_stated(alloc, &first.statement.details)?,
+            Some(NodeInfo::Entity { legal: true })
+        )
+    );
+    let own = record_stated(alloc, &first.agent, &first.statement)?;
+    let beside = record_beside(alloc, &third.agent, &third.statement, &first.statement.rec)?;
+    assert!(rt; own == e1.node);
+    assert!(rt; beside == e1.node);
+    Ok(())
+}
+
+#[test]
+fn a_class_has_each_node_once(rt: HostRuntime) -> Result<(), Fail> {
+    let alloc = rt.alloc();
+    let rows = rows_with(alloc, "")?;
+    let [first, second, _] = rows.as_slice() else {
+        return Err(Fail::from("not three rows"));
+    };
+    let e1 = record_stated(alloc, &first.agent, &first.statement)?;
+    let a1 = record_stated(alloc, &second.agent, &second.statement)?;
+    let mut class = Class::new(alloc);
+    for node in [&e1, &a1, &e1] {
+        class.add(node.copy(alloc)?)?;
+    }
+    assert!(rt; class.has(&e1));
+    assert_eq!(rt; class.len(), 2);
+    assert!(rt; class.copy_at(1)? == a1);
+    let mut nodes = class.into_nodes();
+    nodes.push(e1)?;
+    assert_eq!(rt; once(nodes)?.len(), 2);
+    Ok(())
+}
+
+#[test]
+fn two_that_share_an_identifier_have_its_sign(rt: HostRuntime) -> Result<(), Fail> {
+    let alloc = rt.alloc();
+    let rows = rows_with(alloc, "")?;
+    let [first, second, _] = rows.as_slice() else {
+        return Err(Fail::from("not three rows"));
+    };
+    let e1 = node_of(alloc, first)?.ok_or("no node")?;
+    let a1 = node_of(alloc, second)?.ok_or("no node")?;
+    let [ours] = e1.identifiers.as_slice() else {
+        return Err(Fail::from("not one identifier"));
+    };
+    let [theirs] = a1.identifiers.as_slice() else {
+        return Err(Fail::from("not one identifier"));
+    };
+    assert!(rt; Sign::of_identifier(alloc, ours)? == Sign::of_identifier(alloc, theirs)?);
+    assert!(rt; Sign::of_node(alloc, &e1.node)? != Sign::of_node(alloc, &a1.node)?);
+    Ok(())
+}

@@ -3,7 +3,7 @@ use Rattle.std.specs.List.{slice_get}
 use Rattle.std.specs.BTreeSet.{contains}
 use Rattle.std.specs.Ordering.{nat_cmp}
 use Rattle.bor_links.specs.declared.node.OpenNode.{OpenNode}
-use Rattle.bor_chains.specs.Likeness.{sign_cmp}
+use Rattle.bor_links.specs.Signs.{sign_cmp}
 use Rattle.bor_chains.proofs.Classes.{way_start, way_more, way_end, empty_has}
 use Rattle.bor_chains.proofs.class.all_same.Goals as goal
 

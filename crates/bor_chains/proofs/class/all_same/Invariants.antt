@@ -5,7 +5,8 @@ use Rattle.std.specs.Ordering.{nat_cmp}
 use Rattle.bor_links.specs.declared.node.OpenNode.{OpenNode}
 use Rattle.bor_links.specs.Nodes.{same_node}
 use Rattle.bor_links.specs.Shown.{Shown}
-use Rattle.bor_chains.specs.Likeness.{sign_cmp, AreUnder}
+use Rattle.bor_links.specs.Signs.{sign_cmp}
+use Rattle.bor_chains.specs.Likeness.{AreUnder}
 use Rattle.bor_chains.proofs.Signs.{under}
 use Rattle.bor_chains.proofs.Classes.{IsUnderWay}
 use Rattle.bor_chains.proofs.class.all_same.Given as goal

@@ -9,7 +9,7 @@ use Rattle.bor_chains.specs.Listing.{Listing}
 use Rattle.bor_chains.specs.Tables.{placed}
 use Rattle.bor_chains.specs.Likeness.{AreUnder}
 use Rattle.bor_links.specs.Answers.{AreSame}
-use Rattle.bor_chains.proofs.Lists.{found_is}
+use Rattle.bor_links.proofs.Listed.{found_is}
 use Rattle.bor_chains.proofs.Signs.{under}
 use Rattle.bor_chains.proofs.Classes.{if_ok, place_is, place_none, same_unlisted}
 use Rattle.bor_chains.proofs.list_source.ListSource.same_as.Goals as goal

@@ -1,0 +1,22 @@
+-- By what two entities may be alike.
+use Rattle.std.specs.Prelude.{true, false, ◌∷◌, List, map}
+use Rattle.std.specs.Ordering.{ordering_then, bool_cmp}
+use Rattle.std.specs.declared.cmp.Ordering.{Ordering}
+use Rattle.bods_read.specs.declared.details.Identifier.{Identifier}
+use Rattle.bor_links.specs.declared.node.Node.{Node}
+use Rattle.bor_links.specs.declared.node.OpenNode.{OpenNode}
+use Rattle.bor_links.specs.declared.sign.Sign.{Sign}
+use Rattle.bor_links.specs.Nodes.{text_cmp}
+
+abbrev pub sign_cmp : Sign → Sign → Ordering
+sign_cmp a b = ordering_then (bool_cmp a.of_record b.of_record) (ordering_then (text_cmp a.group b.group) (text_cmp a.name b.name))
+
+abbrev pub by_record : Node → Sign
+by_record n = record { of_record = true; group = n.agent; name = n.rec }
+
+abbrev pub by_identifier : Identifier → Sign
+by_identifier i = record { of_record = false; group = i.scheme; name = i.id }
+
+-- the agent with the record, and each identifier
+abbrev pub signs : OpenNode → List Sign
+signs x = by_record x.node ∷ map by_identifier x.identifiers
