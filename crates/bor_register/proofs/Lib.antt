@@ -9,3 +9,6 @@ pub mod Journals
 pub mod SeenRows
 pub mod Withdrawals
 pub mod Examples
+pub mod PickedRows
+pub mod OneAgent
+pub mod KeyedReads

@@ -8,3 +8,5 @@ pub mod Withdrawal
 pub mod Forms
 pub mod Holding
 pub mod Places
+pub mod Seen
+pub mod Picked

@@ -2,6 +2,7 @@
 //! every register.
 
 ghost use Rattle.bor_register.specs.Journal.{OrderBetweenAgentsIsForgotten, FilingsStayInOrder};
+ghost use Rattle.bor_register.specs.Seen.{SeriesIsOfOneAgent};
 
 /// Two lists of filings in order of acceptance stand for one register exactly where the day, the
 /// tokens and each agent's filings in their order are the same: the order between agents is
@@ -13,4 +14,10 @@ pub fn order_between_agents_is_forgotten()
 /// A register has each agent's filings in the order in which they were accepted.
 pub fn filings_stay_in_order()
     ensures { FilingsStayInOrder }
+{}
+
+/// The rows of a record that a viewer sees are those of its agent's filings, where no name comes
+/// twice: to read a record asks for the filings of one agent.
+pub fn series_is_of_one_agent()
+    ensures { SeriesIsOfOneAgent }
 {}

@@ -23,7 +23,7 @@
 //!
 //! What it computes of members stands as calls of their own, for a keep that gets members from
 //! elsewhere: [`own_filings`], [`all_lines`], [`rows_seen`], [`all_visible`], [`all_published`],
-//! [`is_succeeded`].
+//! [`is_succeeded`]; and [`Viewpoint`], which reads nodes and links one at a time.
 //!
 //! A keep answers and changes what it is asked to and tests nothing of it: which lodging, which
 //! withdrawal and which day may be is told by `bor_machine`, which hands all of this on.
@@ -38,11 +38,13 @@ pub mod laws;
 mod list_keep;
 mod live;
 mod member;
+mod picked;
 mod publication;
 mod rows;
 mod statements;
 #[cfg(test)]
 mod tests;
+mod viewpoint;
 mod withdrawal;
 
 pub use caller::Caller;
@@ -55,4 +57,5 @@ pub use member::{Member, own_filings};
 pub use publication::all_published;
 pub use rows::{all_visible, rows_seen};
 pub use statements::{any_has_id, last_in};
+pub use viewpoint::Viewpoint;
 pub use withdrawal::is_succeeded;

@@ -1,10 +1,11 @@
 //! What no clause says: that calls succeed, and values from outside.
 
 use crate::{
-    AcceptedFiling, Caller, Keep, ListKeep, Member, State, StoreFault, all_lines, all_published,
-    all_visible, is_succeeded, own_filings, rows_seen,
+    AcceptedFiling, Caller, Keep, ListKeep, Member, State, StoreFault, Viewpoint, all_lines,
+    all_published, all_visible, is_succeeded, own_filings, rows_seen,
 };
 use bods_read::{Details, EntityKind, Statement, Status};
+use bor_links::{Node, NodeInfo};
 use bor_terms::{AgentName, Day, Ident, Listed, LodgeKey, Token};
 use std::alloc::Global;
 use std::test::Fail;
@@ -311,5 +312,30 @@ fn members_tell_what_is_theirs(rt: HostRuntime) -> Result<(), Fail> {
     );
     assert_eq!(rt; all_visible(alloc, &birch, today, &members)?.len(), 1);
     assert_eq!(rt; all_published(alloc, &members, today)?.len(), 1);
+    Ok(())
+}
+
+#[test]
+fn a_viewpoint_tells_of_one_record(rt: HostRuntime) -> Result<(), Fail> {
+    let alloc = rt.alloc();
+    let members = vec![in alloc; member(alloc)?]?;
+    let birch = agent(alloc, "birch")?;
+    let today = day("2024-02-01")?;
+    let seen = Viewpoint::new(alloc, &birch, today, &members);
+    let e1 = Node {
+        agent: agent(alloc, "alder")?,
+        declaration: ident(alloc, "c1")?,
+        rec: ident(alloc, "e1")?,
+    };
+    assert!(rt;
+        matches!(
+            seen.node(today, &e1)?,
+            Some(NodeInfo::Entity { legal: true })
+        )
+    );
+    assert!(rt; seen.node(day("2024-01-09")?, &e1)?.is_none());
+    assert_eq!(rt; seen.aliases(today, &e1)?.len(), 0);
+    assert!(rt; seen.same(today, &e1)?.as_slice() == [e1.copy(alloc)?].as_slice());
+    assert_eq!(rt; seen.links_into(today, &e1)?.len(), 0);
     Ok(())
 }

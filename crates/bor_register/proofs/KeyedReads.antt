@@ -1,0 +1,259 @@
+-- Nodes, links and aliases of some rows, read record by record.
+use Rattle.std.proofs.Common.{◌≡◌, ◌↔◌, ◌+◌, ◌<◌, ◌≤◌, ◌&&◌, not, ℕ, ℤ, Bool, true, false, cond, IsTrue, Option, Some, None, option_map, option_and_then, Result, Ok, Err, IfOk, List, [], ◌∷◌, map, take, length, get_or, Contains, Vec, Global, sym, refl, ap, ◌∙◌, subst, inl, inr}
+use Rattle.std.specs.List.{filter, filter_map, IsDistinct}
+use Rattle.bor_terms.specs.Texts.{is_same}
+use Rattle.bor_terms.proofs.Texts.{is_same-of}
+use Rattle.bods_read.specs.declared.details.Details.{Details}
+use Rattle.bods_read.specs.declared.details.Details.TheVariants as details
+use Rattle.bods_read.specs.declared.interest.Interest.{Interest}
+use Rattle.bor_records.specs.declared.row.Row.{Row}
+use Rattle.bor_records.specs.OpenRows.{open_rows}
+use Rattle.bor_links.specs.declared.node.Node.{Node}
+use Rattle.bor_links.specs.declared.node.NodeInfo.{NodeInfo}
+use Rattle.bor_links.specs.declared.node.OpenNode.{OpenNode}
+use Rattle.bor_links.specs.declared.node.Link.{Link}
+use Rattle.bor_links.specs.Nodes.{same_node}
+use Rattle.bor_links.specs.Orders.{node_equiv}
+use Rattle.bor_links.specs.Series.{series_of, stated, open_at}
+use Rattle.bor_links.specs.Shown.{Shown, listed_at, info_in, is_like, are_alike}
+use Rattle.bor_links.specs.Aliases.{Alias}
+use Rattle.bor_links.specs.Rows.{is_entity_info, is_some_info, beside, link_between, link_with, link_in, node_in, node_with, node_stated, info_stated, nodes_of, shown_of}
+use Rattle.bor_links.specs.Answers.{AreAliases, AreSame, AreLinksInto}
+use Rattle.bor_links.specs.Stakes.{is_stake, is_holding}
+use Rattle.bor_links.specs.ByKey.{node_at, AreAlikeAt, IsMade, CoverLinks, CoverAliases}
+use Rattle.bor_links.specs.Growth.{Grown}
+use Rattle.bor_links.proofs.ByKey.{listed_by_key, links_by_candidates, alias_by_key, alike_covered}
+use Rattle.bor_links.proofs.Found.{none, Contains-filter, Contains-map, Contains-from_map, Contains-filter_map, Contains-from_filter_map}
+use Rattle.bor_links.proofs.Growth.{grown_none, grown_like, grown_more, grown_cases, Contains-take_more, Contains-take_front, Contains-take_last}
+use Rattle.bor_links.proofs.Reached.{AreReached, reached_start, reached_end}
+use Rattle.bor_links.proofs.SameNode.{same_node_is}
+use Rattle.bor_register.specs.declared.picked.Picked.{Picked}
+use Rattle.bor_register.specs.declared.picked.Wanted.{Wanted}
+use Rattle.bor_register.specs.Picked.{row_picked, takes_row, picked, names, is_into, only_into, link_into, link_at, IsAlike, IsAlikeIn}
+
+-- ---- what is known of a node
+
+info_with : (n : Node) (d : Details) → option_map (λ x. x.info) (node_with n d) ≡ info_stated d
+info_with n (details.Entity kind name identifiers) = refl
+info_with n (details.Person kind name) = refl
+info_with n (details.Relationship subject party interests) = refl
+
+pub info_by_key : (day : ℤ) (rows : List Row) (n : Node) → info_in (nodes_of day rows) n ≡ option_and_then (λ r. info_stated r.statement.details) (open_at day n rows)
+info_by_key day rows n = ap (λ (o : Option OpenNode). option_map (λ x. x.info) o) (listed_by_key day n rows) ∙ at (open_at day n rows)
+  where
+    at : (o : Option Row) → option_map (λ x. x.info) (option_and_then node_in o) ≡ option_and_then (λ r. info_stated r.statement.details) o
+    at None = refl
+    at (Some r) = info_with (series_of r) r.statement.details
+
+info_open : (day : ℤ) (rows : List Row) (n : Node) (x : Picked) → Some (row_picked x) ≡ open_at day n rows → info_stated x.statement.now.details ≡ info_in (nodes_of day rows) n
+info_open day rows n x e = ap (λ (o : Option Row). option_and_then (λ r. info_stated r.statement.details) o) e ∙ sym (info_by_key day rows n)
+
+info_none : (day : ℤ) (rows : List Row) (n : Node) → None ≡ open_at day n rows → None ≡ info_in (nodes_of day rows) n
+info_none day rows n e = ap (λ (o : Option Row). option_and_then (λ r. info_stated r.statement.details) o) e ∙ sym (info_by_key day rows n)
+
+-- ---- candidates
+
+pub candidates_cover : (w : Wanted) (rows : List Row) (found : List Picked) (nodes out : List Node) → map row_picked found ≡ picked w rows → nodes ≡ map (λ x. series_of (row_picked x)) found
+    → ((n : Node) → Contains out n ↔ Contains nodes n) → (r : Row) → Contains rows r → takes_row w r ≡ true → Contains out (series_of r)
+candidates_cover w rows found nodes out e f same r h t =
+    let m = Contains-from_map row_picked found r (subst (λ (rs : List Row). Contains rs r) (sym e) (Contains-filter (takes_row w) rows r h t)) in
+    (same (series_of r)).1 (subst (λ (ns : List Node). Contains ns (series_of r)) (sym f)
+    (subst (λ (n : Node). Contains (map (λ (x : Picked). series_of (row_picked x)) found) n) (ap series_of m.2) (Contains-map (λ (x : Picked). series_of (row_picked x)) found m.0 m.1)))
+
+-- ---- links
+
+-- what a link that a row makes is: its subject is beside the row, and an entity
+record IsFrom (nodes : List OpenNode) (r : Row) (l : Link) : Type 0 where
+  into : is_into l.subject r.agent r.statement ≡ true
+  entity : is_entity_info (info_in nodes l.subject) ≡ true
+
+both : (a b : Bool) → a ≡ true → b ≡ true → (a && b) ≡ true
+both true true e f = refl
+both true false e f = f
+both false b e f = e
+
+some_link : (x y : Link) → Some x ≡ Some y → x ≡ y
+some_link x y h = cc
+
+from_between : (nodes : List OpenNode) (r : Row) (party subject : List ℕ) (interests : List Interest) (l : Link) → names subject r.statement.details ≡ true → link_between nodes (beside r party) (beside r subject) interests ≡ Some l → IsFrom nodes r l
+from_between nodes r party subject interests l named h = at (is_entity_info (info_in nodes (beside r subject))) refl (is_some_info (info_in nodes (beside r party))) h
+  where
+    told : (k : Link) → k.subject ≡ beside r subject → is_entity_info (info_in nodes (beside r subject)) ≡ true → k ≡ l → IsFrom nodes r l
+    told k s e same =
+        let is : beside r subject ≡ l.subject = sym s ∙ ap (λ (z : Link). z.subject) same in
+        subst (λ (z : Link). IsFrom nodes r z) same (record {
+          into = subst (λ (n : Node). is_into n r.agent r.statement ≡ true) (sym s)
+              (both (is_same r.agent r.agent) (is_same r.statement.declaration r.statement.declaration && names subject r.statement.details) (is_same-of r.agent r.agent refl)
+              (both (is_same r.statement.declaration r.statement.declaration) (names subject r.statement.details) (is_same-of r.statement.declaration r.statement.declaration refl) named));
+          entity = subst (λ (n : Node). is_entity_info (info_in nodes n) ≡ true) (sym s) e;
+        })
+
+    at : (a : Bool) → is_entity_info (info_in nodes (beside r subject)) ≡ a → (b : Bool) → cond (a && b) (Some (record { party = beside r party; subject = beside r subject; stake = is_stake interests; holding = is_holding interests })) None ≡ Some l → IsFrom nodes r l
+    at true e true k = told _ refl e (some_link _ l k)
+    at true e false k = let no : None ≡ Some l = k in absurd cc
+    at false e b k = let no : None ≡ Some l = k in absurd cc
+
+from_details : (nodes : List OpenNode) (r : Row) (d : Details) (l : Link) → r.statement.details ≡ d → link_with nodes r d ≡ Some l → IsFrom nodes r l
+from_details nodes r (details.Entity kind name identifiers) l e h = let no : None ≡ Some l = h in absurd cc
+from_details nodes r (details.Person kind name) l e h = let no : None ≡ Some l = h in absurd cc
+from_details nodes r (details.Relationship None party interests) l e h = let no : None ≡ Some l = h in absurd cc
+from_details nodes r (details.Relationship (Some subject) None interests) l e h = let no : None ≡ Some l = h in absurd cc
+from_details nodes r (details.Relationship (Some subject) (Some party) interests) l e h = from_between nodes r party subject interests l (ap (names subject) e ∙ is_same-of subject subject refl) h
+
+from_row : (nodes : List OpenNode) (r : Row) (l : Link) → link_in nodes r ≡ Some l → IsFrom nodes r l
+from_row nodes r l h = from_details nodes r r.statement.details l refl h
+
+only : (n : Node) (o : Option Link) (l : Link) → only_into n o ≡ Some l → (o ≡ Some l) × (l.subject ≡ n)
+only n None l h = let no : None ≡ Some l = h in absurd cc
+only n (Some k) l h = at (same_node k.subject n) refl h
+  where
+    at : (b : Bool) → same_node k.subject n ≡ b → cond b (Some k) None ≡ Some l → (Some k ≡ Some l) × (l.subject ≡ n)
+    at true e j = (j, subst (λ (z : Link). z.subject ≡ n) (some_link k l j) (same_node_is k.subject n e))
+    at false e j = let no : None ≡ Some l = j in absurd cc
+
+only_made : (n : Node) (l : Link) → l.subject ≡ n → only_into n (Some l) ≡ Some l
+only_made n l e = ap (λ (b : Bool). cond b (Some l) None) (ap (λ (m : Node). same_node m n) e ∙ node_equiv.refl n)
+
+pub links_told : (day : ℤ) (rows : List Row) (n : Node) (candidates : List Node) (links : List Link) → links ≡ filter_map (link_at day rows n) candidates
+    → ((r : Row) → Contains rows r → is_into n r.agent r.statement ≡ true → Contains candidates (series_of r)) → AreLinksInto (shown_of day rows) n links
+links_told day rows n candidates links e cover = links_by_candidates day rows candidates n links covers (λ l. ((λ h. made l (subst (λ (ls : List Link). Contains ls l) e h)), (λ h. subst (λ (ls : List Link). Contains ls l) (sym e) (there l h.0 h.1))))
+  where
+    covers : CoverLinks rows candidates n
+    covers r nodes l h is s = cover r h (subst (λ (m : Node). is_into m r.agent r.statement ≡ true) s (from_row nodes r l is).into)
+
+    made : (l : Link) → Contains (filter_map (link_at day rows n) candidates) l → IsMade day rows candidates l × (l.subject ≡ n)
+    made l h = let k = Contains-from_filter_map (link_at day rows n) candidates l h in at k.0 k.1 (open_at day k.0 rows) refl k.2
+      where
+        at : (k : Node) → Contains candidates k → (o : Option Row) → open_at day k rows ≡ o → option_and_then (link_into day rows n) o ≡ Some l → IsMade day rows candidates l × (l.subject ≡ n)
+        at k c None is j = let no : None ≡ Some l = j in absurd cc
+        at k c (Some r) is j = let m = only n (link_in (nodes_of day rows) r) l j in (record { key = k; row = r; candidate = c; latest = is; made = m.0 }, m.1)
+
+    there : (l : Link) → IsMade day rows candidates l → l.subject ≡ n → Contains (filter_map (link_at day rows n) candidates) l
+    there l m s = Contains-filter_map (link_at day rows n) candidates m.key l m.candidate
+        (ap (λ (o : Option Row). option_and_then (link_into day rows n) o) m.latest ∙ ap (only_into n) m.made ∙ only_made n l s)
+
+-- there is none into a node that isn't an open entity
+pub no_links : (day : ℤ) (rows : List Row) (n : Node) (links : List Link) → links ≡ [] → is_entity_info (info_in (nodes_of day rows) n) ≡ false → AreLinksInto (shown_of day rows) n links
+no_links day rows n links e gone l = (
+  (λ h. absurd (none l (subst (λ (ls : List Link). Contains ls l) e h))),
+  (λ h.
+      let m = Contains-from_filter_map (link_in (nodes_of day rows)) (open_rows day rows) l h.0 in
+      let is = subst (λ (k : Node). is_entity_info (info_in (nodes_of day rows) k) ≡ true) h.1 (from_row (nodes_of day rows) m.0 l m.2).entity in
+      absurd (let no : true ≡ false = sym is ∙ gone in cc)),
+)
+
+-- ---- aliases
+
+like_is : (one : OpenNode) (o : Option OpenNode) → is_like one o ≡ true → (two : OpenNode) × (o ≡ Some two) × (are_alike one two ≡ true)
+like_is one None h = absurd (let no : false ≡ true = h in cc)
+like_is one (Some two) h = (two, refl, h)
+
+same_one : (x y : OpenNode) → Some x ≡ Some y → x ≡ y
+same_one x y h = cc
+
+pub aliases_grown : (day : ℤ) (rows : List Row) (n : Node) (one : OpenNode) (candidates a b : List Node) → node_at day n rows ≡ Some one
+    → ((r : Row) → Contains rows r → is_like one (node_stated r.agent r.statement) ≡ true → Contains candidates (series_of r))
+    → Grown (IsAlikeIn day rows one candidates) a b → Grown (λ m. Alias (shown_of day rows) n m) a b
+aliases_grown day rows n one candidates a b here cover g = grown_like (IsAlikeIn day rows one candidates) (λ m. Alias (shown_of day rows) n m) a b g into from
+  where
+    covers : CoverAliases rows candidates one
+    covers r two h is alike = cover r h (ap (is_like one) is ∙ alike)
+
+    into : (m : Node) → IsAlikeIn day rows one candidates m → Alias (shown_of day rows) n m
+    into m h = let t = like_is one (node_at day m rows) h.1 in (alias_by_key day rows n m).1 (record { one = one; two = t.0; one_is = here; two_is = t.1; alike = t.2 })
+
+    from : (m : Node) → Alias (shown_of day rows) n m → IsAlikeIn day rows one candidates m
+    from m l =
+        let h = (alias_by_key day rows n m).0 l in
+        let same : h.one ≡ one = same_one h.one one (sym h.one_is ∙ here) in
+        (alike_covered day rows candidates n m one here covers h, ap (is_like one) h.two_is ∙ subst (λ (x : OpenNode). are_alike x h.two ≡ true) same h.alike)
+
+pub no_aliases : (day : ℤ) (rows : List Row) (n : Node) (nodes : List Node) → node_at day n rows ≡ None → Grown (λ m. Alias (shown_of day rows) n m) nodes nodes
+no_aliases day rows n nodes gone = grown_none (λ m. Alias (shown_of day rows) n m) nodes
+    (λ m l. absurd (let no : None ≡ Some l.one = sym gone ∙ sym (listed_by_key day n rows) ∙ l.one_is in cc))
+
+-- ---- answers
+
+-- what is told of the latest statement is told of the node
+pub info_told : {E : Type 0} (day : ℤ) (rows : List Row) (n : Node) (o : Option Picked) (x : Picked) (r : Result (Option NodeInfo) E) → o ≡ Some x → option_map row_picked o ≡ open_at day n rows
+    → IfOk r (λ i. i ≡ info_stated x.statement.now.details) → IfOk r (λ i. i ≡ info_in (nodes_of day rows) n)
+info_told day rows n o x (Ok i) is e h = h ∙ info_open day rows n x (ap (λ (p : Option Picked). option_map row_picked p) (sym is) ∙ e)
+info_told day rows n o x (Err f) is e h = tt
+
+pub info_gone : (day : ℤ) (rows : List Row) (n : Node) (o : Option Picked) → o ≡ None → option_map row_picked o ≡ open_at day n rows → None ≡ info_in (nodes_of day rows) n
+info_gone day rows n o is e = info_none day rows n (ap (λ (p : Option Picked). option_map row_picked p) (sym is) ∙ e)
+
+pub links_answered : {E : Type 0} (day : ℤ) (rows : List Row) (n : Node) (candidates slice : List Node) (r : Result (Vec Link Global) E) → slice ≡ candidates
+    → ((r : Row) → Contains rows r → is_into n r.agent r.statement ≡ true → Contains candidates (series_of r))
+    → IfOk r (λ v. v.items ≡ filter_map (link_at day rows n) slice) → IfOk r (λ v. AreLinksInto (shown_of day rows) n v.items)
+links_answered day rows n candidates slice (Ok v) e cover h = links_told day rows n candidates v.items (h ∙ ap (λ (ns : List Node). filter_map (link_at day rows n) ns) e) cover
+links_answered day rows n candidates slice (Err f) e cover h = tt
+
+pub not_false : (b : Bool) → not b ≡ false → b ≡ true
+not_false true h = refl
+not_false false h = absurd (let no : true ≡ false = h in cc)
+
+pub not_true : (b : Bool) → not b ≡ true → b ≡ false
+not_true true h = absurd (let no : false ≡ true = h in cc)
+not_true false h = refl
+
+pub link_is : (nodes : List OpenNode) (n party subject : Node) (interests : List Interest) (stake holding : Bool) → same_node subject n ≡ true → is_entity_info (info_in nodes n) ≡ true → is_some_info (info_in nodes party) ≡ true
+    → stake ≡ is_stake interests → holding ≡ is_holding interests → Some (record { party = party; subject = subject; stake = stake; holding = holding }) ≡ only_into n (link_between nodes party subject interests)
+link_is nodes n party subject interests stake holding same entity known s h = sym (ap (only_into n) made ∙ only_made n l (same_node_is subject n same) ∙ ap (λ (k : Link). Some k) is)
+  where
+    l : Link
+    l = record { party = party; subject = subject; stake = is_stake interests; holding = is_holding interests }
+
+    made : link_between nodes party subject interests ≡ Some l
+    made = ap (λ (b : Bool). cond b (Some l) None) (both (is_entity_info (info_in nodes subject)) (is_some_info (info_in nodes party)) (ap (λ (m : Node). is_entity_info (info_in nodes m)) (same_node_is subject n same) ∙ entity) known)
+
+    is : l ≡ record { party = party; subject = subject; stake = stake; holding = holding }
+    is =
+        ap (λ (b : Bool). let k : Link = record { party = party; subject = subject; stake = b; holding = is_holding interests } in k) (sym s)
+        ∙ ap (λ (b : Bool). let k : Link = record { party = party; subject = subject; stake = stake; holding = b } in k) (sym h)
+
+-- ---- a candidate more
+
+pub alike_there : (day : ℤ) (rows : List Row) (one : OpenNode) (candidate : Node) (nodes : List Node) → Contains nodes candidate → Grown (IsAlike day rows one candidate) nodes nodes
+alike_there day rows one candidate nodes there = grown_none (IsAlike day rows one candidate) nodes (λ b h. subst (λ (m : Node). Contains nodes m) (sym h.0) there)
+
+pub alike_not : (day : ℤ) (rows : List Row) (one : OpenNode) (candidate : Node) (nodes : List Node) → is_like one (node_at day candidate rows) ≡ false → Grown (IsAlike day rows one candidate) nodes nodes
+alike_not day rows one candidate nodes gone = grown_none (IsAlike day rows one candidate) nodes
+    (λ b h. absurd (let no : true ≡ false = sym h.1 ∙ ap (λ (m : Node). is_like one (node_at day m rows)) h.0 ∙ gone in cc))
+
+pub alike_added : (day : ℤ) (rows : List Row) (one : OpenNode) (candidate added : Node) (a b : List Node) → is_like one (node_at day candidate rows) ≡ true → added ≡ candidate → Grown (λ n. n ≡ added) a b → Grown (IsAlike day rows one candidate) a b
+alike_added day rows one candidate added a b alike is g = grown_like (λ n. n ≡ added) (IsAlike day rows one candidate) a b g
+    (λ n e. (e ∙ is, ap (λ (m : Node). is_like one (node_at day m rows)) (e ∙ is) ∙ alike)) (λ n h. h.0 ∙ sym is)
+
+pub alike_more : (day : ℤ) (rows : List Row) (one : OpenNode) (candidates : List Node) (i : ℕ) (x : Node) (a b c : List Node) → i < length candidates → x ≡ get_or candidates i x
+    → Grown (IsAlikeIn day rows one (take i candidates)) a b → Grown (IsAlike day rows one x) b c → Grown (IsAlikeIn day rows one (take (i + 1) candidates)) a c
+alike_more day rows one candidates i x a b c lt at g h = grown_more (IsAlikeIn day rows one (take i candidates)) (IsAlike day rows one x) (IsAlikeIn day rows one (take (i + 1) candidates)) a b c g h
+    (λ n. elim [
+      | inl p ↦ (Contains-take_front candidates i x n lt p.0, p.1)
+      | inr p ↦ (Contains-take_last candidates i x n lt (p.0 ∙ at), p.1)
+    ])
+    (λ n r. elim (Contains-take_more candidates i x n lt r.0) [
+      | inl p ↦ inl (p, r.1)
+      | inr e ↦ inr (e ∙ sym at, r.1)
+    ])
+
+pub alike_none : (day : ℤ) (rows : List Row) (one : OpenNode) (candidates nodes : List Node) → Grown (IsAlikeIn day rows one (take 0 candidates)) nodes nodes
+alike_none day rows one candidates nodes = grown_none (IsAlikeIn day rows one (take 0 candidates)) nodes (λ b h. absurd (none b h.0))
+
+-- ---- what is added is what is answered
+
+pub aliases_are : (s : Shown) (n : Node) (before class nodes : List Node) → before ≡ [] → Grown (λ m. Alias s n m) before class → nodes ≡ class → IsDistinct same_node nodes → AreAliases s n nodes
+aliases_are s n before class nodes empty g is once = record {
+  each = λ b. (
+    (λ h. elim (grown_cases g b (subst (λ (ms : List Node). Contains ms b) is h)) [ inl k ↦ absurd (none b (subst (λ (ms : List Node). Contains ms b) empty k)) | inr l ↦ l ]),
+    (λ l. subst (λ (ms : List Node). Contains ms b) (sym is) (g.every b l)),
+  );
+  once = once;
+}
+
+pub reached_first : (s : Shown) (first node : Node) (before class : List Node) → before ≡ [] → node ≡ first → Grown (λ n. n ≡ node) before class → AreReached s first 0 class
+reached_first s first node before class empty is g =
+    reached_start s first class (subst (λ (ms : List Node). Grown (λ n. n ≡ first) ms class) empty (subst (λ (m : Node). Grown (λ n. n ≡ m) before class) is g))
+
+pub reached_told : (s : Shown) (first : Node) (next : ℕ) (class nodes : List Node) → nodes ≡ class → length class ≤ next → AreReached s first next class → IsDistinct same_node nodes → AreSame s first nodes
+reached_told s first next class nodes is all r once = reached_end s first next nodes (subst (λ (ms : List Node). length ms ≤ next) (sym is) all) (subst (λ (ms : List Node). AreReached s first next ms) (sym is) r) once
