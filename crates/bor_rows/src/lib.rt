@@ -20,6 +20,7 @@ mod caller;
 pub mod callers;
 mod fault;
 mod first_lodging;
+pub mod keyed;
 pub mod lodging;
 mod notation;
 mod replies;

@@ -1,7 +1,7 @@
 //! What each agent sees of the others' filings, and when.
 
 use crate::tests::asking::Desk;
-use bor_rows::{DRAFT, PUBLISHED, sight as rows};
+use bor_rows::{DRAFT, PUBLISHED, keyed, sight as rows};
 use std::test::Fail;
 
 #[test]
@@ -96,4 +96,31 @@ fn published_filings_go_by_agent_for_whoever_asks(rt: HostRuntime) -> Result<(),
 fn a_day_publishes_all_that_is_due_by_then(rt: HostRuntime) -> Result<(), Fail> {
     let mut desk = Desk::new(rt.alloc())?;
     desk.talk(&rt, &rows::A_DAY_PUBLISHES_ALL_THAT_IS_DUE_BY_THEN)
+}
+
+#[test]
+fn a_link_moves_with_its_latest_statement(rt: HostRuntime) -> Result<(), Fail> {
+    let mut desk = Desk::new(rt.alloc())?;
+    desk.talk(&rt, &keyed::A_LINK_MOVES_WITH_ITS_LATEST_STATEMENT)
+}
+
+#[test]
+fn an_identifier_that_was_dropped_joins_no_more(rt: HostRuntime) -> Result<(), Fail> {
+    let mut desk = Desk::new(rt.alloc())?;
+    desk.talk(&rt, &keyed::AN_IDENTIFIER_THAT_WAS_DROPPED_JOINS_NO_MORE)
+}
+
+#[test]
+fn a_party_is_of_its_relationships_declaration(rt: HostRuntime) -> Result<(), Fail> {
+    let mut desk = Desk::new(rt.alloc())?;
+    desk.talk(&rt, &keyed::A_PARTY_IS_OF_ITS_RELATIONSHIPS_DECLARATION)
+}
+
+#[test]
+fn a_draft_in_the_middle_joins_for_its_own_agent_alone(rt: HostRuntime) -> Result<(), Fail> {
+    let mut desk = Desk::new(rt.alloc())?;
+    desk.talk(
+        &rt,
+        &keyed::A_DRAFT_IN_THE_MIDDLE_JOINS_FOR_ITS_OWN_AGENT_ALONE,
+    )
 }
