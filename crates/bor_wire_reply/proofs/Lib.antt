@@ -1,3 +1,5 @@
+pub mod Writing
+pub mod Bodies
 pub mod ShortTexts
 pub mod LengthTold
 pub mod Examples

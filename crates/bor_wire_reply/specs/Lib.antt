@@ -4,6 +4,5 @@ pub mod Bodies
 pub mod Statuses
 pub mod Heads
 pub mod Replies
-pub mod NoFloats
 pub mod Parts
 pub mod Laws

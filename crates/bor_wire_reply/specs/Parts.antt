@@ -1,13 +1,29 @@
--- The texts of bodies part by part, as they are written: for private clauses.
-use Rattle.std.specs.Prelude.{ℕ, List, [], ◌++◌, Bool, map, Option, Some, None, codes, decimal}
+-- Bodies part by part, as they are written: for private clauses.
+use Rattle.std.specs.Prelude.{◌≡◌, ℕ, List, [], ◌++◌, map, Option, Some, None, Result, OnOk, codes, decimal}
+use Rattle.json.specs.Print.{quoted}
+use Rattle.json.specs.Token.{Token}
+use Rattle.json.specs.Tree.{json_tokens, items_tokens}
+use Rattle.json.specs.Written.{Written}
 use Rattle.serde_json.specs.Data.{Data}
 use Rattle.serde_json.specs.View.{items_of}
-use Rattle.serde_json.specs.Written.{items_text}
-use Rattle.json.specs.Print.{quoted}
+use Rattle.serde_json.specs.Written.{outline, items_outline}
 
--- what follows of the text of an array, with the closing bracket
-abbrev pub rest_text : {A : Type 0} → (A → Data) → Bool → List A → List ℕ
-rest_text shown later items = items_text later (items_of (map shown items))
+-- ---- token by token
+
+-- the tokens of a value of JSON
+abbrev pub data_tokens : Data → List Token
+data_tokens d = json_tokens (outline d)
+
+-- what follows of the tokens of an array, with the closing bracket
+abbrev pub rest_tokens : {A : Type 0} → (A → Data) → List A → List Token
+rest_tokens shown items = items_tokens (items_outline (items_of (map shown items)))
+
+-- These tokens were written behind the others, and what stands before them all stays.
+pub record Adds {E : Type 0} (result : Result (Unit {0}) E) (old new : Written) (added : List Token) : Type 0 where
+  pub tokens : OnOk result (new.tokens ≡ old.tokens ++ added)
+  pub before : new.before ≡ old.before
+
+-- ---- byte by byte
 
 abbrev pub field_part : Option (List ℕ) → List ℕ
 field_part None = []

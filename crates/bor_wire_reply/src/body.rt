@@ -1,97 +1,82 @@
 //! The bodies of replies to requests that only read.
 
-ghost use Rattle.std.specs.Prelude.{◌≡◌, ◌++◌, IfOk, OnOk, string_bytes};
-ghost use Rattle.json.specs.Print.{quoted};
-ghost use Rattle.bor_wire_reply.specs.Bodies.{lines_text, published_text, snapshot_text, chains_text, desk_body};
+ghost use Rattle.std.specs.Prelude.{◌≡◌, IfOk, OnOk};
+ghost use Rattle.serde_json.specs.Written.{compact_text};
+ghost use Rattle.bor_wire_reply.specs.Values.{list_data, snapshot_data, chains_data};
+ghost use Rattle.bor_wire_reply.specs.Bodies.{snapshot_text, chains_text, desk_body};
+ghost use Rattle.bor_wire_reply.specs.Parts.{Adds, data_tokens};
 
 use crate::head::HEAD_ROOM;
 use crate::reply::RESERVED;
 use crate::short::put_body;
-use crate::shown::{day_string, push_array};
+use crate::shown::{Shown, write_array, write_day, write_text};
 use bor_chains::{Node, PersonLine};
 use bor_desk::DeskReply;
-use bor_machine::{FilingLine, Outward};
 use bor_records::Entry;
 use bor_terms::Day;
-use serde_json::Value;
+use json::Writer;
 use std::alloc::{AllocError, Global};
 
-// Adds a text as JSON has it.
-fn push_quoted(alloc: Global, out: &mut String, text: String) -> Result<(), AllocError>
-    ensures { OnOk result
-        (string_bytes out.new ≡ string_bytes out.old ++ quoted (string_bytes text)) }
+// What is shown of each item, in order, as an array.
+fn array_body<T: Shown>(alloc: Global, items: &[T]) -> Result<Vec<u8>, AllocError>
+    ensures { IfOk result (λ body. body.items ≡ compact_text (list_data T.as_data items.now)) }
 {
-    let text = Value::String(text).to_string(alloc)?;
-    out.push_str(text.as_str())
+    let mut out = Writer::new(Vec::new(alloc));
+    write_array(&mut out, items)?;
+    Ok(out.into_inner())
 }
 
-fn push_text(alloc: Global, out: &mut String, text: &str) -> Result<(), AllocError>
-    ensures { OnOk result (string_bytes out.new ≡ string_bytes out.old ++ quoted text.now) }
+fn write_snapshot(out: &mut Writer, date: Day, records: &[Entry]) -> Result<(), AllocError>
+    ensures { Adds result out.old out.new (data_tokens (snapshot_data date records.now)) }
 {
-    push_quoted(alloc, out, String::from_str(alloc, text)?)
+    out.begin_object()?;
+    out.key("date")?;
+    write_day(out, date)?;
+    out.key("records")?;
+    write_array(out, records)?;
+    out.end_object()
 }
 
-/// The agent's own filings.
-#[tactic(auto, unfolding(crate::specs::Bodies::lines_text))]
-pub(crate) fn lines_body(alloc: Global, lines: &[FilingLine]) -> Result<String, AllocError>
-    ensures { IfOk result (λ text. string_bytes text ≡ lines_text lines.now) }
+// The open records on a date.
+fn snapshot_body(alloc: Global, date: Day, records: &[Entry]) -> Result<Vec<u8>, AllocError>
+    ensures { IfOk result (λ body. body.items ≡ snapshot_text date records.now) }
 {
-    let mut out = String::new(alloc);
-    push_array(alloc, &mut out, lines)?;
-    Ok(out)
+    let mut out = Writer::new(Vec::new(alloc));
+    write_snapshot(&mut out, date, records)?;
+    Ok(out.into_inner())
 }
 
-/// What is published.
-#[tactic(auto, unfolding(crate::specs::Bodies::published_text))]
-pub(crate) fn published_body(alloc: Global, outwards: &[Outward]) -> Result<String, AllocError>
-    ensures { IfOk result (λ text. string_bytes text ≡ published_text outwards.now) }
-{
-    let mut out = String::new(alloc);
-    push_array(alloc, &mut out, outwards)?;
-    Ok(out)
-}
-
-/// The open records on a date.
-#[tactic(auto, unfolding(crate::specs::Bodies::snapshot_text, json::specs::Print::escape_byte))]
-pub(crate) fn snapshot_body(
-    alloc: Global,
+fn write_chains(
+    out: &mut Writer,
+    entity: &Node,
     date: Day,
-    records: &[Entry],
-) -> Result<String, AllocError>
-    ensures { IfOk result (λ text. string_bytes text ≡ snapshot_text date records.now) }
+    persons: &[PersonLine],
+) -> Result<(), AllocError>
+    ensures { Adds result out.old out.new (data_tokens (chains_data entity.now date persons.now)) }
 {
-    let mut out = String::new(alloc);
-    out.push_str("{\"date\":")?;
-    push_quoted(alloc, &mut out, day_string(alloc, date)?)?;
-    out.push_str(",\"records\":")?;
-    push_array(alloc, &mut out, records)?;
-    out.push_str("}")?;
-    Ok(out)
+    out.begin_object()?;
+    write_text(out, "agent", entity.agent.as_str())?;
+    out.key("date")?;
+    write_day(out, date)?;
+    write_text(out, "declaration", entity.declaration.as_str())?;
+    out.key("persons")?;
+    write_array(out, persons)?;
+    write_text(out, "record", entity.rec.as_str())?;
+    out.end_object()
 }
 
-/// The persons behind an entity on a date.
-#[tactic(auto, unfolding(crate::specs::Bodies::chains_text, json::specs::Print::escape_byte))]
-pub(crate) fn chains_body(
+// The persons behind an entity on a date.
+fn chains_body(
     alloc: Global,
     entity: &Node,
     date: Day,
     persons: &[PersonLine],
-) -> Result<String, AllocError>
-    ensures { IfOk result (λ text. string_bytes text ≡ chains_text entity.now date persons.now) }
+) -> Result<Vec<u8>, AllocError>
+    ensures { IfOk result (λ body. body.items ≡ chains_text entity.now date persons.now) }
 {
-    let mut out = String::new(alloc);
-    out.push_str("{\"agent\":")?;
-    push_text(alloc, &mut out, entity.agent.as_str())?;
-    out.push_str(",\"date\":")?;
-    push_quoted(alloc, &mut out, day_string(alloc, date)?)?;
-    out.push_str(",\"declaration\":")?;
-    push_text(alloc, &mut out, entity.declaration.as_str())?;
-    out.push_str(",\"persons\":")?;
-    push_array(alloc, &mut out, persons)?;
-    out.push_str(",\"record\":")?;
-    push_text(alloc, &mut out, entity.rec.as_str())?;
-    out.push_str("}")?;
-    Ok(out)
+    let mut out = Writer::new(Vec::new(alloc));
+    write_chains(&mut out, entity, date, persons)?;
+    Ok(out.into_inner())
 }
 
 // The file as it was lodged, with room for the head of the reply.
@@ -104,23 +89,20 @@ fn file_body(alloc: Global, file: &[u8]) -> Result<Vec<u8>, AllocError>
 }
 
 /// The body of a reply.
+#[tactic(auto, unfolding(crate::specs::Bodies::lines_text, crate::specs::Bodies::published_text))]
 pub(crate) fn body_of(alloc: Global, reply: &DeskReply) -> Result<Vec<u8>, AllocError>
     ensures { IfOk result (λ body. body.items ≡ desk_body reply.now) }
 {
     match reply {
-        DeskReply::Filings(lines) => Ok(lines_body(alloc, lines.as_slice())?.into_bytes()),
+        DeskReply::Filings(lines) => array_body(alloc, lines.as_slice()),
         DeskReply::File(file) => file_body(alloc, file.as_slice()),
-        DeskReply::Published(outwards) => {
-            Ok(published_body(alloc, outwards.as_slice())?.into_bytes())
-        }
-        DeskReply::Snapshot { date, records } => {
-            Ok(snapshot_body(alloc, *date, records.as_slice())?.into_bytes())
-        }
+        DeskReply::Published(outwards) => array_body(alloc, outwards.as_slice()),
+        DeskReply::Snapshot { date, records } => snapshot_body(alloc, *date, records.as_slice()),
         DeskReply::Chains {
             entity,
             date,
             persons,
-        } => Ok(chains_body(alloc, entity, *date, persons.as_slice())?.into_bytes()),
+        } => chains_body(alloc, entity, *date, persons.as_slice()),
         short => {
             let mut body = Vec::with_capacity(alloc, RESERVED)?;
             put_body(&mut body, short);

@@ -3,27 +3,25 @@
 ghost use Rattle.std.specs.Prelude.{◌≡◌};
 ghost use Rattle.bor_desk.specs.Texts.{settled_word};
 ghost use Rattle.bor_wire_reply.specs.Values.{line_data, statement_data, outward_data};
-ghost use Rattle.bor_wire_reply.specs.NoFloats.{line_none, statement_none, outward_none};
 
-use crate::shown::{Shown, day_string, values_of};
+use crate::shown::{Shown, write_array, write_day, write_text};
 use bods_read::{Statement, Status};
 use bor_machine::{FilingLine, Outward};
-use serde_json::{Value, json};
-use std::alloc::{AllocError, Global};
+use json::Writer;
+use std::alloc::AllocError;
 
 impl Shown for FilingLine {
     ghost as_data = { line_data };
 
-    ghost no_float = { line_none };
-
-    fn value(&self, alloc: Global) -> Result<Value, AllocError> {
-        let due = day_string(alloc, self.due)?;
-        json!(in alloc; {
-            "due": due,
-            "filing": self.number,
-            "key": self.key.as_str(),
-            "state": self.state.as_str()
-        })
+    fn write(&self, out: &mut Writer) -> Result<(), AllocError> {
+        out.begin_object()?;
+        out.key("due")?;
+        write_day(out, self.due)?;
+        out.key("filing")?;
+        out.u64(u64::from(self.number))?;
+        write_text(out, "key", self.key.as_str())?;
+        write_text(out, "state", self.state.as_str())?;
+        out.end_object()
     }
 }
 
@@ -39,31 +37,29 @@ fn settled_word(status: Option<Status>) -> &'static str
 impl Shown for Statement {
     ghost as_data = { statement_data };
 
-    ghost no_float = { statement_none };
-
-    fn value(&self, alloc: Global) -> Result<Value, AllocError> {
-        let date = day_string(alloc, self.day)?;
-        let status = settled_word(self.status);
-        let kind = self.record_type().as_str();
-        json!(in alloc; {
-            "date": date,
-            "declaration": self.declaration.as_str(),
-            "id": self.id.as_str(),
-            "record": self.rec.as_str(),
-            "status": status,
-            "type": kind
-        })
+    fn write(&self, out: &mut Writer) -> Result<(), AllocError> {
+        out.begin_object()?;
+        out.key("date")?;
+        write_day(out, self.day)?;
+        write_text(out, "declaration", self.declaration.as_str())?;
+        write_text(out, "id", self.id.as_str())?;
+        write_text(out, "record", self.rec.as_str())?;
+        write_text(out, "status", settled_word(self.status))?;
+        write_text(out, "type", self.record_type().as_str())?;
+        out.end_object()
     }
 }
 
 impl Shown for Outward {
     ghost as_data = { outward_data };
 
-    ghost no_float = { outward_none };
-
-    fn value(&self, alloc: Global) -> Result<Value, AllocError> {
-        let due = day_string(alloc, self.due)?;
-        let statements = values_of(alloc, self.statements.as_slice())?;
-        json!(in alloc; {"agent": self.agent.as_str(), "due": due, "statements": statements})
+    fn write(&self, out: &mut Writer) -> Result<(), AllocError> {
+        out.begin_object()?;
+        write_text(out, "agent", self.agent.as_str())?;
+        out.key("due")?;
+        write_day(out, self.due)?;
+        out.key("statements")?;
+        write_array(out, self.statements.as_slice())?;
+        out.end_object()
     }
 }

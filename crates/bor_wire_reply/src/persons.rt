@@ -1,26 +1,23 @@
 //! The persons behind an entity.
 
 ghost use Rattle.bor_wire_reply.specs.Values.{person_data};
-ghost use Rattle.bor_wire_reply.specs.NoFloats.{person_none};
 
-use crate::shown::{Shown, text_or_null};
+use crate::shown::{Shown, write_maybe, write_text};
 use bor_chains::PersonLine;
-use serde_json::{Value, json};
-use std::alloc::{AllocError, Global};
+use json::Writer;
+use std::alloc::AllocError;
 
 impl Shown for PersonLine {
     ghost as_data = { person_data };
 
-    ghost no_float = { person_none };
-
-    fn value(&self, alloc: Global) -> Result<Value, AllocError> {
+    fn write(&self, out: &mut Writer) -> Result<(), AllocError> {
         let node = &self.node;
-        let name = text_or_null(alloc, &self.name)?;
-        json!(in alloc; {
-            "agent": node.agent.as_str(),
-            "declaration": node.declaration.as_str(),
-            "name": name,
-            "record": node.rec.as_str()
-        })
+        out.begin_object()?;
+        write_text(out, "agent", node.agent.as_str())?;
+        write_text(out, "declaration", node.declaration.as_str())?;
+        out.key("name")?;
+        write_maybe(out, &self.name)?;
+        write_text(out, "record", node.rec.as_str())?;
+        out.end_object()
     }
 }

@@ -1,106 +1,147 @@
 //! What open records say.
 
-ghost use Rattle.std.specs.Prelude.{◌≡◌, IfOk};
-ghost use Rattle.serde_json.specs.View.{view};
 ghost use Rattle.bor_wire_reply.specs.Values.{maybe_data, identifier_data, share_data, interest_data, details_data, entry_data};
-ghost use Rattle.bor_wire_reply.specs.NoFloats.{identifier_none, interest_none, entry_none};
+ghost use Rattle.bor_wire_reply.specs.Parts.{Adds, data_tokens};
 
-use crate::shown::{Shown, day_string, text_or_null, values_of};
-use bods_read::{Details, Identifier, Interest};
+use crate::shown::{Shown, write_array, write_day, write_maybe, write_text};
+use bods_read::{Details, EntityKind, FreeText, Identifier, Interest, PersonKind};
 use bor_records::Entry;
-use bor_terms::Span;
-use serde_json::{Value, json};
-use std::alloc::{AllocError, Global};
+use bor_terms::{Ident, Span};
+use json::Writer;
+use std::alloc::AllocError;
 
 impl Shown for Identifier {
     ghost as_data = { identifier_data };
 
-    ghost no_float = { identifier_none };
-
-    fn value(&self, alloc: Global) -> Result<Value, AllocError> {
-        json!(in alloc; {"id": self.id.as_str(), "scheme": self.scheme.as_str()})
+    fn write(&self, out: &mut Writer) -> Result<(), AllocError> {
+        out.begin_object()?;
+        write_text(out, "id", self.id.as_str())?;
+        write_text(out, "scheme", self.scheme.as_str())?;
+        out.end_object()
     }
 }
 
-// A share in percent, or null where there is none.
-fn share_value(alloc: Global, share: Option<Span>) -> Result<Value, AllocError>
-    ensures { IfOk result (λ value. view value ≡ maybe_data share_data share) }
+// Writes a share in percent.
+fn write_span(out: &mut Writer, share: Span) -> Result<(), AllocError>
+    ensures { Adds result out.old out.new (data_tokens (share_data share)) }
+{
+    out.begin_object()?;
+    out.key("high")?;
+    out.u64(u64::from(share.high()))?;
+    out.key("highOpen")?;
+    out.boolean(share.high_is_open())?;
+    out.key("low")?;
+    out.u64(u64::from(share.low()))?;
+    out.key("lowOpen")?;
+    out.boolean(share.low_is_open())?;
+    out.end_object()
+}
+
+// Writes a share, or null where there is none.
+fn write_share(out: &mut Writer, share: Option<Span>) -> Result<(), AllocError>
+    ensures { Adds result out.old out.new (data_tokens (maybe_data share_data share)) }
 {
     match share {
-        Some(share) => {
-            json!(in alloc; {
-                "high": share.high(),
-                "highOpen": share.high_is_open(),
-                "low": share.low(),
-                "lowOpen": share.low_is_open()
-            })
-        }
-        None => Ok(Value::Null),
+        Some(share) => write_span(out, share),
+        None => out.null(),
     }
 }
 
 impl Shown for Interest {
     ghost as_data = { interest_data };
 
-    ghost no_float = { interest_none };
-
-    fn value(&self, alloc: Global) -> Result<Value, AllocError> {
-        let share = share_value(alloc, self.share)?;
-        json!(in alloc; {
-            "directness": self.directness.as_str(),
-            "share": share,
-            "type": self.kind.as_str()
-        })
+    fn write(&self, out: &mut Writer) -> Result<(), AllocError> {
+        out.begin_object()?;
+        write_text(out, "directness", self.directness.as_str())?;
+        out.key("share")?;
+        write_share(out, self.share)?;
+        write_text(out, "type", self.kind.as_str())?;
+        out.end_object()
     }
 }
 
-fn details_value(alloc: Global, details: &Details) -> Result<Value, AllocError>
-    ensures { IfOk result (λ value. view value ≡ details_data details.now) }
+fn write_entity(
+    out: &mut Writer,
+    kind: EntityKind,
+    name: &Option<FreeText>,
+    identifiers: &[Identifier],
+) -> Result<(), AllocError>
+    ensures { Adds result out.old out.new (data_tokens (details_data (Details.Entity kind name.now identifiers.now))) }
+{
+    out.begin_object()?;
+    out.key("identifiers")?;
+    write_array(out, identifiers)?;
+    write_text(out, "kind", kind.as_str())?;
+    out.key("name")?;
+    write_maybe(out, name)?;
+    out.end_object()
+}
+
+fn write_person(
+    out: &mut Writer,
+    kind: PersonKind,
+    name: &Option<FreeText>,
+) -> Result<(), AllocError>
+    ensures { Adds result out.old out.new (data_tokens (details_data (Details.Person kind name.now))) }
+{
+    out.begin_object()?;
+    write_text(out, "kind", kind.as_str())?;
+    out.key("name")?;
+    write_maybe(out, name)?;
+    out.end_object()
+}
+
+fn write_relationship(
+    out: &mut Writer,
+    subject: &Option<Ident>,
+    party: &Option<Ident>,
+    interests: &[Interest],
+) -> Result<(), AllocError>
+    ensures { Adds result out.old out.new
+        (data_tokens (details_data (Details.Relationship subject.now party.now interests.now))) }
+{
+    out.begin_object()?;
+    out.key("interestedParty")?;
+    write_maybe(out, party)?;
+    out.key("interests")?;
+    write_array(out, interests)?;
+    out.key("subject")?;
+    write_maybe(out, subject)?;
+    out.end_object()
+}
+
+fn write_details(out: &mut Writer, details: &Details) -> Result<(), AllocError>
+    ensures { Adds result out.old out.new (data_tokens (details_data details.now)) }
 {
     match details {
         Details::Entity {
             kind,
             name,
             identifiers,
-        } => {
-            let identifiers = values_of(alloc, identifiers.as_slice())?;
-            let name = text_or_null(alloc, name)?;
-            json!(in alloc; {"identifiers": identifiers, "kind": kind.as_str(), "name": name})
-        }
-        Details::Person { kind, name } => {
-            let name = text_or_null(alloc, name)?;
-            json!(in alloc; {"kind": kind.as_str(), "name": name})
-        }
+        } => write_entity(out, *kind, name, identifiers.as_slice()),
+        Details::Person { kind, name } => write_person(out, *kind, name),
         Details::Relationship {
             subject,
             party,
             interests,
-        } => {
-            let party = text_or_null(alloc, party)?;
-            let interests = values_of(alloc, interests.as_slice())?;
-            let subject = text_or_null(alloc, subject)?;
-            json!(in alloc; {"interestedParty": party, "interests": interests, "subject": subject})
-        }
+        } => write_relationship(out, subject, party, interests.as_slice()),
     }
 }
 
 impl Shown for Entry {
     ghost as_data = { entry_data };
 
-    ghost no_float = { entry_none };
-
-    fn value(&self, alloc: Global) -> Result<Value, AllocError> {
+    fn write(&self, out: &mut Writer) -> Result<(), AllocError> {
         let statement = &self.statement;
-        let date = day_string(alloc, statement.day)?;
-        let details = details_value(alloc, &statement.details)?;
-        let kind = statement.record_type().as_str();
-        json!(in alloc; {
-            "date": date,
-            "details": details,
-            "id": statement.id.as_str(),
-            "record": statement.rec.as_str(),
-            "status": self.status.as_str(),
-            "type": kind
-        })
+        out.begin_object()?;
+        out.key("date")?;
+        write_day(out, statement.day)?;
+        out.key("details")?;
+        write_details(out, &statement.details)?;
+        write_text(out, "id", statement.id.as_str())?;
+        write_text(out, "record", statement.rec.as_str())?;
+        write_text(out, "status", self.status.as_str())?;
+        write_text(out, "type", statement.record_type().as_str())?;
+        out.end_object()
     }
 }

@@ -43,6 +43,14 @@ fn lodging(alloc: Global, lodged: &str, due: &str, file: &str) -> Result<Request
     })
 }
 
+fn node(alloc: Global, name: &str, declaration: &str, rec: &str) -> Result<Node, Fail> {
+    Ok(Node {
+        agent: agent(alloc, name)?,
+        declaration: ident(alloc, declaration)?,
+        rec: ident(alloc, rec)?,
+    })
+}
+
 // The request for what is wished.
 fn request(alloc: Global, wish: Wish<'_>) -> Result<Request, Fail> {
     match wish {
@@ -65,16 +73,12 @@ fn request(alloc: Global, wish: Wish<'_>) -> Result<Request, Fail> {
             date: optional_day(date)?,
         }),
         Wish::Chains {
-            agent: name,
+            agent,
             declaration,
             rec,
             date,
         } => Ok(Request::Chains {
-            entity: Node {
-                agent: agent(alloc, name)?,
-                declaration: ident(alloc, declaration)?,
-                rec: ident(alloc, rec)?,
-            },
+            entity: node(alloc, agent, declaration, rec)?,
             date: optional_day(date)?,
         }),
         Wish::Day { date } => Ok(Request::Day { date: day(date)? }),

@@ -49,28 +49,25 @@ fn bytes_that_spell_no_request_are_told_why(rt: HostRuntime) -> Result<(), Fail>
         ),
         (Refusal::NoPath, NOT_FOUND, r#"{"refusal":"NoPath"}"#),
         (Refusal::NoToken, UNAUTHORIZED, r#"{"refusal":"NoToken"}"#),
-        (
-            Refusal::BadQuery(Name::Key),
-            BAD,
-            r#"{"field":"key","refusal":"BadQuery"}"#,
-        ),
-        (
-            Refusal::BadQuery(Name::Due),
-            BAD,
-            r#"{"field":"due","refusal":"BadQuery"}"#,
-        ),
-        (
-            Refusal::BadQuery(Name::Declaration),
-            BAD,
-            r#"{"field":"declaration","refusal":"BadQuery"}"#,
-        ),
-        (
-            Refusal::BadQuery(Name::Token),
-            BAD,
-            r#"{"field":"token","refusal":"BadQuery"}"#,
-        ),
     ] {
         is_said(&rt, alloc, refusal, (status, own_line(status), body))?;
+    }
+    Ok(())
+}
+
+#[test]
+fn a_bad_name_is_told(rt: HostRuntime) -> Result<(), Fail> {
+    let alloc = rt.alloc();
+    for (name, body) in [
+        (Name::Key, r#"{"field":"key","refusal":"BadQuery"}"#),
+        (Name::Due, r#"{"field":"due","refusal":"BadQuery"}"#),
+        (
+            Name::Declaration,
+            r#"{"field":"declaration","refusal":"BadQuery"}"#,
+        ),
+        (Name::Token, r#"{"field":"token","refusal":"BadQuery"}"#),
+    ] {
+        is_said(&rt, alloc, Refusal::BadQuery(name), (BAD, "", body))?;
     }
     Ok(())
 }
@@ -133,14 +130,47 @@ fn a_failed_store_has_one_reply(rt: HostRuntime) -> Result<(), Fail> {
     Ok(())
 }
 
+// The desk's refusal is told by this status and this body.
+fn is_told(
+    rt: &impl Abort,
+    alloc: Global,
+    refusal: bor_desk::Refusal,
+    status: &str,
+    body: &str,
+) -> Result<(), Fail> {
+    let text = reply_of(alloc, status, "", body)?;
+    is_rendered(rt, alloc, &DeskReply::Refused(refusal), text.as_str())
+}
+
 #[test]
-fn a_refusal_has_its_place_and_its_field(rt: HostRuntime) -> Result<(), Fail> {
-    let alloc = rt.alloc();
-    let missing = Fault::Missing(Field::DeclarationSubject);
-    let long = FileFault::At {
-        place: 1000,
-        fault: missing,
+fn a_file_that_is_not_read_is_told_with_its_place_and_its_field(
+    rt: HostRuntime,
+) -> Result<(), Fail> {
+    let bad = FileFault::At {
+        place: 3,
+        fault: Fault::Bad(Field::Exact),
     };
+    let missing = FileFault::At {
+        place: 1000,
+        fault: Fault::Missing(Field::DeclarationSubject),
+    };
+    for (fault, body) in [
+        (FileFault::NotJson, r#"{"refusal":"NotJson"}"#),
+        (bad, r#"{"field":"exact","place":3,"refusal":"Bad"}"#),
+        (
+            missing,
+            r#"{"field":"declarationSubject","place":1000,"refusal":"Missing"}"#,
+        ),
+    ] {
+        let refusal = bor_desk::Refusal::Read(fault);
+        is_told(&rt, rt.alloc(), refusal, UNPROCESSABLE, body)?;
+    }
+    Ok(())
+}
+
+#[test]
+fn a_statement_that_is_refused_is_told_with_its_place(rt: HostRuntime) -> Result<(), Fail> {
+    let place = 4_294_967_295;
     let fault = RecordFault::DueBeforeRecord;
     for (refusal, status, body) in [
         (
@@ -149,39 +179,17 @@ fn a_refusal_has_its_place_and_its_field(rt: HostRuntime) -> Result<(), Fail> {
             r#"{"refusal":"FilingsFull"}"#,
         ),
         (
-            bor_desk::Refusal::Read(FileFault::NotJson),
-            UNPROCESSABLE,
-            r#"{"refusal":"NotJson"}"#,
-        ),
-        (
-            bor_desk::Refusal::Read(FileFault::At {
-                place: 3,
-                fault: Fault::Bad(Field::Exact),
-            }),
-            UNPROCESSABLE,
-            r#"{"field":"exact","place":3,"refusal":"Bad"}"#,
-        ),
-        (
-            bor_desk::Refusal::Read(long),
-            UNPROCESSABLE,
-            r#"{"field":"declarationSubject","place":1000,"refusal":"Missing"}"#,
-        ),
-        (
             bor_desk::Refusal::StatementTwice(2),
             UNPROCESSABLE,
             r#"{"place":2,"refusal":"StatementTwice"}"#,
         ),
         (
-            bor_desk::Refusal::Record {
-                place: 4_294_967_295,
-                fault,
-            },
+            bor_desk::Refusal::Record { place, fault },
             UNPROCESSABLE,
             r#"{"place":4294967295,"refusal":"DueBeforeRecord"}"#,
         ),
     ] {
-        let text = reply_of(alloc, status, "", body)?;
-        is_rendered(&rt, alloc, &DeskReply::Refused(refusal), text.as_str())?;
+        is_told(&rt, rt.alloc(), refusal, status, body)?;
     }
     Ok(())
 }

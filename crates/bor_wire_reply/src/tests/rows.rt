@@ -125,7 +125,12 @@ fn callers_are_told_what_they_may(rt: HostRuntime) -> Result<(), Fail> {
             OK,
             OK,
         ],
-    )?;
+    )
+}
+
+#[test]
+fn the_registrar_is_told_of_days_and_agents(rt: HostRuntime) -> Result<(), Fail> {
+    let alloc = rt.alloc();
     talk(
         &rt,
         alloc,
