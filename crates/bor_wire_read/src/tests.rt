@@ -6,6 +6,7 @@ mod streams;
 use super::*;
 use std::alloc::Global;
 use std::io::ErrorKind;
+use std::process::Abort;
 use std::test::Fail;
 use streams::{Drip, Gate, Once};
 
@@ -81,8 +82,18 @@ fn an_input_that_ends_anywhere_is_cut_short(rt: HostRuntime) {
     }
 }
 
+// The bytes are refused so, whether they come at once or one by one.
+fn is_refused(rt: &impl Abort, alloc: Global, bytes: &[u8], refusal: Refusal) {
+    for size in [1, 4096] {
+        assert!(rt;
+            refusal_of(alloc, bytes, size) == Some(WireFault::Refused(refusal)),
+            "{bytes:?}"
+        );
+    }
+}
+
 #[test]
-fn each_refusal_has_its_place_in_the_order(rt: HostRuntime) {
+fn what_is_no_head_is_refused(rt: HostRuntime) {
     for (bytes, refusal) in [
         (b"GET / HTTP/1.1\r\n".as_slice(), Refusal::CutShort),
         (b"GET /\r\n\r\n", Refusal::BadHead),
@@ -93,8 +104,16 @@ fn each_refusal_has_its_place_in_the_order(rt: HostRuntime) {
             b"G@T / HTTP/1.1\r\nContent-Length: x\r\n\r\n",
             Refusal::BadHead,
         ),
+    ] {
+        is_refused(&rt, rt.alloc(), bytes, refusal);
+    }
+}
+
+#[test]
+fn lengths_are_refused_in_their_order(rt: HostRuntime) {
+    for (bytes, refusal) in [
         (
-            b"PUT / HTTP/1.1\r\nTransfer-Encoding: chunked\r\n\r\n",
+            b"PUT / HTTP/1.1\r\nTransfer-Encoding: chunked\r\n\r\n".as_slice(),
             Refusal::BadLength,
         ),
         (
@@ -130,12 +149,7 @@ fn each_refusal_has_its_place_in_the_order(rt: HostRuntime) {
             Refusal::CutShort,
         ),
     ] {
-        for size in [1, 4096] {
-            assert!(rt;
-                refusal_of(rt.alloc(), bytes, size) == Some(WireFault::Refused(refusal)),
-                "{bytes:?}"
-            );
-        }
+        is_refused(&rt, rt.alloc(), bytes, refusal);
     }
 }
 
