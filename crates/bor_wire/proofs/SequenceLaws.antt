@@ -1,49 +1,49 @@
 -- Exchanges one after the other are a run.
-use Rattle.std.proofs.Common.{◌≡◌, ◌⊎◌, inl, inr, ℕ, List, [], ◌∷◌, map, Option, Some, Bool, true, false, not, refl, sym, ap, subst, ◌==◌, take}
+use Rattle.std.proofs.Common.{◌≡◌, ◌⊎◌, inl, inr, ℕ, List, [], ◌∷◌, Option, Bool, true, false, not, refl, sym, ap, subst, ◌==◌, take}
 use Rattle.std.specs.Prelude.{if◌then◌else◌}
 use Rattle.std.specs.Io.KnownBytes.{Appends}
 use Rattle.std.proofs.lemmas.Bool.{eqb-true, eqb-false}
 use Rattle.bor_register.specs.Register.{Register}
 use Rattle.bor_machine.specs.Legality.{IsLegal}
-use Rattle.bor_wire_spell.specs.Spell.{Spelled, Spells}
+use Rattle.bor_wire_spell.specs.Spell.{Spelled}
 use Rattle.bor_wire.specs.declared.outcome.Outcome.{Outcome}
 use Rattle.bor_wire.specs.declared.outcome.Outcome.TheVariants.{Replied, ReadFailed, WriteFailed}
 use Rattle.bor_wire.specs.Inputs.{IsReplyTo, after}
-use Rattle.bor_wire.specs.Runs.{AreReplies, AreSpelled, register_left}
-use Rattle.bor_wire.specs.Exchanges.{IsReplied, IsExchanged}
-use Rattle.bor_wire.specs.Sequences.{Exchanged, AreExchanged, AreWritten, ExchangesAreARun, IsWrittenBy, answered, is_answered, keep_left}
+use Rattle.bor_wire.specs.Runs.{AreReplies, register_left}
+use Rattle.bor_wire.specs.Exchanges.{IsReplied, IsExchanged, IsSpelled}
+use Rattle.bor_wire.specs.Sequences.{Exchanged, AreExchanged, AreSpelledBy, AreWritten, ExchangesAreARun, IsWrittenBy, answered, is_answered, keep_left}
 use Rattle.bor_wire.proofs.HistoryLaws.{alone}
 use Rattle.bor_wire.proofs.ReportLaws.{reports}
-use Rattle.bor_wire.proofs.RunLaws.{after_legal}
+use Rattle.bor_wire.proofs.RunLaws.{after_legal, left_legal}
 
 -- ---- one exchange
 
 -- its reply was written, and the register after it is shown
-abbrev Replies : (Register → Type 0) → Register → List ℕ → (List ℕ → Type 0) → Type 0
-Replies shown r input written = (s : Spelled) × Spells input s × (bytes : List ℕ) × IsReplyTo r s bytes × written bytes × shown (after r s)
+abbrev Replies : (Register → Type 0) → Register → Option (List ℕ) → (List ℕ → Type 0) → Type 0
+Replies shown r known written = (s : Spelled) × IsSpelled known s × (bytes : List ℕ) × IsReplyTo r s bytes × written bytes × shown (after r s)
 
 -- one of the two
-abbrev Either : Outcome → (Register → Type 0) → Register → List ℕ → (List ℕ → Type 0) → Type 0
-Either o shown r input written = ((is_answered o ≡ true) × Replies shown r input written) ⊎ ((is_answered o ≡ false) × shown r)
+abbrev Either : Outcome → (Register → Type 0) → Register → Option (List ℕ) → (List ℕ → Type 0) → Type 0
+Either o shown r known written = ((is_answered o ≡ true) × Replies shown r known written) ⊎ ((is_answered o ≡ false) × shown r)
 
-by_status : (b : Bool) (status : ℕ) (shown : Register → Type 0) (r : Register) (input : List ℕ) (written : List ℕ → Type 0) → (status == 503) ≡ b → IsReplied shown r (Some input) status written
-    → ((not (status == 503) ≡ true) × Replies shown r input written) ⊎ ((not (status == 503) ≡ false) × shown r)
-by_status true status shown r input written is h = inr (ap not is, (h.unavailable (eqb-true status 503 is)).0)
-by_status false status shown r input written is h =
+by_status : (b : Bool) (status : ℕ) (shown : Register → Type 0) (r : Register) (known : Option (List ℕ)) (written : List ℕ → Type 0) → (status == 503) ≡ b → IsReplied shown r known status written
+    → ((not (status == 503) ≡ true) × Replies shown r known written) ⊎ ((not (status == 503) ≡ false) × shown r)
+by_status true status shown r known written is h = inr (ap not is, (h.unavailable (eqb-true status 503 is)).0)
+by_status false status shown r known written is h =
     let full = h.full (eqb-false status 503 is) in
     inl (ap not is, (full.0, full.1, full.2, (full.3.0, full.3.1, full.3.2), full.4, full.3.4))
 
-by_outcome : (o : Outcome) (shown : Register → Type 0) (r : Register) (input : List ℕ) (held holds : Option (List ℕ)) → IsExchanged o shown r (Some input) held holds → Either o shown r input (IsWrittenBy o held holds)
-by_outcome (Replied status) shown r input held holds h = by_status (status == 503) status shown r input (λ bytes. Appends held holds bytes) refl h
-by_outcome ReadFailed shown r input held holds h = inr (refl, h.0)
-by_outcome (WriteFailed status) shown r input held holds h = by_status (status == 503) status shown r input (λ bytes. (n : ℕ) × Appends held holds (take n bytes)) refl h
+by_outcome : (o : Outcome) (shown : Register → Type 0) (r : Register) (known held holds : Option (List ℕ)) → IsExchanged o shown r known held holds → Either o shown r known (IsWrittenBy o held holds)
+by_outcome (Replied status) shown r known held holds h = by_status (status == 503) status shown r known (λ bytes. Appends held holds bytes) refl h
+by_outcome ReadFailed shown r known held holds h = inr (refl, h.0)
+by_outcome (WriteFailed status) shown r known held holds h = by_status (status == 503) status shown r known (λ bytes. (n : ℕ) × Appends held holds (take n bytes)) refl h
 
 -- ---- the sequence
 
 -- a run, but for what follows from its replies
 record IsServed {K : Type 0} (shown : Register → Type 0) (r : Register) (exchanges : List (Exchanged K)) : Type 0 where
   spelled : List Spelled
-  spells : AreSpelled (map (λ e. e.input) (answered exchanges)) spelled
+  spells : AreSpelledBy (answered exchanges) spelled
   sent : List (List ℕ)
   written : AreWritten (answered exchanges) sent
   replies : AreReplies r spelled sent
@@ -57,13 +57,13 @@ dropped : {K : Type 0} (b : Bool) (e : Exchanged K) (rest : List (Exchanged K)) 
 dropped true e rest is = absurd cc
 dropped false e rest is = refl
 
-more : {K : Type 0} (shown : Register → Type 0) (r : Register) (e : Exchanged K) (rest : List (Exchanged K)) (s : Spelled) (bytes : List ℕ) → is_answered e.outcome ≡ true → Spells e.input s
+more : {K : Type 0} (shown : Register → Type 0) (r : Register) (e : Exchanged K) (rest : List (Exchanged K)) (s : Spelled) (bytes : List ℕ) → is_answered e.outcome ≡ true → IsSpelled e.known s
     → IsReplyTo r s bytes → IsWrittenBy e.outcome e.held e.holds bytes → IsServed shown (after r s) rest → IsServed shown r (e ∷ rest)
 more shown r e rest s bytes is spells reply written h =
     let first : answered (e ∷ rest) ≡ e ∷ answered rest = kept (is_answered e.outcome) e (answered rest) is in
     record {
       spelled = s ∷ h.spelled;
-      spells = subst (λ es. AreSpelled (map (λ x. x.input) es) (s ∷ h.spelled)) (sym first) (spells, h.spells);
+      spells = subst (λ es. AreSpelledBy es (s ∷ h.spelled)) (sym first) (spells, h.spells);
       sent = bytes ∷ h.sent;
       written = subst (λ es. AreWritten es (bytes ∷ h.sent)) (sym first) (written, h.written);
       replies = (reply, h.replies);
@@ -75,7 +75,7 @@ no_more shown r e rest is h =
     let none : answered (e ∷ rest) ≡ answered rest = dropped (is_answered e.outcome) e (answered rest) is in
     record {
       spelled = h.spelled;
-      spells = subst (λ es. AreSpelled (map (λ x. x.input) es) h.spelled) (sym none) h.spells;
+      spells = subst (λ es. AreSpelledBy es h.spelled) (sym none) h.spells;
       sent = h.sent;
       written = subst (λ es. AreWritten es h.sent) (sym none) h.written;
       replies = h.replies;
@@ -91,7 +91,7 @@ served : {K : Type 0} (shows : K → Register → Type 0) (is_clean : K → Type
     → (r : Register) → shows keep r → is_clean (keep_left keep es) → IsLegal r → IsServed (shows (keep_left keep es)) r es
 served shows is_clean keep [] h r is clean legal = record { spelled = []; spells = tt; sent = []; written = tt; replies = tt; left = is }
 served shows is_clean keep (e ∷ rest) h r is clean legal =
-    elim (by_outcome e.outcome (shows e.keep) r e.input e.held e.holds (h.1 r is (began shows is_clean e.keep rest h.2 clean) legal)) [
+    elim (by_outcome e.outcome (shows e.keep) r e.known e.held e.holds (h.1 r is (began shows is_clean e.keep rest h.2 clean) legal)) [
       | inl y ↦ more (shows (keep_left e.keep rest)) r e rest y.1.0 y.1.2 y.0 y.1.1 y.1.3 y.1.4 (served shows is_clean e.keep rest h.2 (after r y.1.0) y.1.5 clean (after_legal r y.1.0 legal))
       | inr n ↦ no_more (shows (keep_left e.keep rest)) r e rest n.0 (served shows is_clean e.keep rest h.2 r n.1 clean legal)
     ]
@@ -106,6 +106,7 @@ a_run shows is_clean keep es h = λ r is clean legal.
       written = run.written;
       replies = run.replies;
       left = run.left;
+      legal = left_legal r run.spelled legal;
       alone = λ name. alone name r run.spelled run.sent legal run.replies;
       reports = reports r run.spelled run.sent run.replies;
     }

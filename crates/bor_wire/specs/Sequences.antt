@@ -1,5 +1,5 @@
 -- Exchanges one after the other, as a run.
-use Rattle.std.specs.Prelude.{ℕ, List, [], ◌∷◌, map, filter, take, Option, Some, Bool, false, not, ◌==◌}
+use Rattle.std.specs.Prelude.{ℕ, List, [], ◌∷◌, filter, take, Option, Bool, false, not, ◌==◌}
 use Rattle.std.specs.List.{AllZip}
 use Rattle.std.specs.Io.KnownBytes.{Appends}
 use Rattle.bor_records.specs.Promises.{Promised}
@@ -8,14 +8,14 @@ use Rattle.bor_machine.specs.Legality.{IsLegal}
 use Rattle.bor_wire_spell.specs.Spell.{Spelled}
 use Rattle.bor_wire.specs.declared.outcome.Outcome.{Outcome}
 use Rattle.bor_wire.specs.declared.outcome.Outcome.TheVariants.{Replied, ReadFailed, WriteFailed}
-use Rattle.bor_wire.specs.Runs.{AreReplies, AreSpelled, register_left}
+use Rattle.bor_wire.specs.Runs.{AreReplies, register_left}
 use Rattle.bor_wire.specs.Histories.{IsAlone}
 use Rattle.bor_wire.specs.Reports.{AreReports}
-use Rattle.bor_wire.specs.Exchanges.{IsExchanged}
+use Rattle.bor_wire.specs.Exchanges.{IsExchanged, IsSpelled}
 
--- One exchange of a sequence: the bytes that its reader gave, how it ended, what its writer held before it and after it, and the keep that it left.
+-- One exchange of a sequence: the bytes that its reader had, how it ended, what its writer held before it and after it, and the keep that it left. Bytes that a reader or a writer doesn't tell, as a socket doesn't, aren't known.
 pub record Exchanged (K : Type 0) : Type 0 where
-  pub input : List ℕ
+  pub known : Option (List ℕ)
   pub outcome : Outcome
   pub held : Option (List ℕ)
   pub holds : Option (List ℕ)
@@ -31,7 +31,7 @@ abbrev pub AreExchanged : {K : Type 0} → (K → Register → Type 0) → (K �
 AreExchanged shows is_clean keep [] = Unit {0}
 AreExchanged shows is_clean keep (e ∷ rest) =
     (is_clean e.keep → is_clean keep)
-    × Promised shows is_clean keep e.keep (λ r. IsLegal r → IsExchanged e.outcome (shows e.keep) r (Some e.input) e.held e.holds)
+    × Promised shows is_clean keep e.keep (λ r. IsLegal r → IsExchanged e.outcome (shows e.keep) r e.known e.held e.holds)
     × AreExchanged shows is_clean e.keep rest
 
 -- whether the request was answered: the reader didn't fail, and the reply isn't 503
@@ -43,6 +43,10 @@ is_answered (WriteFailed status) = not (status == 503)
 abbrev pub answered : {K : Type 0} → List (Exchanged K) → List (Exchanged K)
 answered exchanges = filter (λ e. is_answered e.outcome) exchanges
 
+-- each input spells this, where it is known
+abbrev pub AreSpelledBy : {K : Type 0} → List (Exchanged K) → List Spelled → Type 0
+AreSpelledBy exchanges spelled = AllZip (λ e s. IsSpelled e.known s) exchanges spelled
+
 -- the reply was written, or a front of it where the writer failed
 abbrev pub IsWrittenBy : Outcome → Option (List ℕ) → Option (List ℕ) → List ℕ → Type 0
 IsWrittenBy (Replied status) held holds bytes = Appends held holds bytes
@@ -52,14 +56,15 @@ IsWrittenBy (WriteFailed status) held holds bytes = (n : ℕ) × Appends held ho
 abbrev pub AreWritten : {K : Type 0} → List (Exchanged K) → List (List ℕ) → Type 0
 AreWritten exchanges replies = AllZip (λ e bytes. IsWrittenBy e.outcome e.held e.holds bytes) exchanges replies
 
--- What `replay` says of a list of inputs, of the exchanges that were answered.
+-- What `replay` says of a list of inputs, of the exchanges that were answered; the register that they leave is legal.
 pub record IsRun {K : Type 0} (shown : Register → Type 0) (r : Register) (exchanges : List (Exchanged K)) : Type 0 where
   pub spelled : List Spelled
-  pub spells : AreSpelled (map (λ e. e.input) (answered exchanges)) spelled
+  pub spells : AreSpelledBy (answered exchanges) spelled
   pub sent : List (List ℕ)
   pub written : AreWritten (answered exchanges) sent
   pub replies : AreReplies r spelled sent
   pub left : shown (register_left r spelled)
+  pub legal : IsLegal (register_left r spelled)
   pub alone : (name : List ℕ) → IsAlone name r spelled sent
   pub reports : AreReports r spelled sent
 
