@@ -1,8 +1,8 @@
 //! The routes: which paths there are, and what each asks for by which method.
 //!
 //! ```
-//! let path = find_path(alloc, "/filings/f1")?;
-//! assert_eq!(rt; path, Some(Path::Filing));
+//! let paths = Paths::new(alloc)?;
+//! assert_eq!(rt; paths.find("/filings/f1"), Some(Path::Filing));
 //! assert_eq!(rt; route_at(Path::Filing, b"PUT"), Some(Route::Lodge));
 //! assert_eq!(rt; route_at(Path::Filing, b"GET"), None);
 //! assert_eq!(rt; allow_of(Path::Filing), "DELETE, PUT");
@@ -17,5 +17,5 @@ mod route;
 #[cfg(test)]
 mod tests;
 
-pub use path::find_path;
+pub use path::Paths;
 pub use route::{Route, allow_of, route_at};

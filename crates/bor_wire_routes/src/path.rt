@@ -1,4 +1,4 @@
-//! The path that a text is.
+//! The paths that there are, and which of them a text is.
 ghost use Rattle.std.specs.Prelude.{◌≡◌, ◌↔◌, Some, IfOk};
 ghost use Rattle.bor_wire_read.specs.declared.fault.Path.{Path};
 ghost use Rattle.bor_wire_routes.specs.Paths.{IsPath, path_in, path_of, router};
@@ -33,15 +33,30 @@ fn matched(router: &Router<Path>, text: &str) -> Option<Path>
     }
 }
 
-/// The path that a text is, if it is one. The text is what stands before a target's first `?`.
-#[tactic(auto, unfolding(crate::specs::Paths::path_of))]
-pub fn find_path(alloc: Global, text: &str) -> Result<Option<Path>, AllocError>
-    ensures value { IfOk result (λ found. found ≡ path_of text.now) }
-    // Of each path: it is found exactly where the text is the path as it is written.
-    ensures written { IfOk result (λ found. (path : Path) → (found ≡ Some path) ↔ IsPath path text.now) }
-{
-    let Ok(router) = router_of_paths(alloc) else {
-        return Err(AllocError);
-    };
-    Ok(matched(&router, text))
+/// The paths that there are. They are made once and asked for any number of texts.
+#[derive(Drop)]
+pub struct Paths {
+    kept: Router<Path>,
+    ghost all: { kept ≡ router },
+}
+
+impl Paths {
+    /// All paths. It fails where memory is wanting.
+    pub fn new(alloc: Global) -> Result<Paths, AllocError> {
+        match router_of_paths(alloc) {
+            Ok(kept) => Ok(Paths { kept }),
+            Err(_) => Err(AllocError),
+        }
+    }
+
+    /// The path that a text is, if it is one. The text is what stands before a target's first `?`. No
+    /// memory is taken.
+    #[tactic(auto, unfolding(crate::specs::Paths::path_of))]
+    pub fn find(&self, text: &str) -> Option<Path>
+        ensures value { result ≡ path_of text.now }
+        // Of each path: it is found exactly where the text is the path as it is written.
+        ensures written { (path : Path) → (result ≡ Some path) ↔ IsPath path text.now }
+    {
+        matched(&self.kept, text)
+    }
 }

@@ -1,14 +1,14 @@
 //! What no clause says: that calls succeed where memory is left, and the routes of the published table,
 //! with the methods of each path.
 
-use crate::{Route, allow_of, find_path, route_at};
+use crate::{Paths, Route, allow_of, route_at};
 use bor_wire_read::Path;
 use std::test::Fail;
 
 #[test]
 fn the_example_of_the_root_page(rt: HostRuntime) -> Result<(), Fail> {
-    let path = find_path(rt.alloc(), "/filings/f1")?;
-    assert_eq!(rt; path, Some(Path::Filing));
+    let paths = Paths::new(rt.alloc())?;
+    assert_eq!(rt; paths.find("/filings/f1"), Some(Path::Filing));
     assert_eq!(rt; route_at(Path::Filing, b"PUT"), Some(Route::Lodge));
     assert_eq!(rt; route_at(Path::Filing, b"GET"), None);
     assert_eq!(rt; allow_of(Path::Filing), "DELETE, PUT");
@@ -17,6 +17,7 @@ fn the_example_of_the_root_page(rt: HostRuntime) -> Result<(), Fail> {
 
 #[test]
 fn each_route_is_found_and_its_method_is_allowed(rt: HostRuntime) -> Result<(), Fail> {
+    let paths = Paths::new(rt.alloc())?;
     for (method, text, route, allow) in [
         ("PUT", "/filings/f1", Route::Lodge, "DELETE, PUT"),
         ("DELETE", "/filings/f1", Route::Withdraw, "DELETE, PUT"),
@@ -28,7 +29,7 @@ fn each_route_is_found_and_its_method_is_allowed(rt: HostRuntime) -> Result<(), 
         ("POST", "/day", Route::Day, "POST"),
         ("POST", "/agents", Route::Enrol, "POST"),
     ] {
-        let path = find_path(rt.alloc(), text)?.ok_or("no path")?;
+        let path = paths.find(text).ok_or("no path")?;
         assert_eq!(rt; route_at(path, method.as_bytes()), Some(route));
         assert_eq!(rt; route_at(path, b"HEAD"), None);
         assert_eq!(rt; allow_of(path), allow);
@@ -38,6 +39,7 @@ fn each_route_is_found_and_its_method_is_allowed(rt: HostRuntime) -> Result<(), 
 
 #[test]
 fn other_texts_are_no_paths(rt: HostRuntime) -> Result<(), Fail> {
+    let paths = Paths::new(rt.alloc())?;
     for text in [
         "",
         "/",
@@ -50,7 +52,7 @@ fn other_texts_are_no_paths(rt: HostRuntime) -> Result<(), Fail> {
         "/filin%67s",
         "//day",
     ] {
-        assert_eq!(rt; find_path(rt.alloc(), text)?, None);
+        assert_eq!(rt; paths.find(text), None);
     }
     Ok(())
 }

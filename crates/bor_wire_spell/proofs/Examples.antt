@@ -14,7 +14,7 @@ use Rattle.bor_wire_read.specs.declared.fault.Name.TheVariants as names
 use Rattle.bor_wire_read.specs.declared.fault.Refusal.{Refusal}
 use Rattle.bor_wire_read.specs.declared.fault.Refusal.TheVariants.{HeadTooLarge, CutShort, BadHead, BadLength, BodyTooLarge, NoPath, WrongMethod, NoToken, BadQuery}
 use Rattle.bor_wire_read.specs.Words.{name_word}
-use Rattle.bor_wire_read.specs.Head.{head_len}
+use Rattle.bor_wire_read.specs.Head.{head_len, head_limit}
 use Rattle.bor_wire_read.specs.Message.{Parts, FieldText}
 use Rattle.bor_wire_routes.proofs.OnLiterals.{routes_on_literals}
 use Rattle.bor_wire_spell.specs.Query.{as_text}
@@ -89,7 +89,7 @@ unfolding speller
 heads_found = refl
 
 -- 16,384 bytes without a head, and one byte less
-no_head_in_many : refusals (many 16384) None ≡ HeadTooLarge ∷ []
+no_head_in_many : refusals (many head_limit) None ≡ HeadTooLarge ∷ []
 unfolding speller
 no_head_in_many = refl
 

@@ -3,6 +3,7 @@ use Rattle.std.proofs.Common.{◌≡◌, ℕ, List, [], ◌∷◌, Option, Some,
 use Rattle.std.specs.Prelude.{unwrap_or, option_and_then, pos}
 use Rattle.std.specs.Option.{is_none}
 use Rattle.bods_read.specs.Outcome.{table, outcome}
+use Rattle.bor_links.specs.declared.node.Node.{Node}
 use Rattle.bor_desk.specs.declared.request.Request.{Request}
 use Rattle.bor_desk.specs.declared.request.Request.TheVariants as ask
 use Rattle.bor_desk.specs.Runs.{Asked}
@@ -18,7 +19,7 @@ use Rattle.bor_wire_routes.specs.Routes.{route_at}
 use Rattle.bor_wire_spell.specs.Parts as part
 use Rattle.bor_wire_spell.specs.Refusals.{refuse, asks, lines_of_method, lines_of_names, lines_of_message}
 use Rattle.bor_wire_spell.specs.Spell.{request_of, asked, spell}
-use Rattle.bor_wire_spell.specs.Steps.{or_refuse, named, request_by_steps, spell_by_steps}
+use Rattle.bor_wire_spell.specs.Steps.{or_refuse, named, node_by_steps, request_by_steps, spell_by_steps}
 
 abbrev asking : List ℕ → Request → Asked
 asking token request = record { token = token; request = request }
@@ -45,18 +46,22 @@ three_names n m k (Some a) None c any other third f = refl
 three_names n m k (Some a) (Some b) None any other third f = refl
 three_names n m k (Some a) (Some b) (Some c) any other third f = refl
 
-four_names : {A B C D X : Type 0} (n m k l : Name) (a : Option A) (b : Option B) (c : Option C) (d : Option D)
-    (any : A) (other : B) (third : C) (fourth : D) (f : A → B → C → D → X)
-    → (named n a >>= λ x. named m b >>= λ y. named k c >>= λ z. named l d >>= λ w. Ok (f x y z w))
-    ≡ outcome (table (asks n a ∷ asks m b ∷ asks k c ∷ asks l d ∷ [])) (f (unwrap_or a any) (unwrap_or b other) (unwrap_or c third) (unwrap_or d fourth))
-four_names n m k l None b c d any other third fourth f = refl
-four_names n m k l (Some a) None c d any other third fourth f = refl
-four_names n m k l (Some a) (Some b) None d any other third fourth f = refl
-four_names n m k l (Some a) (Some b) (Some c) None any other third fourth f = refl
-four_names n m k l (Some a) (Some b) (Some c) (Some d) any other third fourth f = refl
+-- three names that make one value, and a fourth
+four_names : {A B C D Y X : Type 0} (n m k l : Name) (a : Option A) (b : Option B) (c : Option C) (d : Option D)
+    (any : A) (other : B) (third : C) (fourth : D) (g : A → B → C → Y) (f : Y → D → X)
+    → ((named n a >>= λ x. named m b >>= λ y. named k c >>= λ z. Ok (g x y z)) >>= λ v. named l d >>= λ w. Ok (f v w))
+    ≡ outcome (table (asks n a ∷ asks m b ∷ asks k c ∷ asks l d ∷ [])) (f (g (unwrap_or a any) (unwrap_or b other) (unwrap_or c third)) (unwrap_or d fourth))
+four_names n m k l None b c d any other third fourth g f = refl
+four_names n m k l (Some a) None c d any other third fourth g f = refl
+four_names n m k l (Some a) (Some b) None d any other third fourth g f = refl
+four_names n m k l (Some a) (Some b) (Some c) None any other third fourth g f = refl
+four_names n m k l (Some a) (Some b) (Some c) (Some d) any other third fourth g f = refl
+
+abbrev node : List ℕ → List ℕ → List ℕ → Node
+node agent declaration rec = record { agent = agent; declaration = declaration; rec = rec }
 
 request_stepwise : (r : Route) (m : Message) → request_by_steps r m ≡ outcome (lines_of_names (Some r) m) (request_of (Some r) m)
-unfolding request_by_steps
+unfolding request_by_steps node_by_steps
 request_stepwise routes.Lodge m = two_names names.Key names.Due (part.key m) (part.due m) [] (pos 0) (λ key due. ask.Lodge key due m.body)
 request_stepwise routes.Withdraw m = one_name names.Key (part.key m) [] (λ key. ask.Withdraw key)
 request_stepwise routes.Filings m = refl
@@ -67,7 +72,7 @@ request_stepwise routes.Snapshot m =
     (λ agent declaration date. ask.Snapshot agent declaration date)
 request_stepwise routes.Chains m =
     four_names names.Agent names.Declaration names.Record names.Date (part.agent m) (part.declaration m) (part.rec m) (part.date_or_none m) [] [] [] None
-    (λ agent declaration rec date. ask.Chains (record { agent = agent; declaration = declaration; rec = rec }) date)
+    node (λ node date. ask.Chains node date)
 request_stepwise routes.Day m = one_name names.Date (part.date m) (pos 0) (λ date. ask.Day date)
 request_stepwise routes.Enrol m =
     two_names names.Name names.Token (part.new_name m) (part.new_token m) [] [] (λ name token. ask.Enrol name token)

@@ -1,5 +1,7 @@
 -- What a message spells, one part looked at after the other: each refuses, or the next is looked at.
-use Rattle.std.specs.Prelude.{◌≡◌, Option, Some, None, Result, Ok, Err, ⊤}
+use Rattle.std.specs.Prelude.{◌≡◌, List, Option, Some, None, Result, Ok, Err, ⊤}
+use Rattle.bor_terms.specs.Texts.{is_agent_name, is_ident}
+use Rattle.bor_links.specs.declared.node.Node.{Node}
 use Rattle.bor_desk.specs.declared.request.Request.{Request}
 use Rattle.bor_desk.specs.declared.request.Request.TheVariants as ask
 use Rattle.bor_wire_read.specs.declared.fault.Name.{Name}
@@ -13,6 +15,7 @@ use Rattle.bor_wire_routes.specs.declared.route.Route.{Route}
 use Rattle.bor_wire_routes.specs.declared.route.Route.TheVariants as routes
 use Rattle.bor_wire_routes.specs.Routes.{route_at}
 use Rattle.bor_wire_spell.specs.Parts as part
+use Rattle.bor_wire_spell.specs.Query.{TextPair}
 use Rattle.bor_wire_spell.specs.Spell.{Spelled}
 
 -- a fault that is told is the refusal that is stated, or want of memory; nothing was read
@@ -35,6 +38,14 @@ or_refuse why (Some x) = Ok x
 abbrev pub named : {A : Type 0} → Name → Option A → Result A Refusal
 named name value = or_refuse (BadQuery name) value
 
+-- the record that the pairs of a query name
+unfoldable pub node_by_steps : List TextPair → Result Node Refusal
+node_by_steps pairs = do
+  agent ← named names.Agent (part.once (part.fitting is_agent_name) names.Agent pairs)
+  declaration ← named names.Declaration (part.once (part.fitting is_ident) names.Declaration pairs)
+  rec ← named names.Record (part.once (part.fitting is_ident) names.Record pairs)
+  Ok (record { agent = agent; declaration = declaration; rec = rec })
+
 unfoldable pub request_by_steps : Route → Message → Result Request Refusal
 request_by_steps routes.Lodge m = do
   key ← named names.Key (part.key m)
@@ -54,11 +65,9 @@ request_by_steps routes.Snapshot m = do
   date ← named names.Date (part.date_or_none m)
   Ok (ask.Snapshot agent declaration date)
 request_by_steps routes.Chains m = do
-  agent ← named names.Agent (part.agent m)
-  declaration ← named names.Declaration (part.declaration m)
-  rec ← named names.Record (part.rec m)
+  node ← node_by_steps (part.query m)
   date ← named names.Date (part.date_or_none m)
-  Ok (ask.Chains (record { agent = agent; declaration = declaration; rec = rec }) date)
+  Ok (ask.Chains node date)
 request_by_steps routes.Day m = do
   date ← named names.Date (part.date m)
   Ok (ask.Day date)

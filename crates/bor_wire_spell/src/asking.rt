@@ -1,16 +1,17 @@
 //! The request of a message, and the token of whoever asks.
 ghost use Rattle.bor_wire_spell.specs.Spell.{asked_view, spell};
-ghost use Rattle.bor_wire_spell.specs.Steps.{Finds, request_by_steps};
+ghost use Rattle.bor_wire_spell.specs.Query.{pair_texts};
+ghost use Rattle.bor_wire_spell.specs.Steps.{Finds, node_by_steps, request_by_steps};
 
 use crate::name::{agent_named, day_if_named, day_named, ident_named};
-use crate::query::query_pairs;
+use crate::query::{QueryPair, query_pairs};
 use crate::target::{key_at, path_at, split_at_first};
 use crate::token::{new_token, token_at};
 use bor_chains::Node;
 use bor_desk::Request;
 use bor_terms::{Listed, Token};
 use bor_wire_read::{Name, RawRequest, Refusal, WireFault};
-use bor_wire_routes::{Route, route_at};
+use bor_wire_routes::{Paths, Route, route_at};
 use std::alloc::Global;
 
 /// A request, and the token of whoever asks.
@@ -20,6 +21,18 @@ pub struct Asking {
     pub token: Token,
     /// What is asked for.
     pub request: Request,
+}
+
+/// The record that a query names.
+#[tactic(auto, unfolding(crate::specs::Steps::node_by_steps))]
+fn node_named(alloc: Global, pairs: &[QueryPair]) -> Result<Node, WireFault>
+    ensures { Finds (λ node. node) result (node_by_steps (pair_texts pairs.now)) }
+{
+    Ok(Node {
+        agent: agent_named(alloc, pairs, Name::Agent)?,
+        declaration: ident_named(alloc, pairs, Name::Declaration)?,
+        rec: ident_named(alloc, pairs, Name::Record)?,
+    })
 }
 
 /// The request that a route asks for, from the path, the query and the body.
@@ -48,17 +61,10 @@ fn request_for(alloc: Global, route: Route, raw: &RawRequest) -> Result<Request,
             declaration: ident_named(alloc, &pairs, Name::Declaration)?,
             date: day_if_named(&pairs, Name::Date)?,
         }),
-        Route::Chains => {
-            let entity = Node {
-                agent: agent_named(alloc, &pairs, Name::Agent)?,
-                declaration: ident_named(alloc, &pairs, Name::Declaration)?,
-                rec: ident_named(alloc, &pairs, Name::Record)?,
-            };
-            Ok(Request::Chains {
-                entity,
-                date: day_if_named(&pairs, Name::Date)?,
-            })
-        }
+        Route::Chains => Ok(Request::Chains {
+            entity: node_named(alloc, &pairs)?,
+            date: day_if_named(&pairs, Name::Date)?,
+        }),
         Route::Day => Ok(Request::Day {
             date: day_named(&pairs, Name::Date)?,
         }),
@@ -72,12 +78,19 @@ fn request_for(alloc: Global, route: Route, raw: &RawRequest) -> Result<Request,
 /// What a message spells: the request and the token of whoever asks, or the first refusal of those
 /// that are about a path, a method, a token and names. Want of memory is answered where it is met;
 /// the reader is not asked, so [`WireFault::Read`] is never answered.
-#[tactic(auto, using(crate::proofs::Stepwise::stepwise), unfolding(crate::specs::Steps::spell_by_steps))]
 pub fn parse(alloc: Global, raw: &RawRequest) -> Result<Asking, WireFault>
     ensures { Finds asked_view result (spell raw.now) }
 {
+    parse_by(alloc, &Paths::new(alloc)?, raw)
+}
+
+/// The same by paths that were made before, for whoever has many requests.
+#[tactic(auto, using(crate::proofs::Stepwise::stepwise), unfolding(crate::specs::Steps::spell_by_steps))]
+pub fn parse_by(alloc: Global, paths: &Paths, raw: &RawRequest) -> Result<Asking, WireFault>
+    ensures { Finds asked_view result (spell raw.now) }
+{
     let (path, _) = split_at_first(raw.target(), b'?');
-    let path = path_at(alloc, path)?;
+    let path = path_at(paths, path)?;
     let Some(route) = route_at(path, raw.method()) else {
         return Err(WireFault::Refused(Refusal::WrongMethod(path)));
     };

@@ -19,7 +19,8 @@ mod query;
 mod target;
 mod token;
 
-pub use asking::{Asking, parse};
+pub use asking::{Asking, parse, parse_by};
+pub use bor_wire_routes::Paths;
 
 #[cfg(test)]
 mod tests;

@@ -8,7 +8,7 @@ ghost use Rattle.bor_wire_spell.specs.Steps.{Finds, or_refuse, named};
 
 use bor_terms::LodgeKey;
 use bor_wire_read::{Name, Path, Refusal, WireFault};
-use bor_wire_routes::find_path;
+use bor_wire_routes::Paths;
 use std::alloc::Global;
 
 /// The bytes before the first one that is this, and those behind it.
@@ -23,13 +23,13 @@ pub(crate) fn split_at_first(bytes: &[u8], byte: u8) -> (&[u8], &[u8])
 }
 
 /// The path that bytes are.
-pub(crate) fn path_at(alloc: Global, text: &[u8]) -> Result<Path, WireFault>
+pub(crate) fn path_at(paths: &Paths, text: &[u8]) -> Result<Path, WireFault>
     ensures { Finds (λ path. path) result (or_refuse NoPath (path_in text.now)) }
 {
     let Ok(text) = str::from_utf8(text) else {
         return Err(WireFault::Refused(Refusal::NoPath));
     };
-    match find_path(alloc, text)? {
+    match paths.find(text) {
         Some(path) => Ok(path),
         None => Err(WireFault::Refused(Refusal::NoPath)),
     }

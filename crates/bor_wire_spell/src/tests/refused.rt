@@ -2,6 +2,7 @@
 
 use super::*;
 use bor_wire_read::{Name, Path};
+use std::process::Abort;
 
 const ALDER: &str = "Authorization: Bearer alder-token-000001\r\n";
 
@@ -70,6 +71,11 @@ fn inputs_are_refused(rt: HostRuntime) -> Result<(), Fail> {
     ] {
         assert_eq!(rt; refusal(rt.alloc(), input.as_bytes()), Some(why), "{input}");
     }
+    Ok(())
+}
+
+#[test]
+fn a_head_ends_within_16384_bytes(rt: HostRuntime) -> Result<(), Fail> {
     let alloc = rt.alloc();
     let long = "a".repeat(alloc, 16_384)?;
     assert_eq!(rt;
@@ -102,37 +108,47 @@ fn a_head_has_at_most_66_line_feeds(rt: HostRuntime) -> Result<(), Fail> {
     Ok(())
 }
 
+// The request of alder with this body is refused for this name.
+fn is_bad(rt: &impl Abort, alloc: Global, line: &str, body: &str, name: Name) -> Result<(), Fail> {
+    let input = request(alloc, line, ALDER, body)?;
+    let why = refusal(alloc, input.as_bytes());
+    assert_eq!(rt; why, Some(Refusal::BadQuery(name)), "{line}");
+    Ok(())
+}
+
 #[test]
 fn the_first_name_that_is_bad_is_told(rt: HostRuntime) -> Result<(), Fail> {
-    for (line, body, name) in [
-        ("PUT /filings/a+b?due=x", "", Name::Key),
-        ("DELETE /filings/a,b", "", Name::Key),
-        ("GET /filings/a%20b/file", "", Name::Key),
-        ("GET /snapshot?declaration=&date=x", "", Name::Agent),
-        ("GET /snapshot?agent=alder&date=x", "", Name::Declaration),
+    for (line, name) in [
+        ("PUT /filings/a+b?due=x", Name::Key),
+        ("DELETE /filings/a,b", Name::Key),
+        ("GET /filings/a%20b/file", Name::Key),
+        ("GET /snapshot?declaration=&date=x", Name::Agent),
+        ("GET /snapshot?agent=alder&date=x", Name::Declaration),
         (
             "GET /snapshot?agent=alder&declaration=c1&date=x",
-            "",
             Name::Date,
         ),
-        (
-            "GET /snapshot?agent=alder&declaration=c1&date=",
-            "",
-            Name::Date,
-        ),
+        ("GET /snapshot?agent=alder&declaration=c1&date=", Name::Date),
         (
             "GET /chains?declaration=c1&record=e1&agent=Alder",
-            "",
             Name::Agent,
         ),
         (
             "GET /chains?agent=alder&record=e1&declaration=%01",
-            "",
             Name::Declaration,
         ),
-        ("GET /chains?agent=alder&declaration=c1", "", Name::Record),
-        ("POST /day", "", Name::Date),
-        ("POST /day?date=2024-02-01&date=2024-02-01", "", Name::Date),
+        ("GET /chains?agent=alder&declaration=c1", Name::Record),
+        ("POST /day", Name::Date),
+        ("POST /day?date=2024-02-01&date=2024-02-01", Name::Date),
+    ] {
+        is_bad(&rt, rt.alloc(), line, "", name)?;
+    }
+    Ok(())
+}
+
+#[test]
+fn a_new_agent_has_a_name_and_the_body_as_its_token(rt: HostRuntime) -> Result<(), Fail> {
+    for (line, body, name) in [
         ("POST /agents?name=Cedar", "short", Name::Name),
         ("POST /agents?name=cedar", "", Name::Token),
         (
@@ -146,9 +162,7 @@ fn the_first_name_that_is_bad_is_told(rt: HostRuntime) -> Result<(), Fail> {
             Name::Token,
         ),
     ] {
-        let input = request(rt.alloc(), line, ALDER, body)?;
-        let why = refusal(rt.alloc(), input.as_bytes());
-        assert_eq!(rt; why, Some(Refusal::BadQuery(name)), "{line}");
+        is_bad(&rt, rt.alloc(), line, body, name)?;
     }
     Ok(())
 }

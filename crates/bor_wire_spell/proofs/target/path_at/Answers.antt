@@ -11,9 +11,9 @@ returns-in_default c = ap (or_refuse NoPath) (path_in-other c.args.text.now c.in
 pub returns-in-Some : goal.returns-in-Some
 returns-in-Some c =
     let text = c.in-Ok.ensures.cases in
-    ap (or_refuse NoPath) (path_in-text c.args.text.now text.1 ∙ ap path_of (sym text.0) ∙ sym c.in_ok-path.ensures.value ∙ c.in-Some.is)
+    ap (or_refuse NoPath) (path_in-text c.args.text.now text.1 ∙ ap path_of (sym text.0) ∙ sym c.find.ensures.value ∙ c.in-Some.is)
 
 pub returns-in-None : goal.returns-in-None
 returns-in-None c =
     let text = c.in-Ok.ensures.cases in
-    ap (or_refuse NoPath) (path_in-text c.args.text.now text.1 ∙ ap path_of (sym text.0) ∙ sym c.in_ok-path.ensures.value ∙ c.in-None.is)
+    ap (or_refuse NoPath) (path_in-text c.args.text.now text.1 ∙ ap path_of (sym text.0) ∙ sym c.find.ensures.value ∙ c.in-None.is)

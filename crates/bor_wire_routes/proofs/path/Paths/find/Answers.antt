@@ -1,7 +1,7 @@
 use Rattle.std.proofs.Common.{rules}
 use Rattle.bor_wire_routes.specs.Paths.{path_of}
 use Rattle.bor_wire_routes.proofs.AsWritten.{written}
-use Rattle.bor_wire_routes.proofs.path.find_path.Goals as goal
+use Rattle.bor_wire_routes.proofs.path.Paths.find.Goals as goal
 
 pub returns-clause-written : goal.returns-clause-written
 unfolding path_of
