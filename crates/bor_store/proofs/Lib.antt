@@ -2,3 +2,4 @@ pub mod Kept
 pub mod Taken
 pub mod Filing
 pub mod Adopting
+pub mod Undamaged

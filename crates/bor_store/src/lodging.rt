@@ -1,11 +1,12 @@
 //! The next filing of an agent.
 
-ghost use Rattle.std.specs.Prelude.{◌≡◌, ◌+◌, ◌<◌, false, true, length, IfOk, OnErr};
+ghost use Rattle.std.specs.Prelude.{◌≡◌, ◌+◌, ◌<◌, false, true, length, IfOk, IfErr, OnErr};
 ghost use Rattle.sqlite.specs.Held.{state};
 ghost use Rattle.bor_register.specs.Limits.{filings_limit};
 ghost use Rattle.bor_register.specs.Register.{Register, is_enrolled, filings_of};
 ghost use Rattle.bor_store_sql.specs.Shown.{IsClean, ShowsIn};
 ghost use Rattle.bor_store_sql.specs.Changing.{added};
+ghost use Rattle.bor_store_reads.specs.Answering.{Answers, IsNoDamage};
 ghost use Rattle.bor_store.specs.Telling.{IsNextFiling};
 
 use crate::forms::all_formed;
@@ -26,8 +27,8 @@ fn next_number<S: Alter>(
     ensures mode { conn.new.in_transaction ≡ false }
     ensures began { IsClean (state S.Store conn.new) → IsClean (state S.Store conn.old) }
     ensures kept { IsClean (state S.Store conn.new) → (state S.Store conn.new).committed ≡ (state S.Store conn.old).committed }
-    ensures number { IsClean (state S.Store conn.new) → (r : Register) → ShowsIn r (state S.Store conn.old)
-        → IfOk result (λ number. number ≡ length (filings_of agent.now r.members) + 1) }
+    ensures number { Answers (state S.Store conn.old) (state S.Store conn.new) result (λ r number.
+        number ≡ length (filings_of agent.now r.members) + 1) }
 {
     let count = filing_count(conn, alloc, agent)?;
     let Ok(last) = u32::try_from(count) else {
@@ -56,6 +57,7 @@ pub(crate) fn add_next_filing<S: Alter>(
         → is_enrolled agent.now r.members ≡ true → length (filings_of agent.now r.members) < filings_limit
         → IfOk result (λ number. IsNextFiling number (length (filings_of agent.now r.members)) (added agent.now key.now due bytes.now statements.now r) (state S.Store conn.new)) }
     ensures kept { IsClean (state S.Store conn.new) → OnErr result ((state S.Store conn.new).committed ≡ (state S.Store conn.old).committed) }
+    ensures undamaged { IsClean (state S.Store conn.new) → (r : Register) → ShowsIn r (state S.Store conn.old) → IfErr result IsNoDamage }
 {
     let number = next_number(conn, alloc, agent)?;
     all_formed(statements);

@@ -1,10 +1,18 @@
 //! A register in tables.
 
-ghost use Rattle.std.specs.Prelude.{◌≡◌, ⊤, false, Result};
+ghost use Rattle.std.specs.Prelude.{◌≡◌, ⊤, ◌+◌, ◌<◌, ◌++◌, ◌∷◌, [], None, IfOk, IfErr, length, map, option_map, true, false, Result};
 ghost use Rattle.sqlite.specs.Held.{state};
-ghost use Rattle.bor_records.specs.Promises.{counted};
+ghost use Rattle.bor_records.specs.Admission.{last_of};
+ghost use Rattle.bor_records.specs.Promises.{counted, Changes, Promised, Reads, Sure};
+ghost use Rattle.bor_records.specs.Settling.{has_id};
+ghost use Rattle.bor_register.specs.Limits.{filings_limit};
+ghost use Rattle.bor_register.specs.Live.{accepted, live_of, AreNew};
+ghost use Rattle.bor_register.specs.Publication.{published, line_of, filing_shown, has_bytes};
+ghost use Rattle.bor_register.specs.Register.{caller_of, is_enrolled, is_taken, filings_of, with_filings, new_member, with_member, filing_keyed};
+ghost use Rattle.bor_register.specs.Rows.{rows_of, visible};
+ghost use Rattle.bor_register.specs.Withdrawal.{has_successor, with_withdrawn};
 ghost use Rattle.bor_store_sql.specs.Shown.{IsClean, ShowsIn};
-ghost use Rattle.bor_store.specs.Telling.{tells, fails};
+ghost use Rattle.bor_store.specs.Telling.{tells, fails, TellsNoDamage};
 
 use crate::lodging::add_next_filing;
 use bods_read::Statement;
@@ -61,7 +69,7 @@ impl<S: Alter + Drop> SqlKeep<S> {
     }
 }
 
-#[tactic(auto, using(crate::proofs::Kept::still_kept, crate::proofs::Kept::still_shows))]
+#[tactic(auto, using(crate::proofs::Kept::still_kept, crate::proofs::Kept::still_shows, crate::proofs::Undamaged::undamaged_told))]
 impl<S: Alter + Drop> Keep for SqlKeep<S> {
     ghost shows = { λ k r. ShowsIn r (state S.Store k.conn) };
 
@@ -75,31 +83,47 @@ impl<S: Alter + Drop> Keep for SqlKeep<S> {
         self.faults
     }
 
-    fn who(&mut self, token: &Token) -> Result<Option<Caller>, StoreFault> {
+    fn who(&mut self, token: &Token) -> Result<Option<Caller>, StoreFault>
+        ensures reads { let keep = ⟦<SqlKeep<S> as Keep>⟧ in Reads keep.shows keep.is_clean keep.fault_count keep.may_tell self.old self.new result (λ r caller.
+            caller ≡ caller_of token.now r) }
+        ensures undamaged { let keep = ⟦<SqlKeep<S> as Keep>⟧ in Promised keep.shows keep.is_clean self.old self.new (λ r. IfErr result TellsNoDamage) }
+    {
         let answer = read_who(&mut self.conn, self.alloc, token);
         self.told(answer)
     }
 
-    fn has_agent(&mut self, agent: &AgentName) -> Result<bool, StoreFault> {
+    fn has_agent(&mut self, agent: &AgentName) -> Result<bool, StoreFault>
+        ensures reads { let keep = ⟦<SqlKeep<S> as Keep>⟧ in Reads keep.shows keep.is_clean keep.fault_count keep.may_tell self.old self.new result (λ r has.
+            has ≡ is_enrolled agent.now r.members) }
+        ensures undamaged { let keep = ⟦<SqlKeep<S> as Keep>⟧ in Promised keep.shows keep.is_clean self.old self.new (λ r. IfErr result TellsNoDamage) }
+    {
         let answer = has_agent(&mut self.conn, agent);
         self.told(answer)
     }
 
-    fn day(&mut self) -> Result<Day, StoreFault> {
+    fn day(&mut self) -> Result<Day, StoreFault>
+        ensures reads { let keep = ⟦<SqlKeep<S> as Keep>⟧ in Reads keep.shows keep.is_clean keep.fault_count keep.may_tell self.old self.new result (λ r day.
+            day ≡ r.day) }
+        ensures undamaged { let keep = ⟦<SqlKeep<S> as Keep>⟧ in Promised keep.shows keep.is_clean self.old self.new (λ r. IfErr result TellsNoDamage) }
+    {
         let answer = read_day(&mut self.conn, self.alloc);
         self.told(answer)
     }
 
-    fn filing(&mut self, agent: &AgentName, key: &LodgeKey) -> Result<Option<Filing>, StoreFault> {
+    fn filing(&mut self, agent: &AgentName, key: &LodgeKey) -> Result<Option<Filing>, StoreFault>
+        ensures reads { let keep = ⟦<SqlKeep<S> as Keep>⟧ in Reads keep.shows keep.is_clean keep.fault_count keep.may_tell self.old self.new result (λ r filing.
+            filing ≡ option_map filing_shown (filing_keyed key.now (filings_of agent.now r.members))) }
+        ensures undamaged { let keep = ⟦<SqlKeep<S> as Keep>⟧ in Promised keep.shows keep.is_clean self.old self.new (λ r. IfErr result TellsNoDamage) }
+    {
         let answer = read_filing(&mut self.conn, self.alloc, agent, key);
         self.told(answer)
     }
 
-    fn line(
-        &mut self,
-        agent: &AgentName,
-        key: &LodgeKey,
-    ) -> Result<Option<FilingLine>, StoreFault> {
+    fn line(&mut self, agent: &AgentName, key: &LodgeKey) -> Result<Option<FilingLine>, StoreFault>
+        ensures reads { let keep = ⟦<SqlKeep<S> as Keep>⟧ in Reads keep.shows keep.is_clean keep.fault_count keep.may_tell self.old self.new result (λ r line.
+            line ≡ option_map (line_of r.day) (filing_keyed key.now (filings_of agent.now r.members))) }
+        ensures undamaged { let keep = ⟦<SqlKeep<S> as Keep>⟧ in Promised keep.shows keep.is_clean self.old self.new (λ r. IfErr result TellsNoDamage) }
+    {
         let answer = read_line(&mut self.conn, self.alloc, agent, key);
         self.told(answer)
     }
@@ -109,17 +133,29 @@ impl<S: Alter + Drop> Keep for SqlKeep<S> {
         agent: &AgentName,
         key: &LodgeKey,
         bytes: &[u8],
-    ) -> Result<bool, StoreFault> {
+    ) -> Result<bool, StoreFault>
+        ensures reads { let keep = ⟦<SqlKeep<S> as Keep>⟧ in Reads keep.shows keep.is_clean keep.fault_count keep.may_tell self.old self.new result (λ r has.
+            has ≡ has_bytes bytes.now (filing_keyed key.now (filings_of agent.now r.members))) }
+        ensures undamaged { let keep = ⟦<SqlKeep<S> as Keep>⟧ in Promised keep.shows keep.is_clean self.old self.new (λ r. IfErr result TellsNoDamage) }
+    {
         let answer = has_file(&mut self.conn, agent, key, bytes);
         self.told(answer)
     }
 
-    fn filing_count(&mut self, agent: &AgentName) -> Result<usize, StoreFault> {
+    fn filing_count(&mut self, agent: &AgentName) -> Result<usize, StoreFault>
+        ensures reads { let keep = ⟦<SqlKeep<S> as Keep>⟧ in Reads keep.shows keep.is_clean keep.fault_count keep.may_tell self.old self.new result (λ r count.
+            count ≡ length (filings_of agent.now r.members)) }
+        ensures undamaged { let keep = ⟦<SqlKeep<S> as Keep>⟧ in Promised keep.shows keep.is_clean self.old self.new (λ r. IfErr result TellsNoDamage) }
+    {
         let answer = filing_count(&mut self.conn, self.alloc, agent);
         self.told(answer)
     }
 
-    fn filings(&mut self, agent: &AgentName) -> Result<Vec<FilingLine>, StoreFault> {
+    fn filings(&mut self, agent: &AgentName) -> Result<Vec<FilingLine>, StoreFault>
+        ensures reads { let keep = ⟦<SqlKeep<S> as Keep>⟧ in Reads keep.shows keep.is_clean keep.fault_count keep.may_tell self.old self.new result (λ r lines.
+            lines.items ≡ map (line_of r.day) (filings_of agent.now r.members)) }
+        ensures undamaged { let keep = ⟦<SqlKeep<S> as Keep>⟧ in Promised keep.shows keep.is_clean self.old self.new (λ r. IfErr result TellsNoDamage) }
+    {
         let answer = read_filings(&mut self.conn, self.alloc, agent);
         self.told(answer)
     }
@@ -129,17 +165,29 @@ impl<S: Alter + Drop> Keep for SqlKeep<S> {
         agent: &AgentName,
         declaration: &Ident,
         rec: &Ident,
-    ) -> Result<Option<Last>, StoreFault> {
+    ) -> Result<Option<Last>, StoreFault>
+        ensures reads { let keep = ⟦<SqlKeep<S> as Keep>⟧ in Reads keep.shows keep.is_clean keep.fault_count keep.may_tell self.old self.new result (λ r last.
+            last ≡ last_of declaration.now rec.now (live_of (filings_of agent.now r.members))) }
+        ensures undamaged { let keep = ⟦<SqlKeep<S> as Keep>⟧ in Promised keep.shows keep.is_clean self.old self.new (λ r. IfErr result TellsNoDamage) }
+    {
         let answer = read_last(&mut self.conn, self.alloc, agent, declaration, rec);
         self.told(answer)
     }
 
-    fn has_statement(&mut self, agent: &AgentName, id: &Ident) -> Result<bool, StoreFault> {
+    fn has_statement(&mut self, agent: &AgentName, id: &Ident) -> Result<bool, StoreFault>
+        ensures reads { let keep = ⟦<SqlKeep<S> as Keep>⟧ in Reads keep.shows keep.is_clean keep.fault_count keep.may_tell self.old self.new result (λ r has.
+            has ≡ has_id id.now (live_of (filings_of agent.now r.members))) }
+        ensures undamaged { let keep = ⟦<SqlKeep<S> as Keep>⟧ in Promised keep.shows keep.is_clean self.old self.new (λ r. IfErr result TellsNoDamage) }
+    {
         let answer = has_statement(&mut self.conn, agent, id);
         self.told(answer)
     }
 
-    fn has_successor(&mut self, agent: &AgentName, number: u32) -> Result<bool, StoreFault> {
+    fn has_successor(&mut self, agent: &AgentName, number: u32) -> Result<bool, StoreFault>
+        ensures reads { let keep = ⟦<SqlKeep<S> as Keep>⟧ in Reads keep.shows keep.is_clean keep.fault_count keep.may_tell self.old self.new result (λ r has.
+            has ≡ has_successor number (filings_of agent.now r.members)) }
+        ensures undamaged { let keep = ⟦<SqlKeep<S> as Keep>⟧ in Promised keep.shows keep.is_clean self.old self.new (λ r. IfErr result TellsNoDamage) }
+    {
         let answer = has_successor(&mut self.conn, self.alloc, agent, number);
         self.told(answer)
     }
@@ -149,17 +197,29 @@ impl<S: Alter + Drop> Keep for SqlKeep<S> {
         viewer: &AgentName,
         agent: &AgentName,
         declaration: &Ident,
-    ) -> Result<Vec<Row>, StoreFault> {
+    ) -> Result<Vec<Row>, StoreFault>
+        ensures reads { let keep = ⟦<SqlKeep<S> as Keep>⟧ in Reads keep.shows keep.is_clean keep.fault_count keep.may_tell self.old self.new result (λ r rows.
+            rows.items ≡ rows_of viewer.now r.day agent.now declaration.now (filings_of agent.now r.members)) }
+        ensures undamaged { let keep = ⟦<SqlKeep<S> as Keep>⟧ in Promised keep.shows keep.is_clean self.old self.new (λ r. IfErr result TellsNoDamage) }
+    {
         let answer = read_rows_of(&mut self.conn, self.alloc, viewer, agent, declaration);
         self.told(answer)
     }
 
-    fn visible_rows(&mut self, viewer: &AgentName) -> Result<Vec<Row>, StoreFault> {
+    fn visible_rows(&mut self, viewer: &AgentName) -> Result<Vec<Row>, StoreFault>
+        ensures reads { let keep = ⟦<SqlKeep<S> as Keep>⟧ in Reads keep.shows keep.is_clean keep.fault_count keep.may_tell self.old self.new result (λ r rows.
+            rows.items ≡ visible viewer.now r.day r.members) }
+        ensures undamaged { let keep = ⟦<SqlKeep<S> as Keep>⟧ in Promised keep.shows keep.is_clean self.old self.new (λ r. IfErr result TellsNoDamage) }
+    {
         let answer = read_visible(&mut self.conn, self.alloc, viewer);
         self.told(answer)
     }
 
-    fn published(&mut self) -> Result<Vec<Outward>, StoreFault> {
+    fn published(&mut self) -> Result<Vec<Outward>, StoreFault>
+        ensures reads { let keep = ⟦<SqlKeep<S> as Keep>⟧ in Reads keep.shows keep.is_clean keep.fault_count keep.may_tell self.old self.new result (λ r outwards.
+            outwards.items ≡ published r.day r.members) }
+        ensures undamaged { let keep = ⟦<SqlKeep<S> as Keep>⟧ in Promised keep.shows keep.is_clean self.old self.new (λ r. IfErr result TellsNoDamage) }
+    {
         let answer = read_published(&mut self.conn, self.alloc);
         self.told(answer)
     }
@@ -171,7 +231,24 @@ impl<S: Alter + Drop> Keep for SqlKeep<S> {
         due: Day,
         bytes: &[u8],
         statements: &[Statement],
-    ) -> Result<u32, StoreFault> {
+    ) -> Result<u32, StoreFault>
+        requires enrolled { let keep = ⟦<SqlKeep<S> as Keep>⟧ in Sure keep.shows keep.is_clean self.old (λ r. is_enrolled agent.now r.members ≡ true) }
+        requires room { let keep = ⟦<SqlKeep<S> as Keep>⟧ in Sure keep.shows keep.is_clean self.old (λ r.
+            length (filings_of agent.now r.members) < filings_limit) }
+        requires fresh { let keep = ⟦<SqlKeep<S> as Keep>⟧ in Sure keep.shows keep.is_clean self.old (λ r.
+            filing_keyed key.now (filings_of agent.now r.members) ≡ None) }
+        requires statements { let keep = ⟦<SqlKeep<S> as Keep>⟧ in Sure keep.shows keep.is_clean self.old (λ r.
+            AreNew (live_of (filings_of agent.now r.members)) statements.now) }
+        ensures number { let keep = ⟦<SqlKeep<S> as Keep>⟧ in Promised keep.shows keep.is_clean self.old self.new (λ r. IfOk result (λ number.
+            number ≡ length (filings_of agent.now r.members) + 1)) }
+        ensures changes { let keep = ⟦<SqlKeep<S> as Keep>⟧ in Changes keep.shows keep.is_clean keep.fault_count keep.may_tell self.old self.new result (λ r.
+            let own = filings_of agent.now r.members in
+            record r {
+              members = with_filings agent.now
+                  (own ++ accepted own key.now due bytes.now statements.now ∷ []) r.members;
+            }) }
+        ensures undamaged { let keep = ⟦<SqlKeep<S> as Keep>⟧ in Promised keep.shows keep.is_clean self.old self.new (λ r. IfErr result TellsNoDamage) }
+    {
         let made = add_next_filing(
             &mut self.conn,
             self.alloc,
@@ -184,17 +261,35 @@ impl<S: Alter + Drop> Keep for SqlKeep<S> {
         self.told(made)
     }
 
-    fn withdraw(&mut self, agent: &AgentName, number: u32) -> Result<(), StoreFault> {
+    fn withdraw(&mut self, agent: &AgentName, number: u32) -> Result<(), StoreFault>
+        ensures changes { let keep = ⟦<SqlKeep<S> as Keep>⟧ in Changes keep.shows keep.is_clean keep.fault_count keep.may_tell self.old self.new result (λ r. record r {
+          members = with_filings agent.now
+              (with_withdrawn number (filings_of agent.now r.members)) r.members;
+        }) }
+        ensures undamaged { let keep = ⟦<SqlKeep<S> as Keep>⟧ in Promised keep.shows keep.is_clean self.old self.new (λ r. IfErr result TellsNoDamage) }
+    {
         let made = withdraw_filing(&mut self.conn, agent.as_str(), number);
         self.made(made)
     }
 
-    fn set_day(&mut self, day: Day) -> Result<(), StoreFault> {
+    fn set_day(&mut self, day: Day) -> Result<(), StoreFault>
+        ensures changes { let keep = ⟦<SqlKeep<S> as Keep>⟧ in Changes keep.shows keep.is_clean keep.fault_count keep.may_tell self.old self.new result (λ r.
+            record r { day = day }) }
+        ensures undamaged { let keep = ⟦<SqlKeep<S> as Keep>⟧ in Promised keep.shows keep.is_clean self.old self.new (λ r. IfErr result TellsNoDamage) }
+    {
         let made = set_day(&mut self.conn, day);
         self.made(made)
     }
 
-    fn add_agent(&mut self, agent: &AgentName, token: &Token) -> Result<(), StoreFault> {
+    fn add_agent(&mut self, agent: &AgentName, token: &Token) -> Result<(), StoreFault>
+        requires new_name { let keep = ⟦<SqlKeep<S> as Keep>⟧ in Sure keep.shows keep.is_clean self.old (λ r.
+            is_enrolled agent.now r.members ≡ false) }
+        requires new_token { let keep = ⟦<SqlKeep<S> as Keep>⟧ in Sure keep.shows keep.is_clean self.old (λ r. is_taken token.now r ≡ false) }
+        ensures changes { let keep = ⟦<SqlKeep<S> as Keep>⟧ in Changes keep.shows keep.is_clean keep.fault_count keep.may_tell self.old self.new result (λ r. record r {
+          members = with_member (new_member agent.now token.now) r.members;
+        }) }
+        ensures undamaged { let keep = ⟦<SqlKeep<S> as Keep>⟧ in Promised keep.shows keep.is_clean self.old self.new (λ r. IfErr result TellsNoDamage) }
+    {
         let made = add_agent(&mut self.conn, agent, token);
         self.made(made)
     }
