@@ -1,0 +1,78 @@
+-- What words ask for.
+use Rattle.std.specs.Prelude.{◌≡◌, ◌≢◌, ◌⊎◌, List, [], ◌∷◌, Option, Some, None, IsNone, codes, map, option_and_then, option_map, if◌then◌else◌}
+use Rattle.std.specs.Str.{bytes_eq}
+use Rattle.bor_terms.specs.Day.{day_of}
+use Rattle.clap.specs.Words.{IsAmong, Row, Text, fault_of, first_of}
+use Rattle.clap.specs.declared.error.kind.ErrorKind.{ErrorKind}
+use Rattle.clap.specs.declared.error.kind.ErrorKind.TheVariants.{DisplayHelp}
+use Rattle.bor_words.specs.declared.command.Command.{Command}
+use Rattle.bor_words.specs.declared.command.Command.TheVariants as command
+use Rattle.bor_words.specs.declared.exchange.Exchange.{Exchange}
+use Rattle.bor_words.specs.declared.serve.Serve.{Serve}
+use Rattle.bor_words.specs.declared.report.Report.{Report}
+use Rattle.bor_words.specs.declared.source.Source.{Source}
+use Rattle.bor_words.specs.declared.source.Source.TheVariants.{StandardInput, File}
+use Rattle.bor_words.specs.Words.{Entered, bor_app, entered_by, file_at, files_named, found_behind, given}
+use Rattle.bor_words.specs.Values.{connections_of, first_unfit, port_of, values_of}
+
+-- ---- whether they ask for something
+
+-- the words ask for a command: clap finds no fault in them, they don't ask for help, and each value fits
+abbrev pub IsCommand : List Text → Type 0
+IsCommand words = (fault_of bor_app words ≡ []) × (first_unfit (values_of (entered_by words)) ≡ None)
+
+-- the words may be answered by help
+abbrev pub MayAskForHelp : List Text → Type 0
+MayAskForHelp words = IsAmong DisplayHelp (fault_of bor_app words)
+
+-- clap may find a fault in the words that isn't help, or it finds none and a value doesn't fit
+abbrev pub IsWrong : List Text → Type 0
+IsWrong words =
+    ((kind : ErrorKind) × IsAmong kind (fault_of bor_app words) × (kind ≢ DisplayHelp))
+    ⊎ ((word : Text) × (first_unfit (values_of (entered_by words)) ≡ Some word))
+
+-- ---- for what
+
+-- what is read by a check, unless it is standard input
+abbrev pub name_of : Source → Option Text
+name_of StandardInput = None
+name_of (File name) = Some name.now
+
+-- how a failure names it
+abbrev pub source_text : Source → Text
+source_text StandardInput = codes "standard input"
+source_text (File name) = name.now
+
+-- no other command is entered than check
+abbrev pub EntersCheck : Entered → Type 0
+EntersCheck entered = (found_behind (codes "exchange") entered ≡ None) × (found_behind (codes "serve") entered ≡ None)
+    × (found_behind (codes "report") entered ≡ None)
+
+-- what is asked of an exchange
+pub record IsExchange (rows : List Row) (asked : Exchange) : Type 0 where
+  pub db : option_map (λ path. path.now) asked.db ≡ first_of (codes "db") rows
+  pub registrar : asked.registrar ≡ given (codes "registrar") rows
+  pub day : Some asked.day ≡ day_of (given (codes "day") rows)
+  pub files : map (λ file. file.now) asked.files.items ≡ files_named rows
+
+-- what is asked of a server
+pub record IsServe (rows : List Row) (asked : Serve) : Type 0 where
+  pub db : asked.db.now ≡ given (codes "db") rows
+  pub port : Some asked.port ≡ port_of (given (codes "port") rows)
+  pub connections : Some asked.connections ≡ connections_of (given (codes "connections") rows)
+
+-- what is asked of a report
+pub record IsReport (rows : List Row) (asked : Report) : Type 0 where
+  pub db : asked.db.now ≡ given (codes "db") rows
+  pub viewer : asked.viewer ≡ given (codes "viewer") rows
+  pub agent : asked.entity.agent ≡ given (codes "agent") rows
+  pub declaration : asked.entity.declaration ≡ given (codes "declaration") rows
+  pub rec : asked.entity.rec ≡ given (codes "record") rows
+  pub date : asked.date ≡ option_and_then day_of (first_of (codes "date") rows)
+
+-- the command is what is asked for
+abbrev pub IsAsked : Entered → Command → Type 0
+IsAsked entered (command.Check source) = EntersCheck entered × (name_of source ≡ file_at entered)
+IsAsked entered (command.Exchange asked) = (rows : List Row) × (found_behind (codes "exchange") entered ≡ Some rows) × IsExchange rows asked
+IsAsked entered (command.Serve asked) = (rows : List Row) × (found_behind (codes "serve") entered ≡ Some rows) × IsServe rows asked
+IsAsked entered (command.Report asked) = (rows : List Row) × (found_behind (codes "report") entered ≡ Some rows) × IsReport rows asked

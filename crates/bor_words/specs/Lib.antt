@@ -1,0 +1,4 @@
+pub mod Words
+pub mod Values
+pub mod Asked
+pub mod Unread

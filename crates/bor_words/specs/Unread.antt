@@ -1,0 +1,35 @@
+-- Why words ask for no command, as it is answered.
+use Rattle.std.specs.Prelude.{◌≡◌, List, [], Bool, false, Some}
+use Rattle.clap.specs.Words.{HasKind, Text, fault_of, kind_of}
+use Rattle.clap.specs.declared.error.kind.ErrorKind.{ErrorKind}
+use Rattle.clap.specs.declared.error.kind.ErrorKind.TheVariants.{OutOfMemory, ValueValidation}
+use Rattle.bor_words.specs.declared.unread.Unread.{Unread}
+use Rattle.bor_words.specs.declared.unread.Unread.TheVariants as unread
+use Rattle.bor_words.specs.Words.{bor_app, entered_by}
+use Rattle.bor_words.specs.Values.{Value, first_unfit, values_of}
+
+-- what went wrong, or what was asked for
+abbrev pub kind_of_answer : Unread → ErrorKind
+kind_of_answer (unread.Answered error) = kind_of error
+kind_of_answer (unread.Unfit unfit) = ValueValidation
+
+-- memory was wanting
+abbrev pub IsMemory : Unread → Type 0
+IsMemory (unread.Answered error) = kind_of error ≡ OutOfMemory
+IsMemory (unread.Unfit unfit) = ⊥
+
+-- memory was wanting, or the value of this word is the one that doesn't fit
+abbrev pub IsUnfitAt : Text → Bool → Unread → Type 0
+IsUnfitAt word fits (unread.Answered error) = kind_of error ≡ OutOfMemory
+IsUnfitAt word fits (unread.Unfit unfit) = (unfit.word.now ≡ word) × (fits ≡ false)
+
+-- memory was wanting, or the value is the first of these that doesn't fit
+abbrev pub IsUnfitAmong : List Value → Unread → Type 0
+IsUnfitAmong values (unread.Answered error) = kind_of error ≡ OutOfMemory
+IsUnfitAmong values (unread.Unfit unfit) = first_unfit values ≡ Some unfit.word.now
+
+-- memory was wanting, clap finds this fault in the words, or it finds none and this is the first value that doesn't fit
+abbrev pub IsFaultOf : List Text → Unread → Type 0
+IsFaultOf words (unread.Answered error) = HasKind (fault_of bor_app words) error
+IsFaultOf words (unread.Unfit unfit) =
+    (fault_of bor_app words ≡ []) × (first_unfit (values_of (entered_by words)) ≡ Some unfit.word.now)

@@ -1,0 +1,72 @@
+-- The words that the program takes, as clap sees them.
+use Rattle.std.specs.Prelude.{List, [], Option, Some, None, true, codes, option_and_then, unwrap_or, if◌then◌else◌}
+use Rattle.std.specs.Str.{bytes_eq}
+use Rattle.clap.specs.Words.{App, Row, Rule, Text, all_of, first_of, new_app, new_rule, subcommand_of, with_rule, with_subcommand}
+use Rattle.clap.specs.declared.builder.action.ArgAction.TheVariants.{Append}
+
+-- ---- what clap is told
+
+-- `--NAME VALUE`, which may be left out
+abbrev pub option_rule : Text → Rule
+option_rule name = record (new_rule name) { long = Some name; value_names = 1 }
+
+-- `--NAME VALUE`, which has to be there
+abbrev pub required_rule : Text → Rule
+required_rule name = record (option_rule name) { required = true }
+
+-- one file or more
+abbrev pub files_rule : Rule
+files_rule = record (new_rule (codes "FILE")) { action = Some Append; required = true }
+
+abbrev pub check_app : App
+check_app = with_rule (new_app (codes "check")) (new_rule (codes "FILE"))
+
+abbrev pub exchange_app : App
+exchange_app =
+    with_rule (with_rule (with_rule (with_rule (new_app (codes "exchange")) (option_rule (codes "db"))) (required_rule (codes "registrar")))
+    (required_rule (codes "day"))) files_rule
+
+abbrev pub serve_app : App
+serve_app =
+    with_rule (with_rule (with_rule (new_app (codes "serve")) (required_rule (codes "db"))) (required_rule (codes "port")))
+    (required_rule (codes "connections"))
+
+-- whose chains, seen by whom
+abbrev pub report_app : App
+report_app =
+    with_rule (with_rule (with_rule (with_rule (with_rule (with_rule (new_app (codes "report")) (required_rule (codes "db"))) (required_rule (codes "viewer")))
+    (required_rule (codes "agent"))) (required_rule (codes "declaration"))) (required_rule (codes "record"))) (option_rule (codes "date"))
+
+-- the words begin after the program's name
+abbrev pub without_name : App → App
+without_name a = record a { top = record a.top { no_binary_name = true } }
+
+abbrev pub bor_app : App
+bor_app =
+    with_subcommand (with_subcommand (with_subcommand (with_subcommand (without_name (new_app (codes "bor"))) check_app.top) exchange_app.top)
+    serve_app.top) report_app.top
+
+-- ---- what clap finds
+
+-- the command that words enter, by its name, with what is found behind it
+abbrev pub Entered : Type 0
+Entered = Option (Text × List Row)
+
+abbrev pub entered_by : List Text → Entered
+entered_by words = subcommand_of bor_app words
+
+-- what is found behind the command of this name, where it is entered
+abbrev pub found_behind : Text → Entered → Option (List Row)
+found_behind name entered = option_and_then (λ e. if bytes_eq e.0 name then Some e.1 else None) entered
+
+-- what is given for a word; nothing where it is left out
+abbrev pub given : Text → List Row → Text
+given word rows = unwrap_or (first_of word rows) []
+
+-- the files that are named
+abbrev pub files_named : List Row → List Text
+files_named rows = unwrap_or (all_of (codes "FILE") rows) []
+
+-- the file that is named behind check
+abbrev pub file_at : Entered → Option Text
+file_at entered = option_and_then (first_of (codes "FILE")) (found_behind (codes "check") entered)

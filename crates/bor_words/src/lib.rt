@@ -1,0 +1,36 @@
+//! The words of the program's command line: which command they ask for, with each value read as what
+//! it has to be.
+//!
+//! ```
+//! let words = ["report", "--db", "register.db", "--viewer", "alder", "--agent", "alder", "--declaration", "c1", "--record", "e1"];
+//! let Ok(Command::Report(asked)) = Command::read(alloc, &words) else { .. };
+//! assert!(rt; asked.viewer.as_str() == "alder");
+//! assert!(rt; asked.date.is_none());
+//! ```
+//!
+//! Which word is what is clap's; that is computed from the definition of the words in `specs/`, so
+//! that a contract can say what some words ask for. No file is opened here.
+#![tactic(auto)]
+
+mod command;
+mod exchange;
+mod help;
+mod matches;
+mod numbers;
+mod parser;
+mod report;
+mod serve;
+mod source;
+mod unread;
+mod values;
+
+pub use command::Command;
+pub use exchange::Exchange;
+pub use help::HELP;
+pub use report::Report;
+pub use serve::Serve;
+pub use source::Source;
+pub use unread::{Unfit, Unread};
+
+#[cfg(test)]
+mod tests;

@@ -1,0 +1,156 @@
+//! The words that clap is told of.
+
+ghost use Rattle.std.specs.Prelude.{◌≡◌, IfOk, false};
+ghost use Rattle.clap.specs.Words.{app_of, rule_of};
+ghost use Rattle.clap.specs.declared.builder.command.Command.TheViews.{out-Command as fields_of};
+ghost use Rattle.bor_words.specs.Words.{bor_app, check_app, exchange_app, option_rule, report_app, required_rule, serve_app};
+
+use clap::{Arg, ArgAction, Command as Parser};
+use std::alloc::{AllocError, Global};
+
+const EXCHANGE_EXAMPLE: &str = "Example:
+  bor exchange --db register.db --registrar registrar-token-0001 --day 2024-02-01 enrol.http lodge.http";
+
+const SERVE_EXAMPLE: &str = "Example:
+  bor serve --db register.db --port 8080 --connections 1000";
+
+const REPORT_EXAMPLE: &str = "Example:
+  bor report --db register.db --viewer alder --agent alder --declaration c1 --record e1";
+
+const CHECK_EXAMPLE: &str = "Example:
+  bor check filing.json";
+
+// `--name VALUE`, which may be left out.
+fn option<'a>(alloc: Global, name: &'a str, value: &'a str, help: &'a str) -> Arg<'a>
+    ensures rule { rule_of result ≡ option_rule name.entry.now }
+    ensures local { result.global ≡ false }
+{
+    Arg::new(alloc, name)
+        .long(name)
+        .value_name(value)
+        .help(help)
+}
+
+// `--name VALUE`, which has to be there.
+fn required<'a>(alloc: Global, name: &'a str, value: &'a str, help: &'a str) -> Arg<'a>
+    ensures rule { rule_of result ≡ required_rule name.entry.now }
+    ensures local { result.global ≡ false }
+{
+    Arg::new(alloc, name)
+        .long(name)
+        .value_name(value)
+        .required(true)
+        .help(help)
+}
+
+fn check<'a>(alloc: Global) -> Result<Parser<'a>, AllocError>
+    ensures app { IfOk result (λ parser. app_of parser ≡ check_app) }
+    ensures local { IfOk result (λ parser. (fields_of parser).has_globals ≡ false) }
+{
+    let file = Arg::new(alloc, "FILE").help("The file; without it, standard input is read");
+    Parser::new(alloc, "check")
+        .about("Checks a BODS file, and prints what a register would make of it")
+        .after_help(CHECK_EXAMPLE)
+        .arg(file)
+}
+
+fn exchange<'a>(alloc: Global) -> Result<Parser<'a>, AllocError>
+    ensures app { IfOk result (λ parser. app_of parser ≡ exchange_app) }
+    ensures local { IfOk result (λ parser. (fields_of parser).has_globals ≡ false) }
+{
+    let files = Arg::new(alloc, "FILE")
+        .action(ArgAction::Append)
+        .required(true)
+        .help("The files, each with one HTTP request");
+    Parser::new(alloc, "exchange")
+        .about("Answers HTTP requests in files, one after the other, and prints the replies")
+        .after_help(EXCHANGE_EXAMPLE)
+        .arg(option(
+            alloc,
+            "db",
+            "PATH",
+            "The register's file, which is made where there is none; without it, the register is a new one in memory",
+        ))?
+        .arg(required(
+            alloc,
+            "registrar",
+            "TOKEN",
+            "The registrar's token of a new register: 16 to 64 visible ASCII characters",
+        ))?
+        .arg(required(
+            alloc,
+            "day",
+            "DAY",
+            "The day of a new register: a day, YYYY-MM-DD",
+        ))?
+        .arg(files)
+}
+
+fn serve<'a>(alloc: Global) -> Result<Parser<'a>, AllocError>
+    ensures app { IfOk result (λ parser. app_of parser ≡ serve_app) }
+    ensures local { IfOk result (λ parser. (fields_of parser).has_globals ≡ false) }
+{
+    Parser::new(alloc, "serve")
+        .about("Answers HTTP requests on 127.0.0.1, one connection after the other")
+        .after_help(SERVE_EXAMPLE)
+        .arg(required(alloc, "db", "PATH", "The register's file"))?
+        .arg(required(alloc, "port", "PORT", "The port: 1 to 65535"))?
+        .arg(required(
+            alloc,
+            "connections",
+            "COUNT",
+            "After how many connections it ends: 0 to 1000000",
+        ))
+}
+
+fn report<'a>(alloc: Global) -> Result<Parser<'a>, AllocError>
+    ensures app { IfOk result (λ parser. app_of parser ≡ report_app) }
+    ensures local { IfOk result (λ parser. (fields_of parser).has_globals ≡ false) }
+{
+    Parser::new(alloc, "report")
+        .about(
+            "Prints which persons hold an entity, directly or through a chain, as an agent sees it",
+        )
+        .after_help(REPORT_EXAMPLE)
+        .arg(required(alloc, "db", "PATH", "The register's file"))?
+        .arg(required(
+            alloc,
+            "viewer",
+            "AGENT",
+            "Who asks: an agent's name, 1 to 32 of a-z, 0-9 and -",
+        ))?
+        .arg(required(alloc, "agent", "AGENT", "The agent that lodged the entity"))?
+        .arg(required(
+            alloc,
+            "declaration",
+            "IDENT",
+            "The declaration's subject: an identifier, 1 to 255 bytes",
+        ))?
+        .arg(required(
+            alloc,
+            "record",
+            "IDENT",
+            "The entity's record: an identifier, 1 to 255 bytes",
+        ))?
+        .arg(option(
+            alloc,
+            "date",
+            "DAY",
+            "The date: a day, YYYY-MM-DD; without it, the register's day",
+        ))
+}
+
+/// The words that `bor` takes.
+pub fn parser<'a>(alloc: Global) -> Result<Parser<'a>, AllocError>
+    ensures { IfOk result (λ parser. app_of parser ≡ bor_app) }
+{
+    Parser::new(alloc, "bor")
+        .bin_name("bor")?
+        .no_binary_name(true)
+        .about("A register of beneficial ownership")
+        .after_help("Without a command, standard input is checked. The pages of the commands:")
+        .subcommand(check(alloc)?)?
+        .subcommand(exchange(alloc)?)?
+        .subcommand(serve(alloc)?)?
+        .subcommand(report(alloc)?)
+}

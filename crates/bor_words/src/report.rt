@@ -1,0 +1,51 @@
+//! The words of `bor report`.
+
+ghost use Rattle.std.specs.Prelude.{◌≡◌, None, IfErr, IfOk, OnOk};
+ghost use Rattle.clap.specs.Words.{found_of, rows_of};
+ghost use Rattle.bor_words.specs.Asked.{IsReport};
+ghost use Rattle.bor_words.specs.Unread.{IsUnfitAmong};
+ghost use Rattle.bor_words.specs.Values.{first_unfit, report_values};
+
+use crate::matches::given;
+use crate::unread::Unread;
+use crate::values::{agent_name, date, ident};
+use bor_links::Node;
+use bor_terms::{AgentName, Day};
+use clap::ArgMatches;
+use std::alloc::Global;
+
+/// What `bor report` is asked to do: to tell who stands behind an entity, as an agent sees it.
+#[derive(Debug, Drop, PartialEq, Eq)]
+pub struct Report<'a> {
+    /// The register's file.
+    pub db: &'a str,
+    /// Who asks: its own filings and the published ones are seen.
+    pub viewer: AgentName,
+    /// The entity.
+    pub entity: Node,
+    /// The day; the register's where it is left out.
+    pub date: Option<Day>,
+}
+
+impl<'a> Report<'a> {
+    // What was found behind the command's name.
+    pub(crate) fn read(alloc: Global, found: &ArgMatches<'a>) -> Result<Self, Unread<'a>>
+        ensures ok { IfOk result (IsReport (rows_of (found_of found.now))) }
+        ensures fits { OnOk result (first_unfit (report_values (rows_of (found_of found.now))) ≡ None) }
+        ensures err { IfErr result (IsUnfitAmong (report_values (rows_of (found_of found.now)))) }
+    {
+        let viewer = agent_name(alloc, found, "viewer")?;
+        let entity = Node {
+            agent: agent_name(alloc, found, "agent")?,
+            declaration: ident(alloc, found, "declaration")?,
+            rec: ident(alloc, found, "record")?,
+        };
+        let date = date(found, "date")?;
+        Ok(Report {
+            db: given(found, "db"),
+            viewer,
+            entity,
+            date,
+        })
+    }
+}

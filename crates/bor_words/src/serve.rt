@@ -1,0 +1,38 @@
+//! The words of `bor serve`.
+
+ghost use Rattle.std.specs.Prelude.{◌≡◌, None, IfErr, IfOk, OnOk};
+ghost use Rattle.clap.specs.Words.{found_of, rows_of};
+ghost use Rattle.bor_words.specs.Asked.{IsServe};
+ghost use Rattle.bor_words.specs.Unread.{IsUnfitAmong};
+ghost use Rattle.bor_words.specs.Values.{first_unfit, serve_values};
+
+use crate::matches::given;
+use crate::unread::Unread;
+use crate::values::{connections, port};
+use clap::ArgMatches;
+
+/// What `bor serve` is asked to do: to answer requests over HTTP, one connection after the other.
+#[derive(Clone, Copy, Debug, PartialEq, Eq)]
+pub struct Serve<'a> {
+    /// The register's file.
+    pub db: &'a str,
+    /// The port on 127.0.0.1, from 1 on.
+    pub port: u16,
+    /// After so many connections it ends: at most 1,000,000.
+    pub connections: u32,
+}
+
+impl<'a> Serve<'a> {
+    // What was found behind the command's name.
+    pub(crate) fn read(found: &ArgMatches<'a>) -> Result<Self, Unread<'a>>
+        ensures ok { IfOk result (IsServe (rows_of (found_of found.now))) }
+        ensures fits { OnOk result (first_unfit (serve_values (rows_of (found_of found.now))) ≡ None) }
+        ensures err { IfErr result (IsUnfitAmong (serve_values (rows_of (found_of found.now)))) }
+    {
+        Ok(Serve {
+            db: given(found, "db"),
+            port: port(found)?,
+            connections: connections(found)?,
+        })
+    }
+}

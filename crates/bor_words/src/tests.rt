@@ -1,0 +1,264 @@
+//! What no clause says: the texts, and what each command's words are read as.
+
+use crate::parser::parser;
+use crate::{Command, HELP, Source, Unread};
+use bor_terms::Day;
+use std::test::Fail;
+
+#[test]
+fn the_help_is_claps(rt: HostRuntime) -> Result<(), Fail> {
+    let cases: [&[&str]; 5] = [
+        &["help"],
+        &["help", "check"],
+        &["exchange", "--help"],
+        &["serve", "-h"],
+        &["report", "--help"],
+    ];
+    for words in cases {
+        let Err(error) = parser(rt.alloc())?.try_get_matches_from(words) else {
+            return Err(Fail::from("no help"));
+        };
+        let page = format!(in rt.alloc(); "{error}")?;
+        assert!(rt; HELP.contains(page.as_str()), "{page}");
+    }
+    Ok(())
+}
+
+#[test]
+fn a_check_reads_a_file_or_standard_input(rt: HostRuntime) {
+    let cases: [(&[&str], Source<'_>); 3] = [
+        (&[], Source::StandardInput),
+        (&["check"], Source::StandardInput),
+        (&["check", "exchange"], Source::File("exchange")),
+    ];
+    for (words, source) in cases {
+        assert!(rt;
+            matches!(Command::read(rt.alloc(), words), Ok(Command::Check(read)) if read == source),
+            "{words:?}"
+        );
+    }
+}
+
+// The words of an exchange with a file.
+const EXCHANGE: [&str; 9] = [
+    "exchange",
+    "--db",
+    "register.db",
+    "--registrar=registrar-token-0001",
+    "--day",
+    "2024-02-01T09:00:00Z",
+    "a.http",
+    "--",
+    "--b.http",
+];
+
+#[test]
+fn an_exchange_has_files_in_order(rt: HostRuntime) -> Result<(), Fail> {
+    let Ok(Command::Exchange(asked)) = Command::read(rt.alloc(), &EXCHANGE) else {
+        return Err(Fail::from("no exchange"));
+    };
+    assert_eq!(rt; asked.db, Some("register.db"));
+    assert_eq!(rt; asked.registrar.as_str(), "registrar-token-0001");
+    assert_eq!(rt; Some(asked.day), Day::read("2024-02-01"));
+    assert!(rt; asked.files.as_slice() == ["a.http", "--b.http"].as_slice());
+    Ok(())
+}
+
+#[test]
+fn a_server_has_a_port_and_an_end(rt: HostRuntime) -> Result<(), Fail> {
+    let words = [
+        "serve",
+        "--port",
+        "65535",
+        "--connections",
+        "0",
+        "--db",
+        "a",
+    ];
+    let Ok(Command::Serve(asked)) = Command::read(rt.alloc(), &words) else {
+        return Err(Fail::from("no server"));
+    };
+    assert_eq!(rt; (asked.db, asked.port, asked.connections), ("a", 65_535, 0));
+    Ok(())
+}
+
+// The words of a report.
+const REPORT: [&str; 11] = [
+    "report",
+    "--db",
+    "a",
+    "--viewer",
+    "alder",
+    "--agent",
+    "birch",
+    "--declaration",
+    "c1",
+    "--record",
+    "e1",
+];
+
+#[test]
+fn a_report_has_a_date_where_it_is_given(rt: HostRuntime) -> Result<(), Fail> {
+    let Ok(Command::Report(asked)) = Command::read(rt.alloc(), &REPORT) else {
+        return Err(Fail::from("no report"));
+    };
+    assert_eq!(rt; asked.viewer.as_str(), "alder");
+    assert_eq!(rt; asked.entity.agent.as_str(), "birch");
+    assert_eq!(rt; asked.entity.declaration.as_str(), "c1");
+    assert_eq!(rt; asked.entity.rec.as_str(), "e1");
+    assert_eq!(rt; asked.date, None);
+    let mut words = Vec::from_slice(rt.alloc(), &REPORT)?;
+    words.extend_from_slice(&["--date", "2024-02-29"])?;
+    let Ok(Command::Report(asked)) = Command::read(rt.alloc(), words.as_slice()) else {
+        return Err(Fail::from("no report"));
+    };
+    assert_eq!(rt; asked.date, Day::read("2024-02-29"));
+    Ok(())
+}
+
+// Words with a value that doesn't fit, and what is told of it.
+const UNFIT: [(&[&str], &str); 8] = [
+    (
+        &[
+            "exchange",
+            "--registrar",
+            "short",
+            "--day",
+            "2024-02-01",
+            "a",
+        ],
+        "error: invalid value 'short' for '--registrar': it has to be a token, 16 to 64 visible ASCII characters\n",
+    ),
+    (
+        &[
+            "exchange",
+            "--registrar",
+            "registrar-token-0001",
+            "--day",
+            "2024-02-30",
+            "a",
+        ],
+        "error: invalid value '2024-02-30' for '--day': it has to be a day, YYYY-MM-DD\n",
+    ),
+    (
+        &["serve", "--db", "a", "--port", "0", "--connections", "1"],
+        "error: invalid value '0' for '--port': it has to be a port, 1 to 65535\n",
+    ),
+    (
+        &[
+            "serve",
+            "--db",
+            "a",
+            "--port",
+            "65536",
+            "--connections",
+            "1",
+        ],
+        "error: invalid value '65536' for '--port': it has to be a port, 1 to 65535\n",
+    ),
+    (
+        &[
+            "serve",
+            "--db",
+            "a",
+            "--port",
+            "80",
+            "--connections",
+            "1000001",
+        ],
+        "error: invalid value '1000001' for '--connections': it has to be a number of connections, 0 to 1000000\n",
+    ),
+    (
+        &[
+            "report",
+            "--db",
+            "a",
+            "--viewer",
+            "Alder",
+            "--agent",
+            "b",
+            "--declaration",
+            "c",
+            "--record",
+            "e",
+        ],
+        "error: invalid value 'Alder' for '--viewer': it has to be an agent's name, 1 to 32 of a-z, 0-9 and -\n",
+    ),
+    (
+        &[
+            "report",
+            "--db",
+            "a",
+            "--viewer",
+            "a",
+            "--agent",
+            "b",
+            "--declaration",
+            "",
+            "--record",
+            "e",
+        ],
+        "error: invalid value '' for '--declaration': it has to be an identifier, 1 to 255 bytes without control characters\n",
+    ),
+    (
+        &[
+            "report",
+            "--db",
+            "a",
+            "--viewer",
+            "a",
+            "--agent",
+            "b",
+            "--declaration",
+            "c",
+            "--record",
+            "e",
+            "--date",
+            "today",
+        ],
+        "error: invalid value 'today' for '--date': it has to be a day, YYYY-MM-DD\n",
+    ),
+];
+
+#[test]
+fn a_value_that_does_not_fit_is_told(rt: HostRuntime) -> Result<(), Fail> {
+    for (words, text) in UNFIT {
+        let Err(unread) = Command::read(rt.alloc(), words) else {
+            return Err(Fail::from(text));
+        };
+        let told = format!(in rt.alloc(); "{unread}")?;
+        assert_eq!(rt; told.as_str(), text);
+    }
+    Ok(())
+}
+
+#[test]
+fn a_missing_word_is_told_by_its_name(rt: HostRuntime) -> Result<(), Fail> {
+    let cases: [(&[&str], &str); 4] = [
+        (
+            &[
+                "exchange",
+                "--registrar",
+                "registrar-token-0001",
+                "--day",
+                "2024-02-01",
+            ],
+            "<FILE>",
+        ),
+        (
+            &["serve", "--db", "a", "--port", "80"],
+            "--connections <COUNT>",
+        ),
+        (&["report", "--db", "a"], "--viewer <AGENT>"),
+        (&["serve", "--port"], "--port <PORT>"),
+    ];
+    for (words, name) in cases {
+        let Err(unread) = Command::read(rt.alloc(), words) else {
+            return Err(Fail::from(name));
+        };
+        assert!(rt; matches!(unread, Unread::Answered(_)), "{words:?}");
+        let told = format!(in rt.alloc(); "{unread}")?;
+        assert!(rt; told.as_str().contains(name), "{told}");
+    }
+    Ok(())
+}

@@ -1,0 +1,70 @@
+//! Why words ask for no command.
+
+ghost use Rattle.std.specs.Prelude.{◌≡◌};
+ghost use Rattle.bor_words.specs.Unread.{IsMemory, kind_of_answer};
+
+use clap::Error;
+use clap::error::ErrorKind;
+use std::alloc::AllocError;
+use std::fmt;
+
+/// Why words ask for no command. Its `Display` is the text for the user.
+#[derive(Debug, Drop)]
+pub enum Unread<'a> {
+    /// Clap's answer to a request for help or to words that ask for nothing, or want of memory.
+    Answered(Error),
+    /// A value doesn't fit its word.
+    Unfit(Unfit<'a>),
+}
+
+/// A value that doesn't fit its word.
+#[derive(Clone, Copy, Debug, PartialEq, Eq)]
+pub struct Unfit<'a> {
+    /// The word, without its hyphens.
+    pub word: &'static str,
+    /// What was given.
+    pub value: &'a str,
+    /// What fits.
+    pub fitting: &'static str,
+}
+
+impl Unread<'_> {
+    /// What went wrong, or what was asked for. A value that doesn't fit is `ValueValidation`.
+    pub fn kind(&self) -> ErrorKind
+        ensures { result ≡ kind_of_answer self.now }
+    {
+        match self {
+            Unread::Answered(error) => error.kind(),
+            Unread::Unfit(_) => ErrorKind::ValueValidation,
+        }
+    }
+}
+
+impl fmt::Display for Unfit<'_> {
+    fn fmt<W: fmt::Write>(&self, f: &mut fmt::Formatter<W>) -> fmt::Result {
+        let word = self.word;
+        let value = self.value;
+        let fitting = self.fitting;
+        writeln!(
+            f,
+            "error: invalid value '{value}' for '--{word}': it has to be {fitting}"
+        )
+    }
+}
+
+impl fmt::Display for Unread<'_> {
+    fn fmt<W: fmt::Write>(&self, f: &mut fmt::Formatter<W>) -> fmt::Result {
+        match self {
+            Unread::Answered(error) => write!(f, "{error}"),
+            Unread::Unfit(unfit) => write!(f, "{unfit}"),
+        }
+    }
+}
+
+impl From<AllocError> for Unread<'_> {
+    ghost from_gives = { λ _ unread. IsMemory unread };
+
+    fn from(error: AllocError) -> Self {
+        Unread::Answered(Error::from(error))
+    }
+}
