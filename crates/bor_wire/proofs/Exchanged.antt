@@ -1,20 +1,34 @@
 -- What an exchange did, from what went out.
-use Rattle.std.proofs.Common.{◌≡◌, ◌≢◌, ℕ, List, Option, take, sym, ◌∙◌}
+use Rattle.std.proofs.Common.{◌≡◌, ◌≢◌, ℕ, List, [], ◌∷◌, Option, Some, None, take, sym, ◌∙◌}
 use Rattle.std.specs.Io.KnownBytes.{Appends}
 use Rattle.bor_register.specs.Register.{Register}
+use Rattle.bor_wire_read.specs.declared.fault.Refusal.{Refusal}
 use Rattle.bor_wire_spell.specs.Spell.{Spelled}
+use Rattle.bor_wire_reply.specs.Replies.{refused, status_of, bytes_of}
+use Rattle.bor_wire_reply.specs.declared.reply.TheConstants.{UNAVAILABLE}
 use Rattle.bor_wire.specs.declared.outcome.Outcome.{Outcome}
 use Rattle.bor_wire.specs.declared.outcome.Outcome.TheVariants.{Replied, ReadFailed, WriteFailed}
-use Rattle.bor_wire.specs.Exchanges.{IsSpelled, IsSent, IsReplied, IsExchanged, IsWritten}
+use Rattle.bor_wire.specs.Exchanges.{IsSpelled, IsSent, IsReplySent, IsReplied, IsExchanged, IsWritten, TellsUnavailable, TellsRefusal, OnRefusal}
+use Rattle.bor_wire.proofs.HistoryLaws.{alone}
 use Rattle.bor_wire.proofs.ReportLaws.{exact}
+
+reply_sent : (shown : Register → Type 0) (r : Register) (s : Spelled) (status : ℕ) (bytes : List ℕ) → IsSent shown r s status bytes → IsReplySent shown r s status bytes
+reply_sent shown r s status bytes sent = record {
+  said = sent.0;
+  tells = sent.1;
+  bytes_are = sent.2;
+  status_is = sent.3;
+  left = sent.4;
+  exact = exact r s sent.0 sent.1;
+  alone = λ legal name. alone name r (s ∷ []) (bytes ∷ []) legal ((sent.0, sent.1, sent.2), tt);
+}
 
 -- a reply with another status than 503, of which the bytes or a front of them were written
 replied : (shown : Register → Type 0) (r : Register) (known : Option (List ℕ)) (s : Spelled) (status told : ℕ) (bytes : List ℕ) (written : List ℕ → Type 0) → told ≡ status → status ≢ 503
     → IsSpelled known s → IsSent shown r s status bytes → written bytes → IsReplied shown r known told written
 replied shown r known s status told bytes written same sure spells sent w = record {
   unavailable = λ e. absurd (sure (sym same ∙ e));
-  full = λ _. (s, spells, bytes, (sent.0, sent.1, sent.2, same ∙ sent.3, sent.4), w);
-  report = λ _. (s, spells, bytes, (sent.0, sent.1, exact r s sent.0 sent.1, sent.2), w);
+  full = λ _. (s, spells, bytes, reply_sent shown r s told bytes (sent.0, sent.1, sent.2, same ∙ sent.3, sent.4), w);
 }
 
 pub exchanged : (outcome : Outcome) (shown : Register → Type 0) (r : Register) (known : Option (List ℕ)) (s : Spelled) (status : ℕ) (bytes : List ℕ) (old new : Option (List ℕ)) → status ≢ 503
@@ -24,3 +38,37 @@ exchanged (Replied told) shown r known s status bytes old new sure spells sent w
 exchanged ReadFailed shown r known s status bytes old new sure spells sent w = absurd w
 exchanged (WriteFailed told) shown r known s status bytes old new sure spells sent w =
     replied shown r known s status told bytes (λ bs. (n : ℕ) × Appends old new (take n bs)) w.0 sure spells sent (w.1, w.2)
+
+-- ---- what was written, whatever the register
+
+pub unavailable_told : (outcome : Outcome) (old new : Option (List ℕ)) → IsWritten outcome 503 UNAVAILABLE.now old new → TellsUnavailable outcome old new
+unavailable_told (Replied told) old new w = λ _. w.1
+unavailable_told ReadFailed old new w = absurd w
+unavailable_told (WriteFailed told) old new w = λ _. (w.1, w.2)
+
+pub available_told : (outcome : Outcome) (status : ℕ) (bytes : List ℕ) (old new : Option (List ℕ)) → status ≢ 503 → IsWritten outcome status bytes old new → TellsUnavailable outcome old new
+available_told (Replied told) status bytes old new sure w = λ e. absurd (sure (sym w.0 ∙ e))
+available_told ReadFailed status bytes old new sure w = absurd w
+available_told (WriteFailed told) status bytes old new sure w = λ e. absurd (sure (sym w.0 ∙ e))
+
+-- the refusal is told where it went out
+refusal_told : (outcome : Outcome) (why : Refusal) (status : ℕ) (bytes : List ℕ) (old new : Option (List ℕ)) → (status ≡ status_of (refused why)) × (bytes ≡ bytes_of (refused why))
+    → IsWritten outcome status bytes old new → TellsRefusal outcome why old new
+refusal_told (Replied told) why status bytes old new is w = λ _. (w.0 ∙ is.0, rw (← is.1) w.1)
+refusal_told ReadFailed why status bytes old new is w = absurd w
+refusal_told (WriteFailed told) why status bytes old new is w = λ _. (w.0 ∙ is.0, (w.1, rw (← is.1) w.2))
+
+no_refusal_told : (outcome : Outcome) (why : Refusal) (old new : Option (List ℕ)) → IsWritten outcome 503 UNAVAILABLE.now old new → TellsRefusal outcome why old new
+no_refusal_told (Replied told) why old new w = λ other. absurd (other w.0)
+no_refusal_told ReadFailed why old new w = absurd w
+no_refusal_told (WriteFailed told) why old new w = λ other. absurd (other w.0)
+
+pub refusals_told : (outcome : Outcome) (known : Option (List ℕ)) (status : ℕ) (bytes : List ℕ) (old new : Option (List ℕ))
+    → OnRefusal known (λ why. (status ≡ status_of (refused why)) × (bytes ≡ bytes_of (refused why))) → IsWritten outcome status bytes old new
+    → OnRefusal known (λ why. TellsRefusal outcome why old new)
+refusals_told outcome None status bytes old new is w = tt
+refusals_told outcome (Some input) status bytes old new is w = λ why spells. refusal_told outcome why status bytes old new (is why spells) w
+
+pub no_refusals_told : (outcome : Outcome) (known : Option (List ℕ)) (old new : Option (List ℕ)) → IsWritten outcome 503 UNAVAILABLE.now old new → OnRefusal known (λ why. TellsRefusal outcome why old new)
+no_refusals_told outcome None old new w = tt
+no_refusals_told outcome (Some input) old new w = λ why spells. no_refusal_told outcome why old new w

@@ -3,7 +3,6 @@ pub mod ReportLaws
 pub mod Exchanged
 pub mod RunLaws
 pub mod HistoryLaws
-pub mod SentAlone
 pub mod NobodyLaws
 pub mod SequenceLaws
 pub mod HistoryExamples

@@ -1,17 +1,17 @@
 -- What goes out for an input, from what goes out for what it spells.
-use Rattle.std.proofs.Common.{ℕ, List, Option, Some, None, Result, Err, refl}
+use Rattle.std.proofs.Common.{◌≡◌, ℕ, List, Option, Some, None, Result, Err, refl, subst}
+use Rattle.std.specs.Prelude.{⊤}
 use Rattle.std.specs.Option.{IfSome}
 use Rattle.bor_records.specs.Promises.{Promised}
-use Rattle.bor_register.specs.Register.{Register}
-use Rattle.bor_machine.specs.Legality.{IsLegal}
+use Rattle.bor_register.specs.Register.{Register, IsOrdered}
 use Rattle.bor_wire_read.specs.declared.fault.Refusal.{Refusal}
 use Rattle.bor_wire_read.specs.Message.{◌>>=◌, Message, IsMessage}
 use Rattle.bor_wire_spell.specs.Spell.{Spelled, spell}
-use Rattle.bor_wire_spell.proofs.Messages.{message_spelled}
+use Rattle.bor_wire_spell.proofs.Messages.{message_spelled, one_spelling}
 use Rattle.bor_wire_reply.specs.Replies.{refused}
 use Rattle.bor_wire.specs.declared.outgoing.Outgoing.{Outgoing}
 use Rattle.bor_wire.specs.declared.outgoing.Outgoing.TheVariants.{Full, Unavailable}
-use Rattle.bor_wire.specs.Exchanges.{ByOutgoing, GoesOut, IsRefusal, IsSent, IsSpelled}
+use Rattle.bor_wire.specs.Exchanges.{ByOutgoing, GoesOut, IsRefusal, IsSent, IsSpelled, OnRefusal}
 
 -- what was read is spelled, where the input is known
 pub spelled_known : (known : Option (List ℕ)) (read : Result Message Refusal) → IfSome known (λ input. IsMessage input read) → IsSpelled known (read >>= spell)
@@ -20,10 +20,25 @@ spelled_known (Some input) read h = message_spelled input read h
 
 -- what goes out for something that the input spells goes out for the input
 pub by_outgoing : {K : Type 0} (shows : K → Register → Type 0) (is_clean : K → Type 0) (old new : K) (o : Outgoing) (known : Option (List ℕ)) (s : Spelled) → IsSpelled known s
-    → Promised shows is_clean old new (λ r. IsLegal r → GoesOut o (shows new) r s)
-    → ByOutgoing (Some o) known (λ t status bytes. Promised shows is_clean old new (λ r. IsLegal r → IsSent (shows new) r t status bytes)) (Promised shows is_clean old new (λ r. IsLegal r → shows new r))
+    → Promised shows is_clean old new (λ r. IsOrdered r.members → GoesOut o (shows new) r s)
+    → ByOutgoing (Some o) known (λ t status bytes. Promised shows is_clean old new (λ r. IsOrdered r.members → IsSent (shows new) r t status bytes)) (Promised shows is_clean old new (λ r. IsOrdered r.members → shows new r))
 by_outgoing shows is_clean old new (Full status bytes) known s spells h = (s, spells, h)
 by_outgoing shows is_clean old new Unavailable known s spells h = h
+
+-- ---- the refusal that an input spells
+
+-- where anything goes out, it is of what was read
+pub refused_out : (known : Option (List ℕ)) (read : Result Message Refusal) (o : Outgoing) → IfSome known (λ input. IsMessage input read)
+    → ((why : Refusal) → (read >>= spell) ≡ Err why → IsRefusal o why) → OnRefusal known (λ why. IsRefusal o why)
+refused_out None read o is h = tt
+refused_out (Some input) read o is h = λ why spells. h why (one_spelling input (read >>= spell) (Err why) (message_spelled input read is) spells)
+
+pub is_that : (o : Outgoing) (refusal why : Refusal) (stated : Spelled) → IsRefusal o refusal → stated ≡ Err refusal → stated ≡ Err why → IsRefusal o why
+is_that o refusal why stated h is other = let same : refusal ≡ why = cc in subst (IsRefusal o) same h
+
+pub nothing_out : (known : Option (List ℕ)) → OnRefusal known (λ why. ⊤)
+nothing_out None = tt
+nothing_out (Some input) = λ why spells. tt
 
 -- a refusal goes out for what is refused so, and leaves what was shown
 pub refusal_goes : (o : Outgoing) (shown : Register → Type 0) (r : Register) (why : Refusal) → IsRefusal o why → shown r → GoesOut o shown r (Err why)

@@ -1,6 +1,7 @@
 -- Laws of runs that go on.
 use Rattle.std.proofs.Common.{◌≡◌, ℕ, List, [], ◌∷◌, ◌++◌, length, Ok, Err, refl, ap, arith}
-use Rattle.bor_register.specs.Register.{Register, caller_of}
+use Rattle.bor_records.specs.Promises.{Promised}
+use Rattle.bor_register.specs.Register.{Register, IsOrdered, caller_of}
 use Rattle.bor_machine.specs.Legality.{IsLegal}
 use Rattle.bor_desk.proofs.Steps.{step-stays_legal}
 use Rattle.bor_wire_spell.proofs.Messages.{one_spelling}
@@ -96,3 +97,12 @@ so_far_more before now clean shown later inputs replies input Unavailable count 
   told = λ r is. let w = was r is in rw (full_none replies) (far.told r w.0);
   left = λ r is. let w = was r is in one (register_left r far.spelled) (far.left r w.0) w.1 (left_legal r far.spelled w.2);
 }
+
+-- ---- one reply
+
+-- what is said of each register whose agents stand in order is said of the legal ones
+pub legal_reply : {K : Type 0} (shows : K → Register → Type 0) (is_clean : K → Type 0) (old new : K) (reply : Reply) (input : List ℕ)
+    → ByReply reply input (λ s bytes. Promised shows is_clean old new (λ r. IsOrdered r.members → IsReplyTo r s bytes × shows new (after r s))) (Promised shows is_clean old new (λ r. IsOrdered r.members → shows new r))
+    → ByReply reply input (λ s bytes. Promised shows is_clean old new (λ r. IsLegal r → IsReplyTo r s bytes × shows new (after r s))) (Promised shows is_clean old new (λ r. IsLegal r → shows new r))
+legal_reply shows is_clean old new (Full bytes) input h = (h.0, h.1, λ r is clean legal. h.2 r is clean legal.names)
+legal_reply shows is_clean old new Unavailable input h = λ r is clean legal. h r is clean legal.names

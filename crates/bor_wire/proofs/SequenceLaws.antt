@@ -31,7 +31,7 @@ by_status : (b : Bool) (status : ℕ) (shown : Register → Type 0) (r : Registe
 by_status true status shown r known written is h = inr (ap not is, (h.unavailable (eqb-true status 503 is)).0)
 by_status false status shown r known written is h =
     let full = h.full (eqb-false status 503 is) in
-    inl (ap not is, (full.0, full.1, full.2, (full.3.0, full.3.1, full.3.2), full.4, full.3.4))
+    inl (ap not is, (full.0, full.1, full.2, (full.3.said, full.3.tells, full.3.bytes_are), full.4, full.3.left))
 
 by_outcome : (o : Outcome) (shown : Register → Type 0) (r : Register) (known held holds : Option (List ℕ)) → IsExchanged o shown r known held holds → Either o shown r known (IsWrittenBy o held holds)
 by_outcome (Replied status) shown r known held holds h = by_status (status == 503) status shown r known (λ bytes. Appends held holds bytes) refl h

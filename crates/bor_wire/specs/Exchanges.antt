@@ -1,7 +1,8 @@
 -- What one exchange over a reader and a writer does.
-use Rattle.std.specs.Prelude.{◌≡◌, ◌≢◌, ℕ, List, take, Option, Some, None, IfSome, ⊤}
+use Rattle.std.specs.Prelude.{◌≡◌, ◌≢◌, ℕ, List, [], ◌∷◌, take, Option, Some, None, Err, IfSome, ⊤}
 use Rattle.std.specs.Io.KnownBytes.{Appends, Keeps}
 use Rattle.bor_register.specs.Register.{Register}
+use Rattle.bor_machine.specs.Legality.{IsLegal}
 use Rattle.bor_desk.specs.declared.reply.DeskReply.{DeskReply}
 use Rattle.bor_desk.specs.Outcomes.{IsTold}
 use Rattle.bor_desk.specs.Runs.{Asked, exchange}
@@ -15,7 +16,8 @@ use Rattle.bor_wire.specs.declared.outcome.Outcome.TheVariants.{Replied, ReadFai
 use Rattle.bor_wire.specs.declared.outgoing.Outgoing.{Outgoing}
 use Rattle.bor_wire.specs.declared.outgoing.Outgoing.TheVariants as outgoing
 use Rattle.bor_wire.specs.Inputs.{IsSaid, after}
-use Rattle.bor_wire.specs.Reports.{IsReport}
+use Rattle.bor_wire.specs.Reports.{IsExact}
+use Rattle.bor_wire.specs.Histories.{IsAlone}
 
 -- ---- what goes out
 
@@ -60,17 +62,49 @@ faults_unread (Some reply) n = n
 
 -- ---- the exchange
 
+-- These bytes, with this status, are the reply to an input that spells this, and the register after it is shown. A report on chains with status 200 names exactly the persons joined to the entity; and from a legal register each agent receives what it would receive alone.
+pub record IsReplySent (shown : Register → Type 0) (r : Register) (spelled : Spelled) (status : ℕ) (bytes : List ℕ) : Type 0 where
+  pub said : Said
+  pub tells : IsSaid r spelled said
+  pub bytes_are : bytes ≡ bytes_of said
+  pub status_is : status ≡ status_of said
+  pub left : shown (after r spelled)
+  pub exact : IsExact r spelled said
+  pub alone : IsLegal r → (name : List ℕ) → IsAlone name r (spelled ∷ []) (bytes ∷ [])
+
 -- What was replied with a status; `written` says of bytes that they, or a front of them, were written and nothing else.
 pub record IsReplied (shown : Register → Type 0) (r : Register) (known : Option (List ℕ)) (status : ℕ) (written : List ℕ → Type 0) : Type 0 where
   pub unavailable : status ≡ 503 → shown r × written UNAVAILABLE.now
-  pub full : status ≢ 503 → (spelled : Spelled) × IsSpelled known spelled × (bytes : List ℕ) × IsSent shown r spelled status bytes × written bytes
-  pub report : status ≡ 200 → (spelled : Spelled) × IsSpelled known spelled × (bytes : List ℕ) × IsReport r spelled bytes × written bytes
+  pub full : status ≢ 503 → (spelled : Spelled) × IsSpelled known spelled × (bytes : List ℕ) × IsReplySent shown r spelled status bytes × written bytes
 
 -- What an exchange did with a reader and a writer, of whichever the bytes are known: what is said of the register and of the status holds of any.
 abbrev pub IsExchanged : Outcome → (Register → Type 0) → Register → Option (List ℕ) → Option (List ℕ) → Option (List ℕ) → Type 0
 IsExchanged (Replied status) shown r known old new = IsReplied shown r known status (λ bytes. Appends old new bytes)
 IsExchanged ReadFailed shown r known old new = shown r × Keeps old new
 IsExchanged (WriteFailed status) shown r known old new = IsReplied shown r known status (λ bytes. (n : ℕ) × Appends old new (take n bytes))
+
+-- ---- what holds of any register and of any keep
+
+-- where the status is 503, what was written is `UNAVAILABLE` or a front of it; where the reader failed, nothing was
+abbrev pub TellsUnavailable : Outcome → Option (List ℕ) → Option (List ℕ) → Type 0
+TellsUnavailable (Replied status) old new = status ≡ 503 → Appends old new UNAVAILABLE.now
+TellsUnavailable ReadFailed old new = Keeps old new
+TellsUnavailable (WriteFailed status) old new = status ≡ 503 → (n : ℕ) × Appends old new (take n UNAVAILABLE.now)
+
+-- an input that spells a refusal is told it, where the status isn't 503
+abbrev pub TellsRefusal : Outcome → Refusal → Option (List ℕ) → Option (List ℕ) → Type 0
+TellsRefusal (Replied status) why old new = status ≢ 503 → (status ≡ status_of (refused why)) × Appends old new (bytes_of (refused why))
+TellsRefusal ReadFailed why old new = Keeps old new
+TellsRefusal (WriteFailed status) why old new = status ≢ 503 → (status ≡ status_of (refused why)) × ((n : ℕ) × Appends old new (take n (bytes_of (refused why))))
+
+-- whatever refusal the input spells, P holds of it
+abbrev pub OnRefusal : Option (List ℕ) → (Refusal → Type 0) → Type 0
+OnRefusal known P = IfSome known (λ input. (why : Refusal) → Spells input (Err why) → P why)
+
+-- the refusal goes out, where anything does
+abbrev pub GoesOutRefused : Option Outgoing → Refusal → Type 0
+GoesOutRefused (Some out) why = IsRefusal out why
+GoesOutRefused None why = ⊤
 
 -- the faults that the reader and the writer counted are those that the outcome tells
 abbrev pub read_faults : Outcome → ℕ → ℕ

@@ -4,5 +4,4 @@ pub mod Reports
 pub mod Histories
 pub mod Exchanges
 pub mod Nobody
-pub mod Agents
 pub mod Sequences

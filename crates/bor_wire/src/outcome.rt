@@ -2,16 +2,16 @@
 
 ghost use Rattle.std.specs.Prelude.{◌≡◌};
 ghost use Rattle.bor_records.specs.Promises.{Promised};
-ghost use Rattle.bor_machine.specs.Legality.{IsLegal};
+ghost use Rattle.bor_register.specs.Register.{IsOrdered};
 ghost use Rattle.bor_wire_read.specs.Message.{request_limit};
 ghost use Rattle.bor_wire_read.specs.Reading.{TakesAtMost};
-ghost use Rattle.bor_wire.specs.Exchanges.{IsExchanged, IsWritten, read_faults, write_faults};
-ghost use Rattle.bor_wire.specs.Agents.{IsExchangedAlone};
+ghost use Rattle.bor_wire.specs.Exchanges.{IsExchanged, IsWritten, OnRefusal, TellsRefusal, TellsUnavailable, read_faults, write_faults};
 
 use crate::outgoing::{Outgoing, read_reply};
 use bor_machine::Keep;
 use bor_wire_read::{Counted, send};
 use bor_wire_reply::UNAVAILABLE;
+use bor_wire_spell::Paths;
 use std::alloc::Global;
 use std::io::{Read, Write};
 
@@ -43,9 +43,14 @@ fn write_reply<W: Write>(writer: &mut Counted<W>, status: u16, bytes: &[u8]) -> 
 ///
 /// With a status other than 503 the bytes that are written, of which a failing writer takes a front,
 /// are the reply to the one input, which each agent receives as it would alone, and the register left
-/// is the one after it; with 503 they are [`UNAVAILABLE`], and nothing changed. The bytes are said of
-/// readers and writers that tell theirs, as those over memory do; the rest of any. At most 1,064,960
-/// bytes are read. A failed read, an interruption too, ends the exchange as [`Outcome::ReadFailed`], and
+/// is the one after it; with 503 they are [`UNAVAILABLE`], and nothing changed. What each agent receives
+/// is said of legal registers, and the rest of each whose agents stand in order of their names, as every
+/// legal one's do; that 503 and `UNAVAILABLE` go together, and which refusal an input is told that
+/// spells no request, of any register and any keep.
+///
+/// Statements on bytes are of readers and writers that tell theirs, as those over memory do: of another
+/// reader it isn't said which request was answered, and of another writer not what was written. What is
+/// left, and the faults, are said of any. At most 1,064,960 bytes are read. A failed read, an interruption too, ends the exchange as [`Outcome::ReadFailed`], and
 /// a write that fails or takes nothing as [`Outcome::WriteFailed`]: each comes exactly where that end's
 /// count of faults moved.
 pub fn exchange<K: Keep, R: Read, W: Write>(
@@ -55,15 +60,19 @@ pub fn exchange<K: Keep, R: Read, W: Write>(
     writer: &mut Counted<W>,
 ) -> Outcome
     ensures began { K.is_clean keep.new → K.is_clean keep.old }
-    ensures exchanged { Promised K.shows K.is_clean keep.old keep.new (λ r. IsLegal r →
+    ensures exchanged { Promised K.shows K.is_clean keep.old keep.new (λ r. IsOrdered r.members →
         IsExchanged result (K.shows keep.new) r (R.remaining reader.old.inner) (W.contents writer.old.inner) (W.contents writer.new.inner)) }
-    ensures alone { Promised K.shows K.is_clean keep.old keep.new (λ r. IsLegal r →
-        IsExchangedAlone result r (R.remaining reader.old.inner) (W.contents writer.old.inner) (W.contents writer.new.inner)) }
+    ensures unavailable { TellsUnavailable result (W.contents writer.old.inner) (W.contents writer.new.inner) }
+    ensures refused { OnRefusal (R.remaining reader.old.inner) (λ why.
+        TellsRefusal result why (W.contents writer.old.inner) (W.contents writer.new.inner)) }
     ensures taken { TakesAtMost request_limit (R.remaining reader.old.inner) (R.remaining reader.new.inner) }
     ensures read_faults { reader.new.faults ≡ read_faults result reader.old.faults }
     ensures write_faults { writer.new.faults ≡ write_faults result writer.old.faults }
 {
-    match read_reply(alloc, keep, reader) {
+    let Ok(paths) = Paths::new(alloc) else {
+        return write_reply(writer, 503, UNAVAILABLE);
+    };
+    match read_reply(alloc, &paths, keep, reader) {
         Some(Outgoing::Full(status, bytes)) => write_reply(writer, status, &bytes),
         Some(Outgoing::Unavailable) => write_reply(writer, 503, UNAVAILABLE),
         None => Outcome::ReadFailed,

@@ -2,13 +2,14 @@
 
 ghost use Rattle.std.specs.Prelude.{◌≡◌, ◌≢◌, Ok, Err, IfSome};
 ghost use Rattle.bor_records.specs.Promises.{Promised};
-ghost use Rattle.bor_machine.specs.Legality.{IsLegal};
+ghost use Rattle.bor_register.specs.Register.{IsOrdered};
+ghost use Rattle.bor_wire_read.specs.declared.fault.Refusal as fault;
 ghost use Rattle.bor_wire_read.specs.Message.{request_limit};
 ghost use Rattle.bor_wire_read.specs.Reading.{TakesAtMost};
 ghost use Rattle.bor_wire_spell.specs.Spell.{asked_view, spell};
 ghost use Rattle.bor_wire_spell.specs.Steps.{Finds};
 ghost use Rattle.bor_wire_reply.specs.Statuses.{desk_status};
-ghost use Rattle.bor_wire.specs.Exchanges.{ByOutgoing, GoesOut, HasStatus, IsDeskReply, IsRefusal, IsSent, faults_unread};
+ghost use Rattle.bor_wire.specs.Exchanges.{ByOutgoing, GoesOut, GoesOutRefused, HasStatus, IsDeskReply, IsRefusal, IsSent, OnRefusal, faults_unread};
 
 use bor_desk::{DeskReply, answer};
 use bor_machine::Keep;
@@ -16,7 +17,7 @@ use bor_wire_read::{Counted, RawRequest, Refusal, WireFault, read_request};
 use bor_wire_reply::{
     RESERVED, desk_status, is_long, refusal_status, render, render_refusal, render_short,
 };
-use bor_wire_spell::{Asking, parse};
+use bor_wire_spell::{Asking, Paths, parse_by};
 use std::alloc::Global;
 use std::io::Read;
 
@@ -45,7 +46,7 @@ fn refused(alloc: Global, refusal: Refusal) -> Outgoing
 fn asked<K: Keep>(alloc: Global, keep: &mut K, asking: &Asking) -> Option<DeskReply>
     ensures began { K.is_clean keep.new → K.is_clean keep.old }
     ensures reply { Promised K.shows K.is_clean keep.old keep.new (λ r.
-        IsLegal r → IsDeskReply result (K.shows keep.new) r (asked_view asking.now)) }
+        IsOrdered r.members → IsDeskReply result (K.shows keep.new) r (asked_view asking.now)) }
     ensures status { IfSome result (λ reply. desk_status reply ≢ 503) }
 {
     match answer(alloc, keep, &asking.token, &asking.request) {
@@ -59,7 +60,7 @@ fn asked<K: Keep>(alloc: Global, keep: &mut K, asking: &Asking) -> Option<DeskRe
 fn answered<K: Keep>(alloc: Global, keep: &mut K, asking: &Asking) -> Outgoing
     ensures began { K.is_clean keep.new → K.is_clean keep.old }
     ensures reply { Promised K.shows K.is_clean keep.old keep.new (λ r.
-        IsLegal r → GoesOut result (K.shows keep.new) r (Ok (asked_view asking.now))) }
+        IsOrdered r.members → GoesOut result (K.shows keep.new) r (Ok (asked_view asking.now))) }
     ensures status { HasStatus result }
 {
     let Ok(mut out) = Vec::with_capacity(alloc, RESERVED) else {
@@ -81,20 +82,21 @@ fn answered<K: Keep>(alloc: Global, keep: &mut K, asking: &Asking) -> Outgoing
 }
 
 // What was read is let go with this, so that no body is held twice while the desk answers.
-fn spelled(alloc: Global, raw: RawRequest) -> Result<Asking, WireFault>
+fn spelled(alloc: Global, paths: &Paths, raw: RawRequest) -> Result<Asking, WireFault>
     ensures { Finds asked_view result (spell raw) }
 {
-    parse(alloc, &raw)
+    parse_by(alloc, paths, &raw)
 }
 
 /// The reply to a request that was read.
-fn reply_for<K: Keep>(alloc: Global, keep: &mut K, raw: RawRequest) -> Outgoing
+fn reply_for<K: Keep>(alloc: Global, paths: &Paths, keep: &mut K, raw: RawRequest) -> Outgoing
     ensures began { K.is_clean keep.new → K.is_clean keep.old }
     ensures reply { Promised K.shows K.is_clean keep.old keep.new (λ r.
-        IsLegal r → GoesOut result (K.shows keep.new) r (spell raw)) }
+        IsOrdered r.members → GoesOut result (K.shows keep.new) r (spell raw)) }
+    ensures refused { (why : fault.Refusal) → spell raw ≡ Err why → IsRefusal result why }
     ensures status { HasStatus result }
 {
-    match spelled(alloc, raw) {
+    match spelled(alloc, paths, raw) {
         Ok(asking) => answered(alloc, keep, &asking),
         Err(WireFault::Refused(refusal)) => refused(alloc, refusal),
         Err(_) => Outgoing::Unavailable,
@@ -104,20 +106,22 @@ fn reply_for<K: Keep>(alloc: Global, keep: &mut K, raw: RawRequest) -> Outgoing
 /// The reply to the request that a reader gives; nothing where the reader failed.
 pub(crate) fn read_reply<K: Keep, R: Read>(
     alloc: Global,
+    paths: &Paths,
     keep: &mut K,
     reader: &mut Counted<R>,
 ) -> Option<Outgoing>
     ensures began { K.is_clean keep.new → K.is_clean keep.old }
     ensures reply { ByOutgoing result (R.remaining reader.old.inner)
         (λ spelled status bytes. Promised K.shows K.is_clean keep.old keep.new (λ r.
-        IsLegal r → IsSent (K.shows keep.new) r spelled status bytes))
-        (Promised K.shows K.is_clean keep.old keep.new (λ r. IsLegal r → K.shows keep.new r)) }
+        IsOrdered r.members → IsSent (K.shows keep.new) r spelled status bytes))
+        (Promised K.shows K.is_clean keep.old keep.new (λ r. IsOrdered r.members → K.shows keep.new r)) }
+    ensures refused { OnRefusal (R.remaining reader.old.inner) (GoesOutRefused result) }
     ensures status { IfSome result HasStatus }
     ensures taken { TakesAtMost request_limit (R.remaining reader.old.inner) (R.remaining reader.new.inner) }
     ensures faults { reader.new.faults ≡ faults_unread result reader.old.faults }
 {
     match read_request(alloc, reader) {
-        Ok(raw) => Some(reply_for(alloc, keep, raw)),
+        Ok(raw) => Some(reply_for(alloc, paths, keep, raw)),
         Err(WireFault::Refused(refusal)) => Some(refused(alloc, refusal)),
         Err(WireFault::Memory) => Some(Outgoing::Unavailable),
         Err(WireFault::Read) => None,

@@ -2,6 +2,7 @@
 
 ghost use Rattle.std.specs.Prelude.{◌≡◌, ℕ, List, IfOk, OnErr, length, map};
 ghost use Rattle.bor_records.specs.Promises.{Kept, Promised};
+ghost use Rattle.bor_register.specs.Register.{IsOrdered};
 ghost use Rattle.bor_machine.specs.Legality.{IsLegal};
 ghost use Rattle.bor_wire_spell.specs.Spell.{Spelled};
 ghost use Rattle.bor_wire.specs.Inputs.{IsReplyTo, after};
@@ -13,6 +14,7 @@ use crate::outgoing::{Outgoing, read_reply};
 use bor_machine::Keep;
 use bor_terms::Listed;
 use bor_wire_read::Counted;
+use bor_wire_spell::Paths;
 use std::alloc::{AllocError, Global};
 
 /// The reply to an input.
@@ -26,15 +28,15 @@ pub enum Reply {
 }
 
 // The reply to one input.
-fn reply_to<K: Keep>(alloc: Global, keep: &mut K, input: &[u8]) -> Reply
+fn reply_to<K: Keep>(alloc: Global, paths: &Paths, keep: &mut K, input: &[u8]) -> Reply
     ensures began { K.is_clean keep.new → K.is_clean keep.old }
     ensures reply { ByReply result input.now
         (λ spelled bytes. Promised K.shows K.is_clean keep.old keep.new (λ r.
-        IsLegal r → IsReplyTo r spelled bytes × K.shows keep.new (after r spelled)))
-        (Promised K.shows K.is_clean keep.old keep.new (λ r. IsLegal r → K.shows keep.new r)) }
+        IsOrdered r.members → IsReplyTo r spelled bytes × K.shows keep.new (after r spelled)))
+        (Promised K.shows K.is_clean keep.old keep.new (λ r. IsOrdered r.members → K.shows keep.new r)) }
 {
     let mut reader = Counted::new(input);
-    match read_reply(alloc, keep, &mut reader) {
+    match read_reply(alloc, paths, keep, &mut reader) {
         Some(Outgoing::Full(_, bytes)) => Reply::Full(Listed::new(bytes)),
         Some(Outgoing::Unavailable) | None => Reply::Unavailable,
     }
@@ -49,7 +51,7 @@ fn reply_to<K: Keep>(alloc: Global, keep: &mut K, input: &[u8]) -> Reply
 ///
 /// # Errors
 ///
-/// There is no memory for the list of replies; then no input was answered.
+/// There is no memory for the list of replies or for the paths; then no input was answered.
 pub fn replay<K: Keep>(
     alloc: Global,
     keep: &mut K,
@@ -73,9 +75,10 @@ pub fn replay<K: Keep>(
         AreReports r spelled (full replies.items))) }
     ensures err { OnErr result (Kept K.shows K.is_clean keep.old keep.new) }
 {
+    let paths = Paths::new(alloc)?;
     let mut replies = Vec::with_capacity(alloc, inputs.len())?;
     for input in inputs {
-        let reply = reply_to(alloc, keep, input);
+        let reply = reply_to(alloc, &paths, keep, input);
         replies.push_reserved(reply);
     }
     Ok(replies)

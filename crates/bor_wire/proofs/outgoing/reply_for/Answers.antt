@@ -1,7 +1,16 @@
-use Rattle.bor_wire.proofs.Outgoings.{refusal_goes}
+use Rattle.std.proofs.Common.{◌≡◌, Ok}
+use Rattle.bor_wire_spell.specs.Spell.{asked_view, spell}
+use Rattle.bor_wire.proofs.Outgoings.{refusal_goes, is_that}
 use Rattle.bor_wire.proofs.outgoing.reply_for.Goals as goal
 
+pub returns-in-Ok-clause-refused : goal.returns-in-Ok-clause-refused
+returns-in-Ok-clause-refused g c = λ why e. absurd (let is : spell c.args.raw ≡ Ok (asked_view c.in-Ok.asking) = c.in-Ok.ensures in cc)
+
+pub returns-in-Err-Refused-clause-refused : goal.returns-in-Err-Refused-clause-refused
+returns-in-Err-Refused-clause-refused g c = λ why e.
+    is_that c.refused.result c.in-Err-Refused.refusal why (spell c.args.raw) c.refused.ensures.refusal (rw c.in-Err-Refused.field-0-is at c.in-Err-Refused.ensures) e
+
 pub returns-in-Err-Refused-clause-reply : goal.returns-in-Err-Refused-clause-reply
-returns-in-Err-Refused-clause-reply g c = λ r is clean legal.
+returns-in-Err-Refused-clause-reply g c = λ r is clean ordered.
     rw (rw c.in-Err-Refused.field-0-is at c.in-Err-Refused.ensures)
     (refusal_goes c.refused.result (g.K.Keep.shows c.args.keep.now) r c.in-Err-Refused.refusal c.refused.ensures.refusal is)

@@ -3,7 +3,7 @@ use Rattle.std.proofs.lemmas.List.{map_more, length-take-le, length-map, take_al
 use Rattle.std.proofs.lemmas.Grind.{common_steps}
 use Rattle.bor_machine.specs.Legality.{IsLegal}
 use Rattle.bor_wire.specs.Runs.{AreReplies, register_left, full}
-use Rattle.bor_wire.proofs.RunLaws.{so_far_more, spelled_once}
+use Rattle.bor_wire.proofs.RunLaws.{legal_reply, so_far_more, spelled_once}
 use Rattle.bor_wire.proofs.HistoryLaws.{alone}
 use Rattle.bor_wire.proofs.ReportLaws.{reports}
 use Rattle.bor_wire.proofs.replies.replay.Goals as goal
@@ -27,7 +27,8 @@ loop-input-preserved g c =
           rw (c.push_reserved.ensures.items, more, ← c.input-item.is, ← c.deref.ensures.value)
           (so_far_more (λ r. keep.shows c.args.keep.now r × keep.is_clean c.loop-input.keep × IsLegal r) (λ r. keep.shows c.args.keep.now r × keep.is_clean c.reply_to-reply.new.keep × IsLegal r)
           (keep.is_clean c.reply_to-reply.new.keep) (keep.shows c.loop-input.keep) (keep.shows c.reply_to-reply.new.keep) so_far c.loop-input.replies.items c.deref.result.now c.reply_to-reply.result
-          count (λ r w. ((w.0, c.reply_to-reply.ensures.began w.1, w.2), w.1, w.2)) inv.far c.reply_to-reply.ensures.reply);
+          count (λ r w. ((w.0, c.reply_to-reply.ensures.began w.1, w.2), w.1, w.2)) inv.far
+          (legal_reply keep.shows keep.is_clean c.loop-input.keep c.reply_to-reply.new.keep c.reply_to-reply.result c.deref.result.now c.reply_to-reply.ensures.reply));
     }
 
 pub returns-clause-replies : goal.returns-clause-replies
