@@ -3,3 +3,4 @@ pub mod Taken
 pub mod Filing
 pub mod Adopting
 pub mod Undamaged
+pub mod Judging

@@ -1,8 +1,14 @@
 -- What a register may be set up beside, and which tables are taken for one.
-use Rattle.std.specs.Prelude.{◌≡◌, ◌⊎◌, ℕ, Bool, ◌||◌, ◌&&◌, List, [], ◌∷◌, ◌++◌, map, is_some, codes}
+use Rattle.std.specs.Prelude.{◌≡◌, ◌≢◌, ◌⊎◌, ℕ, ℤ, pos, Bool, false, ◌||◌, ◌&&◌, List, [], ◌∷◌, ◌++◌, map, is_some, codes, Option, Some, None, Result, Ok, Err, IsErrAnd, IsTrue}
 use Rattle.std.specs.List.{list_any, list_all}
+use Rattle.sqlite.specs.Held.{Held, state}
+use Rattle.sqlite.specs.Order.{Row, column}
 use Rattle.sqlite.specs.Schema.{Schema}
+use Rattle.sqlite.specs.State.{State, HasCleanDisk, Shown}
+use Rattle.sqlite.specs.Store.{Ghosts}
 use Rattle.sqlite.specs.Table.{Table}
+use Rattle.sqlite.specs.declared.types.Value.{Value}
+use Rattle.sqlite.specs.declared.types.Value.TheVariants.{Int}
 use Rattle.sqlite_schema.specs.Names.{same_name, table_named, index_named, view_named, column_named}
 use Rattle.bor_store_texts.specs.Tables.{keep_schema, record_index, subject_index, identifier_index, line_index}
 use Rattle.bor_store.specs.declared.open_fault.OpenFault.{OpenFault}
@@ -42,3 +48,40 @@ is_versioned schema = has_table schema (codes "register") (codes "one" ∷ codes
 -- there are all tables of a register, with all their columns
 abbrev pub has_all : Schema → Bool
 has_all schema = list_all (λ wanted. has_table schema wanted.name (map (λ c. c.name) wanted.columns)) keep_schema.tables
+
+-- ---- the version
+
+-- what the version is asked by
+abbrev pub version_text : List ℕ
+version_text = codes "SELECT version FROM register"
+
+-- SQL gives these rows as the versions, asked of a connection in this state
+abbrev pub AreVersions : State → List Row → Type 0
+AreVersions s rows = Shown version_text [] s s rows
+
+abbrev pub whole_number : Value → Option ℤ
+whole_number (Int n) = Some n
+whole_number _ = None
+
+-- the whole version that the one row has
+abbrev pub version_in : List Row → Option ℤ
+version_in [] = None
+version_in (row ∷ []) = whole_number (column row 0)
+version_in (row ∷ other ∷ more) = None
+
+-- what is answered where the rows of the versions are these: tables are taken in version 1 alone, with all of their columns
+abbrev pub Judges : {X : Type 0} → Schema → List Row → Result X OpenFault → Type 0
+Judges schema rows (Ok x) = (version_in rows ≡ Some (pos 1)) × IsTrue (has_all schema)
+Judges schema rows (Err (faults.OtherVersion n)) = (version_in rows ≡ Some n) × (n ≢ pos 1)
+Judges schema rows (Err faults.NoRegister) = (version_in rows ≡ None) ⊎ ((version_in rows ≡ Some (pos 1)) × (has_all schema ≡ false))
+Judges schema rows (Err _) = ⊥
+
+-- The answer of whether a connection has a register: memory is wanting or the store failed, or there is no version to ask for, or it is what the rows of the versions make it.
+abbrev pub IsJudged : {X : Type 0} → State → Result X OpenFault → Type 0
+IsJudged s result =
+    IsErrAnd result IsFailure
+    ⊎ (((is_versioned s.now.schema ≡ false) × (result ≡ Err faults.NoRegister)) ⊎ ((rows : List Row) × AreVersions s rows × Judges s.now.schema rows result))
+
+-- the disk of each such store returns what was written, as that of a store in memory does
+abbrev pub IsFaithful : {S : Type 0} → Ghosts S → Type 0
+IsFaithful {S} g = (h : Held S) → HasCleanDisk (state g h)

@@ -1,14 +1,14 @@
 //! What takes the tables of a store for a register.
 
-ghost use Rattle.std.specs.Prelude.{◌≡◌, ◌≢◌, ◌↔◌, ℤ, pos, false, [], ◌∷◌, Err, IfOk, IfErr, OnOk, MatchResult, IsTrue, ◌&&◌, is_some};
+ghost use Rattle.std.specs.Prelude.{◌≡◌, ◌≢◌, ◌⊎◌, ◌↔◌, ℤ, pos, false, [], Some, None, Err, IfOk, IfErr, OnOk, MatchResult, IsTrue, ◌&&◌, is_some};
 ghost use Rattle.std.specs.List.{list_all, list_any};
 ghost use Rattle.sqlite.specs.Held.{state};
-ghost use Rattle.sqlite.specs.declared.types.Value.TheVariants.{Int};
+ghost use Rattle.sqlite.specs.State.{HasCleanDisk};
 ghost use Rattle.sqlite_schema.specs.Names.{same_name, column_named};
 ghost use Rattle.bor_register.specs.Register.{Register};
 ghost use Rattle.bor_store_sql.specs.Found.{Asked};
 ghost use Rattle.bor_store_sql.specs.Shown.{IsClean, ShowsIn};
-ghost use Rattle.bor_store.specs.Opening.{IsFailure, is_versioned, has_all};
+ghost use Rattle.bor_store.specs.Opening.{AreVersions, IsFailure, IsFaithful, IsJudged, has_all, is_versioned, version_in, version_text};
 ghost use Rattle.bor_store.specs.declared.open_fault.OpenFault.TheVariants as faults;
 
 use crate::open_fault::OpenFault;
@@ -92,16 +92,17 @@ fn has_all(schema: &Schema) -> bool
 fn version_rows<S: Alter>(conn: &mut Connection<S>) -> Result<Vec<Row>, Error>
     requires { conn.old.in_transaction ≡ false }
     ensures mode { conn.new.in_transaction ≡ false }
-    ensures asked { Asked VERSION.now [] (state S.Store conn.old) (state S.Store conn.new) result }
+    ensures asked { Asked version_text [] (state S.Store conn.old) (state S.Store conn.new) result }
+    ensures versions { HasCleanDisk (state S.Store conn.new) → IfOk result (λ rows. AreVersions (state S.Store conn.old) rows.items) }
 {
     let _settled = conn.is_autocommit();
     conn.query_all(VERSION, &[])
 }
 
-// The version that the one row has.
+// The whole version that the one row has.
 fn version_in(rows: &[Row]) -> Result<i64, OpenFault>
-    ensures other { IfErr result (λ fault. (n : ℤ) → fault ≢ faults.OtherVersion n) }
-    ensures one { (n : ℤ) → rows.now ≡ (Int n ∷ []) ∷ [] → MatchResult result (λ version. version ≡ n) IsFailure }
+    ensures { MatchResult result (λ version. version_in rows.now ≡ Some version)
+        (λ fault. IsFailure fault ⊎ ((fault ≡ faults.NoRegister) × (version_in rows.now ≡ None))) }
 {
     let [row] = rows else {
         return Err(OpenFault::NoRegister);
@@ -113,35 +114,11 @@ fn version_in(rows: &[Row]) -> Result<i64, OpenFault>
     }
 }
 
-fn read_version<S: Alter>(conn: &mut Connection<S>) -> Result<i64, OpenFault>
-    requires { conn.old.in_transaction ≡ false }
-    ensures mode { conn.new.in_transaction ≡ false }
-    ensures began { IsClean (state S.Store conn.new) → IsClean (state S.Store conn.old) }
-    ensures kept { IsClean (state S.Store conn.new) → (state S.Store conn.new).committed ≡ (state S.Store conn.old).committed }
-    ensures other { IfErr result (λ fault. (n : ℤ) → fault ≢ faults.OtherVersion n) }
-    ensures shown { IsClean (state S.Store conn.new) → (r : Register) → ShowsIn r (state S.Store conn.old) → MatchResult result (λ version. version ≡ pos 1) IsFailure }
+// Whether a version is that of these tables, which may have all columns or not.
+fn judge(version: i64, is_whole: bool) -> Result<(), OpenFault>
+    ensures { MatchResult result (λ _. (version ≡ pos 1) × IsTrue is_whole)
+        (λ fault. ((fault ≡ faults.OtherVersion version) × (version ≢ pos 1)) ⊎ ((fault ≡ faults.NoRegister) × (version ≡ pos 1) × (is_whole ≡ false))) }
 {
-    let rows = version_rows(conn)?;
-    version_in(rows.as_slice())
-}
-
-// Whether the tables are a register's. Those that show one always are, unless memory or the store fails.
-fn examine<S: Alter>(conn: &mut Connection<S>) -> Result<(), OpenFault>
-    requires { conn.old.in_transaction ≡ false }
-    ensures mode { conn.new.in_transaction ≡ false }
-    ensures began { IsClean (state S.Store conn.new) → IsClean (state S.Store conn.old) }
-    ensures kept { IsClean (state S.Store conn.new) → (state S.Store conn.new).committed ≡ (state S.Store conn.old).committed }
-    ensures bare { is_versioned (state S.Store conn.old).now.schema ≡ false → result ≡ Err faults.NoRegister }
-    ensures other { (n : ℤ) → result ≡ Err (faults.OtherVersion n) → n ≢ pos 1 }
-    ensures whole { OnOk result (IsTrue (has_all (state S.Store conn.old).now.schema)) }
-    ensures shown { IsClean (state S.Store conn.new) → (r : Register) → ShowsIn r (state S.Store conn.old) → IfErr result IsFailure }
-{
-    let _settled = conn.is_autocommit();
-    if !is_versioned(conn.schema()) {
-        return Err(OpenFault::NoRegister);
-    }
-    let is_whole = has_all(conn.schema());
-    let version = read_version(conn)?;
     if version != 1 {
         return Err(OpenFault::OtherVersion(version));
     }
@@ -150,6 +127,32 @@ fn examine<S: Alter>(conn: &mut Connection<S>) -> Result<(), OpenFault>
     } else {
         Err(OpenFault::NoRegister)
     }
+}
+
+/// Whether the tables of a connection are those of a register, as [`SqlKeep::adopt`] asks; the
+/// connection stays as it is. No transaction may be open. First [`OpenFault::NoRegister`] comes where
+/// there is no table `register` with the columns `one` and `version`, or not exactly one row in it,
+/// with a whole version; then [`OpenFault::OtherVersion`] where that isn't 1; then `NoRegister` where
+/// another table or column of a register is missing.
+pub fn examine<S: Alter>(conn: &mut Connection<S>) -> Result<(), OpenFault>
+    requires { conn.old.in_transaction ≡ false }
+    ensures mode { conn.new.in_transaction ≡ false }
+    ensures began { IsClean (state S.Store conn.new) → IsClean (state S.Store conn.old) }
+    ensures kept { IsClean (state S.Store conn.new) → (state S.Store conn.new).committed ≡ (state S.Store conn.old).committed }
+    ensures bare { is_versioned (state S.Store conn.old).now.schema ≡ false → result ≡ Err faults.NoRegister }
+    ensures other { (n : ℤ) → result ≡ Err (faults.OtherVersion n) → n ≢ pos 1 }
+    ensures whole { OnOk result (IsTrue (has_all (state S.Store conn.old).now.schema)) }
+    ensures judged { HasCleanDisk (state S.Store conn.new) → IsJudged (state S.Store conn.old) result }
+    ensures shown { HasCleanDisk (state S.Store conn.new) → IsTrue (state S.Store conn.old).is_open → (r : Register) → ShowsIn r (state S.Store conn.old) → IfErr result IsFailure }
+{
+    let _settled = conn.is_autocommit();
+    if !is_versioned(conn.schema()) {
+        return Err(OpenFault::NoRegister);
+    }
+    let is_whole = has_all(conn.schema());
+    let rows = version_rows(conn)?;
+    let version = version_in(rows.as_slice())?;
+    judge(version, is_whole)
 }
 
 impl<S: Alter + Drop> SqlKeep<S> {
@@ -164,6 +167,9 @@ impl<S: Alter + Drop> SqlKeep<S> {
         ensures bare { is_versioned (state S.Store conn).now.schema ≡ false → result ≡ Err faults.NoRegister }
         ensures other { (n : ℤ) → result ≡ Err (faults.OtherVersion n) → n ≢ pos 1 }
         ensures whole { IfOk result (λ k. IsTrue (has_all (state S.Store conn).now.schema)) }
+        ensures adopted { IfOk result (λ k. HasCleanDisk (state S.Store k.conn) → IsJudged (state S.Store conn) result) }
+        ensures refused { IsFaithful S.Store → IsJudged (state S.Store conn) result }
+        ensures shown { IsFaithful S.Store → IsTrue (state S.Store conn).is_open → (r : Register) → ShowsIn r (state S.Store conn) → IfErr result IsFailure }
         ensures began { IfOk result (λ k. IsClean (state S.Store k.conn) → IsClean (state S.Store conn)) }
         ensures shows { IfOk result (λ k. IsClean (state S.Store k.conn) → (r : Register) → ShowsIn r (state S.Store conn) ↔ ShowsIn r (state S.Store k.conn)) }
         ensures unfaulted { IfOk result (λ k. k.faults ≡ 0) }

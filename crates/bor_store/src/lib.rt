@@ -12,6 +12,7 @@ mod open_fault;
 mod setup;
 mod sql_keep;
 
+pub use adoption::examine;
 pub use open_fault::OpenFault;
 pub use setup::set_up;
 pub use sql_keep::SqlKeep;

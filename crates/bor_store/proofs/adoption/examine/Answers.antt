@@ -1,22 +1,40 @@
-use Rattle.std.proofs.Common.{◌≡◌, ◌∙◌, true, true≢false, IsTrue, not, sym, ap}
+use Rattle.std.proofs.Common.{◌≡◌, ◌∙◌, Some, pos, true, true≢false, IsTrue, FitsSigned, w64, not, sym, ap, arith}
+use Rattle.std.proofs.lemmas.Int.{ints, to_z-of_z}
+use Rattle.std.proofs.lemmas.Result.{err_from_is_err_and}
 use Rattle.sqlite.specs.Held.{state}
 use Rattle.bor_store_texts.specs.Tables.{keep_schema}
-use Rattle.bor_store.specs.Opening.{is_versioned, has_all}
-use Rattle.bor_store.proofs.Adopting.{keep_is_versioned, keep_has_all}
+use Rattle.bor_store.specs.Opening.{is_versioned, has_all, version_in}
+use Rattle.bor_store.proofs.Adopting.{keep_is_versioned, keep_has_all, version_found}
+use Rattle.bor_store.proofs.Judging.{failure_of, told_one, judge_shown}
 use Rattle.bor_store.proofs.adoption.examine.Goals as goal
 
 pub returns-then-not-is_versioned-clause-shown : goal.returns-then-not-is_versioned-clause-shown
-returns-then-not-is_versioned-clause-shown g c clean r shows =
+returns-then-not-is_versioned-clause-shown g c clean open_still r shows =
     let was = state g.S.Store c.args.conn.now in
     let auto : IsTrue c.is_autocommit-settled.result = c.is_autocommit-settled.ensures.value ∙ ap not c.requires in
-    let schema : was.now.schema ≡ keep_schema = ap (λ db. db.schema) (c.is_autocommit-settled.ensures.settled auto clean.1) ∙ shows.has.schema in
+    let schema : was.now.schema ≡ keep_schema = ap (λ db. db.schema) (c.is_autocommit-settled.ensures.settled auto open_still) ∙ shows.has.schema in
     let yes : is_versioned was.now.schema ≡ true = ap is_versioned schema ∙ keep_is_versioned in
     absurd (true≢false (sym yes ∙ ap is_versioned (sym c.schema.ensures.value) ∙ sym c.is_versioned.ensures ∙ c.if-not-is_versioned.true))
 
-pub returns-else-is_whole-clause-shown : goal.returns-else-is_whole-clause-shown
-returns-else-is_whole-clause-shown g c clean r shows =
+pub returns-in_err-version-clause-shown : goal.returns-in_err-version-clause-shown
+returns-in_err-version-clause-shown g c clean open_still r shows =
     let was = state g.S.Store c.args.conn.now in
     let auto : IsTrue c.is_autocommit-settled.result = c.is_autocommit-settled.ensures.value ∙ ap not c.requires in
-    let schema : was.now.schema ≡ keep_schema = ap (λ db. db.schema) (c.is_autocommit-settled.ensures.settled auto (c.read_version.ensures.began clean).1) ∙ shows.has.schema in
-    let yes : has_all was.now.schema ≡ true = ap has_all schema ∙ keep_has_all in
-    absurd (true≢false (sym yes ∙ ap has_all (sym c.schema-2.ensures.value) ∙ sym c.has_all-is_whole.ensures ∙ c.if-is_whole.false))
+    let settled = c.is_autocommit-settled.ensures.settled auto open_still in
+    let found = version_found r was was shows c.in_ok-rows.rows.items (settled, c.in_ok-rows.ensures.versions clean) in
+    let version : version_in c.as_slice.result.now ≡ Some (pos 1) = ap version_in (c.as_slice.ensures.value ∙ found) in
+    let p = err_from_is_err_and c.from_residual-in_err-version.result c.from_residual-in_err-version.ensures.1 in
+    rw (p.1, p.2) (failure_of c.in_err-version.field-0.0 c.as_slice.result.now version c.in_err-version.ensures)
+
+pub returns-clause-shown : goal.returns-clause-shown
+returns-clause-shown g c clean open_still r shows =
+    let was = state g.S.Store c.args.conn.now in
+    let auto : IsTrue c.is_autocommit-settled.result = c.is_autocommit-settled.ensures.value ∙ ap not c.requires in
+    let settled = c.is_autocommit-settled.ensures.settled auto open_still in
+    let found = version_found r was was shows c.in_ok-rows.rows.items (settled, c.in_ok-rows.ensures.versions clean) in
+    let version : version_in c.as_slice.result.now ≡ Some (pos 1) = ap version_in (c.as_slice.ensures.value ∙ found) in
+    let schema : was.now.schema ≡ keep_schema = ap (λ db. db.schema) settled ∙ shows.has.schema in
+    let whole : c.has_all-is_whole.result ≡ true = c.has_all-is_whole.ensures ∙ ap has_all (c.schema-2.ensures.value ∙ schema) ∙ keep_has_all in
+    let one = told_one c.in_ok-version.version c.as_slice.result.now c.in_ok-version.ensures version in
+    let fits : FitsSigned w64 c.in_ok-version.version = omega (arith, ints, one) in
+    judge_shown c.judge.result _ c.has_all-is_whole.result c.judge.ensures (to_z-of_z w64 c.in_ok-version.version fits ∙ one) whole

@@ -4,7 +4,8 @@ use Rattle.sqlite.specs.Order.{Row}
 use Rattle.sqlite.specs.Held.{state}
 use Rattle.bor_store_sql.proofs.Finding.{settled_shown}
 use Rattle.bor_store_sql.proofs.Keeping.{left_by}
-use Rattle.bor_store.proofs.Adopting.{version_text, version_asks}
+use Rattle.bor_store.specs.Opening.{version_text}
+use Rattle.bor_store.proofs.Adopting.{version_asks, versions_told}
 use Rattle.bor_store.proofs.adoption.version_rows.Goals as goal
 
 abbrev rows_in : Vec Row Global → List Row
@@ -21,3 +22,6 @@ returns-clause-asked g c =
       shown = λ clean. settled_shown version_text [] old new
           (c.is_autocommit-settled.ensures.settled auto ((left_by old new version_text version_asks [] rows_in c.query_all.result (c.query_all.ensures.ok clean.0) (c.query_all.ensures.err clean.0)).was_open clean.1)) c.query_all.result (c.query_all.ensures.ok clean.0);
     }
+
+pub returns-clause-versions : goal.returns-clause-versions
+returns-clause-versions g c clean = versions_told (state g.S.Store c.args.conn.now) (state g.S.Store c.query_all.new.self) c.query_all.result (c.query_all.ensures.ok clean)
