@@ -1,0 +1,4 @@
+pub mod OneAgent
+pub mod SeriesSeen
+pub mod OpenAt
+pub mod Told

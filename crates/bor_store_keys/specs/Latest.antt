@@ -1,0 +1,23 @@
+-- The statement that a record shows on a day, by its row in the table statement.
+use Rattle.std.specs.Prelude.{ℕ, int_le, List, Bool, Option, Some, None, unwrap_or, if◌then◌else◌, ◌&&◌, ◌==◌}
+use Rattle.std.specs.List.{list_any}
+use Rattle.bods_read.specs.declared.statement.Status.TheVariants.{New}
+use Rattle.bor_records.specs.declared.row.Row.{Row}
+use Rattle.bor_records.specs.Admission.{is_closed}
+use Rattle.bor_register.specs.declared.filing.AcceptedFiling.{AcceptedFiling}
+use Rattle.bor_register.specs.Rows.{is_visible}
+use Rattle.bor_store_rows.specs.declared.rows.StatementRow.{StatementRow}
+use Rattle.bor_store_rows.specs.Placed.{bare}
+use Rattle.bor_store_keys.specs.declared.view.View.{View}
+
+-- what the table statement has of a row
+abbrev pub bare_row : Row → StatementRow
+bare_row r = bare (record { at = record { agent = r.agent; filing = r.filing; place = r.place }; statement = r.statement })
+
+-- the statement is dated at or before the day, and the viewer sees its filing, among these of its agent, on the register's day
+abbrev pub is_told : View → List ℕ → List AcceptedFiling → StatementRow → Bool
+is_told view agent filings row = int_le row.day view.day && list_any (λ f. f.number == row.at.filing && is_visible view.viewer view.today agent f) filings
+
+-- a statement that isn't closed
+abbrev pub unless_closed : StatementRow → Option StatementRow
+unless_closed row = if is_closed (unwrap_or row.status New) then None else Some row

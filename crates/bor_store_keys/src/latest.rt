@@ -1,0 +1,95 @@
+//! The statement that a record shows on a day: the latest that the viewer sees.
+
+ghost use Rattle.std.specs.Prelude.{◌≡◌, false, filter, None, option_map};
+ghost use Rattle.std.specs.List.{last_or};
+ghost use Rattle.sqlite.specs.Held.{state};
+ghost use Rattle.bor_links.specs.Series.{open_at};
+ghost use Rattle.bor_register.specs.Register.{filings_of};
+ghost use Rattle.bor_register.specs.Rows.{visible};
+ghost use Rattle.bor_store_sql.specs.Shown.{IsClean};
+ghost use Rattle.bor_store_reads.specs.Answering.{Answers};
+ghost use Rattle.bor_store_keys.specs.Latest.{bare_row, is_told, unless_closed};
+
+use crate::view::View;
+use bods_read::Status;
+use bor_links::Node;
+use bor_store_reads::{ReadError, is_number_seen, read_series};
+use bor_store_rows::StatementRow;
+use bor_terms::AgentName;
+use sqlite::{Alter, Connection};
+use std::alloc::Global;
+
+// Whether the agent's statement is dated at or before the day, and seen by the viewer.
+fn is_told<S: Alter>(
+    conn: &mut Connection<S>,
+    alloc: Global,
+    view: &View,
+    agent: &AgentName,
+    row: &StatementRow,
+) -> Result<bool, ReadError>
+    requires { conn.old.in_transaction ≡ false }
+    ensures mode { conn.new.in_transaction ≡ false }
+    ensures began { IsClean (state S.Store conn.new) → IsClean (state S.Store conn.old) }
+    ensures kept { IsClean (state S.Store conn.new) → (state S.Store conn.new).committed ≡ (state S.Store conn.old).committed }
+    ensures answer { Answers (state S.Store conn.old) (state S.Store conn.new) result (λ r told.
+        told ≡ is_told view.now agent.now (filings_of agent.now r.members) row.now) }
+{
+    if view.day < row.day {
+        return Ok(false);
+    }
+    is_number_seen(conn, alloc, &view.viewer, agent, view.today, row.at.filing)
+}
+
+// The last of the agent's statements of which that holds.
+fn last_told<S: Alter>(
+    conn: &mut Connection<S>,
+    alloc: Global,
+    view: &View,
+    agent: &AgentName,
+    mut rows: Vec<StatementRow>,
+) -> Result<Option<StatementRow>, ReadError>
+    requires { conn.old.in_transaction ≡ false }
+    ensures mode { conn.new.in_transaction ≡ false }
+    ensures began { IsClean (state S.Store conn.new) → IsClean (state S.Store conn.old) }
+    ensures kept { IsClean (state S.Store conn.new) → (state S.Store conn.new).committed ≡ (state S.Store conn.old).committed }
+    ensures answer { Answers (state S.Store conn.old) (state S.Store conn.new) result (λ r last.
+        last ≡ last_or None (filter (is_told view.now agent.now (filings_of agent.now r.members)) rows.items)) }
+{
+    while let Some(row) = rows.pop() {
+        if is_told(conn, alloc, view, agent, &row)? {
+            return Ok(Some(row));
+        }
+    }
+    Ok(None)
+}
+
+fn unless_closed(row: StatementRow) -> Option<StatementRow>
+    ensures { result ≡ unless_closed row }
+{
+    if row.status == Some(Status::Closed) {
+        None
+    } else {
+        Some(row)
+    }
+}
+
+/// The row of the statement that a record shows: the latest one, where it isn't closed.
+pub(crate) fn open_statement<S: Alter>(
+    conn: &mut Connection<S>,
+    alloc: Global,
+    view: &View,
+    node: &Node,
+) -> Result<Option<StatementRow>, ReadError>
+    requires { conn.old.in_transaction ≡ false }
+    ensures mode { conn.new.in_transaction ≡ false }
+    ensures began { IsClean (state S.Store conn.new) → IsClean (state S.Store conn.old) }
+    ensures kept { IsClean (state S.Store conn.new) → (state S.Store conn.new).committed ≡ (state S.Store conn.old).committed }
+    ensures answer { Answers (state S.Store conn.old) (state S.Store conn.new) result (λ r row.
+        row ≡ option_map bare_row (open_at view.now.day node.now (visible view.now.viewer view.now.today r.members))) }
+{
+    let rows = read_series(conn, alloc, &node.agent, &node.declaration, &node.rec)?;
+    match last_told(conn, alloc, view, &node.agent, rows)? {
+        Some(row) => Ok(unless_closed(row)),
+        None => Ok(None),
+    }
+}
