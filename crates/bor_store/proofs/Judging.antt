@@ -1,5 +1,5 @@
 -- What is answered of tables by the rows of their versions.
-use Rattle.std.proofs.Common.{◌≡◌, ◌≢◌, ◌⊎◌, inl, inr, ℤ, pos, Bool, true, false, List, Option, Some, None, Result, Ok, Err, IsTrue, MatchResult, IfErr, true≢false, refl, sym, ap, ◌∙◌}
+use Rattle.std.proofs.Common.{◌≡◌, ◌≢◌, ◌⊎◌, inl, inr, ℤ, pos, Bool, true, false, List, Some, None, Result, Ok, Err, IsTrue, MatchResult, IfErr, true≢false, sym, ap, ◌∙◌}
 use Rattle.sqlite.specs.Order.{Row}
 use Rattle.sqlite.specs.Schema.{Schema}
 use Rattle.sqlite.specs.State.{State}
