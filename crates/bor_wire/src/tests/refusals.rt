@@ -3,104 +3,107 @@
 use crate::tests::talk::Talk;
 use std::test::Fail;
 
+// Inputs with the status, the line of its own and the body of their replies.
+const INPUTS: &[(&[u8], u16, &str, &str)] = &[
+    (b"", 400, "", r#"{"refusal":"CutShort"}"#),
+    (b"GET /\r\n\r\n", 400, "", r#"{"refusal":"BadHead"}"#),
+    (
+        b"GET /nothing HTTP/1.1\r\n\r\n",
+        404,
+        "",
+        r#"{"refusal":"NoPath"}"#,
+    ),
+    (
+        b"GET /filings/ HTTP/1.1\r\n\r\n",
+        404,
+        "",
+        r#"{"refusal":"NoPath"}"#,
+    ),
+    (
+        b"POST /filings HTTP/1.1\r\n\r\n",
+        405,
+        "Allow: GET",
+        r#"{"refusal":"WrongMethod"}"#,
+    ),
+    (
+        b"GET /filings/f1 HTTP/1.1\r\n\r\n",
+        405,
+        "Allow: DELETE, PUT",
+        r#"{"refusal":"WrongMethod"}"#,
+    ),
+    (
+        b"HEAD /published HTTP/1.1\r\n\r\n",
+        405,
+        "Allow: GET",
+        r#"{"refusal":"WrongMethod"}"#,
+    ),
+    (
+        b"GET /day HTTP/1.1\r\n\r\n",
+        405,
+        "Allow: POST",
+        r#"{"refusal":"WrongMethod"}"#,
+    ),
+    (
+        b"GET /filings HTTP/1.1\r\n\r\n",
+        401,
+        "WWW-Authenticate: Bearer",
+        r#"{"refusal":"NoToken"}"#,
+    ),
+    (
+        b"GET /filings HTTP/1.1\r\nX-Authorization: Bearer alder-token-000001\r\n\r\n",
+        401,
+        "WWW-Authenticate: Bearer",
+        r#"{"refusal":"NoToken"}"#,
+    ),
+    (
+        b"PUT /filings/f1 HTTP/1.1\r\nAuthorization: Bearer alder-token-000001\r\n\r\n",
+        400,
+        "",
+        r#"{"field":"due","refusal":"BadQuery"}"#,
+    ),
+    (
+        b"PUT /filings/f%31?due=2024-02-01 HTTP/1.1\r\nAuthorization: Bearer alder-token-000001\r\n\r\n",
+        400,
+        "",
+        r#"{"field":"key","refusal":"BadQuery"}"#,
+    ),
+    (
+        b"GET /filings HTTP/1.1\r\nTransfer-Encoding: chunked\r\n\r\n",
+        400,
+        "",
+        r#"{"refusal":"BadLength"}"#,
+    ),
+    (
+        b"PUT /filings/f1?due=2024-02-01 HTTP/1.1\r\nContent-Length: 5\r\n\r\n1234",
+        400,
+        "",
+        r#"{"refusal":"CutShort"}"#,
+    ),
+    (
+        b"PUT /filings/f1?due=2024-02-01 HTTP/1.1\r\nContent-Length: 1048577\r\n\r\n",
+        413,
+        "",
+        r#"{"refusal":"BodyTooLarge"}"#,
+    ),
+    (
+        b"GET /filings HTTP/1.1\r\nAuthorization: Bearer nobody-token-0001\r\n\r\n",
+        401,
+        "WWW-Authenticate: Bearer",
+        r#"{"refusal":"NoAgent"}"#,
+    ),
+    (
+        b"GET /filings HTTP/1.1\nauthorization:BEARER   alder-token-000001\n\nwhatever follows",
+        200,
+        "",
+        "[]",
+    ),
+];
+
 #[test]
 fn bytes_that_are_no_request_are_refused(rt: HostRuntime) -> Result<(), Fail> {
     let mut talk = Talk::new(rt.alloc())?;
-    for (input, status, line, body) in [
-        (b"".as_slice(), 400, "", r#"{"refusal":"CutShort"}"#),
-        (b"GET /\r\n\r\n", 400, "", r#"{"refusal":"BadHead"}"#),
-        (
-            b"GET /nothing HTTP/1.1\r\n\r\n",
-            404,
-            "",
-            r#"{"refusal":"NoPath"}"#,
-        ),
-        (
-            b"GET /filings/ HTTP/1.1\r\n\r\n",
-            404,
-            "",
-            r#"{"refusal":"NoPath"}"#,
-        ),
-        (
-            b"POST /filings HTTP/1.1\r\n\r\n",
-            405,
-            "Allow: GET",
-            r#"{"refusal":"WrongMethod"}"#,
-        ),
-        (
-            b"GET /filings/f1 HTTP/1.1\r\n\r\n",
-            405,
-            "Allow: DELETE, PUT",
-            r#"{"refusal":"WrongMethod"}"#,
-        ),
-        (
-            b"HEAD /published HTTP/1.1\r\n\r\n",
-            405,
-            "Allow: GET",
-            r#"{"refusal":"WrongMethod"}"#,
-        ),
-        (
-            b"GET /day HTTP/1.1\r\n\r\n",
-            405,
-            "Allow: POST",
-            r#"{"refusal":"WrongMethod"}"#,
-        ),
-        (
-            b"GET /filings HTTP/1.1\r\n\r\n",
-            401,
-            "WWW-Authenticate: Bearer",
-            r#"{"refusal":"NoToken"}"#,
-        ),
-        (
-            b"GET /filings HTTP/1.1\r\nX-Authorization: Bearer alder-token-000001\r\n\r\n",
-            401,
-            "WWW-Authenticate: Bearer",
-            r#"{"refusal":"NoToken"}"#,
-        ),
-        (
-            b"PUT /filings/f1 HTTP/1.1\r\nAuthorization: Bearer alder-token-000001\r\n\r\n",
-            400,
-            "",
-            r#"{"field":"due","refusal":"BadQuery"}"#,
-        ),
-        (
-            b"PUT /filings/f%31?due=2024-02-01 HTTP/1.1\r\nAuthorization: Bearer alder-token-000001\r\n\r\n",
-            400,
-            "",
-            r#"{"field":"key","refusal":"BadQuery"}"#,
-        ),
-        (
-            b"GET /filings HTTP/1.1\r\nTransfer-Encoding: chunked\r\n\r\n",
-            400,
-            "",
-            r#"{"refusal":"BadLength"}"#,
-        ),
-        (
-            b"PUT /filings/f1?due=2024-02-01 HTTP/1.1\r\nContent-Length: 5\r\n\r\n1234",
-            400,
-            "",
-            r#"{"refusal":"CutShort"}"#,
-        ),
-        (
-            b"PUT /filings/f1?due=2024-02-01 HTTP/1.1\r\nContent-Length: 1048577\r\n\r\n",
-            413,
-            "",
-            r#"{"refusal":"BodyTooLarge"}"#,
-        ),
-        (
-            b"GET /filings HTTP/1.1\r\nAuthorization: Bearer nobody-token-0001\r\n\r\n",
-            401,
-            "WWW-Authenticate: Bearer",
-            r#"{"refusal":"NoAgent"}"#,
-        ),
-        (
-            b"GET /filings HTTP/1.1\nauthorization:BEARER   alder-token-000001\n\nwhatever follows",
-            200,
-            "",
-            "[]",
-        ),
-    ] {
-        talk.send(input, status, line, body)?;
+    for (input, status, line, body) in INPUTS {
+        talk.send(input, *status, line, body)?;
     }
     talk.hold(&rt)
 }

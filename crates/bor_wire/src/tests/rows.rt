@@ -2,6 +2,7 @@
 
 use crate::tests::talk::{Talk, rows_hold};
 use bor_rows::{callers, lodging, sight, withdrawing};
+use std::alloc::Global;
 use std::test::Fail;
 
 #[test]
@@ -71,69 +72,72 @@ fn an_agent_has_at_most_999_filings(rt: HostRuntime) -> Result<(), Fail> {
     talk.hold(&rt)
 }
 
+// Files with the refusals that they get.
+const REFUSED_FILES: &[(&str, &str)] = &[
+    ("[]", r#"{"refusal":"NoStatements"}"#),
+    ("[{\"statementId\":\"s1\"", r#"{"refusal":"NotJson"}"#),
+    (
+        "[{}]",
+        r#"{"field":"statementId","place":1,"refusal":"Missing"}"#,
+    ),
+    ("[7]", r#"{"field":"statement","place":1,"refusal":"Bad"}"#),
+    (
+        r#"E s1 e1; P s2 p1; R s3 r1 e1<-p1 V{"exact":25.0}"#,
+        r#"{"place":3,"refusal":"Fraction"}"#,
+    ),
+    (
+        r#"E s1 e1; P s2 p1; R s3 r1 e1<-p1 V{"exact":1e2}"#,
+        r#"{"place":3,"refusal":"Fraction"}"#,
+    ),
+    (
+        r#"E s1 e1; P s2 p1; R s3 r1 e1<-p1 V{"exact":101}"#,
+        r#"{"place":3,"refusal":"ShareRange"}"#,
+    ),
+    (
+        r#"E s1 e1; P s2 p1; R s3 r1 e1<-p1 V{"exact":-1}"#,
+        r#"{"place":3,"refusal":"ShareRange"}"#,
+    ),
+    (
+        r#"E s1 e1; P s2 p1; R s3 r1 e1<-p1 V{"minimum":50,"exclusiveMaximum":50}"#,
+        r#"{"place":3,"refusal":"EmptyShare"}"#,
+    ),
+    (
+        r#"E s1 e1; P s2 p1; R s3 r1 e1<-p1 V{"exact":"25"}"#,
+        r#"{"field":"exact","place":3,"refusal":"Bad"}"#,
+    ),
+    (
+        "E s1 e1; E s2 e1 +new",
+        r#"{"place":2,"refusal":"RecordExists"}"#,
+    ),
+    (
+        "E s1 e1 +updated",
+        r#"{"place":1,"refusal":"RecordUnknown"}"#,
+    ),
+    (
+        "E s1 e1; E s2 e1 +closed; E s3 e1 +updated",
+        r#"{"place":3,"refusal":"RecordClosed"}"#,
+    ),
+    (
+        "E s1 e1; E s2 e1 @2024-01-09",
+        r#"{"place":2,"refusal":"DateBack"}"#,
+    ),
+    ("E s1 e1; P s2 e1", r#"{"place":2,"refusal":"TypeChanged"}"#),
+    (
+        "E s1 e1; E s1 e2",
+        r#"{"place":2,"refusal":"StatementTwice"}"#,
+    ),
+    (
+        "E s1 e1 @2023-02-29",
+        r#"{"field":"statementDate","place":1,"refusal":"Bad"}"#,
+    ),
+];
+
 // Each is refused, and leaves no filing.
 #[test]
 fn files_are_refused_whole(rt: HostRuntime) -> Result<(), Fail> {
     let alloc = rt.alloc();
     let mut talk = Talk::new(alloc)?;
-    for (file, body) in [
-        ("[]", r#"{"refusal":"NoStatements"}"#),
-        ("[{\"statementId\":\"s1\"", r#"{"refusal":"NotJson"}"#),
-        (
-            "[{}]",
-            r#"{"field":"statementId","place":1,"refusal":"Missing"}"#,
-        ),
-        ("[7]", r#"{"field":"statement","place":1,"refusal":"Bad"}"#),
-        (
-            r#"E s1 e1; P s2 p1; R s3 r1 e1<-p1 V{"exact":25.0}"#,
-            r#"{"place":3,"refusal":"Fraction"}"#,
-        ),
-        (
-            r#"E s1 e1; P s2 p1; R s3 r1 e1<-p1 V{"exact":1e2}"#,
-            r#"{"place":3,"refusal":"Fraction"}"#,
-        ),
-        (
-            r#"E s1 e1; P s2 p1; R s3 r1 e1<-p1 V{"exact":101}"#,
-            r#"{"place":3,"refusal":"ShareRange"}"#,
-        ),
-        (
-            r#"E s1 e1; P s2 p1; R s3 r1 e1<-p1 V{"exact":-1}"#,
-            r#"{"place":3,"refusal":"ShareRange"}"#,
-        ),
-        (
-            r#"E s1 e1; P s2 p1; R s3 r1 e1<-p1 V{"minimum":50,"exclusiveMaximum":50}"#,
-            r#"{"place":3,"refusal":"EmptyShare"}"#,
-        ),
-        (
-            r#"E s1 e1; P s2 p1; R s3 r1 e1<-p1 V{"exact":"25"}"#,
-            r#"{"field":"exact","place":3,"refusal":"Bad"}"#,
-        ),
-        (
-            "E s1 e1; E s2 e1 +new",
-            r#"{"place":2,"refusal":"RecordExists"}"#,
-        ),
-        (
-            "E s1 e1 +updated",
-            r#"{"place":1,"refusal":"RecordUnknown"}"#,
-        ),
-        (
-            "E s1 e1; E s2 e1 +closed; E s3 e1 +updated",
-            r#"{"place":3,"refusal":"RecordClosed"}"#,
-        ),
-        (
-            "E s1 e1; E s2 e1 @2024-01-09",
-            r#"{"place":2,"refusal":"DateBack"}"#,
-        ),
-        ("E s1 e1; P s2 e1", r#"{"place":2,"refusal":"TypeChanged"}"#),
-        (
-            "E s1 e1; E s1 e2",
-            r#"{"place":2,"refusal":"StatementTwice"}"#,
-        ),
-        (
-            "E s1 e1 @2023-02-29",
-            r#"{"field":"statementDate","place":1,"refusal":"Bad"}"#,
-        ),
-    ] {
+    for (file, body) in REFUSED_FILES {
         let ask = format!(in alloc; "alder lodge f1 2024-02-01 {file}")?;
         talk.ask(ask.as_str(), body)?;
         talk.ask("alder filings", "[]")?;
@@ -141,46 +145,104 @@ fn files_are_refused_whole(rt: HostRuntime) -> Result<(), Fail> {
     talk.hold(&rt)
 }
 
+// The lodging of a body as it stands.
+fn lodging_of(alloc: Global, body: &str) -> Result<Vec<u8>, Fail> {
+    let length = body.len();
+    let text = format!(in alloc;
+        "PUT /filings/f1?due=2024-02-01 HTTP/1.1\r\nAuthorization: Bearer alder-token-000001\r\nContent-Length: {length}\r\n\r\n{body}"
+    )?;
+    Ok(text.into_bytes())
+}
+
+// An object, 1,001 statements, and 101 interests.
+#[test]
+fn files_beyond_their_limits_are_refused_whole(rt: HostRuntime) -> Result<(), Fail> {
+    let alloc = rt.alloc();
+    let mut talk = Talk::new(alloc)?;
+    let object = lodging_of(alloc, "{}")?;
+    talk.send(&object, 422, "", r#"{"refusal":"NotAList"}"#)?;
+    let more = ",{}".repeat(alloc, 1000)?;
+    let more = more.as_str();
+    let many = lodging_of(alloc, format!(in alloc; "[{{}}{more}]")?.as_str())?;
+    talk.send(&many, 422, "", r#"{"refusal":"TooMany"}"#)?;
+    let interests = " V1".repeat(alloc, 101)?;
+    let interests = interests.as_str();
+    let ask = format!(in alloc;
+        "alder lodge f1 2024-02-01 E s1 e1; P s2 p1; R s3 r1 e1<-p1{interests}"
+    )?;
+    talk.ask(
+        ask.as_str(),
+        r#"{"field":"interests","place":3,"refusal":"TooLong"}"#,
+    )?;
+    talk.ask("alder filings", "[]")?;
+    talk.hold(&rt)
+}
+
+#[test]
+fn a_time_behind_a_date_is_passed_over(rt: HostRuntime) -> Result<(), Fail> {
+    rows_hold(
+        &rt,
+        rt.alloc(),
+        &[
+            (
+                "alder lodge f1 2024-02-01 E s1 e1 @2024-01-10T09:00:00Z",
+                bor_rows::PUBLISHED,
+            ),
+            (
+                "alder published",
+                r#"[{"agent":"alder","due":"2024-02-01","statements":[{"date":"2024-01-10","declaration":"c1","id":"s1","record":"e1","status":"new","type":"entity"}]}]"#,
+            ),
+        ],
+    )
+}
+
+// Two drafts of birch, one of them withdrawn, and what it publishes.
+const WITH_DRAFTS: &[(&str, &str)] = &[
+    (
+        "birch lodge x1 2024-12-01 E s9 z1",
+        r#"{"due":"2024-12-01","filing":1,"state":"draft"}"#,
+    ),
+    (
+        "birch lodge x2 2024-12-01 E s8 z2",
+        r#"{"due":"2024-12-01","filing":2,"state":"draft"}"#,
+    ),
+    (
+        "birch withdraw x2",
+        r#"{"due":"2024-12-01","filing":2,"state":"withdrawn"}"#,
+    ),
+    (
+        sight::JOINED,
+        r#"{"due":"2024-02-01","filing":3,"state":"published"}"#,
+    ),
+];
+
+// What alder asks, and is told.
+const TOLD_TO_ALDER: &[(&str, &str)] = &[
+    (sight::JOINING, bor_rows::DRAFT),
+    (
+        "alder filings",
+        r#"[{"due":"2024-03-01","filing":1,"key":"g1","state":"draft"}]"#,
+    ),
+    ("alder published", BIRCH_PUBLISHED),
+    ("alder snapshot birch c9", BIRCH_SHOWN),
+    (
+        "alder snapshot birch c1",
+        r#"{"date":"2024-02-01","records":[]}"#,
+    ),
+    ("alder chains alder c1 e1", BIRCH_JOINED),
+    (sight::JOINING, bor_rows::DRAFT),
+];
+
 // What birch has not published changes no reply to alder.
 #[test]
 fn two_worlds_look_alike_to_alder(rt: HostRuntime) -> Result<(), Fail> {
     let alloc = rt.alloc();
     let mut first = Talk::new(alloc)?;
-    first.ask_all(&[
-        (
-            "birch lodge x1 2024-12-01 E s9 z1",
-            r#"{"due":"2024-12-01","filing":1,"state":"draft"}"#,
-        ),
-        (
-            "birch lodge x2 2024-12-01 E s8 z2",
-            r#"{"due":"2024-12-01","filing":2,"state":"draft"}"#,
-        ),
-        (
-            "birch withdraw x2",
-            r#"{"due":"2024-12-01","filing":2,"state":"withdrawn"}"#,
-        ),
-        (
-            sight::JOINED,
-            r#"{"due":"2024-02-01","filing":3,"state":"published"}"#,
-        ),
-    ])?;
+    first.ask_all(WITH_DRAFTS)?;
     let mut second = Talk::new(alloc)?;
     second.ask(sight::JOINED, bor_rows::PUBLISHED)?;
     for mut talk in [first, second] {
-        talk.ask_all(&[
-            (sight::JOINING, bor_rows::DRAFT),
-            (
-                "alder filings",
-                r#"[{"due":"2024-03-01","filing":1,"key":"g1","state":"draft"}]"#,
-            ),
-            ("alder published", BIRCH_PUBLISHED),
-            (
-                "alder snapshot birch c1",
-                r#"{"date":"2024-02-01","records":[]}"#,
-            ),
-            ("alder chains alder c1 e1", BIRCH_JOINED),
-            (sight::JOINING, bor_rows::DRAFT),
-        ])?;
+        talk.ask_all(TOLD_TO_ALDER)?;
         talk.hold(&rt)?;
     }
     Ok(())
@@ -191,3 +253,6 @@ const BIRCH_PUBLISHED: &str =
 
 const BIRCH_JOINED: &str =
     r#"{"agent":"alder","date":"2024-02-01","declaration":"c1","persons":[{"agent":"birch","declaration":"c9","name":null,"record":"bp"}],"record":"e1"}"#;
+
+const BIRCH_SHOWN: &str =
+    r#"{"date":"2024-02-01","records":[{"date":"2024-01-10","details":{"identifiers":[{"id":"00000001","scheme":"GB-COH"}],"kind":"registeredEntity","name":null},"id":"s1","record":"b1","status":"new","type":"entity"},{"date":"2024-01-10","details":{"kind":"knownPerson","name":null},"id":"s2","record":"bp","status":"new","type":"person"},{"date":"2024-01-10","details":{"interestedParty":"bp","interests":[{"directness":"unknown","share":{"high":100,"highOpen":false,"low":100,"lowOpen":false},"type":"votingRights"}],"subject":"b1"},"id":"s3","record":"br","status":"new","type":"relationship"}]}"#;
