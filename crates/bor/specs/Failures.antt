@@ -1,8 +1,8 @@
 -- What is told of a failure.
 use Rattle.std.specs.Prelude.{◌≡◌, ⊤, ℕ, List, [], ◌∷◌, ◌++◌, Option, codes}
 use Rattle.std.specs.Io.KnownBytes.{Keeps}
-use Rattle.bor_register.specs.declared.fault.StoreFault.{StoreFault}
-use Rattle.bor_register.specs.declared.fault.StoreFault.TheVariants.{Memory as WantOfMemory, Store as StoreFailed, Damaged}
+use Rattle.bor_keep.specs.declared.fault.StoreFault.{StoreFault}
+use Rattle.bor_keep.specs.declared.fault.StoreFault.TheVariants.{Memory as WantOfMemory, Store as StoreFailed, Damaged}
 use Rattle.bor.specs.declared.command.Source.{Source}
 use Rattle.bor.specs.declared.command.Source.TheVariants.{StandardInput, File}
 use Rattle.bor.specs.declared.failure.Failure.{Failure}

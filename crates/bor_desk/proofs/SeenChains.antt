@@ -11,7 +11,7 @@ use Rattle.bor_links.specs.Shown.{Shown, info_of, IsEntity}
 use Rattle.bor_links.specs.Rows.{is_entity_info, shown_of}
 use Rattle.bor_chains.specs.Chains.{AreJoined}
 use Rattle.bor_chains.specs.Promises.{OnNoEntity}
-use Rattle.bor_register.specs.declared.fault.StoreFault.{StoreFault}
+use Rattle.bor_keep.specs.declared.fault.StoreFault.{StoreFault}
 use Rattle.bor_register.specs.Register.{Register}
 use Rattle.bor_register.specs.Rows.{visible}
 use Rattle.bor_machine.specs.Sight.{seen_by}

@@ -4,8 +4,9 @@ ghost use Rattle.std.specs.Prelude.{◌≡◌};
 ghost use Rattle.bor_records.specs.Promises.{counted};
 
 use bods_read::Statement;
+use bor_keep::{Keep, StoreFault};
 use bor_records::{Last, Row};
-use bor_register::{Caller, Filing, FilingLine, Keep, Outward, StoreFault};
+use bor_register::{Caller, Filing, FilingLine, Outward};
 use bor_terms::{AgentName, Day, Ident, LodgeKey, Token};
 
 /// A keep that hands on as many calls as are left, and then answers each by the fault.

@@ -7,8 +7,8 @@ ghost use Rattle.bor_machine.specs.declared.fault.AdvanceFault.TheVariants as ad
 ghost use Rattle.bor_machine.specs.declared.fault.EnrolFault.TheVariants as enrol_faults;
 
 use bods_read::FileFault;
+use bor_keep::StoreFault;
 use bor_records::RecordFault;
-use bor_register::StoreFault;
 
 /// Why a file was not lodged. The register is as before.
 #[derive(Clone, Copy, Debug, PartialEq, Eq)]

@@ -27,9 +27,8 @@ mod registrar;
 mod tests;
 mod withdrawal;
 
-pub use bor_register::{
-    AcceptedFiling, Caller, Filing, FilingLine, Keep, ListKeep, Member, Outward, State, StoreFault,
-};
+pub use bor_keep::{Keep, ListKeep, StoreFault};
+pub use bor_register::{AcceptedFiling, Caller, Filing, FilingLine, Member, Outward, State};
 pub use fault::{AdvanceFault, EnrolFault, LodgeFault, WithdrawFault};
 pub use lodging::{FILINGS_LIMIT, Lodged, lodge};
 pub use registrar::{advance, enrol};

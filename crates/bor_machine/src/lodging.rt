@@ -20,8 +20,9 @@ ghost use Rattle.bor_machine.specs.Sight.{sight_of};
 
 use crate::fault::LodgeFault;
 use bods_read::{ReadFault, Statement, Status, read_file};
+use bor_keep::{Keep, StoreFault};
 use bor_records::{Last, admit};
-use bor_register::{FilingLine, Keep, State, StoreFault, any_has_id, last_in};
+use bor_register::{FilingLine, State, any_has_id, last_in};
 use bor_terms::{AgentName, Day, Ident, LodgeKey};
 use std::alloc::Global;
 

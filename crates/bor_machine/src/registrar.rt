@@ -8,7 +8,7 @@ ghost use Rattle.bor_machine.specs.Outcomes.{of_advance, of_enrolment, IsOutcome
 ghost use Rattle.bor_machine.specs.Legality.{IsLegal};
 
 use crate::fault::{AdvanceFault, EnrolFault};
-use bor_register::{Keep, StoreFault};
+use bor_keep::{Keep, StoreFault};
 use bor_terms::{AgentName, Day, Token};
 
 /// Moves the register's day to this one, and hands it back. What is due by then is published.

@@ -10,7 +10,8 @@ ghost use Rattle.bor_machine.specs.Outcomes.{of_withdrawal, IsOutcome, IsAccount
 ghost use Rattle.bor_machine.specs.Legality.{IsLegal};
 
 use crate::fault::WithdrawFault;
-use bor_register::{FilingLine, Keep, State};
+use bor_keep::Keep;
+use bor_register::{FilingLine, State};
 use bor_terms::{AgentName, LodgeKey};
 
 // The line of the agent's filing under a key, where it is withdrawn already or may be.

@@ -6,7 +6,6 @@ pub mod Publication
 pub mod Rows
 pub mod Withdrawal
 pub mod Forms
-pub mod Holding
 pub mod Places
 pub mod Seen
 pub mod Picked

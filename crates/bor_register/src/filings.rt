@@ -20,7 +20,7 @@ fn filing_with<'a>(filings: &'a [AcceptedFiling], key: &LodgeKey) -> Option<&'a 
 }
 
 /// What its agent reads of the filing under a key.
-pub(crate) fn filing_under(
+pub fn filing_under(
     alloc: Global,
     filings: &[AcceptedFiling],
     key: &LodgeKey,
@@ -34,7 +34,7 @@ pub(crate) fn filing_under(
 }
 
 /// The line of the filing under a key.
-pub(crate) fn line_under(
+pub fn line_under(
     alloc: Global,
     filings: &[AcceptedFiling],
     key: &LodgeKey,
@@ -49,7 +49,7 @@ pub(crate) fn line_under(
 }
 
 /// Whether there is a filing under the key whose file has these bytes.
-pub(crate) fn is_filed(filings: &[AcceptedFiling], key: &LodgeKey, bytes: &[u8]) -> bool
+pub fn is_filed(filings: &[AcceptedFiling], key: &LodgeKey, bytes: &[u8]) -> bool
     ensures { result ≡ has_bytes bytes.now (filing_keyed key.now filings.now) }
 {
     match filing_with(filings, key) {

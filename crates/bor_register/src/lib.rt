@@ -1,41 +1,28 @@
-//! A register of filings: what it holds, and what keeps it.
+//! A register of filings as a value: what it holds, and what is told of it.
 //!
 //! Agents lodge files of statements. A filing is a draft until its due day, seen by its agent alone,
-//! and published from then on. Any [`Keep`] keeps a register:
+//! and published from then on. A register holds its agents by name, each a [`Member`] with its filings
+//! in order of acceptance:
 //!
 //! ```
-//! fn enrol<K: Keep>(keep: &mut K, agent: &AgentName, token: &Token) -> Result<(), StoreFault> {
-//!     if !keep.has_agent(agent)? && keep.who(token)?.is_none() {
-//!         keep.add_agent(agent, token)?;
-//!     }
-//!     Ok(())
-//! }
+//! let mut members = Vec::new(alloc);
+//! enrol_member(alloc, &mut members, &alder, &token)?;
+//! push_filing(alloc, &mut members, &alder, &key, tomorrow, b"[]", &statements)?;
+//! assert_eq!(rt; own_filings(&members, &alder).len(), 1);
+//! assert_eq!(rt; all_published(alloc, &members, today)?.len(), 0);
+//! assert_eq!(rt; all_published(alloc, &members, tomorrow)?.len(), 1);
 //! ```
 //!
-//! [`ListKeep`] does in memory:
-//!
-//! ```
-//! let mut keep = ListKeep::new(alloc, registrar, today);
-//! enrol(&mut keep, &alder, &token)?;
-//! assert!(rt; keep.has_agent(&alder)?);
-//! assert_eq!(rt; keep.filings(&alder)?.len(), 0);
-//! ```
-//!
-//! What it computes of members stands as calls of their own, for a keep that gets members from
-//! elsewhere: [`own_filings`], [`all_lines`], [`rows_seen`], [`all_visible`], [`all_published`],
-//! [`is_succeeded`]; and [`Viewpoint`], which reads nodes and links one at a time.
-//!
-//! A keep answers and changes what it is asked to and tests nothing of it: which lodging, which
-//! withdrawal and which day may be is told by `bor_machine`, which hands all of this on.
+//! Who keeps members calls what is told of them here, wherever it gets them from: who has a token
+//! ([`caller_with`]), filings and their lines, live statements ([`last_live`], [`any_live_has_id`]),
+//! the rows that a viewer sees, what is published; and [`Viewpoint`], which reads nodes and links one
+//! at a time. What keeps a register is `bor_keep`.
 #![tactic(auto)]
 
 mod caller;
-mod fault;
 mod filing;
 mod filings;
-mod keep;
 pub mod laws;
-mod list_keep;
 mod live;
 mod member;
 mod picked;
@@ -48,12 +35,12 @@ mod viewpoint;
 mod withdrawal;
 
 pub use caller::Caller;
-pub use fault::StoreFault;
 pub use filing::{AcceptedFiling, Filing, FilingLine, Outward, State};
-pub use filings::all_lines;
-pub use keep::Keep;
-pub use list_keep::ListKeep;
-pub use member::{Member, own_filings};
+pub use filings::{all_lines, filing_under, is_filed, line_under};
+pub use live::{any_live_has_id, last_live};
+pub use member::{
+    Member, caller_with, enrol_member, is_enrolled, own_filings, push_filing, withdraw_of,
+};
 pub use publication::all_published;
 pub use rows::{all_visible, rows_seen};
 pub use statements::{any_has_id, last_in};

@@ -27,8 +27,8 @@ pub struct Member {
     pub filings: Listed<AcceptedFiling>,
 }
 
-/// Where the agent stands among the members.
-pub(crate) fn position(members: &[Member], name: &AgentName) -> Option<usize>
+// Where the agent stands among the members.
+fn position(members: &[Member], name: &AgentName) -> Option<usize>
     ensures none { IfNone result (is_enrolled name.now members.now ≡ false) }
     ensures some { IfSome result (λ i. IsPlace name.now members.now i) }
 {
@@ -40,8 +40,15 @@ pub(crate) fn position(members: &[Member], name: &AgentName) -> Option<usize>
     None
 }
 
-/// The agent that has the token.
-pub(crate) fn caller_with(
+/// Whether an agent has the name.
+pub fn is_enrolled(members: &[Member], name: &AgentName) -> bool
+    ensures { result ≡ is_enrolled name.now members.now }
+{
+    position(members, name).is_some()
+}
+
+/// The agent that has the token, as a caller.
+pub fn caller_with(
     alloc: Global,
     members: &[Member],
     token: &Token,
@@ -68,8 +75,8 @@ pub fn own_filings<'a>(members: &'a [Member], name: &AgentName) -> &'a [Accepted
     &[]
 }
 
-/// Adds a filing to the agent's, and gives its number.
-pub(crate) fn push_filing(
+/// Adds a filing to those of an agent, who is enrolled and has fewer than 999, and gives its number.
+pub fn push_filing(
     alloc: Global,
     members: &mut [Member],
     name: &AgentName,
@@ -103,7 +110,7 @@ pub(crate) fn push_filing(
 
 /// Withdraws the agent's filing with this number, where there is one. It takes no memory.
 #[tactic(auto, using(crate::proofs::Members::with_filings_absent))]
-pub(crate) fn withdraw_of(alloc: Global, members: &mut [Member], name: &AgentName, number: u32)
+pub fn withdraw_of(alloc: Global, members: &mut [Member], name: &AgentName, number: u32)
     ensures { members.new ≡ with_filings name.now (with_withdrawn number (filings_of name.now members.old)) members.old }
 {
     if let Some(at) = position(members, name) {
@@ -136,7 +143,7 @@ fn insert_member(members: &mut Vec<Member>, member: Member) -> Result<(), AllocE
 }
 
 /// Adds an agent who has no filings, at the place of its name.
-pub(crate) fn enrol_member(
+pub fn enrol_member(
     alloc: Global,
     members: &mut Vec<Member>,
     name: &AgentName,

@@ -16,8 +16,9 @@ ghost use Rattle.bor_store.specs.Telling.{tells, fails, TellsNoDamage};
 
 use crate::lodging::add_next_filing;
 use bods_read::Statement;
+use bor_keep::{Keep, StoreFault};
 use bor_records::{Last, Row};
-use bor_register::{Caller, Filing, FilingLine, Keep, Outward, StoreFault};
+use bor_register::{Caller, Filing, FilingLine, Outward};
 use bor_store_reads::{
     ReadError, filing_count, has_agent, has_file, has_statement, has_successor, read_day,
     read_filing, read_filings, read_last, read_line, read_published, read_rows_of, read_visible,

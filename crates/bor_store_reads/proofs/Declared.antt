@@ -1,6 +1,6 @@
 -- The statements of a declaration with their lists, and which of them a viewer sees.
 use Rattle.std.proofs.Common.{◌≡◌, ℕ, ℤ, ◌+◌, ◌<◌, List, [], ◌∷◌, ◌++◌, map, append-nil, append_assoc, Bool, true, false, cond, Option, Some, None, option_map, refl, sym, ap, ap₂, ◌∙◌, slice_get, arith}
-use Rattle.std.specs.Prelude.{All, ◌==◌, ◌&&◌, ◌||◌, filter}
+use Rattle.std.specs.Prelude.{All, ◌==◌, ◌&&◌, ◌||◌, filter, if◌then◌else◌}
 use Rattle.std.specs.List.{AllByRecursion, flat_map, list_any}
 use Rattle.std.proofs.lemmas.Bool.Decides.{nat_tests}
 use Rattle.std.proofs.lemmas.List.Elements.{All-nil, All-cons, All-head, All-tail}
@@ -8,19 +8,24 @@ use Rattle.std.proofs.lemmas.List.Folds.{flat_map-map}
 use Rattle.std.proofs.lemmas.Option.{none-some, same_Some}
 use Rattle.bor_terms.specs.Texts.{is_same}
 use Rattle.bor_terms.proofs.Texts.{same_sym, same_refl}
+use Rattle.bods_read.specs.declared.details.Details.{Details}
+use Rattle.bods_read.specs.declared.details.Details.TheVariants as details
 use Rattle.bor_register.specs.declared.filing.AcceptedFiling.{AcceptedFiling}
+use Rattle.bor_register.specs.declared.member.Member.{Member}
 use Rattle.bor_register.specs.Register.{Register}
 use Rattle.bor_register.specs.Rows.{is_visible}
 use Rattle.bor_store_rows.specs.declared.places.At.{At}
 use Rattle.bor_store_rows.specs.declared.rows.FilingRow.{FilingRow}
+use Rattle.bor_store_rows.specs.declared.rows.Part.{Part}
 use Rattle.bor_store_rows.specs.declared.rows.Placed.{Placed}
 use Rattle.bor_store_rows.specs.declared.rows.StatementRow.{StatementRow}
-use Rattle.bor_store_rows.specs.Placed.{bare, filing_row, placed, same_place, AreApart}
+use Rattle.bor_store_rows.specs.Placed.{bare, filing_row, identifier_rows, identifiers_from, identifiers_of, interest_rows, interests_from, interests_of, part_of, placed, same_place, AreApart}
 use Rattle.bor_records.specs.declared.row.Row.{Row}
 use Rattle.bor_store_rows.specs.Seen.{is_line_visible, row_placed}
 use Rattle.bor_store_rows.specs.Stored.{AreNumbered, IsStored}
 use Rattle.bor_store_rows.proofs.Apart.{all_apart}
 use Rattle.bor_store_sql.specs.Selected.{in_declaration, numbered, placed_of}
+use Rattle.bor_store_reads.specs.Asking.{is_number_seen, part_identifiers, part_interests}
 use Rattle.bor_store_reads.proofs.Lists.{all_left}
 use Rattle.bor_store_reads.proofs.FoundStatements.{own_placed}
 
@@ -56,20 +61,48 @@ each_alone [] h = All-nil (IsAlone [])
 each_alone (p ∷ ps) h =
     All-cons (IsAlone (p ∷ ps)) p ps (rw (same_itself p.at) (ap (λ l. p ∷ l) (none_at p.at ps h.0))) (still_alone p ps ps h.0 (each_alone ps h.1))
 
--- the lists that are found statement by statement are those of the statements
-module _ {Y : Type 0} (rows : Placed → List Y) where
-  lists_are : (ps qs : List Placed) → All (IsAlone ps) qs → flat_map (λ (q : Placed). flat_map rows (filter (λ (p : Placed). same_place p.at q.at) ps)) qs ≡ flat_map rows qs
-  lists_are ps [] h = refl
-  lists_are ps (q ∷ qs) h =
-      ap₂ (λ xs ys. xs ++ ys) (ap (flat_map rows) (All-head (IsAlone ps) q qs h) ∙ append-nil (rows q)) (lists_are ps qs (All-tail (IsAlone ps) q qs h))
+-- the lists that are found statement by statement, each by its row, are those of the statements
+module _ {Y : Type 0} (rows : Placed → List Y) (of_row : Part → At → List Member → List Y)
+    (is : (ms : List Member) (p : Placed) → IsAlone (placed ms) p → of_row (part_of p.statement.details) p.at ms ≡ rows p) where
+  lists_are : (ms : List Member) (qs : List Placed) → All (IsAlone (placed ms)) qs → flat_map (λ (q : Placed). of_row (part_of q.statement.details) q.at ms) qs ≡ flat_map rows qs
+  lists_are ms [] h = refl
+  lists_are ms (q ∷ qs) h = ap₂ (λ xs ys. xs ++ ys) (is ms q (All-head (IsAlone (placed ms)) q qs h)) (lists_are ms qs (All-tail (IsAlone (placed ms)) q qs h))
 
-  pub lists_of : (agent declaration : List ℕ) (r : Register) → IsStored r
-      → flat_map (λ (row : StatementRow). flat_map rows (filter (λ (p : Placed). same_place p.at row.at) (placed r.members))) (map bare (in_declaration declaration (placed_of agent r))) ≡ flat_map rows (in_declaration declaration (placed_of agent r))
+  lists_of : (agent declaration : List ℕ) (r : Register) → IsStored r
+      → flat_map (λ (row : StatementRow). of_row row.part row.at r.members) (map bare (in_declaration declaration (placed_of agent r))) ≡ flat_map rows (in_declaration declaration (placed_of agent r))
   lists_of agent declaration r stored =
-      flat_map-map (λ (row : StatementRow). flat_map rows (filter (λ (p : Placed). same_place p.at row.at) (placed r.members))) bare (in_declaration declaration (placed_of agent r))
-      ∙ lists_are (placed r.members) (in_declaration declaration (placed_of agent r))
+      flat_map-map (λ (row : StatementRow). of_row row.part row.at r.members) bare (in_declaration declaration (placed_of agent r))
+      ∙ lists_are r.members (in_declaration declaration (placed_of agent r))
       (all_left (IsAlone (placed r.members)) (λ (p : Placed). is_same p.statement.declaration declaration) (placed_of agent r)
       (own_placed (IsAlone (placed r.members)) agent r.members (each_alone (placed r.members) (all_apart r.members stored.ordered stored.numbered))))
+
+-- a relationship's interests, and no others' are there
+interests_are : (ms : List Member) (p : Placed) → IsAlone (placed ms) p → part_interests (part_of p.statement.details) p.at ms ≡ interest_rows p
+interests_are ms p alone = go p.statement.details refl
+  where
+    go : (d : Details) → p.statement.details ≡ d → part_interests (part_of d) p.at ms ≡ interests_from p.at 1 (interests_of d)
+    go (details.Entity kind name identifiers) e = refl
+    go (details.Person kind name) e = refl
+    go (details.Relationship subject party interests) e =
+        ap (flat_map interest_rows) alone ∙ append-nil (interest_rows p) ∙ ap (λ d. interests_from p.at 1 (interests_of d)) e
+
+-- an entity's identifiers, and no others' are there
+identifiers_are : (ms : List Member) (p : Placed) → IsAlone (placed ms) p → part_identifiers (part_of p.statement.details) p.at ms ≡ identifier_rows p
+identifiers_are ms p alone = go p.statement.details refl
+  where
+    go : (d : Details) → p.statement.details ≡ d → part_identifiers (part_of d) p.at ms ≡ identifiers_from p.at 1 (identifiers_of d)
+    go (details.Entity kind name identifiers) e =
+        ap (flat_map identifier_rows) alone ∙ append-nil (identifier_rows p) ∙ ap (λ d. identifiers_from p.at 1 (identifiers_of d)) e
+    go (details.Person kind name) e = refl
+    go (details.Relationship subject party interests) e = refl
+
+pub declared_interests : (agent declaration : List ℕ) (r : Register) → IsStored r
+    → flat_map (λ (row : StatementRow). part_interests row.part row.at r.members) (map bare (in_declaration declaration (placed_of agent r))) ≡ flat_map interest_rows (in_declaration declaration (placed_of agent r))
+declared_interests agent declaration r stored = lists_of interest_rows part_interests interests_are agent declaration r stored
+
+pub declared_identifiers : (agent declaration : List ℕ) (r : Register) → IsStored r
+    → flat_map (λ (row : StatementRow). part_identifiers row.part row.at r.members) (map bare (in_declaration declaration (placed_of agent r))) ≡ flat_map identifier_rows (in_declaration declaration (placed_of agent r))
+declared_identifiers agent declaration r stored = lists_of identifier_rows part_identifiers identifiers_are agent declaration r stored
 
 -- ---- which filings a viewer sees
 
@@ -119,10 +152,17 @@ module _ (viewer : List ℕ) (day : ℤ) (agent : List ℕ) (number : ℕ) (fs :
       go None e = refl
       go (Some f) e = absurd (none-some (filing_row agent f) e)
 
--- one more row that is seen
-pub seen_more : (s : Placed → Bool) (out more : List Row) (row : Row) (p : Placed) (left rest : List Placed) (total : List Row) → out ++ map row_placed (filter s left) ≡ total → left ≡ p ∷ rest → s p ≡ true → more ≡ out ++ row ∷ [] → row ≡ row_placed p
-    → more ++ map row_placed (filter s rest) ≡ total
-seen_more s out more row p left rest total whole steps seen pushed is =
+-- nobody sees a filing with the number 0
+pub nothing_seen : (viewer : List ℕ) (day : ℤ) (agent : List ℕ) (fs : List AcceptedFiling) → AreNumbered 1 fs → false ≡ is_number_seen viewer day agent fs 0
+nothing_seen viewer day agent fs numbers = sym (none_later (is_visible viewer day agent) 0 1 fs (omega arith) numbers)
+
+-- one more statement, whose row is told where it is seen
+pub next_seen : (s : Placed → Bool) (out more : List Row) (b : Bool) (p : Placed) (left rest : List Placed) (total : List Row) → out ++ map row_placed (filter s left) ≡ total → left ≡ p ∷ rest → s p ≡ b
+    → more ≡ out ++ (if b then row_placed p ∷ [] else []) → more ++ map row_placed (filter s rest) ≡ total
+next_seen s out more true p left rest total whole steps seen pushed =
     let after : map row_placed (filter s (p ∷ rest)) ≡ row_placed p ∷ map row_placed (filter s rest) = rw seen refl in
-    ap (λ l. l ++ map row_placed (filter s rest)) (pushed ∙ ap (λ x. out ++ x ∷ []) is) ∙ append_assoc out (row_placed p ∷ []) (map row_placed (filter s rest))
+    ap (λ l. l ++ map row_placed (filter s rest)) pushed ∙ append_assoc out (row_placed p ∷ []) (map row_placed (filter s rest))
     ∙ ap (λ l. out ++ l) (sym (ap (λ l. map row_placed (filter s l)) steps ∙ after)) ∙ whole
+next_seen s out more false p left rest total whole steps seen pushed =
+    let after : map row_placed (filter s (p ∷ rest)) ≡ map row_placed (filter s rest) = rw seen refl in
+    ap (λ l. l ++ map row_placed (filter s rest)) (pushed ∙ append-nil out) ∙ ap (λ l. out ++ l) (sym (ap (λ l. map row_placed (filter s l)) steps ∙ after)) ∙ whole

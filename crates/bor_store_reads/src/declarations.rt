@@ -1,22 +1,23 @@
 //! The rows of one declaration that a viewer sees.
 
-ghost use Rattle.std.specs.Prelude.{◌≡◌, ◌==◌, ◌&&◌, false, filter, map};
-ghost use Rattle.std.specs.List.{flat_map, list_any};
+ghost use Rattle.std.specs.Prelude.{◌≡◌, ◌++◌, ◌∷◌, [], if◌then◌else◌, false, filter, map, MatchResult};
+ghost use Rattle.std.specs.List.{flat_map};
 ghost use Rattle.sqlite.specs.Held.{state};
 ghost use Rattle.bor_register.specs.Register.{filings_of};
-ghost use Rattle.bor_register.specs.Rows.{is_visible, rows_of};
+ghost use Rattle.bor_register.specs.Rows.{rows_of};
 ghost use Rattle.bor_store_rows.specs.Placed.{bare};
 ghost use Rattle.bor_store_rows.specs.Seen.{is_seen, row_placed};
 ghost use Rattle.bor_store_sql.specs.Shown.{IsClean};
 ghost use Rattle.bor_store_sql.specs.Selected.{identifiers_at, in_declaration, interests_at, placed_of};
-ghost use Rattle.bor_store_reads.specs.Answering.{Answers};
+ghost use Rattle.bor_store_reads.specs.Answering.{Answers, IsNoDamage};
+ghost use Rattle.bor_store_reads.specs.Asking.{part_identifiers, part_interests};
 
 use crate::fault::ReadError;
+use crate::known::{Known, known_of};
 use crate::register::read_day;
-use crate::statements::found_filing;
 use crate::values::all;
 use bor_records::Row;
-use bor_store_rows::{At, IdentifierRow, InterestRow, Placed, StatementRow, joined};
+use bor_store_rows::{At, IdentifierRow, InterestRow, Part, Placed, StatementRow, joined};
 use bor_store_sql::{identifiers_of_statement, interests_of_statement, statements_of_declaration};
 use bor_terms::{AgentName, Day, Ident};
 use sqlite::{Alter, Connection};
@@ -61,6 +62,26 @@ pub fn interests_of_one<S: Alter>(
     )
 }
 
+/// The interests of the statement of this row. A relationship alone has any, so none are asked for of another.
+fn interests_of_row<S: Alter>(
+    conn: &mut Connection<S>,
+    alloc: Global,
+    row: &StatementRow,
+) -> Result<Vec<InterestRow>, ReadError>
+    requires { conn.old.in_transaction ≡ false }
+    ensures mode { conn.new.in_transaction ≡ false }
+    ensures began { IsClean (state S.Store conn.new) → IsClean (state S.Store conn.old) }
+    ensures kept { IsClean (state S.Store conn.new) → (state S.Store conn.new).committed ≡ (state S.Store conn.old).committed }
+    ensures answer { Answers (state S.Store conn.old) (state S.Store conn.new) result (λ r rows.
+        rows.items ≡ part_interests row.now.part row.now.at r.members) }
+{
+    match row.part {
+        Part::Entity { .. } => Ok(Vec::new(alloc)),
+        Part::Person { .. } => Ok(Vec::new(alloc)),
+        Part::Relationship { .. } => interests_of_one(conn, alloc, &row.at),
+    }
+}
+
 /// The interests of these statements, one statement after the other.
 fn interests_of<S: Alter>(
     conn: &mut Connection<S>,
@@ -72,11 +93,11 @@ fn interests_of<S: Alter>(
     ensures began { IsClean (state S.Store conn.new) → IsClean (state S.Store conn.old) }
     ensures kept { IsClean (state S.Store conn.new) → (state S.Store conn.new).committed ≡ (state S.Store conn.old).committed }
     ensures answer { Answers (state S.Store conn.old) (state S.Store conn.new) result (λ r interests.
-        interests.items ≡ flat_map (λ row. interests_at row.at r.members) rows.now) }
+        interests.items ≡ flat_map (λ row. part_interests row.part row.at r.members) rows.now) }
 {
     let mut interests = Vec::new(alloc);
     for row in rows {
-        let mut own = interests_of_one(conn, alloc, &row.at)?;
+        let mut own = interests_of_row(conn, alloc, row)?;
         interests.append(&mut own)?;
     }
     Ok(interests)
@@ -101,6 +122,26 @@ pub fn identifiers_of_one<S: Alter>(
     )
 }
 
+/// The identifiers of the statement of this row. An entity alone has any, so none are asked for of another.
+fn identifiers_of_row<S: Alter>(
+    conn: &mut Connection<S>,
+    alloc: Global,
+    row: &StatementRow,
+) -> Result<Vec<IdentifierRow>, ReadError>
+    requires { conn.old.in_transaction ≡ false }
+    ensures mode { conn.new.in_transaction ≡ false }
+    ensures began { IsClean (state S.Store conn.new) → IsClean (state S.Store conn.old) }
+    ensures kept { IsClean (state S.Store conn.new) → (state S.Store conn.new).committed ≡ (state S.Store conn.old).committed }
+    ensures answer { Answers (state S.Store conn.old) (state S.Store conn.new) result (λ r rows.
+        rows.items ≡ part_identifiers row.now.part row.now.at r.members) }
+{
+    match row.part {
+        Part::Entity { .. } => identifiers_of_one(conn, alloc, &row.at),
+        Part::Person { .. } => Ok(Vec::new(alloc)),
+        Part::Relationship { .. } => Ok(Vec::new(alloc)),
+    }
+}
+
 /// The identifiers of these statements, one statement after the other.
 fn identifiers_of<S: Alter>(
     conn: &mut Connection<S>,
@@ -112,11 +153,11 @@ fn identifiers_of<S: Alter>(
     ensures began { IsClean (state S.Store conn.new) → IsClean (state S.Store conn.old) }
     ensures kept { IsClean (state S.Store conn.new) → (state S.Store conn.new).committed ≡ (state S.Store conn.old).committed }
     ensures answer { Answers (state S.Store conn.old) (state S.Store conn.new) result (λ r identifiers.
-        identifiers.items ≡ flat_map (λ row. identifiers_at row.at r.members) rows.now) }
+        identifiers.items ≡ flat_map (λ row. part_identifiers row.part row.at r.members) rows.now) }
 {
     let mut identifiers = Vec::new(alloc);
     for row in rows {
-        let mut own = identifiers_of_one(conn, alloc, &row.at)?;
+        let mut own = identifiers_of_row(conn, alloc, row)?;
         identifiers.append(&mut own)?;
     }
     Ok(identifiers)
@@ -147,26 +188,14 @@ fn placed<S: Alter>(
     )?)
 }
 
-/// Whether the viewer sees the agent's filing with this number, on a day.
-pub fn is_number_seen<S: Alter>(
-    conn: &mut Connection<S>,
-    alloc: Global,
-    viewer: &AgentName,
-    agent: &AgentName,
-    day: Day,
-    number: u32,
-) -> Result<bool, ReadError>
-    requires { conn.old.in_transaction ≡ false }
-    ensures mode { conn.new.in_transaction ≡ false }
-    ensures began { IsClean (state S.Store conn.new) → IsClean (state S.Store conn.old) }
-    ensures kept { IsClean (state S.Store conn.new) → (state S.Store conn.new).committed ≡ (state S.Store conn.old).committed }
-    ensures answer { Answers (state S.Store conn.old) (state S.Store conn.new) result (λ r seen.
-        seen ≡ list_any (λ f. f.number == number && is_visible viewer.now day agent.now f) (filings_of agent.now r.members)) }
+// Adds the statement's row where it is seen.
+fn push_if(rows: &mut Vec<Row>, seen: bool, placed: Placed) -> Result<(), ReadError>
+    ensures { MatchResult result (λ _. rows.new.items ≡ rows.old.items ++ (if seen then row_placed placed ∷ [] else [])) IsNoDamage }
 {
-    match found_filing(conn, alloc, agent, number)? {
-        Some(filing) => Ok(filing.is_visible(viewer, day)),
-        None => Ok(false),
+    if seen {
+        rows.push(placed.into_row())?;
     }
+    Ok(())
 }
 
 /// The rows of these statements of the agent that the viewer sees on a day.
@@ -186,10 +215,14 @@ fn seen<S: Alter>(
         rows.items ≡ map row_placed (filter (is_seen viewer.now day agent.now (filings_of agent.now r.members)) statements.items)) }
 {
     let mut rows = Vec::new(alloc);
+    // Filings are numbered from 1 on.
+    let mut known = Known {
+        number: 0,
+        seen: false,
+    };
     for placed in statements {
-        if is_number_seen(conn, alloc, viewer, agent, day, placed.at.filing)? {
-            rows.push(placed.into_row())?;
-        }
+        known = known_of(conn, alloc, viewer, agent, day, known, placed.at.filing)?;
+        push_if(&mut rows, known.seen, placed)?;
     }
     Ok(rows)
 }

@@ -1,8 +1,8 @@
 -- Reading a row of a table.
 use Rattle.std.specs.Prelude.{◌≡◌, ℕ, ◌+◌, Result, MatchResult}
 use Rattle.sqlite.specs.Order.{Row, column}
-use Rattle.bor_register.specs.declared.fault.StoreFault.{StoreFault}
-use Rattle.bor_register.specs.declared.fault.StoreFault.TheVariants as store_faults
+use Rattle.bor_keep.specs.declared.fault.StoreFault.{StoreFault}
+use Rattle.bor_keep.specs.declared.fault.StoreFault.TheVariants as store_faults
 use Rattle.bor_store_rows.specs.declared.fault.RowFault.{RowFault}
 use Rattle.bor_store_rows.specs.declared.fault.RowFault.TheVariants as faults
 

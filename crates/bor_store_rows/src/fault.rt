@@ -2,9 +2,9 @@
 
 ghost use Rattle.std.specs.Prelude.{◌≡◌};
 ghost use Rattle.bor_store_rows.specs.declared.fault.RowFault.TheVariants as faults;
-ghost use Rattle.bor_register.specs.declared.fault.StoreFault.TheVariants as store_faults;
+ghost use Rattle.bor_keep.specs.declared.fault.StoreFault.TheVariants as store_faults;
 
-use bor_register::StoreFault;
+use bor_keep::StoreFault;
 use std::alloc::AllocError;
 
 /// Why a row of a table is not read as a value.

@@ -26,5 +26,6 @@ pub mod Picking
 pub mod FromTables
 pub mod Selecting
 pub mod Creating
+pub mod Created
 pub mod WholeReads
 pub mod KeyedReads

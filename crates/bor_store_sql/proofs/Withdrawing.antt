@@ -1,10 +1,13 @@
 -- What the statements of a withdrawal do.
-use Rattle.std.proofs.Common.{◌≡◌, ℕ, pos, Bool, true, false, List, [], ◌∷◌, length, drop, Ok, ◌==◌, refl}
+use Rattle.std.proofs.Common.{◌≡◌, ℕ, pos, Bool, true, false, List, [], ◌∷◌, length, drop, Ok, Result, IsTrue, ◌==◌, refl}
 use Rattle.sqlite.specs.declared.types.Value.TheVariants.{Null, Int, Text}
 use Rattle.sqlite.specs.Order.{Row, column}
 use Rattle.std.specs.List.{flat_map, filter_map}
 use Rattle.sqlite.specs.Term.{Term, col, lit}
-use Rattle.sqlite.specs.State.{State, Executes}
+use Rattle.sqlite.specs.State.{State, Executes, HasCleanDisk}
+use Rattle.sqlite.specs.Held.{Held, state}
+use Rattle.sqlite.specs.Store.{Ghosts}
+use Rattle.sqlite.specs.declared.error.Error.{Error}
 use Rattle.sqlite_rules.specs.Action.{Work, works, work_by, pairs, deed_for}
 use Rattle.sqlite_schema.specs.Rules.{parent_key}
 use Rattle.sqlite_rules.specs.Cast.{cast_row}
@@ -14,9 +17,11 @@ use Rattle.bor_store_texts.specs.Queries.{equals}
 use Rattle.bor_store_texts.specs.Changes.{mark_withdrawn_text, mark_withdrawn_program, delete_identifiers_text, delete_identifiers_program, delete_interests_text, delete_interests_program, delete_statements_text, delete_statements_program}
 use Rattle.bor_store_texts.proofs.ChangeMeanings.{mark_withdrawn_is, delete_identifiers_is, delete_interests_is, delete_statements_is}
 use Rattle.bor_store_rows.specs.Encoding.{Contents}
-use Rattle.bor_store_sql.specs.Shown.{Has}
-use Rattle.bor_store_sql.specs.Changing.{is_of_filing, marked, with_mark, IsOnce, without_identifiers, without_interests, without_statements}
+use Rattle.bor_store_sql.specs.Ran.{Ran}
+use Rattle.bor_store_sql.specs.Shown.{Has, Steps}
+use Rattle.bor_store_sql.specs.Changing.{Any, is_of_filing, marked, with_mark, IsOnce, without_identifiers, without_interests, without_statements}
 use Rattle.bor_store_sql.proofs.Inserts.{cast_int}
+use Rattle.bor_store_sql.proofs.Stepping.{one_step}
 use Rattle.bor_store_sql.proofs.Writes.{deletes, updates}
 use Rattle.bor_store_sql.proofs.Tables.{deleted, updated}
 use Rattle.bor_store_sql.proofs.Others.{with_filings, with_statements, with_interests, with_identifiers}
@@ -42,7 +47,7 @@ mark_terms = col 1 0 ∷ col 1 0 ∷ col 1 1 ∷ col 1 2 ∷ col 1 3 ∷ col 1 4
 abbrev mark_of : Row → Row
 mark_of r = column r 0 ∷ column r 0 ∷ column r 1 ∷ column r 2 ∷ column r 3 ∷ column r 4 ∷ Int (pos 1) ∷ column r 6 ∷ []
 
-abbrev pub filing_params : List ℕ → ℕ → Row
+abbrev filing_params : List ℕ → ℕ → Row
 filing_params agent number = Text agent ∷ Int (pos number) ∷ []
 
 module _ (agent : List ℕ) (number : ℕ) (old new : State) (count : ℕ) (t : Contents) (has : Has t old.now) where
@@ -77,3 +82,22 @@ module _ (agent : List ℕ) (number : ℕ) (old new : State) (count : ℕ) (t : 
       with_filings t old.now new.now w.schema_is has w.others _
       (updated 5 refl filing_tests params (is_of_filing agent number) (λ id x. refl) mark_terms mark_of (λ s. cast_row filing_at (drop 1 s)) marked
       (λ r. refl) (λ id x. refl) (λ id x. rw (cast_int (pos id)) refl) old.now.trees t.filings done.0 (new.now.trees 5) has.filings once (done.1.answer Null) w.rows_are)
+
+-- ---- each as a step of the transaction
+
+module _ {S : Type 0} (g : Ghosts S) (agent : List ℕ) (number : ℕ) (old new : Held S) (result : Result ℕ Error) where
+  pub identifiers_gone : Ran delete_identifiers_text (Text agent ∷ Int (pos number) ∷ []) (state g old) (state g new) result → HasCleanDisk (state g new) → IsTrue old.in_transaction → Steps Any (without_identifiers agent number) (state g old) (state g new) result
+  identifiers_gone ran clean inside =
+      one_step Any (without_identifiers agent number) delete_identifiers_text (filing_params agent number) (state g old) (state g new) result (ran.inside clean inside) (λ count t h has fit. identifiers_deleted agent number (state g old) (state g new) count t has h)
+
+  pub interests_gone : Ran delete_interests_text (Text agent ∷ Int (pos number) ∷ []) (state g old) (state g new) result → HasCleanDisk (state g new) → IsTrue old.in_transaction → Steps Any (without_interests agent number) (state g old) (state g new) result
+  interests_gone ran clean inside =
+      one_step Any (without_interests agent number) delete_interests_text (filing_params agent number) (state g old) (state g new) result (ran.inside clean inside) (λ count t h has fit. interests_deleted agent number (state g old) (state g new) count t has h)
+
+  pub statements_gone : Ran delete_statements_text (Text agent ∷ Int (pos number) ∷ []) (state g old) (state g new) result → HasCleanDisk (state g new) → IsTrue old.in_transaction → Steps Any (without_statements agent number) (state g old) (state g new) result
+  statements_gone ran clean inside =
+      one_step Any (without_statements agent number) delete_statements_text (filing_params agent number) (state g old) (state g new) result (ran.inside clean inside) (λ count t h has fit. statements_deleted agent number (state g old) (state g new) count t has h)
+
+  pub mark_made : Ran mark_withdrawn_text (Text agent ∷ Int (pos number) ∷ []) (state g old) (state g new) result → HasCleanDisk (state g new) → IsTrue old.in_transaction → Steps (IsOnce agent number) (with_mark agent number) (state g old) (state g new) result
+  mark_made ran clean inside =
+      one_step (IsOnce agent number) (with_mark agent number) mark_withdrawn_text (filing_params agent number) (state g old) (state g new) result (ran.inside clean inside) (λ count t h has fit. filing_marked agent number (state g old) (state g new) count t has fit h)

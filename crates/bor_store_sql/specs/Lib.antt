@@ -4,3 +4,4 @@ pub mod Changing
 pub mod Found
 pub mod Selected
 pub mod Blank
+pub mod Ran

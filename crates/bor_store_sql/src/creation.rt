@@ -10,6 +10,7 @@ ghost use Rattle.bor_store_sql.specs.Blank.{IsBlank, Leads};
 ghost use Rattle.bor_store_sql.specs.Shown.{Has, IsClean, ShowsIn};
 
 use crate::columns::register_values;
+use crate::running::run;
 use bor_store_texts::changes::INSERT_REGISTER;
 use bor_store_texts::tables::{
     AGENT_TABLE, FILING_TABLE, IDENTIFIER_INDEX, IDENTIFIER_TABLE, INTEREST_TABLE, LINE_INDEX,
@@ -18,94 +19,104 @@ use bor_store_texts::tables::{
 use bor_terms::{Day, Token};
 use sqlite::{Alter, Connection, Error, Transaction};
 
+#[tactic(auto, using(crate::proofs::Created::register_created))]
 fn create_register<S: Alter>(tx: &mut Transaction<'_, S>) -> Result<usize, Error>
     ensures same_reference { tx.new.conn.ghost_name ≡ tx.old.conn.ghost_name }
     ensures clean { HasCleanDisk (state S.Store tx.new.conn.now) → HasCleanDisk (state S.Store tx.old.conn.now) }
     ensures leads { HasCleanDisk (state S.Store tx.new.conn.now) → IsTrue (state S.Store tx.old.conn.now).in_transaction
         → Leads (IsBlank no_schema) (IsBlank schema_1) (state S.Store tx.old.conn.now) (state S.Store tx.new.conn.now) result }
 {
-    tx.execute(REGISTER_TABLE, &[])
+    run(tx, REGISTER_TABLE, &[])
 }
 
+#[tactic(auto, using(crate::proofs::Created::agent_created))]
 fn create_agent<S: Alter>(tx: &mut Transaction<'_, S>) -> Result<usize, Error>
     ensures same_reference { tx.new.conn.ghost_name ≡ tx.old.conn.ghost_name }
     ensures clean { HasCleanDisk (state S.Store tx.new.conn.now) → HasCleanDisk (state S.Store tx.old.conn.now) }
     ensures leads { HasCleanDisk (state S.Store tx.new.conn.now) → IsTrue (state S.Store tx.old.conn.now).in_transaction
         → Leads (IsBlank schema_1) (IsBlank schema_2) (state S.Store tx.old.conn.now) (state S.Store tx.new.conn.now) result }
 {
-    tx.execute(AGENT_TABLE, &[])
+    run(tx, AGENT_TABLE, &[])
 }
 
+#[tactic(auto, using(crate::proofs::Created::filing_created))]
 fn create_filing<S: Alter>(tx: &mut Transaction<'_, S>) -> Result<usize, Error>
     ensures same_reference { tx.new.conn.ghost_name ≡ tx.old.conn.ghost_name }
     ensures clean { HasCleanDisk (state S.Store tx.new.conn.now) → HasCleanDisk (state S.Store tx.old.conn.now) }
     ensures leads { HasCleanDisk (state S.Store tx.new.conn.now) → IsTrue (state S.Store tx.old.conn.now).in_transaction
         → Leads (IsBlank schema_2) (IsBlank schema_3) (state S.Store tx.old.conn.now) (state S.Store tx.new.conn.now) result }
 {
-    tx.execute(FILING_TABLE, &[])
+    run(tx, FILING_TABLE, &[])
 }
 
+#[tactic(auto, using(crate::proofs::Created::statement_created))]
 fn create_statement<S: Alter>(tx: &mut Transaction<'_, S>) -> Result<usize, Error>
     ensures same_reference { tx.new.conn.ghost_name ≡ tx.old.conn.ghost_name }
     ensures clean { HasCleanDisk (state S.Store tx.new.conn.now) → HasCleanDisk (state S.Store tx.old.conn.now) }
     ensures leads { HasCleanDisk (state S.Store tx.new.conn.now) → IsTrue (state S.Store tx.old.conn.now).in_transaction
         → Leads (IsBlank schema_3) (IsBlank schema_4) (state S.Store tx.old.conn.now) (state S.Store tx.new.conn.now) result }
 {
-    tx.execute(STATEMENT_TABLE, &[])
+    run(tx, STATEMENT_TABLE, &[])
 }
 
+#[tactic(auto, using(crate::proofs::Created::interest_created))]
 fn create_interest<S: Alter>(tx: &mut Transaction<'_, S>) -> Result<usize, Error>
     ensures same_reference { tx.new.conn.ghost_name ≡ tx.old.conn.ghost_name }
     ensures clean { HasCleanDisk (state S.Store tx.new.conn.now) → HasCleanDisk (state S.Store tx.old.conn.now) }
     ensures leads { HasCleanDisk (state S.Store tx.new.conn.now) → IsTrue (state S.Store tx.old.conn.now).in_transaction
         → Leads (IsBlank schema_4) (IsBlank schema_5) (state S.Store tx.old.conn.now) (state S.Store tx.new.conn.now) result }
 {
-    tx.execute(INTEREST_TABLE, &[])
+    run(tx, INTEREST_TABLE, &[])
 }
 
+#[tactic(auto, using(crate::proofs::Created::identifier_created))]
 fn create_identifier<S: Alter>(tx: &mut Transaction<'_, S>) -> Result<usize, Error>
     ensures same_reference { tx.new.conn.ghost_name ≡ tx.old.conn.ghost_name }
     ensures clean { HasCleanDisk (state S.Store tx.new.conn.now) → HasCleanDisk (state S.Store tx.old.conn.now) }
     ensures leads { HasCleanDisk (state S.Store tx.new.conn.now) → IsTrue (state S.Store tx.old.conn.now).in_transaction
         → Leads (IsBlank schema_5) (IsBlank schema_6) (state S.Store tx.old.conn.now) (state S.Store tx.new.conn.now) result }
 {
-    tx.execute(IDENTIFIER_TABLE, &[])
+    run(tx, IDENTIFIER_TABLE, &[])
 }
 
+#[tactic(auto, using(crate::proofs::Created::record_index_created))]
 fn create_record_index<S: Alter>(tx: &mut Transaction<'_, S>) -> Result<usize, Error>
     ensures same_reference { tx.new.conn.ghost_name ≡ tx.old.conn.ghost_name }
     ensures clean { HasCleanDisk (state S.Store tx.new.conn.now) → HasCleanDisk (state S.Store tx.old.conn.now) }
     ensures leads { HasCleanDisk (state S.Store tx.new.conn.now) → IsTrue (state S.Store tx.old.conn.now).in_transaction
         → Leads (IsBlank schema_6) (IsBlank schema_7) (state S.Store tx.old.conn.now) (state S.Store tx.new.conn.now) result }
 {
-    tx.execute(RECORD_INDEX, &[])
+    run(tx, RECORD_INDEX, &[])
 }
 
+#[tactic(auto, using(crate::proofs::Created::subject_index_created))]
 fn create_subject_index<S: Alter>(tx: &mut Transaction<'_, S>) -> Result<usize, Error>
     ensures same_reference { tx.new.conn.ghost_name ≡ tx.old.conn.ghost_name }
     ensures clean { HasCleanDisk (state S.Store tx.new.conn.now) → HasCleanDisk (state S.Store tx.old.conn.now) }
     ensures leads { HasCleanDisk (state S.Store tx.new.conn.now) → IsTrue (state S.Store tx.old.conn.now).in_transaction
         → Leads (IsBlank schema_7) (IsBlank schema_8) (state S.Store tx.old.conn.now) (state S.Store tx.new.conn.now) result }
 {
-    tx.execute(SUBJECT_INDEX, &[])
+    run(tx, SUBJECT_INDEX, &[])
 }
 
+#[tactic(auto, using(crate::proofs::Created::identifier_index_created))]
 fn create_identifier_index<S: Alter>(tx: &mut Transaction<'_, S>) -> Result<usize, Error>
     ensures same_reference { tx.new.conn.ghost_name ≡ tx.old.conn.ghost_name }
     ensures clean { HasCleanDisk (state S.Store tx.new.conn.now) → HasCleanDisk (state S.Store tx.old.conn.now) }
     ensures leads { HasCleanDisk (state S.Store tx.new.conn.now) → IsTrue (state S.Store tx.old.conn.now).in_transaction
         → Leads (IsBlank schema_8) (IsBlank schema_9) (state S.Store tx.old.conn.now) (state S.Store tx.new.conn.now) result }
 {
-    tx.execute(IDENTIFIER_INDEX, &[])
+    run(tx, IDENTIFIER_INDEX, &[])
 }
 
+#[tactic(auto, using(crate::proofs::Created::line_index_created))]
 fn create_line_index<S: Alter>(tx: &mut Transaction<'_, S>) -> Result<usize, Error>
     ensures same_reference { tx.new.conn.ghost_name ≡ tx.old.conn.ghost_name }
     ensures clean { HasCleanDisk (state S.Store tx.new.conn.now) → HasCleanDisk (state S.Store tx.old.conn.now) }
     ensures leads { HasCleanDisk (state S.Store tx.new.conn.now) → IsTrue (state S.Store tx.old.conn.now).in_transaction
         → Leads (IsBlank schema_9) (IsBlank keep_schema) (state S.Store tx.old.conn.now) (state S.Store tx.new.conn.now) result }
 {
-    tx.execute(LINE_INDEX, &[])
+    run(tx, LINE_INDEX, &[])
 }
 
 fn create_lists<S: Alter>(tx: &mut Transaction<'_, S>) -> Result<(), Error>

@@ -14,6 +14,7 @@ mod queries;
 mod reads;
 mod records;
 mod register;
+mod running;
 mod withdrawal;
 
 pub use additions::add_filing;

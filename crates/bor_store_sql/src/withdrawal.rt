@@ -7,12 +7,13 @@ ghost use Rattle.bor_store_sql.specs.Shown.{Steps, IsClean, ShowsIn};
 ghost use Rattle.bor_store_sql.specs.Changing.{IsOnce, Any, with_mark, without_identifiers, without_interests, without_statements, withdrawn_in, withdrawn};
 ghost use Rattle.bor_register.specs.Register.{Register};
 
-use crate::columns::filing_key;
+use crate::running::run_by_filing;
 use bor_store_texts::changes::{
     DELETE_IDENTIFIERS, DELETE_INTERESTS, DELETE_STATEMENTS, MARK_WITHDRAWN,
 };
 use sqlite::{Alter, Connection, Error, Transaction};
 
+#[tactic(auto, using(crate::proofs::Withdrawing::mark_made))]
 fn mark_withdrawn<S: Alter>(
     tx: &mut Transaction<'_, S>,
     agent: &str,
@@ -23,9 +24,10 @@ fn mark_withdrawn<S: Alter>(
     ensures steps { HasCleanDisk (state S.Store tx.new.conn.now) → IsTrue (state S.Store tx.old.conn.now).in_transaction
         → Steps (IsOnce agent.now number) (with_mark agent.now number) (state S.Store tx.old.conn.now) (state S.Store tx.new.conn.now) result }
 {
-    tx.execute(MARK_WITHDRAWN, &filing_key(agent, number))
+    run_by_filing(tx, MARK_WITHDRAWN, agent, number)
 }
 
+#[tactic(auto, using(crate::proofs::Withdrawing::identifiers_gone))]
 fn delete_identifiers<S: Alter>(
     tx: &mut Transaction<'_, S>,
     agent: &str,
@@ -36,9 +38,10 @@ fn delete_identifiers<S: Alter>(
     ensures steps { HasCleanDisk (state S.Store tx.new.conn.now) → IsTrue (state S.Store tx.old.conn.now).in_transaction
         → Steps Any (without_identifiers agent.now number) (state S.Store tx.old.conn.now) (state S.Store tx.new.conn.now) result }
 {
-    tx.execute(DELETE_IDENTIFIERS, &filing_key(agent, number))
+    run_by_filing(tx, DELETE_IDENTIFIERS, agent, number)
 }
 
+#[tactic(auto, using(crate::proofs::Withdrawing::interests_gone))]
 fn delete_interests<S: Alter>(
     tx: &mut Transaction<'_, S>,
     agent: &str,
@@ -49,9 +52,10 @@ fn delete_interests<S: Alter>(
     ensures steps { HasCleanDisk (state S.Store tx.new.conn.now) → IsTrue (state S.Store tx.old.conn.now).in_transaction
         → Steps Any (without_interests agent.now number) (state S.Store tx.old.conn.now) (state S.Store tx.new.conn.now) result }
 {
-    tx.execute(DELETE_INTERESTS, &filing_key(agent, number))
+    run_by_filing(tx, DELETE_INTERESTS, agent, number)
 }
 
+#[tactic(auto, using(crate::proofs::Withdrawing::statements_gone))]
 fn delete_statements<S: Alter>(
     tx: &mut Transaction<'_, S>,
     agent: &str,
@@ -62,7 +66,7 @@ fn delete_statements<S: Alter>(
     ensures steps { HasCleanDisk (state S.Store tx.new.conn.now) → IsTrue (state S.Store tx.old.conn.now).in_transaction
         → Steps Any (without_statements agent.now number) (state S.Store tx.old.conn.now) (state S.Store tx.new.conn.now) result }
 {
-    tx.execute(DELETE_STATEMENTS, &filing_key(agent, number))
+    run_by_filing(tx, DELETE_STATEMENTS, agent, number)
 }
 
 fn withdraw_rows<S: Alter>(

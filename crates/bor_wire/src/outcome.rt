@@ -45,14 +45,14 @@ fn write_reply<W: Write>(writer: &mut Counted<W>, status: u16, bytes: &[u8]) -> 
 /// are the reply to the one input, which each agent receives as it would alone, and the register left
 /// is the one after it; with 503 they are [`UNAVAILABLE`], and nothing changed. What each agent receives
 /// is said of legal registers, and the rest of each whose agents stand in order of their names, as every
-/// legal one's do; that 503 and `UNAVAILABLE` go together, and which refusal an input is told that
-/// spells no request, of any register and any keep.
+/// legal one's do; that 503 has [`UNAVAILABLE`] written, and which refusal an input is told that spells
+/// no request, of any register and any keep.
 ///
 /// Statements on bytes are of readers and writers that tell theirs, as those over memory do: of another
 /// reader it isn't said which request was answered, and of another writer not what was written. What is
-/// left, and the faults, are said of any. At most 1,064,960 bytes are read. A failed read, an interruption too, ends the exchange as [`Outcome::ReadFailed`], and
-/// a write that fails or takes nothing as [`Outcome::WriteFailed`]: each comes exactly where that end's
-/// count of faults moved.
+/// left, and the faults, are said of any. At most 1,064,960 bytes are read. A failed read, an
+/// interruption too, ends the exchange as [`Outcome::ReadFailed`], and a write that fails or takes
+/// nothing as [`Outcome::WriteFailed`]: each comes exactly where that end's count of faults moved.
 pub fn exchange<K: Keep, R: Read, W: Write>(
     alloc: Global,
     keep: &mut K,

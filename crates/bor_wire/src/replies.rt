@@ -51,7 +51,7 @@ fn reply_to<K: Keep>(alloc: Global, paths: &Paths, keep: &mut K, input: &[u8]) -
 ///
 /// # Errors
 ///
-/// There is no memory for the list of replies or for the paths; then no input was answered.
+/// There is no memory for the list of replies or for the paths; then nothing that is shown has changed.
 pub fn replay<K: Keep>(
     alloc: Global,
     keep: &mut K,

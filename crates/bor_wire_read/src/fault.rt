@@ -67,7 +67,7 @@ impl Name {
 }
 
 /// Why bytes are no request, the first that holds in this order; `CutShort` stands in two places of
-/// it. Nothing has been asked of a register.
+/// it. What the register shows stays as it is.
 #[derive(Clone, Copy, Debug, PartialEq, Eq)]
 pub enum Refusal {
     /// No head ends within the first 16,384 bytes, of which there are as many; or the head has more

@@ -2,7 +2,7 @@
 
 use bor_chains::Node;
 use bor_desk::{DeskReply, Request, answer};
-use bor_register::Keep;
+use bor_keep::Keep;
 use bor_rows::{Ask, Wish, body_of};
 use bor_terms::{AgentName, Day, Ident, Listed, LodgeKey, Token};
 use std::alloc::Global;

@@ -3,8 +3,8 @@
 use crate::SqlKeep;
 use crate::tests::asking::{day, reply, token_of};
 use crate::tests::stores::new_keep;
+use bor_keep::Keep;
 use bor_machine::ListKeep;
-use bor_register::Keep;
 use bor_rows::{callers, lodging, sight, withdrawing};
 use sqlite::{Connection, MemStore};
 use std::alloc::Global;

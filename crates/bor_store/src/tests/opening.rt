@@ -3,7 +3,7 @@
 use crate::tests::asking::reply;
 use crate::tests::stores::{adopting, adoption_fault, new_keep, run, setting_up, store};
 use crate::{OpenFault, SqlKeep};
-use bor_register::{Keep, StoreFault};
+use bor_keep::{Keep, StoreFault};
 use bor_store_texts::tables::{
     AGENT_TABLE, FILING_TABLE, IDENTIFIER_TABLE, INTEREST_TABLE, REGISTER_TABLE, STATEMENT_TABLE,
 };

@@ -5,10 +5,10 @@ use Rattle.bor_terms.specs.Texts.{is_same}
 use Rattle.bor_register.specs.Register.{filings_of}
 use Rattle.bor_store_rows.specs.declared.rows.Placed.{Placed}
 use Rattle.bor_store_rows.specs.declared.rows.StatementRow.{StatementRow}
-use Rattle.bor_store_rows.specs.Placed.{identifier_rows, interest_rows}
 use Rattle.bor_store_rows.proofs.Apart.{apart_by, apart_filter}
-use Rattle.bor_store_sql.specs.Selected.{identifiers_at, interests_at, in_declaration, placed_of}
-use Rattle.bor_store_reads.proofs.Declared.{lists_of}
+use Rattle.bor_store_sql.specs.Selected.{in_declaration, placed_of}
+use Rattle.bor_store_reads.specs.Asking.{part_identifiers, part_interests}
+use Rattle.bor_store_reads.proofs.Declared.{declared_identifiers, declared_interests}
 use Rattle.bor_store_reads.proofs.Found.{still_shows}
 use Rattle.bor_store_reads.proofs.FoundFilings.{own_numbered}
 use Rattle.bor_store_reads.proofs.declarations.placed.Goals as goal
@@ -24,5 +24,5 @@ returns-clause-answer g c clean r shows =
     let statements = c.in_ok-statements.ensures.answer second r shows in
     c.in_ok-joined.ensures (in_declaration declaration (placed_of agent r))
     (apart_filter (λ (p : Placed). is_same p.statement.declaration declaration) (placed_of agent r) (apart_by agent 1 (filings_of agent r.members) (own_numbered agent r.members shows.stored.numbered))) statements
-    (c.as_slice-3.ensures.value ∙ c.in_ok-interests.ensures.answer third r shown ∙ ap (flat_map (λ (row : StatementRow). interests_at row.at r.members)) (c.as_slice.ensures.value ∙ statements) ∙ lists_of interest_rows agent declaration r shows.stored)
-    (c.as_slice-4.ensures.value ∙ c.in_ok-identifiers.ensures.answer clean r still ∙ ap (flat_map (λ (row : StatementRow). identifiers_at row.at r.members)) (c.as_slice-2.ensures.value ∙ statements) ∙ lists_of identifier_rows agent declaration r shows.stored)
+    (c.as_slice-3.ensures.value ∙ c.in_ok-interests.ensures.answer third r shown ∙ ap (flat_map (λ (row : StatementRow). part_interests row.part row.at r.members)) (c.as_slice.ensures.value ∙ statements) ∙ declared_interests agent declaration r shows.stored)
+    (c.as_slice-4.ensures.value ∙ c.in_ok-identifiers.ensures.answer clean r still ∙ ap (flat_map (λ (row : StatementRow). part_identifiers row.part row.at r.members)) (c.as_slice-2.ensures.value ∙ statements) ∙ declared_identifiers agent declaration r shows.stored)

@@ -5,15 +5,17 @@ use Rattle.sqlite.specs.Held.{state}
 use Rattle.bor_register.specs.Register.{Register, filings_of}
 use Rattle.bor_store_rows.specs.Seen.{is_seen, row_placed}
 use Rattle.bor_store_sql.specs.Shown.{IsClean, ShowsIn}
+use Rattle.bor_store_reads.specs.Asking.{IsKnown}
 use Rattle.bor_store_reads.proofs.declarations.seen.Given as goal
 
--- what is there and what is left give what all give, and what is shown is as it was
+-- what is there and what is left give what all give, what is known of a filing is so, and what is shown is as it was
 abbrev pub invariant-loop-placed : goal.invariant-loop-placed
 invariant-loop-placed g l = record {
   whole : into_iter_len l.placed-iterator ≡ length (into_iter_items l.placed-iterator);
   mode : l.conn.in_transaction ≡ false;
   began : IsClean (state g.S.Store l.conn) → IsClean (state g.S.Store l.fn.conn);
   kept : IsClean (state g.S.Store l.conn) → (state g.S.Store l.conn).committed ≡ (state g.S.Store l.fn.conn).committed;
+  told : IsClean (state g.S.Store l.conn) → (r : Register) → ShowsIn r (state g.S.Store l.fn.conn) → IsKnown l.viewer l.day l.agent (filings_of l.agent r.members) l.known;
   found : IsClean (state g.S.Store l.conn) → (r : Register) → ShowsIn r (state g.S.Store l.fn.conn)
       → l.rows.items ++ map row_placed (filter (is_seen l.viewer l.day l.agent (filings_of l.agent r.members)) (into_iter_items l.placed-iterator))
       ≡ map row_placed (filter (is_seen l.viewer l.day l.agent (filings_of l.agent r.members)) l.fn.statements.items);

@@ -1,0 +1,36 @@
+//! What keeps a register, and the register in memory.
+//!
+//! Any [`Keep`] keeps a register of filings:
+//!
+//! ```
+//! fn enrol<K: Keep>(keep: &mut K, agent: &AgentName, token: &Token) -> Result<(), StoreFault> {
+//!     if !keep.has_agent(agent)? && keep.who(token)?.is_none() {
+//!         keep.add_agent(agent, token)?;
+//!     }
+//!     Ok(())
+//! }
+//! ```
+//!
+//! [`ListKeep`] does in memory:
+//!
+//! ```
+//! let mut keep = ListKeep::new(alloc, registrar, today);
+//! enrol(&mut keep, &alder, &token)?;
+//! assert!(rt; keep.has_agent(&alder)?);
+//! assert_eq!(rt; keep.filings(&alder)?.len(), 0);
+//! ```
+//!
+//! A keep answers and changes what it is asked to and tests nothing of it: which lodging, which
+//! withdrawal and which day may be is told by `bor_machine`, which hands all of this on. What a
+//! register is, and what is told of it, is `bor_register`'s.
+#![tactic(auto)]
+
+mod fault;
+mod keep;
+mod list_keep;
+#[cfg(test)]
+mod tests;
+
+pub use fault::StoreFault;
+pub use keep::Keep;
+pub use list_keep::ListKeep;

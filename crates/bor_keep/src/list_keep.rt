@@ -1,0 +1,221 @@
+//! The register in memory.
+
+ghost use Rattle.std.specs.Prelude.{◌≡◌, ◌+◌, ◌%◌, ◌^◌};
+ghost use Rattle.bor_register.specs.Register.{empty_register};
+
+use crate::fault::StoreFault;
+use crate::keep::Keep;
+use bods_read::Statement;
+use bor_records::{Last, Row};
+use bor_register::{
+    Caller, Filing, FilingLine, Member, Outward, all_lines, all_published, all_visible,
+    any_live_has_id, caller_with, enrol_member, filing_under, is_enrolled, is_filed, is_succeeded,
+    last_live, line_under, own_filings, push_filing, rows_seen, withdraw_of,
+};
+use bor_terms::{AgentName, Day, Ident, LodgeKey, Token};
+use std::alloc::Global;
+use std::marker::Model;
+
+/// A register in memory: the plain implementation of `Keep`. It has no store that could fail, so
+/// its one fault is want of memory.
+#[derive(Drop)]
+pub struct ListKeep {
+    alloc: Global,
+    day: Day,
+    registrar: Token,
+    members: Vec<Member>,
+    faults: u64,
+}
+
+impl Model for ListKeep {
+    ghost use Rattle.bor_keep.specs.Holding.{Holding};
+
+    ghost Value = { Holding };
+
+    ghost view = { λ k. record {
+      register = record { day = k.day; registrar = k.registrar; members = k.members.items };
+      faults = k.faults;
+    } };
+}
+
+impl ListKeep {
+    /// The register with no agents and no filings. It takes no memory.
+    pub fn new(alloc: Global, registrar: Token, day: Day) -> Self
+        ensures holds { result ≡ record { register = empty_register registrar day; faults = 0 } }
+        ensures shown { ⟦<ListKeep as Keep>⟧.shows result (empty_register registrar day) }
+        ensures clean { ⟦<ListKeep as Keep>⟧.is_clean result }
+    {
+        ListKeep {
+            alloc,
+            day,
+            registrar,
+            members: Vec::new(alloc),
+            faults: 0,
+        }
+    }
+
+    fn want_of_memory(&mut self) -> StoreFault
+        ensures fault { result ≡ StoreFault.Memory }
+        ensures counted { self.new ≡ record self.old { faults = (self.old.faults + 1) % 2 ^ 64 } }
+    {
+        self.faults = self.faults.wrapping_add(1);
+        StoreFault::Memory
+    }
+}
+
+impl Keep for ListKeep {
+    ghost use Rattle.std.specs.Prelude.{◌≡◌};
+    ghost use Rattle.bor_keep.specs.declared.fault.StoreFault.TheVariants.{Memory};
+
+    ghost shows = { λ k r. k.register ≡ r };
+
+    ghost is_clean = { λ k. Unit {0} };
+
+    ghost fault_count = { λ k. k.faults };
+
+    ghost may_tell = { λ fault. fault ≡ Memory };
+
+    fn faults(&self) -> u64 {
+        self.faults
+    }
+
+    fn who(&mut self, token: &Token) -> Result<Option<Caller>, StoreFault> {
+        if self.registrar == *token {
+            return Ok(Some(Caller::Registrar));
+        }
+        match caller_with(self.alloc, &self.members, token) {
+            Ok(caller) => Ok(caller),
+            Err(_) => Err(self.want_of_memory()),
+        }
+    }
+
+    fn has_agent(&mut self, agent: &AgentName) -> Result<bool, StoreFault> {
+        Ok(is_enrolled(&self.members, agent))
+    }
+
+    fn day(&mut self) -> Result<Day, StoreFault> {
+        Ok(self.day)
+    }
+
+    fn filing(&mut self, agent: &AgentName, key: &LodgeKey) -> Result<Option<Filing>, StoreFault> {
+        match filing_under(self.alloc, own_filings(&self.members, agent), key) {
+            Ok(filing) => Ok(filing),
+            Err(_) => Err(self.want_of_memory()),
+        }
+    }
+
+    fn line(
+        &mut self,
+        agent: &AgentName,
+        key: &LodgeKey,
+    ) -> Result<Option<FilingLine>, StoreFault> {
+        let filings = own_filings(&self.members, agent);
+        match line_under(self.alloc, filings, key, self.day) {
+            Ok(line) => Ok(line),
+            Err(_) => Err(self.want_of_memory()),
+        }
+    }
+
+    fn has_file(
+        &mut self,
+        agent: &AgentName,
+        key: &LodgeKey,
+        bytes: &[u8],
+    ) -> Result<bool, StoreFault> {
+        Ok(is_filed(own_filings(&self.members, agent), key, bytes))
+    }
+
+    fn filing_count(&mut self, agent: &AgentName) -> Result<usize, StoreFault> {
+        Ok(own_filings(&self.members, agent).len())
+    }
+
+    fn filings(&mut self, agent: &AgentName) -> Result<Vec<FilingLine>, StoreFault> {
+        match all_lines(self.alloc, own_filings(&self.members, agent), self.day) {
+            Ok(lines) => Ok(lines),
+            Err(_) => Err(self.want_of_memory()),
+        }
+    }
+
+    fn last(
+        &mut self,
+        agent: &AgentName,
+        declaration: &Ident,
+        rec: &Ident,
+    ) -> Result<Option<Last>, StoreFault> {
+        Ok(last_live(own_filings(&self.members, agent), declaration, rec))
+    }
+
+    fn has_statement(&mut self, agent: &AgentName, id: &Ident) -> Result<bool, StoreFault> {
+        Ok(any_live_has_id(own_filings(&self.members, agent), id))
+    }
+
+    fn has_successor(&mut self, agent: &AgentName, number: u32) -> Result<bool, StoreFault> {
+        Ok(is_succeeded(own_filings(&self.members, agent), number))
+    }
+
+    fn rows_of(
+        &mut self,
+        viewer: &AgentName,
+        agent: &AgentName,
+        declaration: &Ident,
+    ) -> Result<Vec<Row>, StoreFault> {
+        let filings = own_filings(&self.members, agent);
+        match rows_seen(self.alloc, viewer, self.day, agent, declaration, filings) {
+            Ok(rows) => Ok(rows),
+            Err(_) => Err(self.want_of_memory()),
+        }
+    }
+
+    fn visible_rows(&mut self, viewer: &AgentName) -> Result<Vec<Row>, StoreFault> {
+        match all_visible(self.alloc, viewer, self.day, &self.members) {
+            Ok(rows) => Ok(rows),
+            Err(_) => Err(self.want_of_memory()),
+        }
+    }
+
+    fn published(&mut self) -> Result<Vec<Outward>, StoreFault> {
+        match all_published(self.alloc, &self.members, self.day) {
+            Ok(outwards) => Ok(outwards),
+            Err(_) => Err(self.want_of_memory()),
+        }
+    }
+
+    fn add_filing(
+        &mut self,
+        agent: &AgentName,
+        key: &LodgeKey,
+        due: Day,
+        bytes: &[u8],
+        statements: &[Statement],
+    ) -> Result<u32, StoreFault> {
+        match push_filing(
+            self.alloc,
+            &mut self.members,
+            agent,
+            key,
+            due,
+            bytes,
+            statements,
+        ) {
+            Ok(number) => Ok(number),
+            Err(_) => Err(self.want_of_memory()),
+        }
+    }
+
+    fn withdraw(&mut self, agent: &AgentName, number: u32) -> Result<(), StoreFault> {
+        withdraw_of(self.alloc, &mut self.members, agent, number);
+        Ok(())
+    }
+
+    fn set_day(&mut self, day: Day) -> Result<(), StoreFault> {
+        self.day = day;
+        Ok(())
+    }
+
+    fn add_agent(&mut self, agent: &AgentName, token: &Token) -> Result<(), StoreFault> {
+        match enrol_member(self.alloc, &mut self.members, agent, token) {
+            Ok(()) => Ok(()),
+            Err(_) => Err(self.want_of_memory()),
+        }
+    }
+}

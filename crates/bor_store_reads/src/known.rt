@@ -1,0 +1,68 @@
+//! Which filings of an agent a viewer sees. The one that was asked for last isn't asked for again.
+
+ghost use Rattle.std.specs.Prelude.{◌≡◌, false, IfOk};
+ghost use Rattle.sqlite.specs.Held.{state};
+ghost use Rattle.bor_register.specs.Register.{filings_of};
+ghost use Rattle.bor_store_sql.specs.Shown.{IsClean};
+ghost use Rattle.bor_store_reads.specs.Answering.{Answers};
+ghost use Rattle.bor_store_reads.specs.Asking.{is_number_seen, IsKnown};
+
+use crate::fault::ReadError;
+use crate::statements::found_filing;
+use bor_terms::{AgentName, Day};
+use sqlite::{Alter, Connection};
+use std::alloc::Global;
+
+/// Whether a viewer sees the filing with this number.
+#[derive(Clone, Copy)]
+pub(crate) struct Known {
+    pub(crate) number: u32,
+    pub(crate) seen: bool,
+}
+
+/// Whether the viewer sees the agent's filing with this number, on a day.
+pub fn is_number_seen<S: Alter>(
+    conn: &mut Connection<S>,
+    alloc: Global,
+    viewer: &AgentName,
+    agent: &AgentName,
+    day: Day,
+    number: u32,
+) -> Result<bool, ReadError>
+    requires { conn.old.in_transaction ≡ false }
+    ensures mode { conn.new.in_transaction ≡ false }
+    ensures began { IsClean (state S.Store conn.new) → IsClean (state S.Store conn.old) }
+    ensures kept { IsClean (state S.Store conn.new) → (state S.Store conn.new).committed ≡ (state S.Store conn.old).committed }
+    ensures answer { Answers (state S.Store conn.old) (state S.Store conn.new) result (λ r seen.
+        seen ≡ is_number_seen viewer.now day agent.now (filings_of agent.now r.members) number) }
+{
+    match found_filing(conn, alloc, agent, number)? {
+        Some(filing) => Ok(filing.is_visible(viewer, day)),
+        None => Ok(false),
+    }
+}
+
+/// The same, where one filing is known already.
+pub(crate) fn known_of<S: Alter>(
+    conn: &mut Connection<S>,
+    alloc: Global,
+    viewer: &AgentName,
+    agent: &AgentName,
+    day: Day,
+    last: Known,
+    number: u32,
+) -> Result<Known, ReadError>
+    requires { conn.old.in_transaction ≡ false }
+    ensures mode { conn.new.in_transaction ≡ false }
+    ensures began { IsClean (state S.Store conn.new) → IsClean (state S.Store conn.old) }
+    ensures kept { IsClean (state S.Store conn.new) → (state S.Store conn.new).committed ≡ (state S.Store conn.old).committed }
+    ensures number { IfOk result (λ known. known.number ≡ number) }
+    ensures answer { Answers (state S.Store conn.old) (state S.Store conn.new) result (λ r known.
+        IsKnown viewer.now day agent.now (filings_of agent.now r.members) last → IsKnown viewer.now day agent.now (filings_of agent.now r.members) known) }
+{
+    if last.number == number {
+        return Ok(last);
+    }
+    let seen = is_number_seen(conn, alloc, viewer, agent, day, number)?;
+    Ok(Known { number, seen })
+}
