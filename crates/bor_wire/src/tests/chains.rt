@@ -1,7 +1,8 @@
 //! Who stands behind an entity, as bytes.
 
-use crate::tests::talk::Talk;
+use crate::tests::holding::hold;
 use bor_rows::PUBLISHED;
+use bor_wire_rows::Talk;
 use std::alloc::Global;
 use std::process::Abort;
 use std::test::Fail;
@@ -34,7 +35,7 @@ fn behind(rt: &impl Abort, alloc: Global, file: &str, named: &[(&str, &str)]) ->
         let ask = format!(in alloc; "alder chains alder c1 {rec}")?;
         talk.ask(ask.as_str(), naming(alloc, rec, persons)?.as_str())?;
     }
-    talk.hold(rt)
+    hold(rt, alloc, &talk)
 }
 
 // p1 has these interests in a1, which holds 10 percent of the shares of e1.

@@ -1,13 +1,12 @@
 //! Readers, writers and keeps that fail.
 
-use crate::tests::requests::request;
-use crate::tests::streams::{Drip, Gate};
-use crate::tests::talk::{exchanged, new_keep};
+use crate::tests::holding::{exchanged, new_keep};
 use crate::{Outcome, UNAVAILABLE, exchange};
 use bor_failing::FailingKeep;
 use bor_machine::{ListKeep, StoreFault};
 use bor_rows::Ask;
 use bor_wire_read::Counted;
+use bor_wire_rows::{Drip, Gate, request};
 use std::alloc::Global;
 use std::process::Abort;
 use std::test::Fail;
@@ -15,7 +14,7 @@ use std::test::Fail;
 const LODGING: &str = "alder lodge f1 2024-02-01 E s1 e1";
 
 fn input(alloc: Global, ask: &str) -> Result<Vec<u8>, Fail> {
-    request(alloc, Ask::read(ask).ok_or("no ask")?)
+    Ok(request(alloc, Ask::read(ask).ok_or("no ask")?)?)
 }
 
 // A register with alder.

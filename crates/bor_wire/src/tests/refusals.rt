@@ -1,6 +1,7 @@
 //! Bytes that are no request, and requests at their limits.
 
-use crate::tests::talk::Talk;
+use crate::tests::holding::hold;
+use bor_wire_rows::Talk;
 use std::test::Fail;
 
 // Inputs with the status, the line of its own and the body of their replies.
@@ -101,11 +102,12 @@ const INPUTS: &[(&[u8], u16, &str, &str)] = &[
 
 #[test]
 fn bytes_that_are_no_request_are_refused(rt: HostRuntime) -> Result<(), Fail> {
-    let mut talk = Talk::new(rt.alloc())?;
+    let alloc = rt.alloc();
+    let mut talk = Talk::new(alloc)?;
     for (input, status, line, body) in INPUTS {
         talk.send(input, *status, line, body)?;
     }
-    talk.hold(&rt)
+    hold(&rt, alloc, &talk)
 }
 
 #[test]
@@ -124,7 +126,7 @@ fn a_head_is_refused_at_its_limits(rt: HostRuntime) -> Result<(), Fail> {
     }
     fields.push(b'\n')?;
     talk.send(&fields, 431, "", refused)?;
-    talk.hold(&rt)
+    hold(&rt, alloc, &talk)
 }
 
 #[test]
@@ -139,5 +141,5 @@ fn a_body_has_1048576_bytes(rt: HostRuntime) -> Result<(), Fail> {
     input.resize(length + 1_048_574, b' ')?;
     input.push(b']')?;
     talk.send(&input, 422, "", r#"{"refusal":"NoStatements"}"#)?;
-    talk.hold(&rt)
+    hold(&rt, alloc, &talk)
 }

@@ -1,60 +1,16 @@
 //! The worked rows of a register, as bytes.
 
-use crate::tests::talk::{Talk, rows_hold};
-use bor_rows::{callers, lodging, sight, withdrawing};
+use crate::tests::holding::{hold, rows_hold};
+use bor_rows::lodging;
+use bor_wire_rows::{Talk, worked};
 use std::alloc::Global;
 use std::test::Fail;
 
 #[test]
-fn the_rows_of_lodging_hold(rt: HostRuntime) -> Result<(), Fail> {
-    for rows in [
-        lodging::THE_FIRST_LODGING_IS_PUBLISHED_AND_TOLD.as_slice(),
-        &lodging::A_STATEMENT_THAT_MAY_NOT_FOLLOW_LEAVES_NO_FILING,
-        &lodging::A_FILE_THAT_IS_NOT_READ_IS_REFUSED_WHOLE,
-    ] {
-        rows_hold(&rt, rt.alloc(), rows)?;
-    }
-    let mut talk = Talk::new(rt.alloc())?;
-    talk.ask_all(&lodging::THE_FIRST_LODGING_IS_PUBLISHED_AND_TOLD)?;
-    talk.ask_all(&lodging::A_REPEAT_TELLS_THE_FILING_THAT_IS_THERE)?;
-    talk.hold(&rt)
-}
-
-#[test]
-fn the_rows_of_callers_hold(rt: HostRuntime) -> Result<(), Fail> {
-    for rows in [
-        callers::EACH_CALLER_HAS_ITS_OWN_REQUESTS.as_slice(),
-        &callers::THE_DAY_NEVER_GOES_BACK,
-        &callers::A_NAME_AND_A_TOKEN_ARE_TAKEN_ONCE,
-    ] {
-        rows_hold(&rt, rt.alloc(), rows)?;
-    }
-    Ok(())
-}
-
-#[test]
-fn the_rows_of_sight_hold(rt: HostRuntime) -> Result<(), Fail> {
-    for rows in [
-        sight::PUBLISHED_STATEMENTS_HAVE_THEIR_SETTLED_STATUSES.as_slice(),
-        &sight::A_SNAPSHOT_SHOWS_WHAT_IS_OPEN_ON_ITS_DATE,
-        &sight::A_SNAPSHOT_SHOWS_THE_LATEST_STATEMENT,
-        &sight::A_DRAFT_JOINS_CHAINS_FOR_ITS_OWN_AGENT_ALONE,
-        &sight::PUBLISHED_FILINGS_GO_BY_AGENT_FOR_WHOEVER_ASKS,
-        &sight::A_DAY_PUBLISHES_ALL_THAT_IS_DUE_BY_THEN,
-    ] {
-        rows_hold(&rt, rt.alloc(), rows)?;
-    }
-    Ok(())
-}
-
-#[test]
-fn the_rows_of_withdrawing_hold(rt: HostRuntime) -> Result<(), Fail> {
-    for rows in [
-        withdrawing::DRAFTS_ARE_WITHDRAWN_FROM_THE_LAST_ON.as_slice(),
-        &withdrawing::A_WITHDRAWN_KEY_IS_NOT_FREE,
-        &withdrawing::NOBODY_READS_OR_WITHDRAWS_ANOTHER_AGENTS_FILING,
-    ] {
-        rows_hold(&rt, rt.alloc(), rows)?;
+fn the_worked_rows_hold(rt: HostRuntime) -> Result<(), Fail> {
+    let alloc = rt.alloc();
+    for talk in worked(alloc)? {
+        hold(&rt, alloc, &talk)?;
     }
     Ok(())
 }
@@ -69,7 +25,7 @@ fn an_agent_has_at_most_999_filings(rt: HostRuntime) -> Result<(), Fail> {
         talk.ask(ask.as_str(), body.as_str())?;
     }
     talk.ask_all(&lodging::AN_AGENT_HAS_AT_MOST_999_FILINGS)?;
-    talk.hold(&rt)
+    hold(&rt, alloc, &talk)
 }
 
 // Files with the refusals that they get.
@@ -142,7 +98,7 @@ fn files_are_refused_whole(rt: HostRuntime) -> Result<(), Fail> {
         talk.ask(ask.as_str(), body)?;
         talk.ask("alder filings", "[]")?;
     }
-    talk.hold(&rt)
+    hold(&rt, alloc, &talk)
 }
 
 // The lodging of a body as it stands.
@@ -175,7 +131,7 @@ fn files_beyond_their_limits_are_refused_whole(rt: HostRuntime) -> Result<(), Fa
         r#"{"field":"interests","place":3,"refusal":"TooLong"}"#,
     )?;
     talk.ask("alder filings", "[]")?;
-    talk.hold(&rt)
+    hold(&rt, alloc, &talk)
 }
 
 #[test]
@@ -195,64 +151,3 @@ fn a_time_behind_a_date_is_passed_over(rt: HostRuntime) -> Result<(), Fail> {
         ],
     )
 }
-
-// Two drafts of birch, one of them withdrawn, and what it publishes.
-const WITH_DRAFTS: &[(&str, &str)] = &[
-    (
-        "birch lodge x1 2024-12-01 E s9 z1",
-        r#"{"due":"2024-12-01","filing":1,"state":"draft"}"#,
-    ),
-    (
-        "birch lodge x2 2024-12-01 E s8 z2",
-        r#"{"due":"2024-12-01","filing":2,"state":"draft"}"#,
-    ),
-    (
-        "birch withdraw x2",
-        r#"{"due":"2024-12-01","filing":2,"state":"withdrawn"}"#,
-    ),
-    (
-        sight::JOINED,
-        r#"{"due":"2024-02-01","filing":3,"state":"published"}"#,
-    ),
-];
-
-// What alder asks, and is told.
-const TOLD_TO_ALDER: &[(&str, &str)] = &[
-    (sight::JOINING, bor_rows::DRAFT),
-    (
-        "alder filings",
-        r#"[{"due":"2024-03-01","filing":1,"key":"g1","state":"draft"}]"#,
-    ),
-    ("alder published", BIRCH_PUBLISHED),
-    ("alder snapshot birch c9", BIRCH_SHOWN),
-    (
-        "alder snapshot birch c1",
-        r#"{"date":"2024-02-01","records":[]}"#,
-    ),
-    ("alder chains alder c1 e1", BIRCH_JOINED),
-    (sight::JOINING, bor_rows::DRAFT),
-];
-
-// What birch has not published changes no reply to alder.
-#[test]
-fn two_worlds_look_alike_to_alder(rt: HostRuntime) -> Result<(), Fail> {
-    let alloc = rt.alloc();
-    let mut first = Talk::new(alloc)?;
-    first.ask_all(WITH_DRAFTS)?;
-    let mut second = Talk::new(alloc)?;
-    second.ask(sight::JOINED, bor_rows::PUBLISHED)?;
-    for mut talk in [first, second] {
-        talk.ask_all(TOLD_TO_ALDER)?;
-        talk.hold(&rt)?;
-    }
-    Ok(())
-}
-
-const BIRCH_PUBLISHED: &str =
-    r#"[{"agent":"birch","due":"2024-02-01","statements":[{"date":"2024-01-10","declaration":"c9","id":"s1","record":"b1","status":"new","type":"entity"},{"date":"2024-01-10","declaration":"c9","id":"s2","record":"bp","status":"new","type":"person"},{"date":"2024-01-10","declaration":"c9","id":"s3","record":"br","status":"new","type":"relationship"}]}]"#;
-
-const BIRCH_JOINED: &str =
-    r#"{"agent":"alder","date":"2024-02-01","declaration":"c1","persons":[{"agent":"birch","declaration":"c9","name":null,"record":"bp"}],"record":"e1"}"#;
-
-const BIRCH_SHOWN: &str =
-    r#"{"date":"2024-02-01","records":[{"date":"2024-01-10","details":{"identifiers":[{"id":"00000001","scheme":"GB-COH"}],"kind":"registeredEntity","name":null},"id":"s1","record":"b1","status":"new","type":"entity"},{"date":"2024-01-10","details":{"kind":"knownPerson","name":null},"id":"s2","record":"bp","status":"new","type":"person"},{"date":"2024-01-10","details":{"interestedParty":"bp","interests":[{"directness":"unknown","share":{"high":100,"highOpen":false,"low":100,"lowOpen":false},"type":"votingRights"}],"subject":"b1"},"id":"s3","record":"br","status":"new","type":"relationship"}]}"#;

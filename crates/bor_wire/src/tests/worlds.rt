@@ -1,28 +1,19 @@
-//! A world that differs in one published statement, and the laws of such worlds.
+//! Worlds that differ in what birch does, and the laws of such worlds.
 
 use crate::laws;
-use crate::tests::talk::Talk;
+use crate::tests::holding::hold;
 use bor_machine::ListKeep;
-use bor_rows::sight;
+use bor_wire_rows::worlds;
 use std::test::Fail;
 
-// Of less than a majority of b1 alder's report names nobody.
+// What birch has not published changes no byte of a reply to alder; what it publishes does.
 #[test]
-fn a_published_share_is_told(rt: HostRuntime) -> Result<(), Fail> {
+fn worlds_look_alike_to_alder_where_the_published_is_the_same(rt: HostRuntime) -> Result<(), Fail> {
     laws::same_history_same_bytes();
     laws::nobodys_inputs();
     laws::exchanges_are_a_run::<ListKeep>();
-    let mut talk = Talk::new(rt.alloc())?;
-    talk.ask_all(&[
-        (
-            "birch lodge x3 2024-02-01 E s1 b1 #GB-COH/00000001; P s2 bp; R s3 br b1<-bp V40 in c9",
-            bor_rows::PUBLISHED,
-        ),
-        (sight::JOINING, bor_rows::DRAFT),
-        (
-            "alder chains alder c1 e1",
-            r#"{"agent":"alder","date":"2024-02-01","declaration":"c1","persons":[],"record":"e1"}"#,
-        ),
-    ])?;
-    talk.hold(&rt)
+    let alloc = rt.alloc();
+    hold(&rt, alloc, &worlds::with_drafts(alloc)?)?;
+    hold(&rt, alloc, &worlds::without_drafts(alloc)?)?;
+    hold(&rt, alloc, &worlds::with_another_share(alloc)?)
 }

@@ -5,10 +5,13 @@ use std::io::{ErrorKind, Read, Write};
 
 /// Gives bytes in pieces of at most `size`, and then ends or fails.
 #[derive(Drop)]
-pub(crate) struct Drip<'a> {
-    pub(crate) bytes: &'a [u8],
-    pub(crate) size: usize,
-    pub(crate) fails: bool,
+pub struct Drip<'a> {
+    /// What is left to give.
+    pub bytes: &'a [u8],
+    /// The bytes of a piece.
+    pub size: usize,
+    /// Whether it fails where nothing is left; else it ends.
+    pub fails: bool,
 }
 
 impl<'a> Read for Drip<'a> {
@@ -25,10 +28,13 @@ impl<'a> Read for Drip<'a> {
 
 /// Takes so many bytes in small pieces, and then takes nothing or fails.
 #[derive(Drop)]
-pub(crate) struct Gate {
-    pub(crate) taken: Vec<u8>,
-    pub(crate) room: usize,
-    pub(crate) fails: bool,
+pub struct Gate {
+    /// What it has taken.
+    pub taken: Vec<u8>,
+    /// How many bytes more it takes.
+    pub room: usize,
+    /// Whether it fails where there is no room; else it takes nothing.
+    pub fails: bool,
 }
 
 impl Write for Gate {

@@ -1,11 +1,10 @@
 //! Requests as bytes, from rows.
 
-use bor_rows::{Ask, Wish, body_of, token_of};
+use bor_rows::{Ask, RowFault, Wish, body_of, token_of};
 use std::alloc::Global;
-use std::test::Fail;
 
 // The name's part of a query, where there is a value.
-fn add_date(target: &mut String, date: &str) -> Result<(), Fail> {
+fn add_date(target: &mut String, date: &str) -> Result<(), RowFault> {
     if !date.is_empty() {
         target.push_str("&date=")?;
         target.push_str(date)?;
@@ -13,7 +12,7 @@ fn add_date(target: &mut String, date: &str) -> Result<(), Fail> {
     Ok(())
 }
 
-fn snapshot(alloc: Global, agent: &str, declaration: &str, date: &str) -> Result<String, Fail> {
+fn snapshot(alloc: Global, agent: &str, declaration: &str, date: &str) -> Result<String, RowFault> {
     let mut target = format!(in alloc; "/snapshot?agent={agent}&declaration={declaration}")?;
     add_date(&mut target, date)?;
     Ok(target)
@@ -25,7 +24,7 @@ fn chains(
     declaration: &str,
     rec: &str,
     date: &str,
-) -> Result<String, Fail> {
+) -> Result<String, RowFault> {
     let mut target = format!(in alloc;
         "/chains?agent={agent}&declaration={declaration}&record={rec}"
     )?;
@@ -34,7 +33,7 @@ fn chains(
 }
 
 // The method and the target of a wish.
-fn line(alloc: Global, wish: Wish<'_>) -> Result<(&'static str, String), Fail> {
+fn line(alloc: Global, wish: Wish<'_>) -> Result<(&'static str, String), RowFault> {
     Ok(match wish {
         Wish::Lodge { key, due, .. } => ("PUT", format!(in alloc; "/filings/{key}?due={due}")?),
         Wish::Withdraw { key } => ("DELETE", format!(in alloc; "/filings/{key}")?),
@@ -57,7 +56,7 @@ fn line(alloc: Global, wish: Wish<'_>) -> Result<(&'static str, String), Fail> {
     })
 }
 
-fn body(alloc: Global, wish: Wish<'_>) -> Result<String, Fail> {
+fn body(alloc: Global, wish: Wish<'_>) -> Result<String, RowFault> {
     Ok(match wish {
         Wish::Lodge { file, .. } => body_of(alloc, file)?,
         Wish::Enrol { token, .. } => String::from_str(alloc, token)?,
@@ -66,7 +65,11 @@ fn body(alloc: Global, wish: Wish<'_>) -> Result<String, Fail> {
 }
 
 /// The request for an ask, byte for byte.
-pub(crate) fn request(alloc: Global, ask: Ask<'_>) -> Result<Vec<u8>, Fail> {
+///
+/// # Errors
+///
+/// `Unread`: a file's words are none. `Memory`: memory is wanting.
+pub fn request(alloc: Global, ask: Ask<'_>) -> Result<Vec<u8>, RowFault> {
     let (method, target) = line(alloc, ask.wish)?;
     let token = token_of(alloc, ask.caller)?;
     let body = body(alloc, ask.wish)?;

@@ -1,8 +1,7 @@
 //! Replies as bytes, by the interface's tables of statuses and fields.
 
-use bor_rows::Wish;
+use bor_rows::{RowFault, Wish};
 use std::alloc::Global;
-use std::test::Fail;
 
 /// The phrase of a status (RFC 9110, section 15).
 fn phrase(status: u16) -> &'static str {
@@ -23,12 +22,11 @@ fn phrase(status: u16) -> &'static str {
 }
 
 /// A reply with this line of its own, if it isn't empty.
-pub(crate) fn reply_with(
-    alloc: Global,
-    status: u16,
-    line: &str,
-    body: &str,
-) -> Result<Vec<u8>, Fail> {
+///
+/// # Errors
+///
+/// `Memory`: memory is wanting.
+pub fn reply_with(alloc: Global, status: u16, line: &str, body: &str) -> Result<Vec<u8>, RowFault> {
     let (phrase, length) = (phrase(status), body.len());
     let mut text = format!(in alloc;
         "HTTP/1.1 {status} {phrase}\r\nContent-Type: application/json\r\nContent-Length: {length}\r\n"
@@ -43,7 +41,11 @@ pub(crate) fn reply_with(
 }
 
 /// A reply; one of status 401 tells how to authenticate.
-pub(crate) fn reply(alloc: Global, status: u16, body: &str) -> Result<Vec<u8>, Fail> {
+///
+/// # Errors
+///
+/// `Memory`: memory is wanting.
+pub fn reply(alloc: Global, status: u16, body: &str) -> Result<Vec<u8>, RowFault> {
     let line = if status == 401 {
         "WWW-Authenticate: Bearer"
     } else {
