@@ -29,7 +29,7 @@ MayAskForHelp words = IsAmong DisplayHelp (fault_of bor_app words)
 abbrev pub IsWrong : List Text → Type 0
 IsWrong words =
     ((kind : ErrorKind) × IsAmong kind (fault_of bor_app words) × (kind ≢ DisplayHelp))
-    ⊎ ((word : Text) × (first_unfit (values_of (entered_by words)) ≡ Some word))
+    ⊎ ((fault_of bor_app words ≡ []) × ((word : Text) × (first_unfit (values_of (entered_by words)) ≡ Some word)))
 
 -- ---- for what
 
