@@ -1,0 +1,80 @@
+-- How the end of a check is told of a run.
+use Rattle.std.proofs.Common.{◌≡◌, ◌≢◌, ◌∙◌, ℕ, List, [], Option, Some, None, IfSome, Result, Ok, Err, refl, sym, subst, inr, append-nil, true}
+use Rattle.std.specs.Io.KnownBytes.{Appends, Keeps}
+use Rattle.std.specs.Result.{is_err}
+use Rattle.bor_desk.specs.CheckReport.{check_report}
+use Rattle.clap.specs.declared.error.kind.ErrorKind.{ErrorKind}
+use Rattle.clap.specs.declared.error.kind.ErrorKind.TheVariants.{DisplayHelp, OutOfMemory}
+use Rattle.bor_program.specs.declared.status.Status.{Status}
+use Rattle.bor_program.specs.Program.{EndsReport, IsReportedOrCutOff}
+use Rattle.bor_program.specs.Streams.{AppendsPart, TakesAtMostPart, part_read}
+
+-- what holds of every value holds of the one that is there
+pub whatever : {X : Type 0} (o : Option X) {P : X → Type 0} → ((x : X) → P x) → IfSome o P
+whatever None h = tt
+whatever (Some x) h = h x
+
+pub keeps_same : (known : Option (List ℕ)) → Keeps known known
+keeps_same None = tt
+keeps_same (Some xs) = refl
+
+kept_none : (before after : Option (List ℕ)) → Keeps before after → Appends before after []
+kept_none None after h = tt
+kept_none (Some xs) None h = h
+kept_none (Some xs) (Some ys) h = h ∙ sym (append-nil xs)
+
+-- nothing is a front of whatever was to be written
+pub part_none : (before after : Option (List ℕ)) (bytes : List ℕ) → Keeps before after → AppendsPart before after bytes
+part_none before after bytes h = ([], bytes, refl, kept_none before after h)
+
+pub kept_as : (before after last : Option (List ℕ)) → last ≡ after → Keeps before after → Keeps before last
+kept_as before after last same h = subst (λ (o : Option (List ℕ)). Keeps before o) (sym same) h
+
+pub part_as : (before after last : Option (List ℕ)) (bytes : List ℕ) → last ≡ after → AppendsPart before after bytes → AppendsPart before last bytes
+part_as before after last bytes same h = subst (λ (o : Option (List ℕ)). AppendsPart before o bytes) (sym same) h
+
+-- the same, of a report on any bytes
+pub cut_one : {F : Type 0} (bytes : List ℕ) (known : Option (List ℕ)) (end : Result Status F) → is_err end ≡ true → EndsReport bytes known known end
+cut_one bytes known (Err failure) e = part_none known known (check_report bytes).bytes (keeps_same known)
+cut_one bytes known (Ok status) e = cc
+
+-- a check that failed before it wrote
+pub cut_of : {F : Type 0} (o known : Option (List ℕ)) (end : Result Status F) → is_err end ≡ true → IfSome o (λ bytes. EndsReport (part_read bytes) known known end)
+cut_of o known (Err failure) e = whatever o (λ bytes. part_none known known (check_report (part_read bytes)).bytes (keeps_same known))
+cut_of o known (Ok status) e = cc
+
+-- a check that failed
+pub cut_off : {F : Type 0} (before after last : Option (List ℕ)) (end final : Result Status F) (failure : F) (status : ℕ) → last ≡ after → final ≡ end
+    → final ≡ Err failure → status ≡ 3 → ((bytes : List ℕ) × EndsReport bytes before after end)
+    → (bytes : List ℕ) × IsReportedOrCutOff bytes before last status
+cut_off before after last (Err f) final failure status same e is three h =
+    (h.0, inr (record { text = part_as before after last (check_report h.0).bytes same h.1; told = three }))
+cut_off before after last (Ok s) final failure status same e is three h = let bad : Ok s ≡ Err failure = sym e ∙ is in cc
+
+-- a run that failed before it wrote
+pub cut_unwritten : (bytes : List ℕ) (before after last : Option (List ℕ)) (code : ℕ) → last ≡ after → code ≡ 3 → Keeps before after
+    → IsReportedOrCutOff bytes before last code
+cut_unwritten bytes before after last code same three kept =
+    inr (record { text = part_as before after last (check_report bytes).bytes same (part_none before after (check_report bytes).bytes kept); told = three })
+
+pub told_one : (bytes : List ℕ) (before after last : Option (List ℕ)) (status code : ℕ) → last ≡ after → code ≡ status
+    → IsReportedOrCutOff bytes before after status → IsReportedOrCutOff bytes before last code
+told_one bytes before after last status code same e h =
+    let P : ℕ → Type 0 = λ n. IsReportedOrCutOff bytes before last n in
+    let Q : Option (List ℕ) → Type 0 = λ o. IsReportedOrCutOff bytes before o status in
+    subst P (sym e) (subst Q (sym same) h)
+
+pub told_some : (before after last : Option (List ℕ)) (status code : ℕ) → last ≡ after → code ≡ status
+    → ((bytes : List ℕ) × IsReportedOrCutOff bytes before after status) → (bytes : List ℕ) × IsReportedOrCutOff bytes before last code
+told_some before after last status code same e h = (h.0, told_one h.0 before after last status code same e h.1)
+
+pub told_known : (o before after last : Option (List ℕ)) (status code : ℕ) → last ≡ after → code ≡ status
+    → IfSome o (λ bytes. IsReportedOrCutOff (part_read bytes) before after status) → IfSome o (λ bytes. IsReportedOrCutOff (part_read bytes) before last code)
+told_known None before after last status code same e h = tt
+told_known (Some bytes) before after last status code same e h = told_one (part_read bytes) before after last status code same e h
+
+pub took_as : (before after last : Option (List ℕ)) → last ≡ after → TakesAtMostPart before after → TakesAtMostPart before last
+took_as before after last same h = subst (λ (o : Option (List ℕ)). TakesAtMostPart before o) (sym same) h
+
+pub memory_is_no_help : (kind : ErrorKind) → kind ≡ OutOfMemory → kind ≢ DisplayHelp
+memory_is_no_help kind e help = let none : DisplayHelp ≡ OutOfMemory = sym help ∙ e in cc

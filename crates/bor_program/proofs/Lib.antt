@@ -1,0 +1,6 @@
+pub mod KnownWords
+pub mod KnownBytes
+pub mod Ends
+pub mod MetFailures
+pub mod Replies
+pub mod Performed

@@ -1,0 +1,71 @@
+-- Which failures were met by a command over a register in a file.
+use Rattle.std.proofs.Common.{◌≡◌, ◌⊎◌, ℕ, List, [], Option, inl, inr, refl}
+use Rattle.std.specs.Borrow.{Bor}
+use Rattle.std.specs.Io.KnownBytes.{Keeps}
+use Rattle.bor_keep.specs.declared.fault.StoreFault.{StoreFault}
+use Rattle.bor_keep.specs.declared.fault.StoreFault.TheVariants as fault
+use Rattle.bor_program.specs.declared.failure.Failure.{Failure}
+use Rattle.bor_program.specs.declared.failure.Failure.TheVariants.{Unreadable, NoRegister, OtherVersion, Taken, Memory, Store, Unlistening, Unwritable}
+use Rattle.bor_program.specs.Failures.{IsMetIn, IsMetOnKeep, IsOpeningOf, LeavesOutput, failure_of}
+use Rattle.bor_desk.specs.CheckReport.{check_report}
+use Rattle.bor_desk.specs.declared.text.Text.{Text as Written}
+use Rattle.bor_program.specs.Program.{IsWrittenOrCutOff}
+use Rattle.bor_program.specs.Streams.{AppendsPart}
+use Rattle.bor_program.proofs.Ends.{keeps_same, part_none}
+use Rattle.clap.specs.Words.{Text}
+
+-- standard output that is as it was is left by every failure
+pub leaves : (before after : Option (List ℕ)) (failure : Failure) → Keeps before after → LeavesOutput before after failure
+leaves before after (Unreadable source) h = h
+leaves before after (NoRegister path) h = h
+leaves before after (OtherVersion path version) h = h
+leaves before after (Taken path) h = h
+leaves before after Memory h = h
+leaves before after Store h = h
+leaves before after Unlistening h = h
+leaves before after Unwritable h = tt
+
+-- a fault of a keep, before anything was written
+pub met_fault : (known : Option (List ℕ)) (f : StoreFault) → IsMetOnKeep known known (failure_of f)
+met_fault known fault.Memory = record { cause = tt; output = keeps_same known }
+met_fault known fault.Store = record { cause = tt; output = keeps_same known }
+met_fault known fault.Damaged = record { cause = tt; output = keeps_same known }
+
+-- standard output can't be written
+pub met_unwritable : (before after : Option (List ℕ)) (failure : Failure) → failure ≡ Unwritable → IsMetOnKeep before after failure
+met_unwritable before after Unwritable e = record { cause = tt; output = tt }
+met_unwritable before after (Unreadable source) e = cc
+met_unwritable before after (NoRegister path) e = cc
+met_unwritable before after (OtherVersion path version) e = cc
+met_unwritable before after (Taken path) e = cc
+met_unwritable before after Memory e = cc
+met_unwritable before after Store e = cc
+met_unwritable before after Unlistening e = cc
+
+-- the register was opened, and then a failure was met
+pub met_opened : (path : Bor Text) (before after : Option (List ℕ)) (failure : Failure) → IsMetOnKeep before after failure → IsMetIn path before after failure
+met_opened path before after Memory h = record { cause = inl tt; output = h.output }
+met_opened path before after Store h = record { cause = inl tt; output = h.output }
+met_opened path before after Unwritable h = record { cause = inr refl; output = h.output }
+met_opened path before after (Unreadable source) h = absurd h.cause
+met_opened path before after (NoRegister opened) h = absurd h.cause
+met_opened path before after (OtherVersion opened version) h = absurd h.cause
+met_opened path before after (Taken opened) h = absurd h.cause
+met_opened path before after Unlistening h = absurd h.cause
+
+-- the register can't be opened
+pub met_opening : (path : Bor Text) (known : Option (List ℕ)) (failure : Failure) → IsOpeningOf path failure → IsMetIn path known known failure
+met_opening path known failure h = record { cause = inl h; output = leaves known known failure (keeps_same known) }
+
+-- ---- texts that were cut off
+
+-- nothing was written
+pub no_text : (before after : Option (List ℕ)) (status : ℕ) → status ≡ 3 → Keeps before after → (text : Written) × IsWrittenOrCutOff text before after status
+no_text before after status three kept =
+    (check_report [], inr (record { text = part_none before after (check_report []).bytes kept; told = three }))
+
+-- a front was written of a text of which P holds, or nothing
+pub cut_text : {P : Written → Type 0} (before after : Option (List ℕ)) (status : ℕ) → status ≡ 3
+    → ((text : Written) × P text × AppendsPart before after text.bytes) ⊎ Keeps before after → (text : Written) × IsWrittenOrCutOff text before after status
+cut_text before after status three (inl h) = (h.0, inr (record { text = h.2; told = three }))
+cut_text before after status three (inr kept) = no_text before after status three kept

@@ -1,0 +1,142 @@
+-- What is written part by part, and how replies end.
+use Rattle.std.proofs.Common.{◌≡◌, ◌∙◌, ◌≤◌, ◌<◌, ◌⊎◌, ℕ, List, [], ◌∷◌, ◌++◌, Option, Some, None, Result, Ok, Err, ap, arith, inl, inr, refl, sym, subst, true, false, Bool, max, IfSome, length, option_map, drop, take, append-nil, append_assoc, lit≤}
+use Rattle.std.specs.Io.KnownBytes.{Appends, Keeps}
+use Rattle.std.proofs.KnownBytes.{Appends-trans}
+use Rattle.bor_wire.specs.declared.replies.Reply.{Reply}
+use Rattle.bor_wire.specs.declared.replies.Reply.TheVariants.{Full, Unavailable}
+use Rattle.bor_desk.specs.declared.text.Text.{Text}
+use Rattle.bor_program.specs.declared.status.Status.{Status}
+use Rattle.bor_program.specs.declared.status.Status.TheVariants.{Done, Refused, Usage, Failed}
+use Rattle.std.specs.Result.{is_err}
+use Rattle.bor_program.specs.Reporting.{EndsTelling}
+use Rattle.bor_program.specs.Program.{exit_code, report_status}
+use Rattle.bor_program.specs.Replying.{AreRepliesTo, IsAnsweredOrCutOff, IsSentOrCutOff, EndsFiles, EndsSending, is_refusal, replies_status, reply_status, sent, sent_of}
+use Rattle.bor_program.specs.Streams.{AppendsPart}
+use Rattle.bor_register.specs.Register.{Register}
+use Rattle.bor_program.proofs.Ends.{part_none}
+use Rattle.bor_program.proofs.KnownBytes.{IsWritten}
+
+-- a part was written whole, and the rest is left
+pub part_written : (before middle after : Option (List ℕ)) (bytes part rest : List ℕ) → IsWritten before middle bytes (part ++ rest)
+    → Appends middle after part → IsWritten before after bytes rest
+part_written before middle after bytes part rest h e =
+    (h.0 ++ part, h.1 ∙ sym (append_assoc h.0 part rest), Appends-trans before middle after h.0 part h.2 e)
+
+-- a front of a part was written
+pub part_begun : (before middle after : Option (List ℕ)) (bytes part rest : List ℕ) → IsWritten before middle bytes (part ++ rest)
+    → AppendsPart middle after part → AppendsPart before after bytes
+part_begun before middle after bytes part rest h e =
+    let split : bytes ≡ (h.0 ++ e.0) ++ (e.1 ++ rest) =
+    h.1 ∙ ap (λ l. h.0 ++ (l ++ rest)) e.2 ∙ ap (λ l. h.0 ++ l) (append_assoc e.0 e.1 rest) ∙ sym (append_assoc h.0 e.0 (e.1 ++ rest)) in
+    (h.0 ++ e.0, e.1 ++ rest, split, Appends-trans before middle after h.0 e.0 h.2 e.3)
+
+-- nothing is left
+pub all_written : (before after : Option (List ℕ)) (bytes : List ℕ) → IsWritten before after bytes [] → Appends before after bytes
+all_written before after bytes h = subst (Appends before after) (sym (h.1 ∙ append-nil h.0)) h.2
+
+pub part_of_all : (before after : Option (List ℕ)) (bytes : List ℕ) → Appends before after bytes → AppendsPart before after bytes
+part_of_all before after bytes h = (bytes, [], sym (append-nil bytes), h)
+
+pub none_written : (before : Option (List ℕ)) (bytes : List ℕ) → Appends before before [] → IsWritten before before bytes bytes
+none_written before bytes h = ([], refl, h)
+
+-- ---- what is read up to a limit
+
+pub read_whole : (known : Option (List ℕ)) (limit : ℕ) (items before : List ℕ) → before ≡ []
+    → IfSome (option_map (take limit) known) (λ bytes. items ≡ before ++ bytes) → IfSome known (λ bytes. items ≡ take limit bytes)
+read_whole None limit items before e h = tt
+read_whole (Some bytes) limit items before e h = h ∙ ap (λ l. l ++ take limit bytes) e
+
+-- ---- ends that are not told yet
+
+pub sends_err : {F : Type 0} (P : List Reply → Type 0) (before after : Option (List ℕ)) (end : Result Status F) → is_err end ≡ true
+    → ((replies : List Reply) × P replies × AppendsPart before after (sent replies)) ⊎ Keeps before after → EndsSending P before after end
+sends_err P before after (Err failure) e h = h
+sends_err P before after (Ok status) e h = cc
+
+pub tells_err : {F : Type 0} (P : Text → Type 0) (before after : Option (List ℕ)) (end : Result Status F) → is_err end ≡ true
+    → ((text : Text) × P text × AppendsPart before after text.bytes) ⊎ Keeps before after → EndsTelling P before after end
+tells_err P before after (Err failure) e h = h
+tells_err P before after (Ok status) e h = cc
+
+code_most : (status : Status) → exit_code status ≤ 3
+code_most Done = lit≤ tt
+code_most Refused = lit≤ tt
+code_most Usage = lit≤ tt
+code_most Failed = lit≤ tt
+
+-- the end of an exchange and that of reading its files
+pub worse_done : (status read : Status) (code : ℕ) → code ≡ max (exit_code status) (exit_code read) → code ≤ 1 → (read ≡ Done) ⊎ (read ≡ Failed) → read ≡ Done
+worse_done status read code e low (inl h) = h
+worse_done status read code e low (inr h) =
+    let three : exit_code read ≡ 3 = ap exit_code h in
+    absurd (omega (arith, e, low, three))
+
+pub ends_read : (P : List Reply → Type 0) (before after : Option (List ℕ)) (status read : Status) (code : ℕ) → code ≡ max (exit_code status) (exit_code read)
+    → (read ≡ Done) ⊎ (read ≡ Failed)
+    → ((replies : List Reply) × P replies × Appends before after (sent replies) × (exit_code status ≡ replies_status replies)) → EndsFiles P before after code
+ends_read P before after status read code e (inl h) s =
+    let none : exit_code read ≡ 0 = ap exit_code h in
+    let same : code ≡ exit_code status = omega (arith, e, none) in
+    inl (s.0, s.1, inl (s.2, same ∙ s.3))
+ends_read P before after status read code e (inr h) s =
+    let three : exit_code read ≡ 3 = ap exit_code h in
+    let most : exit_code status ≤ 3 = code_most status in
+    let same : code ≡ 3 = omega (arith, e, three, most) in
+    inl (s.0, s.1, inr (part_of_all before after (sent s.0) s.2, same))
+
+pub ends_failed : (P : List Reply → Type 0) (before after : Option (List ℕ)) (code : ℕ) → code ≡ 3
+    → ((replies : List Reply) × P replies × AppendsPart before after (sent replies)) ⊎ Keeps before after → EndsFiles P before after code
+ends_failed P before after code three (inl h) = inl (h.0, h.1, inr (h.2, three))
+ends_failed P before after code three (inr h) = inr (h, three)
+
+-- what was sent, whichever replies they are
+pub sent_some : (P : List Reply → Type 0) (before after : Option (List ℕ)) (code : ℕ) → EndsFiles P before after code
+    → (replies : List Reply) × IsSentOrCutOff replies before after code
+sent_some P before after code (inl h) = (h.0, h.2)
+sent_some P before after code (inr h) = ([], inr (part_none before after [] h.0, h.1))
+
+-- what was sent are the replies to the inputs
+pub answered_some : (P : List Reply → Type 0) (r : Register) (inputs : List (List ℕ)) (count : ℕ) (before after : Option (List ℕ)) (code : ℕ)
+    → ((replies : List Reply) → P replies → AreRepliesTo r inputs replies) → (code ≤ 1 → length inputs ≡ count) → EndsFiles P before after code
+    → (known : List (List ℕ)) × (code ≤ 1 → length known ≡ count) × IsAnsweredOrCutOff r known before after code
+answered_some P r inputs count before after code are all (inl h) = (inputs, all, (h.0, are h.0 h.1, h.2))
+answered_some P r inputs count before after code are all (inr h) = (
+  [],
+  (λ low. absurd (omega (arith, low, h.1))),
+  ([], record { count = refl; spelled = []; spells = tt; replied = tt }, inr (part_none before after [] h.0, h.1)),
+)
+
+-- ---- exit statuses
+
+-- 0, 1 or 3
+abbrev pub IsEnd : ℕ → Type 0
+IsEnd n = (n ≡ 0) ⊎ ((n ≡ 1) ⊎ (n ≡ 3))
+
+text_end : (refused : Bool) → IsEnd (report_status refused)
+text_end true = inr (inl refl)
+text_end false = inl refl
+
+pub reply_end : (reply : Reply) → IsEnd (reply_status reply)
+reply_end (Full bytes) = text_end (is_refusal bytes)
+reply_end Unavailable = inr (inr refl)
+
+greater_end : (m n : ℕ) → IsEnd m → IsEnd n → IsEnd (max m n)
+greater_end m n (inl a) (inl b) = rw (a, b) (inl refl)
+greater_end m n (inl a) (inr (inl b)) = rw (a, b) (inr (inl refl))
+greater_end m n (inl a) (inr (inr b)) = rw (a, b) (inr (inr refl))
+greater_end m n (inr (inl a)) (inl b) = rw (a, b) (inr (inl refl))
+greater_end m n (inr (inl a)) (inr (inl b)) = rw (a, b) (inr (inl refl))
+greater_end m n (inr (inl a)) (inr (inr b)) = rw (a, b) (inr (inr refl))
+greater_end m n (inr (inr a)) (inl b) = rw (a, b) (inr (inr refl))
+greater_end m n (inr (inr a)) (inr (inl b)) = rw (a, b) (inr (inr refl))
+greater_end m n (inr (inr a)) (inr (inr b)) = rw (a, b) (inr (inr refl))
+
+pub replies_end : (replies : List Reply) → IsEnd (replies_status replies)
+replies_end [] = inl refl
+replies_end (reply ∷ replies) = greater_end (reply_status reply) (replies_status replies) (reply_end reply) (replies_end replies)
+
+pub no_usage : (n : ℕ) → IsEnd n → n ≡ 2 → ⊥
+no_usage n (inl a) e = let bad : ◌≡◌ {A = ℕ} 0 2 = sym a ∙ e in absurd (omega arith)
+no_usage n (inr (inl a)) e = let bad : ◌≡◌ {A = ℕ} 1 2 = sym a ∙ e in absurd (omega arith)
+no_usage n (inr (inr a)) e = let bad : ◌≡◌ {A = ℕ} 3 2 = sym a ∙ e in absurd (omega arith)

@@ -1,0 +1,112 @@
+-- What is told of a failure.
+use Rattle.std.specs.Prelude.{◌≡◌, ◌⊎◌, ⊤, ℕ, List, [], ◌∷◌, ◌++◌, Option, codes}
+use Rattle.std.specs.Io.KnownBytes.{Keeps}
+use Rattle.bor_keep.specs.declared.fault.StoreFault.{StoreFault}
+use Rattle.bor_keep.specs.declared.fault.StoreFault.TheVariants.{Memory as WantOfMemory, Store as StoreFailed, Damaged}
+use Rattle.bor_words.specs.declared.source.Source.{Source}
+use Rattle.bor_words.specs.Asked.{name_of, source_text}
+use Rattle.bor_program.specs.declared.failure.Failure.{Failure}
+use Rattle.bor_program.specs.declared.failure.Failure.TheVariants.{Unreadable, NoRegister, OtherVersion, Taken, Memory, Store, Unlistening, Unwritable}
+use Rattle.bor_program.specs.Streams.{AppendsPart}
+use Rattle.bor_program.specs.Words.{AsksForCheck, file_of}
+use Rattle.clap.specs.Words.{Text}
+use Rattle.std.specs.Borrow.{Bor}
+use Rattle.std.specs.Fmt.{signed_decimal}
+
+-- the texts one after the other
+abbrev pub joined : List (List ℕ) → List ℕ
+joined [] = []
+joined (text ∷ texts) = text ++ joined texts
+
+-- the line that is told of a failure, or nothing where it is standard output that can't be written
+abbrev pub failure_line : Failure → List ℕ
+failure_line (Unreadable source) = codes "bor: cannot read " ++ source_text source ++ 10 ∷ []
+failure_line (NoRegister path) = codes "bor: no register in " ++ path.now ++ 10 ∷ []
+failure_line (OtherVersion path version) =
+    codes "bor: register of version " ++ signed_decimal version ++ codes " in " ++ path.now ++ 10 ∷ []
+failure_line (Taken path) = codes "bor: " ++ (path.now ++ (codes " is not free for a register" ++ 10 ∷ []))
+failure_line Memory = codes "bor: out of memory" ++ 10 ∷ []
+failure_line Store = codes "bor: store failed" ++ 10 ∷ []
+failure_line Unlistening = codes "bor: cannot listen" ++ 10 ∷ []
+failure_line Unwritable = []
+
+-- memory is wanting
+abbrev pub IsWantOfMemory : Failure → Type 0
+IsWantOfMemory failure = failure ≡ Memory
+
+-- what a store's fault is to the program
+abbrev pub failure_of : StoreFault → Failure
+failure_of WantOfMemory = Memory
+failure_of StoreFailed = Store
+failure_of Damaged = Store
+
+-- where it is reading that failed, it was of this source
+abbrev pub IsFailureOn : Source → Failure → Type 0
+IsFailureOn source (Unreadable unread) = unread ≡ source
+IsFailureOn source failure = ⊤
+
+-- it is reading of this source that failed, or memory was wanting for it
+abbrev pub IsReadingOf : Source → Failure → Type 0
+IsReadingOf source (Unreadable unread) = unread ≡ source
+IsReadingOf source Memory = ⊤
+IsReadingOf source failure = ⊥
+
+-- it is opening the register in the file of this name that failed
+abbrev pub IsOpeningOf : Bor Text → Failure → Type 0
+IsOpeningOf path (NoRegister opened) = opened ≡ path
+IsOpeningOf path (OtherVersion opened version) = opened ≡ path
+IsOpeningOf path (Taken opened) = opened ≡ path
+IsOpeningOf path Memory = ⊤
+IsOpeningOf path Store = ⊤
+IsOpeningOf path failure = ⊥
+
+-- it isn't reading that failed
+abbrev pub IsNoReading : Failure → Type 0
+IsNoReading (Unreadable unread) = ⊥
+IsNoReading failure = ⊤
+
+-- where it is reading that failed, the words ask for a check, and it was of the file that they name
+abbrev pub IsFailureOf : List Text → Failure → Type 0
+IsFailureOf words (Unreadable unread) = AsksForCheck words × (name_of unread ≡ file_of words)
+IsFailureOf words failure = ⊤
+
+-- a failure that isn't one of standard output leaves that as it was
+abbrev pub LeavesOutput : Option (List ℕ) → Option (List ℕ) → Failure → Type 0
+LeavesOutput before after Unwritable = ⊤
+LeavesOutput before after failure = Keeps before after
+
+-- a failure on this source, or one of standard output, and no other was met
+pub record IsMetOn (source : Source) (before after : Option (List ℕ)) (failure : Failure) : Type 0 where
+  pub reading : IsFailureOn source failure
+  pub output : LeavesOutput before after failure
+
+-- no failure of reading, and where it isn't one of standard output, that is as it was
+pub record IsMetUnread (before after : Option (List ℕ)) (failure : Failure) : Type 0 where
+  pub reading : IsNoReading failure
+  pub output : LeavesOutput before after failure
+
+-- a failure on what the words ask for, or one of standard output, and no other was met
+pub record IsMetBy (words : List Text) (before after : Option (List ℕ)) (failure : Failure) : Type 0 where
+  pub reading : IsFailureOf words failure
+  pub output : LeavesOutput before after failure
+
+-- memory was wanting, the store failed, or standard output can't be written
+abbrev pub IsOfKeep : Failure → Type 0
+IsOfKeep Memory = ⊤
+IsOfKeep Store = ⊤
+IsOfKeep Unwritable = ⊤
+IsOfKeep failure = ⊥
+
+-- a failure of a keep that is open, or of standard output, and no other was met
+pub record IsMetOnKeep (before after : Option (List ℕ)) (failure : Failure) : Type 0 where
+  pub cause : IsOfKeep failure
+  pub output : LeavesOutput before after failure
+
+-- a failure of opening the register in the file of this name, of its store, or of standard output, and no other was met
+pub record IsMetIn (path : Bor Text) (before after : Option (List ℕ)) (failure : Failure) : Type 0 where
+  pub cause : IsOpeningOf path failure ⊎ (failure ≡ Unwritable)
+  pub output : LeavesOutput before after failure
+
+-- the front of such a failure's line was written: all of it, some or nothing, and nothing else
+abbrev pub IsTold : (Failure → Type 0) → Option (List ℕ) → Option (List ℕ) → Type 0
+IsTold Of before after = (failure : Failure) × Of failure × AppendsPart before after (failure_line failure)

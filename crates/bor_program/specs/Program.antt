@@ -1,0 +1,52 @@
+-- What the program writes, and how it ends.
+use Rattle.std.specs.Prelude.{◌≡◌, ℕ, List, Bool, Option, Result, MatchResult, ◌⊎◌, if◌then◌else◌}
+use Rattle.std.specs.Io.KnownBytes.{Appends}
+use Rattle.bor_desk.specs.CheckReport.{check_report}
+use Rattle.bor_desk.specs.declared.text.Text.{Text}
+use Rattle.bor_program.specs.Streams.{AppendsPart}
+use Rattle.bor_program.specs.declared.status.Status.{Status}
+use Rattle.bor_program.specs.declared.status.Status.TheVariants.{Done, Refused, Usage, Failed}
+
+-- the exit status of each end
+abbrev pub exit_code : Status → ℕ
+exit_code Done = 0
+exit_code Refused = 1
+exit_code Usage = 2
+exit_code Failed = 3
+
+-- the exit status of a command that wrote a refusal, or another text
+abbrev pub report_status : Bool → ℕ
+report_status refused = if refused then 1 else 0
+
+-- exactly the text was written, and the exit status tells whether it is a refusal
+pub record IsWritten (wanted : Text) (before after : Option (List ℕ)) (status : ℕ) : Type 0 where
+  pub text : Appends before after wanted.bytes
+  pub told : status ≡ report_status wanted.refused
+
+-- the run failed, and wrote nothing or a front of the text
+pub record IsCutOff (wanted : Text) (before after : Option (List ℕ)) (status : ℕ) : Type 0 where
+  pub text : AppendsPart before after wanted.bytes
+  pub told : status ≡ 3
+
+-- the text was written, or the run failed on the way
+abbrev pub IsWrittenOrCutOff : Text → Option (List ℕ) → Option (List ℕ) → ℕ → Type 0
+IsWrittenOrCutOff text before after status = IsWritten text before after status ⊎ IsCutOff text before after status
+
+-- the same of an end that has not been told yet
+abbrev pub EndsText : {F : Type 0} → Text → Option (List ℕ) → Option (List ℕ) → Result Status F → Type 0
+EndsText text before after end = MatchResult end (λ status. IsWritten text before after (exit_code status))
+    (λ _. AppendsPart before after text.bytes)
+
+-- ---- the report on a file
+
+-- exactly the report on these bytes was written, and the exit status tells whether it is a refusal
+abbrev pub IsReported : List ℕ → Option (List ℕ) → Option (List ℕ) → ℕ → Type 0
+IsReported bytes before after status = IsWritten (check_report bytes) before after status
+
+-- the report on these bytes was written, or the run failed on the way
+abbrev pub IsReportedOrCutOff : List ℕ → Option (List ℕ) → Option (List ℕ) → ℕ → Type 0
+IsReportedOrCutOff bytes before after status = IsWrittenOrCutOff (check_report bytes) before after status
+
+-- the same of an end that has not been told yet
+abbrev pub EndsReport : {F : Type 0} → List ℕ → Option (List ℕ) → Option (List ℕ) → Result Status F → Type 0
+EndsReport bytes before after end = EndsText (check_report bytes) before after end

@@ -1,0 +1,27 @@
+-- What `bor report` prints.
+use Rattle.std.specs.Prelude.{◌≡◌, ◌⊎◌, ℤ, ℕ, List, Option, Some, None, Result, MatchResult, IfOk}
+use Rattle.std.specs.Io.KnownBytes.{Keeps}
+use Rattle.bor_register.specs.Register.{Register}
+use Rattle.bor_machine.specs.Sight.{seen_by}
+use Rattle.bor_desk.specs.Step.{chains_answer}
+use Rattle.bor_desk.specs.ChainReport.{IsTextOf}
+use Rattle.bor_desk.specs.declared.text.Text.{Text}
+use Rattle.bor_words.specs.declared.report.Report.{Report}
+use Rattle.bor_program.specs.Program.{IsWritten, exit_code}
+use Rattle.bor_program.specs.Streams.{AppendsPart}
+use Rattle.bor_program.specs.declared.status.Status.{Status}
+
+-- the day of a report: the one that is asked for, else the register's
+abbrev pub day_in : Option ℤ → ℤ → ℤ
+day_in (Some day) today = day
+day_in None today = today
+
+-- the text tells who stands behind the entity, in what the viewer sees of the register
+abbrev pub IsReportOf : Report → Register → Text → Type 0
+IsReportOf asked r text = IsTextOf (chains_answer (seen_by asked.viewer r) asked.entity (day_in asked.date r.day)) text
+
+-- a text was written of which P holds; or it failed, and a front of such was written, or nothing
+abbrev pub EndsTelling : {F : Type 0} → (Text → Type 0) → Option (List ℕ) → Option (List ℕ) → Result Status F → Type 0
+EndsTelling P before after end = MatchResult end
+    (λ status. (text : Text) × P text × IsWritten text before after (exit_code status))
+    (λ _. ((text : Text) × P text × AppendsPart before after text.bytes) ⊎ Keeps before after)

@@ -1,0 +1,113 @@
+//! `bor check`.
+
+ghost use Rattle.std.specs.Prelude.{◌≡◌, ◌+◌, ◌-◌, ℕ, List, IfErr, IfOk, IfSome, OnOk};
+ghost use Rattle.bor_desk.specs.Limits.{file_limit};
+ghost use Rattle.bor_program.specs.Failures.{IsMetOn, IsMetUnread, IsReadingOf};
+ghost use Rattle.bor_program.specs.Program.{EndsReport, exit_code, report_status};
+ghost use Rattle.bor_program.specs.Streams.{TakesAtMostPart, TakesPart, part_read};
+
+use crate::failure::Failure;
+use crate::output::write_text;
+use crate::status::Status;
+use bor_desk::{FILE_LIMIT, Text, check_text};
+use bor_words::Source;
+use std::alloc::Global;
+use std::io::{self, ErrorKind, Read, Write};
+
+// As many bytes are read at once.
+const PART: usize = 8192;
+
+/// Reads a file from `input`, and prints what becomes of it in an empty register.
+///
+/// # Errors
+///
+/// `Unreadable` of `source`: it can't be read. `Memory`: memory is wanting; nothing is printed then.
+/// `Unwritable`: the text can't be written, or not to its end.
+pub fn check<'a, I: Read, O: Write>(
+    alloc: Global,
+    source: Source<'a>,
+    input: &mut I,
+    output: &mut O,
+) -> Result<Status, Failure<'a>>
+    ensures report { (bytes : List ℕ)
+        × EndsReport bytes (O.contents output.old) (O.contents output.new) result }
+    ensures known { IfSome (I.remaining input.old) (λ bytes.
+        EndsReport (part_read bytes) (O.contents output.old) (O.contents output.new) result) }
+    ensures taken { OnOk result (TakesPart (I.remaining input.old) (I.remaining input.new)) }
+    ensures at_most { TakesAtMostPart (I.remaining input.old) (I.remaining input.new) }
+    ensures err { IfErr result (IsMetOn source.entry (O.contents output.old) (O.contents output.new)) }
+{
+    let bytes = read_source(alloc, source, input)?;
+    report(alloc, bytes.as_slice(), output)
+}
+
+// The bytes of a file, up to one more than the greatest that is taken. No more are read.
+fn read_source<'a, I: Read>(
+    alloc: Global,
+    source: Source<'a>,
+    input: &mut I,
+) -> Result<Vec<u8>, Failure<'a>>
+    ensures read { IfSome (I.remaining input.old) (λ bytes. IfOk result
+        (λ read. read.items ≡ part_read bytes)) }
+    ensures taken { OnOk result (TakesPart (I.remaining input.old) (I.remaining input.new)) }
+    ensures at_most { TakesAtMostPart (I.remaining input.old) (I.remaining input.new) }
+    ensures err { IfErr result (IsReadingOf source.entry) }
+{
+    match read_part(alloc, input) {
+        Ok(bytes) => Ok(bytes),
+        Err(error) => Err(Failure::of_reading(source, &error)),
+    }
+}
+
+// The bytes that `read_source` gives.
+fn read_part<I: Read>(alloc: Global, input: &mut I) -> io::Result<Vec<u8>>
+    ensures read { IfSome (I.remaining input.old) (λ bytes. IfOk result
+        (λ read. read.items ≡ part_read bytes)) }
+    ensures taken { OnOk result (TakesPart (I.remaining input.old) (I.remaining input.new)) }
+    ensures at_most { TakesAtMostPart (I.remaining input.old) (I.remaining input.new) }
+{
+    let mut bytes = Vec::new(alloc);
+    let mut part = [0; PART];
+    'turns: for _ in 0..u64::MAX {
+        let room = room_after(bytes.len());
+        if room == 0 {
+            return Ok(bytes);
+        }
+        let wanted = PART.min(room);
+        match input.read(&mut part[..wanted]) {
+            Ok(0) => return Ok(bytes),
+            Ok(count) => bytes.extend_from_slice(&part[..count])?,
+            Err(error) if error.kind() == ErrorKind::Interrupted => {}
+            Err(error) => return Err(error),
+        }
+    }
+    Err(io::Error::from(ErrorKind::Interrupted))
+}
+
+// How many bytes of a file may be read after so many.
+fn room_after(count: usize) -> usize
+    ensures { result ≡ file_limit + 1 - count }
+{
+    (FILE_LIMIT + 1).saturating_sub(count)
+}
+
+// Prints the report on a file of these bytes.
+fn report<'a, O: Write>(alloc: Global, bytes: &[u8], output: &mut O) -> Result<Status, Failure<'a>>
+    ensures report { EndsReport bytes.now (O.contents output.old) (O.contents output.new) result }
+    ensures err { IfErr result (IsMetUnread (O.contents output.old) (O.contents output.new)) }
+{
+    let text = check_text(alloc, bytes)?;
+    write_text(output, text.bytes.as_slice())?;
+    Ok(end_of(&text))
+}
+
+/// How a command ends that printed this text.
+pub fn end_of(text: &Text) -> Status
+    ensures { exit_code result ≡ report_status text.now.refused }
+{
+    if text.refused {
+        Status::Refused
+    } else {
+        Status::Done
+    }
+}

@@ -1,0 +1,157 @@
+//! `bor exchange`.
+
+ghost use Rattle.std.specs.Prelude.{◌≡◌, ◌≤◌, ℕ, List, IfErr, OnOk, length, map};
+ghost use Rattle.std.specs.Io.KnownBytes.{Appends, Keeps};
+ghost use Rattle.bor_records.specs.Promises.{Promised};
+ghost use Rattle.bor_machine.specs.Legality.{IsLegal};
+ghost use Rattle.bor_program.specs.Failures.{IsMetUnread};
+ghost use Rattle.bor_program.specs.Performing.{Exchanges};
+ghost use Rattle.bor_program.specs.Program.{exit_code};
+ghost use Rattle.bor_program.specs.Replying.{AreRepliesTo, EndsFiles, EndsSending, is_refusal, replies_status, reply_status, sent, sent_of};
+ghost use Rattle.bor_program.specs.Streams.{AppendsPart};
+
+use crate::failure::Failure;
+use crate::host::Registers;
+use crate::inputs::read_inputs;
+use crate::output::write_part;
+use crate::status::Status;
+use bor_machine::{Keep, ListKeep};
+use bor_wire::{Reply, UNAVAILABLE, replay};
+use bor_words::Exchange;
+use std::alloc::Global;
+use std::io::Write;
+use std::rt::Files;
+
+/// Answers the requests in files in turn, in the register in a file or in a new one in memory, and
+/// prints the replies in order. A file that can't be read is told, and the next one is taken.
+pub fn exchange<R: Files + AllocGlobal, H: Registers, O: Write, E: Write>(
+    rt: &R,
+    host: &H,
+    asked: Exchange<'_>,
+    output: &mut O,
+    errors: &mut E,
+) -> Status
+    ensures { Exchanges asked.entry (O.contents output.old) (O.contents output.new) (E.contents errors.old) (E.contents errors.new) (exit_code result) }
+{
+    let Exchange {
+        db,
+        registrar,
+        day,
+        files,
+    } = asked;
+    match db {
+        Some(path) => match host.open_or_set_up(path, &registrar, day) {
+            Ok(mut keep) => {
+                let status = exchange_files(rt, &mut keep, files.as_slice(), output, errors);
+                host.close(keep);
+                status
+            }
+            Err(failure) => failure.tell(errors),
+        },
+        None => {
+            let mut keep = ListKeep::new(rt.alloc(), registrar, day);
+            exchange_files(rt, &mut keep, files.as_slice(), output, errors)
+        }
+    }
+}
+
+// Answers the requests in these files in the register of the keep.
+fn exchange_files<R: Files + AllocGlobal, K: Keep, O: Write, E: Write>(
+    rt: &R,
+    keep: &mut K,
+    files: &[&str],
+    output: &mut O,
+    errors: &mut E,
+) -> Status
+    ensures ends { (inputs : List (List ℕ)) × (exit_code result ≤ 1 → length inputs ≡ length files.now)
+        × EndsFiles (λ replies. Promised K.shows K.is_clean keep.old keep.new (λ r. IsLegal r → AreRepliesTo r inputs replies))
+        (O.contents output.old) (O.contents output.new) (exit_code result) }
+    ensures silent { exit_code result ≤ 1 → Keeps (E.contents errors.old) (E.contents errors.new) }
+{
+    match read_inputs(rt, files, errors) {
+        Ok(inputs) => match exchange_on(rt.alloc(), keep, inputs.requests.as_slice(), output) {
+            Ok(status) => status.worse(inputs.status),
+            Err(failure) => failure.tell(errors),
+        },
+        Err(failure) => failure.tell(errors),
+    }
+}
+
+/// Answers inputs in turn, and prints exactly the replies to them, in order.
+///
+/// # Errors
+///
+/// `Memory`: nothing was answered. `Unwritable`: the inputs are answered, and the replies can't be
+/// written, or not to their end.
+pub fn exchange_on<'a, K: Keep, O: Write>(
+    alloc: Global,
+    keep: &mut K,
+    inputs: &[Vec<u8>],
+    output: &mut O,
+) -> Result<Status, Failure<'a>>
+    ensures sent { EndsSending (λ replies. Promised K.shows K.is_clean keep.old keep.new (λ r. IsLegal r
+        → AreRepliesTo r (map (λ v. v.items) inputs.now) replies)) (O.contents output.old) (O.contents output.new) result }
+    ensures err { IfErr result (IsMetUnread (O.contents output.old) (O.contents output.new)) }
+{
+    let replies = replay(alloc, keep, inputs)?;
+    send(output, replies.as_slice())?;
+    Ok(status_of(replies.as_slice()))
+}
+
+// Writes the replies in order, as far as they can be written.
+fn send<'a, O: Write>(output: &mut O, replies: &[Reply]) -> Result<(), Failure<'a>>
+    ensures ok { OnOk result (Appends (O.contents output.old) (O.contents output.new) (sent replies.now)) }
+    ensures part { AppendsPart (O.contents output.old) (O.contents output.new) (sent replies.now) }
+    ensures err { IfErr result (λ failure. failure ≡ Failure.Unwritable) }
+{
+    for reply in replies {
+        if !write_part(output, bytes_of(reply)) {
+            return Err(Failure::Unwritable);
+        }
+    }
+    match output.flush() {
+        Ok(()) => Ok(()),
+        Err(_) => Err(Failure::Unwritable),
+    }
+}
+
+// The bytes that are sent.
+fn bytes_of(reply: &Reply) -> &[u8]
+    ensures { result.now ≡ sent_of reply.now }
+{
+    match reply {
+        Reply::Full(bytes) => bytes.as_slice(),
+        Reply::Unavailable => UNAVAILABLE,
+    }
+}
+
+// The greatest end that a reply asks for.
+fn status_of(replies: &[Reply]) -> Status
+    ensures { exit_code result ≡ replies_status replies.now }
+{
+    let mut status = Status::Done;
+    for reply in replies {
+        status = status.worse(reply_status(reply));
+    }
+    status
+}
+
+fn reply_status(reply: &Reply) -> Status
+    ensures { exit_code result ≡ reply_status reply.now }
+{
+    match reply {
+        Reply::Full(bytes) if is_refusal(bytes.as_slice()) => Status::Refused,
+        Reply::Full(_) => Status::Done,
+        Reply::Unavailable => Status::Failed,
+    }
+}
+
+// Whether the status in a reply's first line is 400 or more.
+fn is_refusal(bytes: &[u8]) -> bool
+    ensures { result ≡ is_refusal bytes.now }
+{
+    match bytes.get(9) {
+        Some(digit) => *digit >= b'4',
+        None => false,
+    }
+}

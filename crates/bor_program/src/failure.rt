@@ -1,0 +1,115 @@
+//! Why a command could not be done.
+
+ghost use Rattle.std.specs.Prelude.{◌≡◌, ◌≢◌, ◌↔◌, ◌∷◌, ◌++◌, [], IsTrue, codes, map};
+ghost use Rattle.std.specs.Io.KnownBytes.{Appends};
+ghost use Rattle.std.specs.IoError.{error_kind};
+ghost use Rattle.bor_program.specs.Failures.{IsReadingOf, IsWantOfMemory, failure_line, failure_of, joined};
+ghost use Rattle.bor_program.specs.Streams.{AppendsPart};
+
+use crate::output::write_part;
+use crate::status::Status;
+use bor_machine::StoreFault;
+use bor_words::Source;
+use itoa::Buffer;
+use std::alloc::AllocError;
+use std::io::{Error, ErrorKind, Write};
+
+/// Why a command could not be done, though what it asks for is allowed.
+#[derive(Clone, Copy, Debug, PartialEq, Eq)]
+pub enum Failure<'a> {
+    /// What was to be read can't be read, or not to its end.
+    Unreadable(Source<'a>),
+    /// There is no register in the file of this name.
+    NoRegister(&'a str),
+    /// The register in the file of this name is of this version, which isn't 1.
+    OtherVersion(&'a str, i64),
+    /// The file of this name has tables of another program, with names of a register's.
+    Taken(&'a str),
+    /// Memory is wanting.
+    Memory,
+    /// The store failed, or the file is no database.
+    Store,
+    /// The port can't be listened on.
+    Unlistening,
+    /// Standard output can't be written.
+    Unwritable,
+}
+
+impl<'a> Failure<'a> {
+    /// The failure of opening or reading `source` with this error.
+    pub fn of_reading(source: Source<'a>, error: &Error) -> Self
+        ensures memory { (result ≡ Failure.Memory) ↔ (error_kind error.now ≡ ErrorKind.OutOfMemory) }
+        ensures unreadable { error_kind error.now ≢ ErrorKind.OutOfMemory → result ≡ Failure.Unreadable source.entry }
+        ensures source { IsReadingOf source.entry result }
+    {
+        match error.kind() {
+            ErrorKind::OutOfMemory => Failure::Memory,
+            _ => Failure::Unreadable(source),
+        }
+    }
+
+    /// Tells the failure in one line on standard error, as far as it can be written, and nothing
+    /// where it is standard output that can't be.
+    pub fn tell<E: Write>(self, errors: &mut E) -> Status
+        ensures status { result ≡ Status.Failed }
+        ensures line { AppendsPart (E.contents errors.old) (E.contents errors.new) (failure_line self.entry) }
+    {
+        let mut digits = Buffer::new();
+        let _ = match self {
+            Failure::Unreadable(source) => {
+                write_texts(errors, &["bor: cannot read ", source.name(), "\n"])
+            }
+            Failure::NoRegister(path) => write_texts(errors, &["bor: no register in ", path, "\n"]),
+            Failure::OtherVersion(path, version) => {
+                let version = digits.format(version);
+                write_texts(
+                    errors,
+                    &["bor: register of version ", version, " in ", path, "\n"],
+                )
+            }
+            Failure::Taken(path) => {
+                write_texts(
+                    errors,
+                    &["bor: ", path, " is not free for a register", "\n"],
+                )
+            }
+            Failure::Memory => write_texts(errors, &["bor: out of memory\n"]),
+            Failure::Store => write_texts(errors, &["bor: store failed\n"]),
+            Failure::Unlistening => write_texts(errors, &["bor: cannot listen\n"]),
+            Failure::Unwritable => true,
+        };
+        Status::Failed
+    }
+}
+
+// Writes the texts as far as they can be written, and tells whether all were.
+fn write_texts<E: Write>(errors: &mut E, texts: &[&str]) -> bool
+    ensures part { AppendsPart (E.contents errors.old) (E.contents errors.new) (joined (map (λ text. text.now) texts.now)) }
+    ensures whole { IsTrue result → Appends (E.contents errors.old) (E.contents errors.new) (joined (map (λ text. text.now) texts.now)) }
+{
+    for text in texts {
+        if !write_part(errors, text.as_bytes()) {
+            return false;
+        }
+    }
+    true
+}
+
+impl From<StoreFault> for Failure<'_> {
+    ghost from_gives = { λ fault failure. failure ≡ failure_of fault };
+
+    fn from(fault: StoreFault) -> Self {
+        match fault {
+            StoreFault::Memory => Failure::Memory,
+            StoreFault::Store | StoreFault::Damaged => Failure::Store,
+        }
+    }
+}
+
+impl From<AllocError> for Failure<'_> {
+    ghost from_gives = { λ _ failure. IsWantOfMemory failure };
+
+    fn from(_error: AllocError) -> Self {
+        Failure::Memory
+    }
+}

@@ -1,0 +1,34 @@
+//! The program as a function of its words and its streams, over whatever opens registers and
+//! listens on ports.
+//!
+//! ```
+//! let words = ["check", "filing.json"];
+//! let status = run(&rt, &host, &words, &mut rt.stdin(), &mut rt.stdout(), &mut rt.stderr());
+//! ```
+//!
+//! Each command is a function of its own over a keep of a register: [`exchange_on`] prints the replies to
+//! requests, [`report_on`] who stands behind an entity. [`run`] says what is written where, and what each
+//! exit status stands for. How a register is kept in a file
+//! ([`Registers`]) and what a socket is ([`Ports`]) are no part of it.
+#![tactic(auto)]
+
+mod check;
+mod exchange;
+mod failure;
+mod host;
+mod inputs;
+mod output;
+mod program;
+mod report;
+mod serve;
+mod status;
+
+pub use exchange::exchange_on;
+pub use failure::Failure;
+pub use host::{Ports, Registers};
+pub use program::run;
+pub use report::report_on;
+pub use status::Status;
+
+#[cfg(test)]
+mod tests;

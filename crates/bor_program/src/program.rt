@@ -1,0 +1,247 @@
+//! The program as a function of its words and its streams.
+
+ghost use Rattle.std.specs.Prelude.{◌≡◌, ◌≢◌, ◌≤◌, ◌⊎◌, ℕ, List, None, IfErr, IfSome, IsSome, OnOk, map};
+ghost use Rattle.std.specs.Io.KnownBytes.{Appends, Keeps};
+ghost use Rattle.bor_words.specs.Asked.{IsAsked, IsCommand, IsWrong, MayAskForHelp, name_of};
+ghost use Rattle.bor_words.specs.Unread.{kind_of_answer};
+ghost use Rattle.bor_words.specs.Words.{entered_by};
+ghost use Rattle.bor_words.specs.declared.command.Command.{Command as Asked};
+ghost use Rattle.bor_program.specs.Failures.{IsMetBy, IsMetOn, IsMetUnread, IsTold};
+ghost use Rattle.bor_program.specs.Performing.{Checks, Performs, TellsRefusal};
+ghost use Rattle.bor_program.specs.Program.{EndsReport, IsReportedOrCutOff, exit_code};
+ghost use Rattle.bor_program.specs.Streams.{AppendsPart, TakesAtMostPart, TakesPart, part_read};
+ghost use Rattle.bor_program.specs.Words.{AsksForCheck, ChecksInput, file_of};
+
+use crate::check::check;
+use crate::exchange::exchange;
+use crate::failure::Failure;
+use crate::host::{Ports, Registers};
+use crate::output::write_text;
+use crate::report::report;
+use crate::serve::serve;
+use crate::status::Status;
+use bor_words::{Command, HELP, Source, Unread};
+use clap::error::ErrorKind;
+use std::convert::AsStr;
+use std::fs;
+use std::io::{Read, Write};
+use std::rt::Files;
+
+/// Does what the words after the program's name ask for, and gives the exit status.
+///
+/// 0: done, or help was asked for; 1: refused, or a reply to an exchange is a refusal; 2: the words ask
+/// for nothing that there is, or a value doesn't fit; 3: a file, memory, the store or the network failed.
+/// Standard output has the text of a command, or the help; with status 3 a front of it. Standard error
+/// has what is wrong with the words, or a line on what failed; that line is missing where it was
+/// standard output that failed, or a reply or a connection.
+pub fn run<R: Files + AllocGlobal, H: Registers + Ports, S: AsStr, I: Read, O: Write, E: Write>(
+    rt: &R,
+    host: &H,
+    words: &[S],
+    input: &mut I,
+    output: &mut O,
+    errors: &mut E,
+) -> u8
+    ensures at_most { result ≤ 3 }
+
+    // Words that ask for a command have it done, as it is stated of each command, or memory is wanting.
+    ensures performed { IsCommand (map S.text words.now) → ((result ≡ 3) × Keeps (O.contents output.old) (O.contents output.new))
+        ⊎ ((asked : Asked) × IsAsked (entered_by (map S.text words.now)) asked × Performs asked (I.remaining input.old) (I.remaining input.new)
+        (O.contents output.old) (O.contents output.new) (E.contents errors.old) (E.contents errors.new) result) }
+
+    // Words that ask for a check have its text written, or the run fails and wrote a front of it.
+    ensures check { AsksForCheck (map S.text words.now) → (bytes : List ℕ)
+        × IsReportedOrCutOff bytes (O.contents output.old) (O.contents output.new) result }
+
+    // Where standard input is checked and its bytes are known, the text is the report on them,
+    ensures check_input { ChecksInput (map S.text words.now) → IfSome (I.remaining input.old) (λ bytes.
+        IsReportedOrCutOff (part_read bytes) (O.contents output.old) (O.contents output.new) result) }
+
+    // and of known bytes that part is taken, unless the run fails.
+    ensures check_taken { ChecksInput (map S.text words.now) → result ≤ 1
+        → TakesPart (I.remaining input.old) (I.remaining input.new) }
+
+    // Where a file is named, standard input is left alone.
+    ensures check_file { IsSome (file_of (map S.text words.now))
+        → Keeps (I.remaining input.old) (I.remaining input.new) }
+
+    // Whatever the end, no more is taken than that part, and nothing where no check is asked for.
+    ensures taken { TakesAtMostPart (I.remaining input.old) (I.remaining input.new) }
+    ensures untaken { ¬ AsksForCheck (map S.text words.now)
+        → Keeps (I.remaining input.old) (I.remaining input.new) }
+
+    // Where no command is asked for, nothing is written on standard output but the help, or a front of it.
+    ensures help { ¬ IsCommand (map S.text words.now)
+        → AppendsPart (O.contents output.old) (O.contents output.new) HELP.now }
+
+    // Whatever the words, status 1 stands for a refusal that was written,
+    ensures refused { result ≡ 1 → IsCommand (map S.text words.now)
+        × TellsRefusal (O.contents output.old) (O.contents output.new) }
+
+    // status 0 for a command, or for help that was written whole,
+    ensures done { result ≡ 0 → IsCommand (map S.text words.now) ⊎ (MayAskForHelp (map S.text words.now)
+        × Appends (O.contents output.old) (O.contents output.new) HELP.now) }
+
+    // and status 2 for words with a fault: nothing was read, and no output written.
+    ensures usage { result ≡ 2 → IsWrong (map S.text words.now)
+        × Keeps (I.remaining input.old) (I.remaining input.new)
+        × Keeps (O.contents output.old) (O.contents output.new) }
+
+    // Words that can ask for neither a command nor help end so, or fail.
+    ensures wrong { ¬ IsCommand (map S.text words.now) → ¬ MayAskForHelp (map S.text words.now)
+        → (result ≡ 2) ⊎ (result ≡ 3) }
+
+    // With status 0 or 1 nothing is added to known bytes on standard error,
+    ensures silent { result ≤ 1 → Keeps (E.contents errors.old) (E.contents errors.new) }
+
+    // and with status 3, of a check or where no command is asked for, the front of the line of the failure
+    // that was met: all of it, some or nothing.
+    ensures told { AsksForCheck (map S.text words.now) ⊎ (¬ IsCommand (map S.text words.now)) → result ≡ 3
+        → IsTold (IsMetBy (map S.text words.now) (O.contents output.old) (O.contents output.new))
+        (E.contents errors.old) (E.contents errors.new) }
+{
+    let status = match Command::read(rt.alloc(), words) {
+        Ok(command) => perform(rt, host, command, input, output, errors),
+        Err(unread) => answer(unread, output, errors),
+    };
+    status.code()
+}
+
+// Does what is asked, and tells on standard error why it could not be done.
+fn perform<R: Files + AllocGlobal, H: Registers + Ports, I: Read, O: Write, E: Write>(
+    rt: &R,
+    host: &H,
+    command: Command<'_>,
+    input: &mut I,
+    output: &mut O,
+    errors: &mut E,
+) -> Status
+    ensures { Performs command.entry (I.remaining input.old) (I.remaining input.new) (O.contents output.old) (O.contents output.new)
+        (E.contents errors.old) (E.contents errors.new) (exit_code result) }
+{
+    match command {
+        Command::Check(source) => check_told(rt, source, input, output, errors),
+        Command::Exchange(asked) => exchange(rt, host, asked, output, errors),
+        Command::Serve(asked) => serve(rt.alloc(), host, asked, output, errors),
+        Command::Report(asked) => report(rt.alloc(), host, &asked, output, errors),
+    }
+}
+
+// Checks what is asked for, and tells on standard error why it could not be done.
+fn check_told<R: Files + AllocGlobal, I: Read, O: Write, E: Write>(
+    rt: &R,
+    source: Source<'_>,
+    input: &mut I,
+    output: &mut O,
+    errors: &mut E,
+) -> Status
+    ensures report { (bytes : List ℕ)
+        × IsReportedOrCutOff bytes (O.contents output.old) (O.contents output.new) (exit_code result) }
+    ensures known { name_of source.entry ≡ None → IfSome (I.remaining input.old) (λ bytes.
+        IsReportedOrCutOff (part_read bytes) (O.contents output.old) (O.contents output.new) (exit_code result)) }
+    ensures taken { name_of source.entry ≡ None → exit_code result ≤ 1
+        → TakesPart (I.remaining input.old) (I.remaining input.new) }
+    ensures at_most { TakesAtMostPart (I.remaining input.old) (I.remaining input.new) }
+    ensures unread { IsSome (name_of source.entry)
+        → Keeps (I.remaining input.old) (I.remaining input.new) }
+    ensures silent { exit_code result ≤ 1 → Keeps (E.contents errors.old) (E.contents errors.new) }
+    ensures told { exit_code result ≡ 3
+        → IsTold (IsMetOn source.entry (O.contents output.old) (O.contents output.new))
+        (E.contents errors.old) (E.contents errors.new) }
+{
+    match check_source(rt, source, input, output) {
+        Ok(status) => status,
+        Err(failure) => failure.tell(errors),
+    }
+}
+
+// Checks standard input, or the file that is named.
+fn check_source<'a, R: Files + AllocGlobal, I: Read, O: Write>(
+    rt: &R,
+    source: Source<'a>,
+    input: &mut I,
+    output: &mut O,
+) -> Result<Status, Failure<'a>>
+    ensures report { (bytes : List ℕ)
+        × EndsReport bytes (O.contents output.old) (O.contents output.new) result }
+    ensures known { name_of source.entry ≡ None → IfSome (I.remaining input.old) (λ bytes.
+        EndsReport (part_read bytes) (O.contents output.old) (O.contents output.new) result) }
+    ensures taken { name_of source.entry ≡ None
+        → OnOk result (TakesPart (I.remaining input.old) (I.remaining input.new)) }
+    ensures at_most { TakesAtMostPart (I.remaining input.old) (I.remaining input.new) }
+    ensures unread { IsSome (name_of source.entry)
+        → Keeps (I.remaining input.old) (I.remaining input.new) }
+    ensures err { IfErr result (IsMetOn source.entry (O.contents output.old) (O.contents output.new)) }
+{
+    match source {
+        Source::StandardInput => check(rt.alloc(), source, input, output),
+        Source::File(name) => check_file(rt, name, output),
+    }
+}
+
+// Opens the file of this name and checks it.
+fn check_file<'a, R: Files + AllocGlobal, O: Write>(
+    rt: &R,
+    name: &'a str,
+    output: &mut O,
+) -> Result<Status, Failure<'a>>
+    ensures report { (bytes : List ℕ)
+        × EndsReport bytes (O.contents output.old) (O.contents output.new) result }
+    ensures err { IfErr result (IsMetOn (Source.File name.entry)
+        (O.contents output.old) (O.contents output.new)) }
+{
+    let source = Source::File(name);
+    match fs::open(rt, name) {
+        Ok(mut file) => check(rt.alloc(), source, &mut file, output),
+        Err(error) => Err(Failure::of_reading(source, &error)),
+    }
+}
+
+// Answers words that ask for no command.
+fn answer<O: Write, E: Write>(unread: Unread<'_>, output: &mut O, errors: &mut E) -> Status
+    ensures memory { kind_of_answer unread.entry ≡ ErrorKind.OutOfMemory → result ≡ Status.Failed }
+    ensures never { result ≢ Status.Refused }
+    ensures done { result ≡ Status.Done → (kind_of_answer unread.entry ≡ ErrorKind.DisplayHelp)
+        × Appends (O.contents output.old) (O.contents output.new) HELP.now }
+    ensures help { AppendsPart (O.contents output.old) (O.contents output.new) HELP.now }
+    ensures kept { kind_of_answer unread.entry ≢ ErrorKind.DisplayHelp
+        → Keeps (O.contents output.old) (O.contents output.new) }
+    ensures silent { result ≡ Status.Done → Keeps (E.contents errors.old) (E.contents errors.new) }
+    ensures wrong { result ≡ Status.Usage → (kind_of_answer unread.entry ≢ ErrorKind.DisplayHelp)
+        × (kind_of_answer unread.entry ≢ ErrorKind.OutOfMemory) }
+    ensures told { result ≡ Status.Failed
+        → IsTold (IsMetUnread (O.contents output.old) (O.contents output.new))
+        (E.contents errors.old) (E.contents errors.new) }
+{
+    explain(&unread, output, errors)
+}
+
+// Prints what the words are answered: the help on standard output, or what is wrong with them on
+// standard error.
+fn explain<O: Write, E: Write>(unread: &Unread<'_>, output: &mut O, errors: &mut E) -> Status
+    ensures memory { kind_of_answer unread.now ≡ ErrorKind.OutOfMemory → result ≡ Status.Failed }
+    ensures never { result ≢ Status.Refused }
+    ensures done { result ≡ Status.Done → (kind_of_answer unread.now ≡ ErrorKind.DisplayHelp)
+        × Appends (O.contents output.old) (O.contents output.new) HELP.now }
+    ensures help { AppendsPart (O.contents output.old) (O.contents output.new) HELP.now }
+    ensures kept { kind_of_answer unread.now ≢ ErrorKind.DisplayHelp
+        → Keeps (O.contents output.old) (O.contents output.new) }
+    ensures silent { result ≡ Status.Done → Keeps (E.contents errors.old) (E.contents errors.new) }
+    ensures wrong { result ≡ Status.Usage → (kind_of_answer unread.now ≢ ErrorKind.DisplayHelp)
+        × (kind_of_answer unread.now ≢ ErrorKind.OutOfMemory) }
+    ensures told { result ≡ Status.Failed
+        → IsTold (IsMetUnread (O.contents output.old) (O.contents output.new))
+        (E.contents errors.old) (E.contents errors.new) }
+{
+    match unread.kind() {
+        ErrorKind::OutOfMemory => Failure::Memory.tell(errors),
+        ErrorKind::DisplayHelp => match write_text(output, HELP.as_bytes()) {
+            Ok(()) => Status::Done,
+            Err(failure) => failure.tell(errors),
+        },
+        _ => {
+            let _ = write!(errors, "{unread}");
+            Status::Usage
+        }
+    }
+}

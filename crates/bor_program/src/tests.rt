@@ -1,0 +1,6 @@
+//! What no clause says.
+
+mod checks;
+mod exchanges;
+mod hosts;
+mod streams;
