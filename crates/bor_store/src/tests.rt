@@ -3,4 +3,5 @@
 mod asking;
 mod desks;
 mod opening;
+mod rows;
 mod stores;

@@ -16,8 +16,6 @@ mod reader;
 mod rows;
 mod seen;
 mod split;
-#[cfg(test)]
-mod tests;
 mod values;
 mod words;
 

@@ -1,15 +1,15 @@
 //! Two statements, one with an interest and one with an identifier; and two agents, of whom one has
 //! filings.
 
-use crate::{
-    AgentRow, At, FilingRow, IdentifierRow, InterestRow, Part, Placed, StatementRow, any_visible,
-    joined, lines_of, members_of,
-};
 use bods_read::{
     Details, Directness, EntityKind, FreeText, Identifier, Interest, InterestKind, RecordType,
     Status,
 };
 use bor_register::State;
+use bor_store_rows::{
+    AgentRow, At, FilingRow, IdentifierRow, InterestRow, Part, Placed, StatementRow, any_visible,
+    joined, lines_of, members_of,
+};
 use bor_terms::{AgentName, Day, Ident, LodgeKey, Token};
 use std::alloc::Global;
 
