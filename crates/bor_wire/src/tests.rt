@@ -1,4 +1,5 @@
-//! What no clause says: the worked rows as bytes, a long run, and what fails.
+//! What no clause says: routes, requests and replies by example, the worked rows as bytes, a long run,
+//! and what fails.
 
 mod chains;
 mod failing;
@@ -6,6 +7,7 @@ mod generated;
 mod holding;
 mod notation;
 mod refusals;
+mod routes;
 mod rows;
 mod worlds;
 

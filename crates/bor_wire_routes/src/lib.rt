@@ -14,8 +14,6 @@
 
 mod path;
 mod route;
-#[cfg(test)]
-mod tests;
 
 pub use path::Paths;
 pub use route::{Route, allow_of, route_at};
