@@ -7,8 +7,11 @@ mod generated;
 mod holding;
 mod notation;
 mod refusals;
+mod requests;
 mod routes;
 mod rows;
+mod spelling;
+mod unspelled;
 mod worlds;
 
 use super::*;

@@ -21,6 +21,3 @@ mod token;
 
 pub use asking::{Asking, parse, parse_by};
 pub use bor_wire_routes::Paths;
-
-#[cfg(test)]
-mod tests;

@@ -1,21 +1,16 @@
 //! Readers, writers and keeps that fail.
 
-use crate::tests::holding::{exchanged, new_keep};
+use crate::tests::holding::{exchanged, input, new_keep};
 use crate::{Outcome, UNAVAILABLE, exchange};
 use bor_failing::FailingKeep;
 use bor_machine::{ListKeep, StoreFault};
-use bor_rows::Ask;
 use bor_wire_read::Counted;
-use bor_wire_rows::{Drip, Gate, request};
+use bor_wire_rows::{Drip, Gate};
 use std::alloc::Global;
 use std::process::Abort;
 use std::test::Fail;
 
 const LODGING: &str = "alder lodge f1 2024-02-01 E s1 e1";
-
-fn input(alloc: Global, ask: &str) -> Result<Vec<u8>, Fail> {
-    Ok(request(alloc, Ask::read(ask).ok_or("no ask")?)?)
-}
 
 // A register with alder.
 fn keep(rt: &(impl Abort + Alloc<A = Global>)) -> Result<ListKeep, Fail> {
@@ -33,6 +28,20 @@ fn filings(alloc: Global, keep: &mut ListKeep) -> Result<Vec<u8>, Fail> {
     Ok(out)
 }
 
+// Whether a reader that fails behind these bytes is told as the one fault, and nothing is written.
+fn is_read_failed(alloc: Global, keep: &mut ListKeep, bytes: &[u8]) -> bool {
+    let mut reader = Counted::new(Drip {
+        bytes,
+        size: 40,
+        fails: true,
+    });
+    let mut out = Vec::new(alloc);
+    let mut writer = Counted::new(&mut out);
+    let outcome = exchange(alloc, keep, &mut reader, &mut writer);
+    let faults = (reader.faults(), writer.faults());
+    outcome == Outcome::ReadFailed && faults == (1, 0) && out.is_empty()
+}
+
 #[test]
 fn a_reader_that_fails_changes_nothing(rt: HostRuntime) -> Result<(), Fail> {
     let alloc = rt.alloc();
@@ -40,19 +49,17 @@ fn a_reader_that_fails_changes_nothing(rt: HostRuntime) -> Result<(), Fail> {
     let lodging = input(alloc, LODGING)?;
     let before = filings(alloc, &mut keep)?;
     for length in 0..lodging.len() {
-        let mut reader = Counted::new(Drip {
-            bytes: &lodging[..length],
-            size: 40,
-            fails: true,
-        });
-        let mut out = Vec::new(alloc);
-        let mut writer = Counted::new(&mut out);
-        assert!(rt; exchange(alloc, &mut keep, &mut reader, &mut writer) == Outcome::ReadFailed);
-        assert_eq!(rt; (reader.faults(), writer.faults()), (1, 0));
-        assert!(rt; out.is_empty());
+        let is_told = is_read_failed(alloc, &mut keep, &lodging[..length]);
+        assert!(rt; is_told, "{length}");
     }
     assert!(rt; filings(alloc, &mut keep)?.as_slice() == before.as_slice());
     Ok(())
+}
+
+// Whether an input of these bytes is refused as cut short.
+fn is_cut_short(alloc: Global, keep: &mut ListKeep, bytes: &[u8]) -> bool {
+    let (outcome, out) = exchanged(alloc, keep, bytes, 40);
+    outcome == Outcome::Replied(400) && out.ends_with(b"\r\n\r\n{\"refusal\":\"CutShort\"}")
 }
 
 #[test]
@@ -62,12 +69,8 @@ fn an_input_that_ends_too_soon_is_refused(rt: HostRuntime) -> Result<(), Fail> {
     let lodging = input(alloc, LODGING)?;
     let before = filings(alloc, &mut keep)?;
     for length in 0..lodging.len() {
-        let (outcome, out) = exchanged(alloc, &mut keep, &lodging[..length], 40);
-        assert!(rt; outcome == Outcome::Replied(400), "{length}");
-        assert!(rt;
-            out.ends_with(b"\r\n\r\n{\"refusal\":\"CutShort\"}"),
-            "{length}"
-        );
+        let is_refused = is_cut_short(alloc, &mut keep, &lodging[..length]);
+        assert!(rt; is_refused, "{length}");
     }
     assert!(rt; filings(alloc, &mut keep)?.as_slice() == before.as_slice());
     Ok(())

@@ -2,10 +2,10 @@
 
 use crate::{Outcome, Reply, exchange, replay};
 use bor_machine::{Keep, ListKeep};
-use bor_rows::token_of;
+use bor_rows::{Ask, token_of};
 use bor_terms::{Day, Token};
 use bor_wire_read::Counted;
-use bor_wire_rows::{Drip, Talk};
+use bor_wire_rows::{Drip, Talk, request};
 use std::alloc::Global;
 use std::process::Abort;
 use std::test::Fail;
@@ -15,6 +15,11 @@ pub(crate) fn new_keep(alloc: Global) -> Result<ListKeep, Fail> {
     let text = token_of(alloc, "registrar")?;
     let registrar = Token::read(alloc, text.as_str())?.ok_or("no token")?;
     Ok(ListKeep::new(alloc, registrar, Day::read("2024-02-01").ok_or("no day")?))
+}
+
+/// The request for an ask in words.
+pub(crate) fn input(alloc: Global, ask: &str) -> Result<Vec<u8>, Fail> {
+    Ok(request(alloc, Ask::read(ask).ok_or("no ask")?)?)
 }
 
 /// What the exchange of an input, read in pieces of this size, wrote and ended as.
