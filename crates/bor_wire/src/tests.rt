@@ -1,16 +1,20 @@
 //! What no clause says: routes, requests and replies by example, the worked rows as bytes, a long run,
 //! and what fails.
 
+mod bodies;
 mod chains;
 mod failing;
 mod generated;
 mod holding;
 mod notation;
+mod refusal_replies;
 mod refusals;
+mod rendering;
 mod requests;
 mod routes;
 mod rows;
 mod spelling;
+mod statuses;
 mod unspelled;
 mod worlds;
 

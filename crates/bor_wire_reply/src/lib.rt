@@ -31,6 +31,3 @@ mod status;
 
 pub use reply::{RESERVED, UNAVAILABLE, is_long, render, render_refusal, render_short};
 pub use status::{desk_status, refusal_status};
-
-#[cfg(test)]
-mod tests;

@@ -1,63 +1,63 @@
 //! The replies to refusals, and the one that needs no register.
 
-use crate::tests::{
-    BAD, CONFLICT, HEAD_TOO_LARGE, NOT_ALLOWED, NOT_FOUND, TOO_LARGE, UNAUTHORIZED, UNPROCESSABLE,
-    is_rendered, own_line, reply_of,
-};
-use crate::{RESERVED, UNAVAILABLE, desk_status, laws, refusal_status, render_refusal};
+use crate::tests::rendering::is_rendered;
+use crate::{Name, Path, Refusal, UNAVAILABLE};
 use bods_read::{Fault, Field, FileFault};
 use bor_desk::DeskReply;
 use bor_machine::StoreFault;
 use bor_records::RecordFault;
-use bor_wire_read::{Name, Path, Refusal};
+use bor_wire_reply::{RESERVED, desk_status, laws, refusal_status, render_refusal};
+use bor_wire_rows::{reply, reply_with};
 use std::alloc::Global;
-use std::process::Abort;
 use std::test::Fail;
 
-// The refusal is told by this status, this line of its own and this body.
+// Whether the refusal is told by this status, this line of its own and this body.
 fn is_said(
-    rt: &impl Abort,
     alloc: Global,
     refusal: Refusal,
-    (status, own, body): (&str, &str, &str),
-) -> Result<(), Fail> {
-    let text = reply_of(alloc, status, own, body)?;
+    status: u16,
+    line: &str,
+    body: &str,
+) -> Result<bool, Fail> {
+    let text = reply_with(alloc, status, line, body)?;
     let mut out = Vec::with_capacity(alloc, RESERVED)?;
     render_refusal(&mut out, refusal);
-    let said = String::from_utf8_lossy(alloc, out.as_slice())?;
-    assert_eq!(rt; said.as_str(), text.as_str());
-    assert!(rt; status.starts_with(refusal_status(refusal).as_str()));
-    Ok(())
+    Ok(out.as_slice() == text.as_slice() && refusal_status(refusal).as_u16() == status)
 }
 
 #[test]
 fn bytes_that_spell_no_request_are_told_why(rt: HostRuntime) -> Result<(), Fail> {
-    let alloc = rt.alloc();
-    for (refusal, status, body) in [
+    for (refusal, status, line, body) in [
         (
             Refusal::HeadTooLarge,
-            HEAD_TOO_LARGE,
+            431,
+            "",
             r#"{"refusal":"HeadTooLarge"}"#,
         ),
-        (Refusal::CutShort, BAD, r#"{"refusal":"CutShort"}"#),
-        (Refusal::BadHead, BAD, r#"{"refusal":"BadHead"}"#),
-        (Refusal::BadLength, BAD, r#"{"refusal":"BadLength"}"#),
+        (Refusal::CutShort, 400, "", r#"{"refusal":"CutShort"}"#),
+        (Refusal::BadHead, 400, "", r#"{"refusal":"BadHead"}"#),
+        (Refusal::BadLength, 400, "", r#"{"refusal":"BadLength"}"#),
         (
             Refusal::BodyTooLarge,
-            TOO_LARGE,
+            413,
+            "",
             r#"{"refusal":"BodyTooLarge"}"#,
         ),
-        (Refusal::NoPath, NOT_FOUND, r#"{"refusal":"NoPath"}"#),
-        (Refusal::NoToken, UNAUTHORIZED, r#"{"refusal":"NoToken"}"#),
+        (Refusal::NoPath, 404, "", r#"{"refusal":"NoPath"}"#),
+        (
+            Refusal::NoToken,
+            401,
+            "WWW-Authenticate: Bearer",
+            r#"{"refusal":"NoToken"}"#,
+        ),
     ] {
-        is_said(&rt, alloc, refusal, (status, own_line(status), body))?;
+        assert!(rt; is_said(rt.alloc(), refusal, status, line, body)?, "{body}");
     }
     Ok(())
 }
 
 #[test]
 fn a_bad_name_is_told(rt: HostRuntime) -> Result<(), Fail> {
-    let alloc = rt.alloc();
     for (name, body) in [
         (Name::Key, r#"{"field":"key","refusal":"BadQuery"}"#),
         (Name::Due, r#"{"field":"due","refusal":"BadQuery"}"#),
@@ -67,14 +67,17 @@ fn a_bad_name_is_told(rt: HostRuntime) -> Result<(), Fail> {
         ),
         (Name::Token, r#"{"field":"token","refusal":"BadQuery"}"#),
     ] {
-        is_said(&rt, alloc, Refusal::BadQuery(name), (BAD, "", body))?;
+        assert!(rt;
+            is_said(rt.alloc(), Refusal::BadQuery(name), 400, "", body)?,
+            "{body}"
+        );
     }
     Ok(())
 }
 
-// The example of the crate's first page, and the laws.
+// The example of the replies' own first page, and their laws.
 #[test]
-fn the_first_page_holds(rt: HostRuntime) -> Result<(), Fail> {
+fn a_refusal_has_room_that_was_reserved(rt: HostRuntime) -> Result<(), Fail> {
     let mut out = Vec::with_capacity(rt.alloc(), RESERVED)?;
     render_refusal(&mut out, Refusal::WrongMethod(Path::Filings));
     assert!(rt;
@@ -88,19 +91,19 @@ fn the_first_page_holds(rt: HostRuntime) -> Result<(), Fail> {
 
 #[test]
 fn a_wrong_method_is_told_the_right_ones(rt: HostRuntime) -> Result<(), Fail> {
-    let alloc = rt.alloc();
+    let body = r#"{"refusal":"WrongMethod"}"#;
     for (path, allow) in [
-        (Path::Filing, "Allow: DELETE, PUT\r\n"),
-        (Path::Filings, "Allow: GET\r\n"),
-        (Path::File, "Allow: GET\r\n"),
-        (Path::Published, "Allow: GET\r\n"),
-        (Path::Snapshot, "Allow: GET\r\n"),
-        (Path::Chains, "Allow: GET\r\n"),
-        (Path::Day, "Allow: POST\r\n"),
-        (Path::Agents, "Allow: POST\r\n"),
+        (Path::Filing, "Allow: DELETE, PUT"),
+        (Path::Filings, "Allow: GET"),
+        (Path::File, "Allow: GET"),
+        (Path::Published, "Allow: GET"),
+        (Path::Snapshot, "Allow: GET"),
+        (Path::Chains, "Allow: GET"),
+        (Path::Day, "Allow: POST"),
+        (Path::Agents, "Allow: POST"),
     ] {
-        let said = (NOT_ALLOWED, allow, r#"{"refusal":"WrongMethod"}"#);
-        is_said(&rt, alloc, Refusal::WrongMethod(path), said)?;
+        let refusal = Refusal::WrongMethod(path);
+        assert!(rt; is_said(rt.alloc(), refusal, 405, allow, body)?, "{path:?}");
     }
     Ok(())
 }
@@ -108,38 +111,34 @@ fn a_wrong_method_is_told_the_right_ones(rt: HostRuntime) -> Result<(), Fail> {
 #[test]
 fn a_token_of_nobody_is_told_how_to_authenticate(rt: HostRuntime) -> Result<(), Fail> {
     let reply = DeskReply::Refused(bor_desk::Refusal::NoAgent);
-    is_rendered(
-        &rt,
-        rt.alloc(),
-        &reply,
-        "HTTP/1.1 401 Unauthorized\r\nContent-Type: application/json\r\nContent-Length: 21\r\nWWW-Authenticate: Bearer\r\nConnection: close\r\n\r\n{\"refusal\":\"NoAgent\"}",
-    )
+    let text =
+        b"HTTP/1.1 401 Unauthorized\r\nContent-Type: application/json\r\nContent-Length: 21\r\nWWW-Authenticate: Bearer\r\nConnection: close\r\n\r\n{\"refusal\":\"NoAgent\"}";
+    assert!(rt; is_rendered(rt.alloc(), &reply, text)?);
+    Ok(())
 }
 
 #[test]
 fn a_failed_store_has_one_reply(rt: HostRuntime) -> Result<(), Fail> {
-    let alloc = rt.alloc();
     let text =
-        "HTTP/1.1 503 Service Unavailable\r\nContent-Type: application/json\r\nContent-Length: 24\r\nConnection: close\r\n\r\n{\"refusal\":\"StoreFault\"}";
-    assert_eq!(rt; UNAVAILABLE, text.as_bytes());
+        b"HTTP/1.1 503 Service Unavailable\r\nContent-Type: application/json\r\nContent-Length: 24\r\nConnection: close\r\n\r\n{\"refusal\":\"StoreFault\"}";
+    assert_eq!(rt; UNAVAILABLE, text.as_slice());
     for fault in [StoreFault::Memory, StoreFault::Store, StoreFault::Damaged] {
         let reply = DeskReply::Failed(fault);
-        is_rendered(&rt, alloc, &reply, text)?;
+        assert!(rt; is_rendered(rt.alloc(), &reply, UNAVAILABLE)?);
         assert_eq!(rt; desk_status(&reply).as_u16(), 503);
     }
     Ok(())
 }
 
-// The desk's refusal is told by this status and this body.
+// Whether the desk's refusal is told by this status and this body.
 fn is_told(
-    rt: &impl Abort,
     alloc: Global,
     refusal: bor_desk::Refusal,
-    status: &str,
+    status: u16,
     body: &str,
-) -> Result<(), Fail> {
-    let text = reply_of(alloc, status, "", body)?;
-    is_rendered(rt, alloc, &DeskReply::Refused(refusal), text.as_str())
+) -> Result<bool, Fail> {
+    let bytes = reply(alloc, status, body)?;
+    is_rendered(alloc, &DeskReply::Refused(refusal), &bytes)
 }
 
 #[test]
@@ -163,7 +162,7 @@ fn a_file_that_is_not_read_is_told_with_its_place_and_its_field(
         ),
     ] {
         let refusal = bor_desk::Refusal::Read(fault);
-        is_told(&rt, rt.alloc(), refusal, UNPROCESSABLE, body)?;
+        assert!(rt; is_told(rt.alloc(), refusal, 422, body)?, "{body}");
     }
     Ok(())
 }
@@ -175,21 +174,21 @@ fn a_statement_that_is_refused_is_told_with_its_place(rt: HostRuntime) -> Result
     for (refusal, status, body) in [
         (
             bor_desk::Refusal::FilingsFull,
-            CONFLICT,
+            409,
             r#"{"refusal":"FilingsFull"}"#,
         ),
         (
             bor_desk::Refusal::StatementTwice(2),
-            UNPROCESSABLE,
+            422,
             r#"{"place":2,"refusal":"StatementTwice"}"#,
         ),
         (
             bor_desk::Refusal::Record { place, fault },
-            UNPROCESSABLE,
+            422,
             r#"{"place":4294967295,"refusal":"DueBeforeRecord"}"#,
         ),
     ] {
-        is_told(&rt, rt.alloc(), refusal, status, body)?;
+        assert!(rt; is_told(rt.alloc(), refusal, status, body)?, "{body}");
     }
     Ok(())
 }
