@@ -2,8 +2,17 @@
 
 use crate::tests::holding::{exchanged, new_keep};
 use crate::{Outcome, Reply, replay};
+use bor_machine::ListKeep;
 use bor_wire_rows::inputs_by_rule;
+use std::alloc::Global;
 use std::test::Fail;
+
+// Whether the exchange of an input has this reply, and no status from 500 on.
+fn is_alike(alloc: Global, keep: &mut ListKeep, input: &[u8], reply: &Reply) -> bool {
+    let (outcome, out) = exchanged(alloc, keep, input, 3);
+    matches!(outcome, Outcome::Replied(status) if status < 500)
+        && matches!(reply, Reply::Full(bytes) if bytes.as_slice() == out.as_slice())
+}
 
 // No reply is 503, and a run and exchanges give the same.
 #[test]
@@ -15,15 +24,7 @@ fn a_long_run_is_answered_alike_in_one_and_by_exchanges(rt: HostRuntime) -> Resu
     assert_eq!(rt; replies.len(), 842);
     let mut keep = new_keep(alloc)?;
     for (i, (input, reply)) in inputs.iter().zip(replies.iter()).enumerate() {
-        let (outcome, out) = exchanged(alloc, &mut keep, input, 3);
-        assert!(rt;
-            matches!(outcome, Outcome::Replied(status) if status < 500),
-            "{i}"
-        );
-        assert!(rt;
-            matches!(reply, Reply::Full(bytes) if bytes.as_slice() == out.as_slice()),
-            "{i}"
-        );
+        assert!(rt; is_alike(alloc, &mut keep, input, reply), "{i}");
     }
     Ok(())
 }

@@ -37,6 +37,11 @@ fn each_input_has_its_reply(rt: HostRuntime) -> Result<(), Fail> {
     let (status, bytes) = talk.replies().get(2).ok_or("no reply")?;
     assert_eq!(rt; *status, 404);
     assert!(rt; bytes.as_slice() == reply(alloc, 404, "{}")?.as_slice());
-    assert_eq!(rt; worked(alloc)?.len(), 20);
+    Ok(())
+}
+
+#[test]
+fn the_worked_rows_are_20_talks(rt: HostRuntime) -> Result<(), Fail> {
+    assert_eq!(rt; worked(rt.alloc())?.len(), 20);
     Ok(())
 }

@@ -114,18 +114,24 @@ fn bytes_that_are_no_request_are_refused(rt: HostRuntime) -> Result<(), Fail> {
 fn a_head_is_refused_at_its_limits(rt: HostRuntime) -> Result<(), Fail> {
     let alloc = rt.alloc();
     let mut talk = Talk::new(alloc)?;
-    let refused = r#"{"refusal":"HeadTooLarge"}"#;
     let mut long = Vec::from_slice(alloc, b"GET /filings HTTP/1.1\r\nX: ")?;
     long.resize(16_384, b'x')?;
-    talk.send(&long, 431, "", refused)?;
+    talk.send(&long, 431, "", r#"{"refusal":"HeadTooLarge"}"#)?;
     long.truncate(16_383);
     talk.send(&long, 400, "", r#"{"refusal":"CutShort"}"#)?;
+    hold(&rt, alloc, &talk)
+}
+
+#[test]
+fn a_head_of_too_many_lines_is_refused(rt: HostRuntime) -> Result<(), Fail> {
+    let alloc = rt.alloc();
+    let mut talk = Talk::new(alloc)?;
     let mut fields = Vec::from_slice(alloc, b"GET /filings HTTP/1.1\n")?;
     for _ in 0..65 {
         fields.extend_from_slice(b"X:\n")?;
     }
     fields.push(b'\n')?;
-    talk.send(&fields, 431, "", refused)?;
+    talk.send(&fields, 431, "", r#"{"refusal":"HeadTooLarge"}"#)?;
     hold(&rt, alloc, &talk)
 }
 

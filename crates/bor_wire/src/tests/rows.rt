@@ -1,6 +1,7 @@
 //! The worked rows of a register, as bytes.
 
 use crate::tests::holding::{hold, rows_hold};
+use crate::tests::spelling::{ALDER, request_of};
 use bor_rows::lodging;
 use bor_wire_rows::{Talk, worked};
 use std::alloc::Global;
@@ -15,14 +16,22 @@ fn the_worked_rows_hold(rt: HostRuntime) -> Result<(), Fail> {
     Ok(())
 }
 
+// The lodging of a filing with this number.
+fn lodge(alloc: Global, talk: &mut Talk, number: u32) -> Result<(), Fail> {
+    let ask = format!(in alloc; "alder lodge k{number} 2024-02-01 E s{number} e{number}")?;
+    let body = format!(in alloc;
+        r#"{{"due":"2024-02-01","filing":{number},"state":"published"}}"#
+    )?;
+    talk.ask(ask.as_str(), body.as_str())?;
+    Ok(())
+}
+
 #[test]
 fn an_agent_has_at_most_999_filings(rt: HostRuntime) -> Result<(), Fail> {
     let alloc = rt.alloc();
     let mut talk = Talk::new(alloc)?;
-    for i in 1..1000 {
-        let ask = format!(in alloc; "alder lodge k{i} 2024-02-01 E s{i} e{i}")?;
-        let body = format!(in alloc; r#"{{"due":"2024-02-01","filing":{i},"state":"published"}}"#)?;
-        talk.ask(ask.as_str(), body.as_str())?;
+    for number in 1..1000 {
+        lodge(alloc, &mut talk, number)?;
     }
     talk.ask_all(&lodging::AN_AGENT_HAS_AT_MOST_999_FILINGS)?;
     hold(&rt, alloc, &talk)
@@ -88,25 +97,27 @@ const REFUSED_FILES: &[(&str, &str)] = &[
     ),
 ];
 
-// Each is refused, and leaves no filing.
+// The file is refused, and leaves no filing.
+fn refuse(alloc: Global, talk: &mut Talk, file: &str, body: &str) -> Result<(), Fail> {
+    let ask = format!(in alloc; "alder lodge f1 2024-02-01 {file}")?;
+    talk.ask(ask.as_str(), body)?;
+    talk.ask("alder filings", "[]")?;
+    Ok(())
+}
+
 #[test]
 fn files_are_refused_whole(rt: HostRuntime) -> Result<(), Fail> {
     let alloc = rt.alloc();
     let mut talk = Talk::new(alloc)?;
     for (file, body) in REFUSED_FILES {
-        let ask = format!(in alloc; "alder lodge f1 2024-02-01 {file}")?;
-        talk.ask(ask.as_str(), body)?;
-        talk.ask("alder filings", "[]")?;
+        refuse(alloc, &mut talk, file, body)?;
     }
     hold(&rt, alloc, &talk)
 }
 
 // The lodging of a body as it stands.
 fn lodging_of(alloc: Global, body: &str) -> Result<Vec<u8>, Fail> {
-    let length = body.len();
-    let text = format!(in alloc;
-        "PUT /filings/f1?due=2024-02-01 HTTP/1.1\r\nAuthorization: Bearer alder-token-000001\r\nContent-Length: {length}\r\n\r\n{body}"
-    )?;
+    let text = request_of(alloc, "PUT /filings/f1?due=2024-02-01", ALDER, body)?;
     Ok(text.into_bytes())
 }
 
