@@ -4,3 +4,4 @@ mod checks;
 mod exchanges;
 mod hosts;
 mod streams;
+mod words;

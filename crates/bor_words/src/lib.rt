@@ -31,6 +31,3 @@ pub use report::Report;
 pub use serve::Serve;
 pub use source::Source;
 pub use unread::{Unfit, Unread};
-
-#[cfg(test)]
-mod tests;

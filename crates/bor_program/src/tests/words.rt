@@ -1,9 +1,26 @@
-//! What no clause says: the texts, and what each command's words are read as.
+//! What words ask for, the texts that they are answered, and the help.
 
-use crate::parser::parser;
-use crate::{Command, HELP, Source, Unread};
 use bor_terms::Day;
+use bor_words::{Command, HELP, Source, Unread};
+use std::alloc::Global;
 use std::test::Fail;
+
+// The command that words ask for.
+fn command_of<'a>(alloc: Global, words: &'a [&'a str]) -> Result<Command<'a>, Fail> {
+    match Command::read(alloc, words) {
+        Ok(command) => Ok(command),
+        Err(_) => Err("no command".into()),
+    }
+}
+
+// What is told of words that ask for no command, and whether clap tells it.
+fn told(alloc: Global, words: &[&str]) -> Result<(bool, String), Fail> {
+    let Err(unread) = Command::read(alloc, words) else {
+        return Err("a command".into());
+    };
+    let text = format!(in alloc; "{unread}")?;
+    Ok((matches!(unread, Unread::Answered(_)), text))
+}
 
 #[test]
 fn the_help_is_claps(rt: HostRuntime) -> Result<(), Fail> {
@@ -15,28 +32,27 @@ fn the_help_is_claps(rt: HostRuntime) -> Result<(), Fail> {
         &["report", "--help"],
     ];
     for words in cases {
-        let Err(error) = parser(rt.alloc())?.try_get_matches_from(words) else {
-            return Err(Fail::from("no help"));
-        };
-        let page = format!(in rt.alloc(); "{error}")?;
-        assert!(rt; HELP.contains(page.as_str()), "{page}");
+        let (by_clap, page) = told(rt.alloc(), words)?;
+        assert!(rt; by_clap && HELP.contains(page.as_str()), "{page}");
     }
     Ok(())
 }
 
 #[test]
-fn a_check_reads_a_file_or_standard_input(rt: HostRuntime) {
+fn a_check_reads_a_file_or_standard_input(rt: HostRuntime) -> Result<(), Fail> {
     let cases: [(&[&str], Source<'_>); 3] = [
         (&[], Source::StandardInput),
         (&["check"], Source::StandardInput),
         (&["check", "exchange"], Source::File("exchange")),
     ];
     for (words, source) in cases {
+        let command = command_of(rt.alloc(), words)?;
         assert!(rt;
-            matches!(Command::read(rt.alloc(), words), Ok(Command::Check(read)) if read == source),
+            matches!(&command, Command::Check(read) if *read == source),
             "{words:?}"
         );
     }
+    Ok(())
 }
 
 // The words of an exchange with a file.
@@ -54,8 +70,8 @@ const EXCHANGE: [&str; 9] = [
 
 #[test]
 fn an_exchange_has_files_in_order(rt: HostRuntime) -> Result<(), Fail> {
-    let Ok(Command::Exchange(asked)) = Command::read(rt.alloc(), &EXCHANGE) else {
-        return Err(Fail::from("no exchange"));
+    let Command::Exchange(asked) = command_of(rt.alloc(), &EXCHANGE)? else {
+        return Err("no exchange".into());
     };
     assert_eq!(rt; asked.db, Some("register.db"));
     assert_eq!(rt; asked.registrar.as_str(), "registrar-token-0001");
@@ -75,8 +91,8 @@ fn a_server_has_a_port_and_an_end(rt: HostRuntime) -> Result<(), Fail> {
         "--db",
         "a",
     ];
-    let Ok(Command::Serve(asked)) = Command::read(rt.alloc(), &words) else {
-        return Err(Fail::from("no server"));
+    let Command::Serve(asked) = command_of(rt.alloc(), &words)? else {
+        return Err("no server".into());
     };
     assert_eq!(rt; (asked.db, asked.port, asked.connections), ("a", 65_535, 0));
     Ok(())
@@ -98,21 +114,37 @@ const REPORT: [&str; 11] = [
 ];
 
 #[test]
-fn a_report_has_a_date_where_it_is_given(rt: HostRuntime) -> Result<(), Fail> {
-    let Ok(Command::Report(asked)) = Command::read(rt.alloc(), &REPORT) else {
-        return Err(Fail::from("no report"));
+fn a_report_is_on_an_entity_as_it_is_seen(rt: HostRuntime) -> Result<(), Fail> {
+    let Command::Report(asked) = command_of(rt.alloc(), &REPORT)? else {
+        return Err("no report".into());
     };
-    assert_eq!(rt; asked.viewer.as_str(), "alder");
-    assert_eq!(rt; asked.entity.agent.as_str(), "birch");
-    assert_eq!(rt; asked.entity.declaration.as_str(), "c1");
-    assert_eq!(rt; asked.entity.rec.as_str(), "e1");
-    assert_eq!(rt; asked.date, None);
+    let entity = &asked.entity;
+    assert_eq!(rt;
+        (asked.viewer.as_str(), entity.agent.as_str()),
+        ("alder", "birch")
+    );
+    assert_eq!(rt;
+        (entity.declaration.as_str(), entity.rec.as_str()),
+        ("c1", "e1")
+    );
+    Ok(())
+}
+
+// The date of a report.
+fn date_of(alloc: Global, words: &[&str]) -> Result<Option<Day>, Fail> {
+    match command_of(alloc, words)? {
+        Command::Report(asked) => Ok(asked.date),
+        _ => Err("no report".into()),
+    }
+}
+
+#[test]
+fn a_report_has_a_date_where_it_is_given(rt: HostRuntime) -> Result<(), Fail> {
+    assert_eq!(rt; date_of(rt.alloc(), &REPORT)?, None);
     let mut words = Vec::from_slice(rt.alloc(), &REPORT)?;
     words.extend_from_slice(&["--date", "2024-02-29"])?;
-    let Ok(Command::Report(asked)) = Command::read(rt.alloc(), words.as_slice()) else {
-        return Err(Fail::from("no report"));
-    };
-    assert_eq!(rt; asked.date, Day::read("2024-02-29"));
+    let date = date_of(rt.alloc(), words.as_slice())?;
+    assert_eq!(rt; date, Day::read("2024-02-29"));
     Ok(())
 }
 
@@ -223,11 +255,9 @@ const UNFIT: [(&[&str], &str); 8] = [
 #[test]
 fn a_value_that_does_not_fit_is_told(rt: HostRuntime) -> Result<(), Fail> {
     for (words, text) in UNFIT {
-        let Err(unread) = Command::read(rt.alloc(), words) else {
-            return Err(Fail::from(text));
-        };
-        let told = format!(in rt.alloc(); "{unread}")?;
-        assert_eq!(rt; told.as_str(), text);
+        let (by_clap, line) = told(rt.alloc(), words)?;
+        assert_eq!(rt; line.as_str(), text);
+        assert!(rt; !by_clap, "{line}");
     }
     Ok(())
 }
@@ -253,12 +283,8 @@ fn a_missing_word_is_told_by_its_name(rt: HostRuntime) -> Result<(), Fail> {
         (&["serve", "--port"], "--port <PORT>"),
     ];
     for (words, name) in cases {
-        let Err(unread) = Command::read(rt.alloc(), words) else {
-            return Err(Fail::from(name));
-        };
-        assert!(rt; matches!(unread, Unread::Answered(_)), "{words:?}");
-        let told = format!(in rt.alloc(); "{unread}")?;
-        assert!(rt; told.as_str().contains(name), "{told}");
+        let (by_clap, lines) = told(rt.alloc(), words)?;
+        assert!(rt; by_clap && lines.contains(name), "{lines}");
     }
     Ok(())
 }
