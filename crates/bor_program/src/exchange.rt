@@ -24,7 +24,7 @@ use std::rt::Files;
 
 /// Answers the requests in files in turn, in the register in a file or in a new one in memory, and
 /// prints the replies in order. A file that can't be read is told, and the next one is taken.
-pub fn exchange<R: Files + AllocGlobal, H: Registers, O: Write, E: Write>(
+pub fn exchange<R: Files + AllocGlobal, K: Keep + Drop, H: Registers<K>, O: Write, E: Write>(
     rt: &R,
     host: &H,
     asked: Exchange<'_>,

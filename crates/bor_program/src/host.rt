@@ -7,13 +7,10 @@ use crate::failure::Failure;
 use bor_machine::Keep;
 use bor_terms::{Day, Token};
 
-/// What opens the registers in files.
-pub trait Registers {
-    /// A keep of the register in a file.
-    type Opened: Keep + Drop;
-
+/// What opens the registers in files, each with a keep `K` of it.
+pub trait Registers<K: Keep> {
     /// The register in the file of this name. Where there is none, none is made.
-    fn open<'a>(&self, path: &'a str) -> Result<Self::Opened, Failure<'a>>
+    fn open<'a>(&self, path: &'a str) -> Result<K, Failure<'a>>
         ensures err { IfErr result (IsOpeningOf path.entry) };
 
     /// The register in the file of this name; where it has none, one of this day and registrar is set
@@ -23,12 +20,12 @@ pub trait Registers {
         path: &'a str,
         registrar: &Token,
         day: Day,
-    ) -> Result<Self::Opened, Failure<'a>>
+    ) -> Result<K, Failure<'a>>
         ensures err { IfErr result (IsOpeningOf path.entry) };
 
     /// Closes the register, so that its file has all of it without the log beside it, as far as that can
     /// be done. Nothing that was answered is lost where it can't.
-    fn close(&self, keep: Self::Opened);
+    fn close(&self, keep: K);
 }
 
 /// What listens on the ports of 127.0.0.1.

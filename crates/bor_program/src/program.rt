@@ -20,6 +20,7 @@ use crate::output::write_text;
 use crate::report::report;
 use crate::serve::serve;
 use crate::status::Status;
+use bor_machine::Keep;
 use bor_words::{Command, HELP, Source, Unread};
 use clap::error::ErrorKind;
 use std::convert::AsStr;
@@ -34,14 +35,15 @@ use std::rt::Files;
 /// Standard output has the text of a command, or the help; with status 3 a front of it. Standard error
 /// has what is wrong with the words, or a line on what failed; that line is missing where it was
 /// standard output that failed, or a reply or a connection.
-pub fn run<R: Files + AllocGlobal, H: Registers + Ports, S: AsStr, I: Read, O: Write, E: Write>(
-    rt: &R,
-    host: &H,
-    words: &[S],
-    input: &mut I,
-    output: &mut O,
-    errors: &mut E,
-) -> u8
+pub fn run<
+    R: Files + AllocGlobal,
+    K: Keep + Drop,
+    H: Registers<K> + Ports,
+    S: AsStr,
+    I: Read,
+    O: Write,
+    E: Write,
+>(rt: &R, host: &H, words: &[S], input: &mut I, output: &mut O, errors: &mut E) -> u8
     ensures at_most { result ≤ 3 }
 
     // Words that ask for a command have it done, as it is stated of each command, or memory is wanting.
@@ -108,14 +110,14 @@ pub fn run<R: Files + AllocGlobal, H: Registers + Ports, S: AsStr, I: Read, O: W
 }
 
 // Does what is asked, and tells on standard error why it could not be done.
-fn perform<R: Files + AllocGlobal, H: Registers + Ports, I: Read, O: Write, E: Write>(
-    rt: &R,
-    host: &H,
-    command: Command<'_>,
-    input: &mut I,
-    output: &mut O,
-    errors: &mut E,
-) -> Status
+fn perform<
+    R: Files + AllocGlobal,
+    K: Keep + Drop,
+    H: Registers<K> + Ports,
+    I: Read,
+    O: Write,
+    E: Write,
+>(rt: &R, host: &H, command: Command<'_>, input: &mut I, output: &mut O, errors: &mut E) -> Status
     ensures { Performs command.entry (I.remaining input.old) (I.remaining input.new) (O.contents output.old) (O.contents output.new)
         (E.contents errors.old) (E.contents errors.new) (exit_code result) }
 {

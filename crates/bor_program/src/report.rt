@@ -20,7 +20,7 @@ use std::alloc::Global;
 use std::io::Write;
 
 /// Prints who stands behind an entity, by the register in a file.
-pub fn report<H: Registers, O: Write, E: Write>(
+pub fn report<K: Keep + Drop, H: Registers<K>, O: Write, E: Write>(
     alloc: Global,
     host: &H,
     asked: &Report<'_>,

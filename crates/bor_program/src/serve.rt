@@ -17,7 +17,7 @@ use std::io::Write;
 
 /// Answers requests over HTTP in the register in a file, one connection after the other, on a port of
 /// 127.0.0.1. Once it listens, it prints that.
-pub fn serve<H: Registers + Ports, O: Write, E: Write>(
+pub fn serve<K: Keep + Drop, H: Registers<K> + Ports, O: Write, E: Write>(
     alloc: Global,
     host: &H,
     asked: Serve<'_>,

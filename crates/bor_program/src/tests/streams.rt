@@ -71,9 +71,7 @@ fn new_register(alloc: Global, path: &str) -> Result<ListKeep, Failure<'_>>
     }
 }
 
-impl Registers for Machine {
-    type Opened = ListKeep;
-
+impl Registers<ListKeep> for Machine {
     fn open<'a>(&self, path: &'a str) -> Result<ListKeep, Failure<'a>> {
         match self.fault {
             None => new_register(self.alloc, path),

@@ -1,8 +1,0 @@
-use Rattle.std.proofs.Common.{ap, refl}
-use Rattle.bor.specs.Program.{exit_code}
-use Rattle.bor.proofs.Ends.{cut_off}
-use Rattle.bor.proofs.program.perform.Goals as goal
-
-pub returns-in-Err-clause-report : goal.returns-in-Err-clause-report
-returns-in-Err-clause-report g c =
-    cut_off _ _ _ _ _ c.in-Err.failure _ refl refl c.in-Err.is (ap exit_code c.tell.ensures.status) c.check_source.ensures.report
