@@ -1,4 +1,0 @@
-pub mod KnownWords
-pub mod KnownBytes
-pub mod Ends
-mod Examples

@@ -1,4 +1,0 @@
-pub mod Words
-pub mod Streams
-pub mod Program
-pub mod Failures

@@ -1,21 +1,14 @@
 //! `bor`, a register of beneficial ownership on the command line.
 #![tactic(auto)]
 
-mod check;
-mod command;
-mod failure;
-mod help;
-mod output;
-mod program;
-mod status;
 #[cfg(test)]
 mod tests;
 
-use failure::Failure;
-use program::run;
-use status::Status;
+use bor_host::Host;
+use bor_program::{Failure, Status};
+use std::convert::AsStr;
 use std::env::{self, Env};
-use std::io::{self, ErrorKind, Write};
+use std::io::{self, ErrorKind, Read, Write};
 use std::process::ExitCode;
 
 // Runs on the words after the program's name and on the three standard streams, and exits with the
@@ -33,6 +26,18 @@ fn main(rt: HostRuntime) -> ExitCode {
         Err(error) => tell_unread(&error, &mut errors).code(),
     };
     ExitCode::from(code)
+}
+
+// Does what the words ask for, over registers in files and ports of this machine, as
+// `bor_program::run` does, and gives the exit status.
+fn run<S: AsStr, I: Read, O: Write, E: Write>(
+    rt: &HostRuntime,
+    words: &[S],
+    input: &mut I,
+    output: &mut O,
+    errors: &mut E,
+) -> u8 {
+    bor_program::run(rt, &Host::new(rt), words, input, output, errors)
 }
 
 // The words after the program's name.

@@ -1,0 +1,13 @@
+//! The machine that the program runs on: registers in files of SQLite, and ports of 127.0.0.1.
+//!
+//! ```
+//! let host = Host::new(&rt);
+//! let status = bor_program::run(&rt, &host, &words, &mut rt.stdin(), &mut rt.stdout(), &mut rt.stderr());
+//! ```
+#![tactic(auto)]
+
+mod file_keep;
+mod host;
+
+pub use file_keep::FileKeep;
+pub use host::Host;
