@@ -27,8 +27,6 @@ mod node;
 mod rows;
 mod sign;
 mod stake;
-#[cfg(test)]
-mod tests;
 
 pub use class::{Class, once};
 pub use node::{Link, Node, NodeInfo, OpenNode};
