@@ -3,4 +3,5 @@
 
 mod keeping;
 mod links;
+mod members;
 mod notation;

@@ -29,8 +29,6 @@ mod picked;
 mod publication;
 mod rows;
 mod statements;
-#[cfg(test)]
-mod tests;
 mod viewpoint;
 mod withdrawal;
 
