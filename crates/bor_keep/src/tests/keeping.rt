@@ -77,6 +77,12 @@ fn seen(keep: &mut ListKeep, alloc: Global, viewer: &str) -> Result<(usize, usiz
     Ok((rows.len(), keep.visible_rows(&viewer)?.len()))
 }
 
+// Whether the keep has the agent, and how many filings the agent has.
+fn enrolled(keep: &mut ListKeep, agent: &AgentName) -> Result<(bool, usize), Fail> {
+    let has = keep.has_agent(agent)?;
+    Ok((has, keep.filings(agent)?.len()))
+}
+
 #[test]
 fn the_example_of_the_root_page(rt: HostRuntime) -> Result<(), Fail> {
     let alloc = rt.alloc();
@@ -85,28 +91,33 @@ fn the_example_of_the_root_page(rt: HostRuntime) -> Result<(), Fail> {
     let today = day("2024-02-01")?;
     let mut keep = ListKeep::new(alloc, registrar, today);
     enrol(&mut keep, &alder, &token)?;
-    assert!(rt; keep.has_agent(&alder)?);
-    assert_eq!(rt; keep.filings(&alder)?.len(), 0);
+    assert_eq!(rt; enrolled(&mut keep, &alder)?, (true, 0));
     Ok(())
+}
+
+// Who has the token.
+fn who(keep: &mut ListKeep, alloc: Global, secret: &str) -> Result<String, Fail> {
+    let caller = keep.who(&token(alloc, secret)?)?;
+    let told = match &caller {
+        Some(Caller::Registrar) => "the registrar",
+        Some(Caller::Agent(name)) => name.as_str(),
+        None => "nobody",
+    };
+    Ok(String::from_str(alloc, told)?)
 }
 
 #[test]
 fn a_token_has_one_caller(rt: HostRuntime) -> Result<(), Fail> {
     let alloc = rt.alloc();
     let mut keep = register(alloc)?;
-    for (secret, who) in [
+    for (secret, name) in [
         ("registrar-token-0001", "the registrar"),
         ("alder-token-000001", "alder"),
         ("birch-token-000001", "birch"),
         ("cedar-token-000001", "nobody"),
     ] {
-        let caller = keep.who(&token(alloc, secret)?)?;
-        let told = match &caller {
-            Some(Caller::Registrar) => "the registrar",
-            Some(Caller::Agent(name)) => name.as_str(),
-            None => "nobody",
-        };
-        assert_eq!(rt; told, who, "{secret}");
+        let told = who(&mut keep, alloc, secret)?;
+        assert_eq!(rt; told.as_str(), name, "{secret}");
     }
     Ok(())
 }
@@ -159,18 +170,37 @@ fn a_withdrawn_filing_keeps_its_key(rt: HostRuntime) -> Result<(), Fail> {
     Ok(())
 }
 
-// The agents of the published filings, the state of alder's, and the agents of the rows that all see.
-fn in_order(keep: &mut ListKeep, alloc: Global) -> Result<String, Fail> {
-    let mut told = String::new(alloc);
+// Adds the agents of the published filings.
+fn add_published(told: &mut String, keep: &mut ListKeep) -> Result<(), Fail> {
     for outward in &keep.published()? {
         write!(told, "{} ", outward.agent.as_str())?;
     }
-    for line in &keep.filings(&agent(alloc, "alder")?)? {
+    Ok(())
+}
+
+// Adds the keys and the states of the agent's filings.
+fn add_lines(told: &mut String, keep: &mut ListKeep, agent: &AgentName) -> Result<(), Fail> {
+    for line in &keep.filings(agent)? {
         write!(told, "{} {} ", line.key.as_str(), line.state.as_str())?;
     }
-    for row in &keep.visible_rows(&agent(alloc, "cedar")?)? {
+    Ok(())
+}
+
+// Adds the agents of the rows that a viewer sees.
+fn add_rows(told: &mut String, keep: &mut ListKeep, viewer: &AgentName) -> Result<(), Fail> {
+    for row in &keep.visible_rows(viewer)? {
         write!(told, "{} ", row.agent.as_str())?;
     }
+    Ok(())
+}
+
+// The agents of the published filings, the state of alder's, and the agents of the rows that all see.
+fn in_order(keep: &mut ListKeep, alloc: Global) -> Result<String, Fail> {
+    let (alder, cedar) = (agent(alloc, "alder")?, agent(alloc, "cedar")?);
+    let mut told = String::new(alloc);
+    add_published(&mut told, keep)?;
+    add_lines(&mut told, keep, &alder)?;
+    add_rows(&mut told, keep, &cedar)?;
     Ok(told)
 }
 
