@@ -5,3 +5,4 @@ mod keeping;
 mod links;
 mod members;
 mod notation;
+mod records;

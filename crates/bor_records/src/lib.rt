@@ -32,8 +32,6 @@ pub mod laws;
 mod row;
 mod series;
 mod snapshots;
-#[cfg(test)]
-mod tests;
 
 pub use admission::{Last, admit};
 pub use dated::latest;
