@@ -48,5 +48,3 @@ pub use interest::{Directness, Interest, InterestKind};
 pub use member::ITEMS_LIMIT;
 pub use statement::{RecordType, Statement, Status};
 
-#[cfg(test)]
-mod tests;
