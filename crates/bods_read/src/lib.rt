@@ -47,4 +47,3 @@ pub use free_text::{FreeForm, FreeText};
 pub use interest::{Directness, Interest, InterestKind};
 pub use member::ITEMS_LIMIT;
 pub use statement::{RecordType, Statement, Status};
-

@@ -7,3 +7,4 @@ mod links;
 mod members;
 mod notation;
 mod records;
+mod worked_rows;

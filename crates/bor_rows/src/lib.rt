@@ -37,6 +37,3 @@ pub use replies::{DRAFT, PUBLISHED};
 
 /// An ask in words, and its reply.
 pub type Row = (&'static str, &'static str);
-
-#[cfg(test)]
-mod tests;

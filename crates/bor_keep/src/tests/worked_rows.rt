@@ -1,6 +1,6 @@
-//! What no clause says: files as they stand in the rows, and each row an ask.
+//! Worked rows: files as they stand in them, and each row an ask.
 
-use super::*;
+use bor_rows::{Ask, Wish, body_of};
 use std::test::Fail;
 
 #[test]
