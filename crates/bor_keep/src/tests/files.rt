@@ -2,8 +2,8 @@
 
 use super::notation::statements;
 use bods_read::{
-    Details, Directness, EntityKind, Fault, Field, FileFault, FreeText, Identifier, Interest,
-    InterestKind, PersonKind, ReadFault, RecordType, Statement, read_file,
+    Details, Directness, Fault, Field, FileFault, FreeText, Identifier, Interest, InterestKind,
+    ReadFault, RecordType, Statement, read_file,
 };
 use bor_rows::FIRST;
 use bor_terms::Span;
@@ -131,6 +131,12 @@ fn line_of(alloc: Global, statement: &Statement) -> Result<String, Fail> {
     Ok(format!(in alloc; "{id} {rec} {declaration} {kind} {day} {has_status}")?)
 }
 
+// The line of a statement of the first lodging, at a place from 0.
+fn line_at(alloc: Global, i: usize) -> Result<String, Fail> {
+    let statement = statement_of(alloc, FIRST, i)?;
+    line_of(alloc, &statement)
+}
+
 #[test]
 fn a_whole_file_is_read(rt: HostRuntime) -> Result<(), Fail> {
     let alloc = rt.alloc();
@@ -141,57 +147,51 @@ fn a_whole_file_is_read(rt: HostRuntime) -> Result<(), Fail> {
         (1, "s2 p1 c1 person 19732 false"),
         (2, "s3 r1 c1 relationship 19732 false"),
     ] {
-        let told = line_of(alloc, &statement_of(alloc, FIRST, i)?)?;
-        assert_eq!(rt; told.as_str(), line);
+        assert_eq!(rt; line_at(alloc, i)?.as_str(), line);
     }
     Ok(())
 }
 
-fn is_text(text: &Option<FreeText>, wanted: &str) -> bool {
-    matches!(text, Some(text) if text.as_str() == wanted)
-}
-
-#[test]
-fn an_entity_is_read(rt: HostRuntime) -> Result<(), Fail> {
-    let statement = statement_of(rt.alloc(), FIRST, 0)?;
-    match &statement.details {
+// What kind an entity or a person is of and its name, and who holds whom by a relationship.
+fn told_of(alloc: Global, details: &Details) -> Result<String, Fail> {
+    match details {
         Details::Entity {
             kind,
-            name,
+            name: Some(name),
             identifiers,
         } => {
-            assert_eq!(rt; *kind, EntityKind::RegisteredEntity);
-            assert!(rt; is_text(name, "Alder Ltd"));
-            assert!(rt; identifiers.as_slice().is_empty());
-            Ok(())
+            let count = identifiers.as_slice().len();
+            Ok(format!(in alloc; "{} {} {count}", kind.as_str(), name.as_str())?)
         }
-        _ => Err("no entity")?,
-    }
-}
-
-#[test]
-fn a_person_is_read(rt: HostRuntime) -> Result<(), Fail> {
-    let statement = statement_of(rt.alloc(), FIRST, 1)?;
-    match &statement.details {
-        Details::Person { kind, name } => {
-            assert_eq!(rt; *kind, PersonKind::KnownPerson);
-            assert!(rt; is_text(name, "Ann Moss"));
-            Ok(())
-        }
-        _ => Err("no person")?,
-    }
-}
-
-// Who holds whom by a relationship of two records, as `e1<-p1`.
-fn ends_of(alloc: Global, details: &Details) -> Result<String, Fail> {
-    match details {
+        Details::Person {
+            kind,
+            name: Some(name),
+        } => Ok(format!(in alloc; "{} {}", kind.as_str(), name.as_str())?),
         Details::Relationship {
             subject: Some(subject),
             party: Some(party),
             ..
         } => Ok(format!(in alloc; "{}<-{}", subject.as_str(), party.as_str())?),
-        _ => Err("no relationship of two records")?,
+        _ => Err("a name or an end is wanting")?,
     }
+}
+
+fn told_at(alloc: Global, i: usize) -> Result<String, Fail> {
+    let statement = statement_of(alloc, FIRST, i)?;
+    told_of(alloc, &statement.details)
+}
+
+#[test]
+fn an_entity_a_person_and_a_relationship_are_read(rt: HostRuntime) -> Result<(), Fail> {
+    let alloc = rt.alloc();
+    for (i, wanted) in [
+        (0, "registeredEntity Alder Ltd 0"),
+        (1, "knownPerson Ann Moss"),
+        (2, "e1<-p1"),
+    ] {
+        assert_eq!(rt; told_at(alloc, i)?.as_str(), wanted);
+    }
+    Ok(())
 }
 
 fn interests_of(details: &Details) -> &[Interest] {
@@ -201,17 +201,22 @@ fn interests_of(details: &Details) -> &[Interest] {
     }
 }
 
+fn only_interest(details: &Details) -> Option<Interest> {
+    match interests_of(details) {
+        [interest] => Some(*interest),
+        _ => None,
+    }
+}
+
 #[test]
-fn a_relationship_is_read(rt: HostRuntime) -> Result<(), Fail> {
-    let alloc = rt.alloc();
-    let statement = statement_of(alloc, FIRST, 2)?;
-    assert_eq!(rt; ends_of(alloc, &statement.details)?.as_str(), "e1<-p1");
-    let [interest] = interests_of(&statement.details) else {
-        return Err(Fail::from("not one interest"));
+fn an_interest_is_read(rt: HostRuntime) -> Result<(), Fail> {
+    let statement = statement_of(rt.alloc(), FIRST, 2)?;
+    let wanted = Interest {
+        kind: InterestKind::VotingRights,
+        directness: Directness::Unknown,
+        share: Span::new(100, false, 100, false),
     };
-    assert_eq!(rt; interest.kind, InterestKind::VotingRights);
-    assert_eq!(rt; interest.directness, Directness::Unknown);
-    assert_eq!(rt; interest.share, Span::new(100, false, 100, false));
+    assert_eq!(rt; only_interest(&statement.details), Some(wanted));
     Ok(())
 }
 
@@ -222,17 +227,24 @@ fn file_with_interests(alloc: Global, interests: &str) -> Result<String, Fail> {
     )?)
 }
 
+// How many interests the relationship of such a file has, and the share of the last one.
+fn last_share(alloc: Global, interests: &str) -> Result<(usize, Option<Span>), Fail> {
+    let file = file_with_interests(alloc, interests)?;
+    let statement = statement_of(alloc, file.as_str(), 2)?;
+    let interests = interests_of(&statement.details);
+    match interests.last() {
+        Some(last) => Ok((interests.len(), last.share)),
+        None => Ok((0, None)),
+    }
+}
+
 #[test]
 fn the_longest_list_of_interests_is_read_and_copied(rt: HostRuntime) -> Result<(), Fail> {
     let alloc = rt.alloc();
     let interest = "{\"type\":\"shareholding\",\"share\":{\"exact\":1}}";
     let interests = list_of(alloc, interest, 99)?;
-    let file = file_with_interests(alloc, interests.as_str())?;
-    let statement = statement_of(alloc, file.as_str(), 2)?;
-    let interests = interests_of(&statement.details);
-    assert_eq!(rt; interests.len(), 100);
-    let last = interests.last().ok_or("no interests")?;
-    assert_eq!(rt; last.share, Span::new(1, false, 1, false));
+    let told = last_share(alloc, interests.as_str())?;
+    assert_eq!(rt; told, (100, Span::new(1, false, 1, false)));
     Ok(())
 }
 
@@ -250,16 +262,23 @@ fn identifiers_of(details: &Details) -> &[Identifier] {
     }
 }
 
+// How many identifiers the entity of such a file has, and whether the last one is this.
+fn last_identifier(alloc: Global, identifiers: &str, id: &str) -> Result<(usize, bool), Fail> {
+    let file = file_with_identifiers(alloc, identifiers)?;
+    let statement = statement_of(alloc, file.as_str(), 0)?;
+    let identifiers = identifiers_of(&statement.details);
+    match identifiers.last() {
+        Some(last) => Ok((identifiers.len(), last.id.as_str() == id)),
+        None => Ok((0, false)),
+    }
+}
+
 #[test]
 fn the_longest_list_of_identifiers_is_read_and_copied(rt: HostRuntime) -> Result<(), Fail> {
     let alloc = rt.alloc();
     let identifiers = list_of(alloc, "{\"scheme\":\"GB-COH\",\"id\":\"1\"}", 99)?;
-    let file = file_with_identifiers(alloc, identifiers.as_str())?;
-    let statement = statement_of(alloc, file.as_str(), 0)?;
-    let identifiers = identifiers_of(&statement.details);
-    assert_eq!(rt; identifiers.len(), 100);
-    let last = identifiers.last().ok_or("no identifiers")?;
-    assert_eq!(rt; last.id.as_str(), "1");
+    let told = last_identifier(alloc, identifiers.as_str(), "1")?;
+    assert_eq!(rt; told, (100, true));
     Ok(())
 }
 
@@ -270,14 +289,22 @@ fn identifier(alloc: Global, scheme: &str, id: &str) -> Result<Identifier, Fail>
     })
 }
 
+fn is_below(alloc: Global, low: (&str, &str), high: (&str, &str)) -> Result<bool, Fail> {
+    let low = identifier(alloc, low.0, low.1)?;
+    Ok(low < identifier(alloc, high.0, high.1)?)
+}
+
 #[test]
 fn identifiers_are_ordered_by_scheme_and_id(rt: HostRuntime) -> Result<(), Fail> {
-    let alloc = rt.alloc();
-    let low = identifier(alloc, "A", "2")?;
-    for (scheme, id) in [("B", "1"), ("A", "3")] {
-        let high = identifier(alloc, scheme, id)?;
-        assert!(rt; low < high, "{scheme} {id}");
+    for high in [("B", "1"), ("A", "3")] {
+        assert!(rt; is_below(rt.alloc(), ("A", "2"), high)?);
     }
-    assert!(rt; low.copy(alloc)? == low);
+    Ok(())
+}
+
+#[test]
+fn a_copied_identifier_is_the_same(rt: HostRuntime) -> Result<(), Fail> {
+    let one = identifier(rt.alloc(), "A", "2")?;
+    assert!(rt; one.copy(rt.alloc())? == one);
     Ok(())
 }

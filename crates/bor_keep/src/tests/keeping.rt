@@ -21,16 +21,16 @@ fn enrol<K: Keep>(keep: &mut K, agent: &AgentName, token: &Token) -> Result<(), 
 #[tactic(auto, using(bor_register::proofs::Additions::one_new))]
 fn add<K: Keep>(
     keep: &mut K,
-    agent: &AgentName,
-    key: &LodgeKey,
+    alloc: Global,
+    (agent, key): (&AgentName, &LodgeKey),
     due: Day,
     bytes: &[u8],
-    statement: Statement,
+    statement: &Statement,
 ) -> Result<u32, Fail> {
     if !keep.has_agent(agent)? {
         return Err(Fail::from("not enrolled"));
     }
-    if keep.filings(agent)?.len() >= 999 {
+    if keep.filing_count(agent)? >= 999 {
         return Err(Fail::from("no room for a filing"));
     }
     if keep.filing(agent, key)?.is_some() {
@@ -39,7 +39,7 @@ fn add<K: Keep>(
     if statement.status.is_none() || keep.has_statement(agent, &statement.id)? {
         return Err(Fail::from("the statement can't be added"));
     }
-    let statements = [statement];
+    let statements = [statement.copy(alloc)?];
     Ok(keep.add_filing(agent, key, due, bytes, &statements)?)
 }
 
@@ -66,8 +66,8 @@ fn file(
     id: &str,
 ) -> Result<u32, Fail> {
     let (agent, lodge_key) = (agent(alloc, name)?, key(alloc, lodge_key)?);
-    let statement = entity(alloc, id)?;
-    add(keep, &agent, &lodge_key, day(due)?, b"[]", statement)
+    let (due, statement) = (day(due)?, entity(alloc, id)?);
+    add(keep, alloc, (&agent, &lodge_key), due, b"[]", &statement)
 }
 
 // How many rows the viewer sees of alder's declaration c1, and how many of all agents.
@@ -122,18 +122,21 @@ fn a_token_has_one_caller(rt: HostRuntime) -> Result<(), Fail> {
     Ok(())
 }
 
+// Sets the day, and gives the number of the keep's day then.
+fn day_set(keep: &mut ListKeep, date: &str) -> Result<i32, Fail> {
+    keep.set_day(day(date)?)?;
+    Ok(keep.day()?.number())
+}
+
 #[test]
 fn a_draft_is_seen_by_its_agent_until_its_day(rt: HostRuntime) -> Result<(), Fail> {
     let alloc = rt.alloc();
     let mut keep = register(alloc)?;
-    assert_eq!(rt;
-        file(&mut keep, alloc, "alder", "f1", "2024-02-02", "s1")?,
-        1
-    );
+    let number = file(&mut keep, alloc, "alder", "f1", "2024-02-02", "s1")?;
+    assert_eq!(rt; number, 1);
     assert_eq!(rt; seen(&mut keep, alloc, "alder")?, (1, 1));
     assert_eq!(rt; seen(&mut keep, alloc, "birch")?, (0, 0));
-    keep.set_day(day("2024-02-02")?)?;
-    assert_eq!(rt; keep.day()?.number(), 19_755);
+    assert_eq!(rt; day_set(&mut keep, "2024-02-02")?, 19_755);
     assert_eq!(rt; seen(&mut keep, alloc, "birch")?, (1, 1));
     Ok(())
 }
@@ -147,26 +150,35 @@ fn second(keep: &mut ListKeep, alloc: Global) -> Result<(bool, bool, Option<i32>
     Ok((is_live, keep.has_successor(&alder, 1)?, due))
 }
 
+// The number of alder's filing under a key, whether it is withdrawn, and whether its file is `[]`.
+fn filed(keep: &mut ListKeep, alloc: Global, lodge_key: &str) -> Result<(u32, bool, bool), Fail> {
+    let (alder, lodge_key) = (agent(alloc, "alder")?, key(alloc, lodge_key)?);
+    let filing = keep.filing(&alder, &lodge_key)?.ok_or("no filing")?;
+    let has_bytes = filing.bytes.as_slice() == b"[]".as_slice();
+    Ok((filing.number, filing.withdrawn, has_bytes))
+}
+
+// Two filings of alder's, of which the second is due a day later; gives their numbers.
+fn file_two(keep: &mut ListKeep, alloc: Global) -> Result<(u32, u32), Fail> {
+    let first = file(keep, alloc, "alder", "f1", "2024-02-01", "s1")?;
+    let second = file(keep, alloc, "alder", "f2", "2024-02-02", "s2")?;
+    Ok((first, second))
+}
+
+fn withdraw_second(keep: &mut ListKeep, alloc: Global) -> Result<(), Fail> {
+    keep.withdraw(&agent(alloc, "alder")?, 2)?;
+    Ok(())
+}
+
 #[test]
 fn a_withdrawn_filing_keeps_its_key(rt: HostRuntime) -> Result<(), Fail> {
     let alloc = rt.alloc();
     let mut keep = register(alloc)?;
-    assert_eq!(rt;
-        file(&mut keep, alloc, "alder", "f1", "2024-02-01", "s1")?,
-        1
-    );
-    assert_eq!(rt;
-        file(&mut keep, alloc, "alder", "f2", "2024-02-02", "s2")?,
-        2
-    );
+    assert_eq!(rt; file_two(&mut keep, alloc)?, (1, 2));
     assert_eq!(rt; second(&mut keep, alloc)?, (true, true, Some(19_755)));
-    let alder = agent(alloc, "alder")?;
-    keep.withdraw(&alder, 2)?;
+    withdraw_second(&mut keep, alloc)?;
     assert_eq!(rt; second(&mut keep, alloc)?, (false, false, Some(19_754)));
-    let filing = keep.filing(&alder, &key(alloc, "f2")?)?;
-    let filing = filing.ok_or("no filing")?;
-    assert_eq!(rt; (filing.number, filing.withdrawn), (2, true));
-    assert_eq!(rt; filing.bytes.as_slice(), b"[]".as_slice());
+    assert_eq!(rt; filed(&mut keep, alloc, "f2")?, (2, true, true));
     Ok(())
 }
 
@@ -242,8 +254,7 @@ fn a_key_tells_its_line_in_each_state(rt: HostRuntime) -> Result<(), Fail> {
     ] {
         file(&mut keep, alloc, "alder", lodge_key, due, id)?;
     }
-    let alder = agent(alloc, "alder")?;
-    keep.withdraw(&alder, 2)?;
+    withdraw_second(&mut keep, alloc)?;
     for (lodge_key, line) in [
         ("f1", Some((1, State::Published, true))),
         ("f2", Some((2, State::Withdrawn, true))),
@@ -252,21 +263,31 @@ fn a_key_tells_its_line_in_each_state(rt: HostRuntime) -> Result<(), Fail> {
     ] {
         assert_eq!(rt; told(&mut keep, alloc, lodge_key)?, line, "{lodge_key}");
     }
-    assert_eq!(rt; keep.filing_count(&alder)?, 3);
+    assert_eq!(rt; keep.filing_count(&agent(alloc, "alder")?)?, 3);
     Ok(())
+}
+
+// Files these bytes as alder's under f1, and gives the filing's number.
+fn file_bytes(keep: &mut ListKeep, alloc: Global, bytes: &[u8]) -> Result<u32, Fail> {
+    let (alder, f1) = (agent(alloc, "alder")?, key(alloc, "f1")?);
+    let (due, statement) = (day("2024-02-02")?, entity(alloc, "s1")?);
+    add(keep, alloc, (&alder, &f1), due, bytes, &statement)
+}
+
+// Whether alder's file under f1 is this one, and how many bytes it has.
+fn kept(keep: &mut ListKeep, alloc: Global, bytes: &[u8]) -> Result<(bool, usize), Fail> {
+    let (alder, f1) = (agent(alloc, "alder")?, key(alloc, "f1")?);
+    let has_file = keep.has_file(&alder, &f1, bytes)?;
+    let filing = keep.filing(&alder, &f1)?.ok_or("no filing")?;
+    Ok((has_file, filing.bytes.as_slice().len()))
 }
 
 #[test]
 fn the_longest_file_is_kept(rt: HostRuntime) -> Result<(), Fail> {
     let alloc = rt.alloc();
     let mut keep = register(alloc)?;
-    let (alder, f1) = (agent(alloc, "alder")?, key(alloc, "f1")?);
     let bytes = vec![in alloc; b' '; 1_048_576]?;
-    let statement = entity(alloc, "s1")?;
-    let due = day("2024-02-02")?;
-    assert_eq!(rt; add(&mut keep, &alder, &f1, due, &bytes, statement)?, 1);
-    assert!(rt; keep.has_file(&alder, &f1, &bytes)?);
-    let filing = keep.filing(&alder, &f1)?.ok_or("no filing")?;
-    assert_eq!(rt; filing.bytes.as_slice().len(), 1_048_576);
+    assert_eq!(rt; file_bytes(&mut keep, alloc, &bytes)?, 1);
+    assert_eq!(rt; kept(&mut keep, alloc, &bytes)?, (true, 1_048_576));
     Ok(())
 }

@@ -156,6 +156,16 @@ fn is_legal_entity(seen: &Viewpoint<'_>, today: Day, node: &Node) -> Result<bool
     Ok(matches!(info, Some(NodeInfo::Entity { legal: true })))
 }
 
+fn is_no_node(seen: &Viewpoint<'_>, date: &str, node: &Node) -> Result<bool, Fail> {
+    Ok(seen.node(day(date)?, node)?.is_none())
+}
+
+// How many aliases the node has, and how many links lead into it.
+fn beside(seen: &Viewpoint<'_>, today: Day, node: &Node) -> Result<(usize, usize), Fail> {
+    let aliases = seen.aliases(today, node)?.len();
+    Ok((aliases, seen.links_into(today, node)?.len()))
+}
+
 // Whether the node is the only one that is the same as it.
 fn is_alone(alloc: Global, seen: &Viewpoint<'_>, today: Day, node: &Node) -> Result<bool, Fail> {
     let same = seen.same(today, node)?;
@@ -171,6 +181,19 @@ fn e1(alloc: Global) -> Result<Node, Fail> {
     })
 }
 
+// Of e1, whether it is a legal entity today, whether it was no node the day before its statement's, and
+// whether it is alone.
+fn told_of_e1(
+    alloc: Global,
+    seen: &Viewpoint<'_>,
+    today: Day,
+    e1: &Node,
+) -> Result<(bool, bool, bool), Fail> {
+    let is_legal = is_legal_entity(seen, today, e1)?;
+    let is_new = is_no_node(seen, "2024-01-09", e1)?;
+    Ok((is_legal, is_new, is_alone(alloc, seen, today, e1)?))
+}
+
 #[test]
 fn a_viewpoint_tells_of_one_record(rt: HostRuntime) -> Result<(), Fail> {
     let alloc = rt.alloc();
@@ -178,10 +201,8 @@ fn a_viewpoint_tells_of_one_record(rt: HostRuntime) -> Result<(), Fail> {
     let (birch, e1) = (agent(alloc, "birch")?, e1(alloc)?);
     let today = day("2024-02-01")?;
     let seen = Viewpoint::new(alloc, &birch, today, &members);
-    assert!(rt; is_legal_entity(&seen, today, &e1)?);
-    assert!(rt; seen.node(day("2024-01-09")?, &e1)?.is_none());
-    assert_eq!(rt; seen.aliases(today, &e1)?.len(), 0);
-    assert!(rt; is_alone(alloc, &seen, today, &e1)?);
-    assert_eq!(rt; seen.links_into(today, &e1)?.len(), 0);
+    let told = told_of_e1(alloc, &seen, today, &e1)?;
+    assert_eq!(rt; told, (true, true, true));
+    assert_eq!(rt; beside(&seen, today, &e1)?, (0, 0));
     Ok(())
 }

@@ -2,7 +2,7 @@
 
 use super::notation::{day, ident, row, statement, statements};
 use bods_read::{Details, EntityKind, RecordType, Status};
-use bor_records::{Entry, Last, RecordFault, Row, admit, latest, snapshot};
+use bor_records::{Entry, Last, Row, admit, latest, snapshot};
 use bor_terms::Listed;
 use std::alloc::Global;
 use std::test::Fail;
@@ -31,7 +31,7 @@ fn the_example_of_the_root_page(rt: HostRuntime) -> Result<(), Fail> {
 }
 
 // What was last said of a record on 2024-01-10, due on 2024-03-01.
-fn last_of(kind: RecordType, status: Status) -> Result<Last, Fail> {
+fn last_of((kind, status): (RecordType, Status)) -> Result<Last, Fail> {
     Ok(Last {
         kind,
         status,
@@ -40,42 +40,67 @@ fn last_of(kind: RecordType, status: Status) -> Result<Last, Fail> {
     })
 }
 
-// What a statement of a company is refused for after this; nothing where it is admitted.
+// What a statement of a company is refused for, and the empty text where it is admitted.
 fn refusal_of(
     alloc: Global,
     last: Option<Last>,
     status: Option<Status>,
     (date, due): (&str, &str),
-) -> Result<Option<&'static str>, Fail> {
+) -> Result<&'static str, Fail> {
     let statement = statement(alloc, ("s2", "c1", "e1", date), status)?;
-    Ok(
-        admit(last, &statement, day(due)?)
-            .err()
-            .map(RecordFault::name),
-    )
+    match admit(last, &statement, day(due)?) {
+        Ok(_) => Ok(""),
+        Err(fault) => Ok(fault.name()),
+    }
 }
+
+// What the record's last statement was, the status and the days of the next one, and its refusal.
+type Refusal = (
+    Option<(RecordType, Status)>,
+    Option<Status>,
+    (&'static str, &'static str),
+    &'static str,
+);
+
+const OPEN: Option<(RecordType, Status)> = Some((RecordType::Entity, Status::New));
+
+const REFUSALS: [Refusal; 6] = [
+    (
+        Some((RecordType::Person, Status::New)),
+        None,
+        ("2024-01-10", "2024-03-01"),
+        "TypeChanged",
+    ),
+    (
+        OPEN,
+        Some(Status::New),
+        ("2024-01-10", "2024-03-01"),
+        "RecordExists",
+    ),
+    (
+        None,
+        Some(Status::Updated),
+        ("2024-01-10", "2024-03-01"),
+        "RecordUnknown",
+    ),
+    (
+        Some((RecordType::Entity, Status::Closed)),
+        Some(Status::Updated),
+        ("2024-01-10", "2024-03-01"),
+        "RecordClosed",
+    ),
+    (OPEN, None, ("2024-01-09", "2024-03-01"), "DateBack"),
+    (OPEN, None, ("2024-01-10", "2024-02-15"), "DueBeforeRecord"),
+];
 
 #[test]
 fn each_refusal_has_its_own_name(rt: HostRuntime) -> Result<(), Fail> {
-    let person = Some(last_of(RecordType::Person, Status::New)?);
-    let open = Some(last_of(RecordType::Entity, Status::New)?);
-    let closed = Some(last_of(RecordType::Entity, Status::Closed)?);
-    let (new, updated) = (Some(Status::New), Some(Status::Updated));
-    for (last, status, days, name) in [
-        (person, None, ("2024-01-10", "2024-03-01"), "TypeChanged"),
-        (open, new, ("2024-01-10", "2024-03-01"), "RecordExists"),
-        (None, updated, ("2024-01-10", "2024-03-01"), "RecordUnknown"),
-        (
-            closed,
-            updated,
-            ("2024-01-10", "2024-03-01"),
-            "RecordClosed",
-        ),
-        (open, None, ("2024-01-09", "2024-03-01"), "DateBack"),
-        (open, None, ("2024-01-10", "2024-02-15"), "DueBeforeRecord"),
-    ] {
-        let refused = refusal_of(rt.alloc(), last, status, days)?;
-        assert_eq!(rt; refused, Some(name));
+    for (last, status, days, name) in REFUSALS {
+        let last = match last {
+            Some(last) => Some(last_of(last)?),
+            None => None,
+        };
+        assert_eq!(rt; refusal_of(rt.alloc(), last, status, days)?, name);
     }
     Ok(())
 }
@@ -114,16 +139,20 @@ fn shown(alloc: Global, rows: &[Row], declaration: &str, date: &str) -> Result<S
     Ok(ids)
 }
 
+// A record that is closed on the second of two days.
+const CLOSED: [Line<'static>; 2] = [
+    ("s1", "c1", "e1", "2024-01-10", Status::New),
+    ("s2", "c1", "e1", "2024-01-12", Status::Closed),
+];
+
+fn latest_on(rows: &[Row], date: &str) -> Result<Option<usize>, Fail> {
+    Ok(latest(rows, day(date)?))
+}
+
 #[test]
 fn a_closed_record_is_shown_until_its_closing(rt: HostRuntime) -> Result<(), Fail> {
     let alloc = rt.alloc();
-    let rows = rows_of(
-        alloc,
-        &[
-            ("s1", "c1", "e1", "2024-01-10", Status::New),
-            ("s2", "c1", "e1", "2024-01-12", Status::Closed),
-        ],
-    )?;
+    let rows = rows_of(alloc, &CLOSED)?;
     for (date, place, ids) in [
         ("2024-01-09", None, ""),
         ("2024-01-10", Some(0), "s1 "),
@@ -131,7 +160,7 @@ fn a_closed_record_is_shown_until_its_closing(rt: HostRuntime) -> Result<(), Fai
         ("2024-01-12", Some(1), ""),
         ("2024-01-13", Some(1), ""),
     ] {
-        assert_eq!(rt; latest(&rows, day(date)?), place, "on {date}");
+        assert_eq!(rt; latest_on(&rows, date)?, place, "on {date}");
         assert_eq!(rt; shown(alloc, &rows, "c1", date)?.as_str(), ids, "on {date}");
     }
     Ok(())
@@ -170,17 +199,17 @@ fn of_one_day_the_later_statement_is_shown(rt: HostRuntime) -> Result<(), Fail> 
     Ok(())
 }
 
+// A record that is closed in one declaration before another begins.
+const OF_TWO_DECLARATIONS: [Line<'static>; 3] = [
+    ("s1", "c1", "e1", "2024-01-10", Status::New),
+    ("s2", "c1", "e1", "2024-01-12", Status::Closed),
+    ("s3", "c2", "e1", "2024-01-13", Status::New),
+];
+
 #[test]
 fn a_record_closed_in_one_declaration_is_open_in_another(rt: HostRuntime) -> Result<(), Fail> {
     let alloc = rt.alloc();
-    let rows = rows_of(
-        alloc,
-        &[
-            ("s1", "c1", "e1", "2024-01-10", Status::New),
-            ("s2", "c1", "e1", "2024-01-12", Status::Closed),
-            ("s3", "c2", "e1", "2024-01-13", Status::New),
-        ],
-    )?;
+    let rows = rows_of(alloc, &OF_TWO_DECLARATIONS)?;
     for (declaration, date, ids) in [
         ("c1", "2024-01-11", "s1 "),
         ("c2", "2024-01-11", ""),
