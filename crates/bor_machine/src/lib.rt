@@ -23,8 +23,6 @@ mod fault;
 pub mod laws;
 mod lodging;
 mod registrar;
-#[cfg(test)]
-mod tests;
 mod withdrawal;
 
 pub use bor_keep::{Keep, ListKeep, StoreFault};

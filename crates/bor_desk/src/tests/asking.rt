@@ -1,34 +1,14 @@
 //! A desk that is asked in words, for the tests.
 
+use crate::tests::notation::{agent, day, ident, key, node, token};
 use crate::tests::spelled::spelled;
 use crate::{DeskReply, Request, Text, answer, report_text};
-use bor_chains::Node;
 use bor_machine::{Keep, ListKeep};
 use bor_rows::{Ask, Wish, body_of};
-use bor_terms::{AgentName, Day, Ident, Listed, LodgeKey, Token};
+use bor_terms::{Day, Listed, Token};
 use std::alloc::Global;
 use std::process::Abort;
 use std::test::Fail;
-
-fn day(text: &str) -> Result<Day, Fail> {
-    Ok(Day::read(text).ok_or("no day")?)
-}
-
-fn agent(alloc: Global, text: &str) -> Result<AgentName, Fail> {
-    Ok(AgentName::read(alloc, text)?.ok_or("no name")?)
-}
-
-fn ident(alloc: Global, text: &str) -> Result<Ident, Fail> {
-    Ok(Ident::read(alloc, text)?.ok_or("no identifier")?)
-}
-
-fn key(alloc: Global, text: &str) -> Result<LodgeKey, Fail> {
-    Ok(LodgeKey::read(alloc, text)?.ok_or("no key")?)
-}
-
-fn token(alloc: Global, text: &str) -> Result<Token, Fail> {
-    Ok(Token::read(alloc, text)?.ok_or("no token")?)
-}
 
 // The token of the registrar, or of the agent with this name.
 fn token_of(alloc: Global, caller: &str) -> Result<Token, Fail> {
@@ -41,14 +21,6 @@ fn optional_day(text: &str) -> Result<Option<Day>, Fail> {
         return Ok(None);
     }
     Ok(Some(day(text)?))
-}
-
-fn node(alloc: Global, name: &str, declaration: &str, rec: &str) -> Result<Node, Fail> {
-    Ok(Node {
-        agent: agent(alloc, name)?,
-        declaration: ident(alloc, declaration)?,
-        rec: ident(alloc, rec)?,
-    })
 }
 
 fn lodging(alloc: Global, lodged: &str, due: &str, file: &str) -> Result<Request, Fail> {

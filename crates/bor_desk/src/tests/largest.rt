@@ -1,7 +1,8 @@
 //! Files at the largest.
 
-use super::{agent, day, file, register};
-use crate::*;
+use crate::tests::notation::{agent, day};
+use crate::tests::operations::{file, register};
+use bor_machine::{Keep, LodgeFault};
 use std::alloc::Global;
 use std::test::Fail;
 

@@ -1,13 +1,14 @@
-//! What no clause says: values from outside, and that each call succeeds.
+//! The operations of `bor_machine`: values from outside, and that each call succeeds.
 
-mod failing;
-mod largest;
-
-use super::*;
+use crate::tests::notation::{agent, day, key as read_key, token};
 use bods_read::{FileFault, RecordType, Status};
+use bor_machine::{
+    AdvanceFault, EnrolFault, Keep, ListKeep, LodgeFault, Lodged, State, WithdrawFault, advance,
+    enrol, lodge, withdraw,
+};
 use bor_records::RecordFault;
 use bor_rows::FIRST;
-use bor_terms::{AgentName, Day, LodgeKey, Token};
+use bor_terms::Day;
 use std::alloc::Global;
 use std::test::Fail;
 
@@ -15,24 +16,8 @@ use std::test::Fail;
 const LATER: &[u8] =
     b"[{\"statementId\":\"s4\",\"statementDate\":\"2024-01-11\",\"declarationSubject\":\"c1\",\"recordId\":\"e1\",\"recordType\":\"entity\",\"recordDetails\":{}}]";
 
-fn day(text: &str) -> Result<Day, Fail> {
-    Ok(Day::read(text).ok_or("no day")?)
-}
-
-fn agent(alloc: Global, text: &str) -> Result<AgentName, Fail> {
-    Ok(AgentName::read(alloc, text)?.ok_or("no name")?)
-}
-
-fn token(alloc: Global, text: &str) -> Result<Token, Fail> {
-    Ok(Token::read(alloc, text)?.ok_or("no token")?)
-}
-
-fn read_key(alloc: Global, text: &str) -> Result<LodgeKey, Fail> {
-    Ok(LodgeKey::read(alloc, text)?.ok_or("no key")?)
-}
-
 // The register on 2024-02-01 with the agent alder.
-fn register(alloc: Global) -> Result<ListKeep, Fail> {
+pub(super) fn register(alloc: Global) -> Result<ListKeep, Fail> {
     let registrar = token(alloc, "registrar-token-0001")?;
     let mut keep = ListKeep::new(alloc, registrar, day("2024-02-01")?);
     let (alder, token) = (agent(alloc, "alder")?, token(alloc, "alder-token-000001")?);
@@ -41,7 +26,7 @@ fn register(alloc: Global) -> Result<ListKeep, Fail> {
 }
 
 // Lodges for alder where `lodge` may be called.
-fn file<K: Keep>(
+pub(super) fn file<K: Keep>(
     alloc: Global,
     keep: &mut K,
     key: &str,
@@ -56,7 +41,7 @@ fn file<K: Keep>(
 }
 
 // Withdraws for alder, and tells the filing's number and state.
-fn undo<K: Keep>(
+pub(super) fn undo<K: Keep>(
     alloc: Global,
     keep: &mut K,
     key: &str,
@@ -68,6 +53,7 @@ fn undo<K: Keep>(
     })
 }
 
+// The example of the first page of `bor_machine`.
 #[test]
 fn the_example_of_the_root_page(rt: HostRuntime) -> Result<(), Fail> {
     let alloc = rt.alloc();

@@ -1,9 +1,13 @@
 //! Each kind of fault at each call that an operation makes of a keep: it is told as what it is, and
 //! the register is as before.
 
-use super::{agent, day, file, register, token, undo};
-use crate::*;
+use crate::tests::notation::{agent, day, token};
+use crate::tests::operations::{file, register, undo};
 use bor_failing::FailingKeep;
+use bor_machine::{
+    AdvanceFault, EnrolFault, Keep, ListKeep, LodgeFault, State, StoreFault, WithdrawFault,
+    advance, enrol,
+};
 use bor_rows::FIRST;
 use std::alloc::Global;
 use std::process::Abort;
