@@ -3,15 +3,20 @@
 mod asking;
 mod callers;
 mod calls;
+mod cases;
 mod chains;
 mod failing;
+mod filed;
 mod largest;
 mod lodging;
 mod notation;
 mod operations;
 mod operations_failing;
 mod reports;
+mod rounds;
+mod shapes;
 mod sight;
+mod sources;
 mod spelled;
 mod withdrawing;
 

@@ -1,35 +1,20 @@
 //! Rows of declarations, and two answers to who is joined by them.
 
-use crate::rounds::{by_rounds, told};
-use crate::{ChainFault, ListSource, Node, PersonLine, persons_of};
+use crate::tests::notation::{day, ident, node};
+use crate::tests::rounds::{by_rounds, told};
 use bods_read::{
     Details, Directness, EntityKind, FreeText, Identifier, Interest, InterestKind, PersonKind,
     Statement, Status,
 };
+use bor_chains::{ChainFault, ListSource, Node, PersonLine, persons_of};
 use bor_records::Row;
-use bor_terms::{AgentName, Day, Ident, Listed, Span};
+use bor_terms::{Day, Listed, Span};
 use std::alloc::{AllocError, Global};
 use std::process::Abort;
 use std::test::Fail;
 
-pub(super) fn day(text: &str) -> Result<Day, Fail> {
-    Ok(Day::read(text).ok_or("no day")?)
-}
-
-pub(super) fn ident(alloc: Global, text: &str) -> Result<Ident, Fail> {
-    Ok(Ident::read(alloc, text)?.ok_or("no identifier")?)
-}
-
 pub(super) fn text(alloc: Global, text: &str) -> Result<FreeText, AllocError> {
     Ok(FreeText::new(String::from_str(alloc, text)?))
-}
-
-pub(super) fn node(alloc: Global, agent: &str, declaration: &str, rec: &str) -> Result<Node, Fail> {
-    Ok(Node {
-        agent: AgentName::read(alloc, agent)?.ok_or("no agent")?,
-        declaration: ident(alloc, declaration)?,
-        rec: ident(alloc, rec)?,
-    })
 }
 
 pub(super) fn entity(

@@ -1,15 +1,16 @@
-//! Worked cases, each answered twice.
+//! Worked cases of who stands behind an entity, each answered twice.
 
 use crate::tests::filed::{
-    Filed, answers, board, chains_of, company, day, entity, held, node, numbered, of_kind, over_a1,
-    person, shares, votes,
+    Filed, answers, board, chains_of, company, entity, held, numbered, of_kind, over_a1, person,
+    shares, votes,
 };
-use crate::{ListSource, persons_of};
+use crate::tests::notation::{day, node};
 use bods_read::{Directness, EntityKind, InterestKind, Status};
+use bor_chains::{ListSource, persons_of};
 use bor_terms::Span;
 use std::test::Fail;
 
-// The example of the first page.
+// The example of the first page of `bor_chains`.
 #[test]
 fn the_first_page_is_right(rt: HostRuntime) -> Result<(), Fail> {
     let alloc = rt.alloc();

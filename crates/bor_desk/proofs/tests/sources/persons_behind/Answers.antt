@@ -1,7 +1,7 @@
 use Rattle.std.proofs.Common.{◌≡◌, ◌∙◌, refl, sym, subst, IfOk}
 use Rattle.bor_records.specs.Promises.{Kept, Promised}
 use Rattle.bor_chains.specs.Chains.{AreJoined}
-use Rattle.bor_chains.proofs.tests.sources.persons_behind.Goals as goal
+use Rattle.bor_desk.proofs.tests.sources.persons_behind.Goals as goal
 
 pub returns-clause-kept : goal.returns-clause-kept
 returns-clause-kept g c =

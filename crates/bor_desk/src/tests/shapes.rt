@@ -1,9 +1,11 @@
-//! Large shapes, made of nodes and links by their numbers.
+//! Large shapes that a slow or endless walk would not come through, made of nodes and links by their
+//! numbers.
 
 use crate::tests::filed::{
-    Filed, chains_of, company, day, name_of, node, numbered, person, shares, votes, walked,
+    Filed, chains_of, company, name_of, numbered, person, shares, votes, walked,
 };
-use crate::{ListSource, persons_of};
+use crate::tests::notation::{day, node};
+use bor_chains::{ListSource, persons_of};
 use std::test::Fail;
 
 // e0 is held by e1, which is held by e2, and so on; the last is held by p.

@@ -1,4 +1,4 @@
-//! Sources that count, fail, lie and are borrowed.
+//! Sources of links that count, fail, lie and are borrowed.
 
 ghost use Rattle.std.specs.Prelude.{◌≡◌, IfOk};
 ghost use Rattle.std.specs.Borrow.{GName};
@@ -6,11 +6,12 @@ ghost use Rattle.bor_records.specs.Promises.{Kept, Promised, counted};
 ghost use Rattle.bor_links.specs.Shown.{Shown};
 ghost use Rattle.bor_chains.specs.Chains.{AreJoined};
 
-use crate::rounds::told;
-use crate::tests::filed::{
-    Filed, day, held, name_of, node, numbered, over_a1, shares, told_lines, votes,
+use crate::tests::filed::{Filed, name_of, numbered, over_a1, shares, told_lines, votes};
+use crate::tests::notation::{day, node};
+use crate::tests::rounds::told;
+use bor_chains::{
+    ChainFault, Link, LinkSource, ListSource, Node, NodeInfo, PersonLine, persons_of,
 };
-use crate::{ChainFault, Link, LinkSource, ListSource, Node, NodeInfo, PersonLine, persons_of};
 use bor_records::Row;
 use std::alloc::{AllocError, Global};
 use std::test::Fail;
