@@ -9,7 +9,7 @@ mod failing;
 mod filed;
 mod largest;
 mod lodging;
-mod notation;
+pub(crate) mod notation;
 mod operations;
 mod operations_failing;
 mod reports;

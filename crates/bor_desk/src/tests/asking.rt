@@ -121,14 +121,10 @@ impl Desk {
         Ok(())
     }
 
-    /// The report that the viewer is shown, by words as `alder c1 e1 2024-02-01`.
-    pub(crate) fn report(&mut self, viewer: &str, words: &str) -> Result<Text, Fail> {
-        let (name, words) = words.split_once(' ').ok_or("no agent")?;
-        let (declaration, words) = words.split_once(' ').ok_or("no declaration")?;
-        let (rec, date) = words.split_once(' ').ok_or("no record")?;
-        let entity = node(self.alloc, name, declaration, rec)?;
-        let viewer = agent(self.alloc, viewer)?;
-        let date = day(date)?;
+    /// The report on a record of alder's declaration c1 that the viewer is shown.
+    pub(crate) fn report(&mut self, viewer: &str, rec: &str, date: &str) -> Result<Text, Fail> {
+        let entity = node(self.alloc, "alder", "c1", rec)?;
+        let (viewer, date) = (agent(self.alloc, viewer)?, day(date)?);
         Ok(report_text(self.alloc, &mut self.keep, &viewer, &entity, date)?)
     }
 }

@@ -150,11 +150,7 @@ fn equal_records_are_aliases_within_one_agent(rt: HostRuntime) -> Result<(), Fai
     for (agent, wanted) in [("alder", "p1"), ("birch", "")] {
         let mut filed = Filed::new(alloc);
         filed.records(&["e1"])?;
-        let date = "2024-01-10";
-        filed.add((agent, "c2", "e1"), date, Status::New, company(alloc)?)?;
-        filed.add((agent, "c2", "p1"), date, Status::New, person(alloc, "p1")?)?;
-        let details = held(alloc, "e1", "p1", &[shares(5)])?;
-        filed.add((agent, "c2", "r1"), date, Status::New, details)?;
+        filed.held_beside((agent, "c2"), ("e1", company(alloc)?), "p1")?;
         chains_of(&rt, &filed, "e1", wanted)?;
     }
     Ok(())
@@ -167,21 +163,14 @@ fn persons_are_in_order(rt: HostRuntime) -> Result<(), Fail> {
     let mut filed = Filed::new(alloc);
     filed.with("e1", numbered(alloc, &[("X", "1")])?)?;
     filed.records(&["z9", "p2", "p10"])?;
-    filed.link("e1", "z9", &[shares(5)])?;
-    filed.link("e1", "p2", &[shares(5)])?;
-    filed.link("e1", "p10", &[shares(5)])?;
-    let date = "2024-01-10";
+    filed.links("e1", &["z9", "p2", "p10"], &[shares(5)])?;
     for (agent, declaration, rec) in [
         ("birch", "c0", "b"),
         ("agate", "c9", "z"),
         ("alder", "c0", "y"),
     ] {
-        let at = (agent, declaration, "e9");
-        filed.add(at, date, Status::New, numbered(alloc, &[("X", "1")])?)?;
-        let at = (agent, declaration, rec);
-        filed.add(at, date, Status::New, person(alloc, rec)?)?;
-        let details = held(alloc, "e9", rec, &[shares(5)])?;
-        filed.add((agent, declaration, "r9"), date, Status::New, details)?;
+        let same = numbered(alloc, &[("X", "1")])?;
+        filed.held_beside((agent, declaration), ("e9", same), rec)?;
     }
     chains_of(&rt, &filed, "e1", "z y p10 p2 z9 b")
 }

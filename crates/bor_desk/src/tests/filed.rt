@@ -1,7 +1,7 @@
 //! Rows of declarations, and two answers to who is joined by them.
 
 use crate::tests::notation::{day, ident, node};
-use crate::tests::rounds::{by_rounds, told};
+use crate::tests::rounds::{by_rounds, tell};
 use bods_read::{
     Details, Directness, EntityKind, FreeText, Identifier, Interest, InterestKind, PersonKind,
     Statement, Status,
@@ -104,9 +104,29 @@ impl Filed {
         Ok(())
     }
 
+    fn stated(&mut self, at: (&str, &str, &str), details: Details) -> Result<(), Fail> {
+        self.add(at, "2024-01-10", Status::New, details)
+    }
+
     // A statement of alder's declaration c1.
     pub(super) fn with(&mut self, rec: &str, details: Details) -> Result<(), Fail> {
-        self.add(("alder", "c1", rec), "2024-01-10", Status::New, details)
+        self.stated(("alder", "c1", rec), details)
+    }
+
+    // Of an agent's declaration: an entity, and a person that holds 5 percent of its shares.
+    pub(super) fn held_beside(
+        &mut self,
+        of: (&str, &str),
+        entity: (&str, Details),
+        holder: &str,
+    ) -> Result<(), Fail> {
+        let (agent, declaration) = of;
+        let (rec, details) = entity;
+        self.stated((agent, declaration, rec), details)?;
+        let details = person(self.alloc, holder)?;
+        self.stated((agent, declaration, holder), details)?;
+        let details = held(self.alloc, rec, holder, &[shares(5)])?;
+        self.stated((agent, declaration, "r9"), details)
     }
 
     pub(super) fn closed(&mut self, rec: &str, details: Details) -> Result<(), Fail> {
@@ -122,6 +142,18 @@ impl Filed {
         let rec = format!(in self.alloc; "r-{subject}-{party}")?;
         let details = held(self.alloc, subject, party, interests)?;
         self.with(rec.as_str(), details)
+    }
+
+    pub(super) fn links(
+        &mut self,
+        subject: &str,
+        parties: &[&str],
+        interests: &[Interest],
+    ) -> Result<(), Fail> {
+        for party in parties {
+            self.link(subject, party, interests)?;
+        }
+        Ok(())
     }
 
     // Entities that begin with e, a or b, and persons that begin with anything else.
@@ -182,11 +214,11 @@ pub(super) fn name_of(alloc: Global, letter: &str, number: u32) -> Result<String
 // ---- two answers
 
 pub(super) fn told_lines(alloc: Global, lines: &[PersonLine]) -> Result<String, AllocError> {
-    let mut nodes = Vec::new(alloc);
+    let mut out = String::new(alloc);
     for line in lines {
-        nodes.push(line.node.copy(alloc)?)?;
+        tell(&mut out, &line.node)?;
     }
-    told(alloc, &nodes)
+    Ok(out)
 }
 
 // The answer of the walk: the persons' records in order, or the refusal.

@@ -5,22 +5,23 @@ use bor_rows::FIRST;
 use std::process::Abort;
 use std::test::Fail;
 
-// The viewer is shown this text of records of alder, as `c1 e1 2024-02-01`.
+// The viewer is shown this text of a record of alder's declaration c1.
 fn shown(
     rt: &impl Abort,
     desk: &mut Desk,
     viewer: &str,
-    words: &str,
+    at: (&str, &str),
     text: &str,
     refused: bool,
 ) -> Result<(), Fail> {
-    let report = desk.report(viewer, words)?;
+    let (rec, date) = at;
+    let report = desk.report(viewer, rec, date)?;
     assert_eq!(rt;
         report.bytes.as_slice(),
         text.as_bytes(),
-        "{viewer} {words}"
+        "{viewer} {rec} {date}"
     );
-    assert_eq!(rt; report.refused, refused, "{viewer} {words}");
+    assert_eq!(rt; report.refused, refused, "{viewer} {rec} {date}");
     Ok(())
 }
 
@@ -33,18 +34,18 @@ fn a_report_names_the_persons(rt: HostRuntime) -> Result<(), Fail> {
         "entity\talder\tc1\te1\t2024-02-01\nperson\talder\tc1\tp1\t\"Ann Moss\"\npersons 1\n";
     let nobody = "entity\talder\tc1\te3\t2024-02-01\npersons 0\n";
     let no_entity = "refused NoEntity\n";
-    for (viewer, words, text, refused) in [
-        ("alder", "alder c1 e1 2024-02-01", named, false),
-        ("alder", "alder c1 e2 2024-02-01", no_entity, true),
-        ("alder", "alder c1 e1 2024-01-09", no_entity, true),
-        ("alder", "alder c1 e3 2024-02-01", nobody, false),
-        ("birch", "alder c1 e3 2024-02-01", no_entity, true),
-        ("birch", "alder c1 e1 2024-02-01", named, false),
+    for (viewer, at, text, refused) in [
+        ("alder", ("e1", "2024-02-01"), named, false),
+        ("alder", ("e2", "2024-02-01"), no_entity, true),
+        ("alder", ("e1", "2024-01-09"), no_entity, true),
+        ("alder", ("e3", "2024-02-01"), nobody, false),
+        ("birch", ("e3", "2024-02-01"), no_entity, true),
+        ("birch", ("e1", "2024-02-01"), named, false),
         // Nobody of this name is enrolled.
-        ("cedar", "alder c1 e1 2024-02-01", named, false),
-        ("cedar", "alder c1 e3 2024-02-01", no_entity, true),
+        ("cedar", ("e1", "2024-02-01"), named, false),
+        ("cedar", ("e3", "2024-02-01"), no_entity, true),
     ] {
-        shown(&rt, &mut desk, viewer, words, text, refused)?;
+        shown(&rt, &mut desk, viewer, at, text, refused)?;
     }
     Ok(())
 }
@@ -59,17 +60,17 @@ fn a_report_writes_names_as_json(rt: HostRuntime) -> Result<(), Fail> {
     let _ = desk.ask(ask.as_str())?;
     let unnamed = "alder lodge f2 2024-02-01 P s4 p2; E s5 e2; R s6 r2 e2<-p2 S5";
     let _ = desk.ask(unnamed)?;
-    for (words, text) in [
+    for (at, text) in [
         (
-            "alder c1 e1 2024-02-01",
+            ("e1", "2024-02-01"),
             "entity\talder\tc1\te1\t2024-02-01\nperson\talder\tc1\tp1\t\"Ann \\\"A\\\\\\\" Möss\\t\"\npersons 1\n",
         ),
         (
-            "alder c1 e2 2024-02-01",
+            ("e2", "2024-02-01"),
             "entity\talder\tc1\te2\t2024-02-01\nperson\talder\tc1\tp2\tnull\npersons 1\n",
         ),
     ] {
-        shown(&rt, &mut desk, "alder", words, text, false)?;
+        shown(&rt, &mut desk, "alder", at, text, false)?;
     }
     Ok(())
 }
