@@ -25,9 +25,13 @@ use bor_rows::{FIRST, file};
 use std::alloc::Global;
 use std::test::Fail;
 
+fn is_text(told: &Text, text: &str, refused: bool) -> bool {
+    told.bytes.as_slice() == text.as_bytes() && told.refused == refused
+}
+
 fn told(alloc: Global, file: &str, text: &str, refused: bool) -> Result<bool, Fail> {
     let told = check_text(alloc, file.as_bytes())?;
-    Ok(told.bytes.as_slice() == text.as_bytes() && told.refused == refused)
+    Ok(is_text(&told, text, refused))
 }
 
 fn told_with_share(alloc: Global, share: &str, text: &str, refused: bool) -> Result<bool, Fail> {

@@ -77,6 +77,12 @@ pub(crate) fn reply<K: Keep>(alloc: Global, keep: &mut K, ask: &str) -> Result<D
     Ok(answer(alloc, keep, &token, &request))
 }
 
+/// The reply of the keep to an ask, spelled out.
+pub(crate) fn told<K: Keep>(alloc: Global, keep: &mut K, ask: &str) -> Result<String, Fail> {
+    let reply = reply(alloc, keep, ask)?;
+    Ok(spelled(alloc, &reply)?)
+}
+
 /// A new register on 2024-02-01, with no agents.
 pub(crate) fn new_keep(alloc: Global) -> Result<ListKeep, Fail> {
     let registrar = token_of(alloc, "registrar")?;
@@ -109,8 +115,7 @@ impl Desk {
 
     /// The reply to an ask, spelled out.
     pub(crate) fn ask(&mut self, ask: &str) -> Result<String, Fail> {
-        let reply = self.reply(ask)?;
-        Ok(spelled(self.alloc, &reply)?)
+        told(self.alloc, &mut self.keep, ask)
     }
 
     /// Each ask has the reply that stands beside it.

@@ -6,24 +6,39 @@ use crate::tests::filed::{
 };
 use crate::tests::notation::{day, node};
 use bods_read::{Directness, EntityKind, InterestKind, Status};
-use bor_chains::{ListSource, persons_of};
-use bor_terms::Span;
+use bor_chains::{ListSource, Node, PersonLine, persons_of};
+use bor_records::Row;
+use bor_terms::{Day, Span};
+use std::alloc::Global;
+use std::process::Abort;
 use std::test::Fail;
 
+fn is_named(line: &PersonLine, wanted: &str) -> bool {
+    matches!(&line.name, Some(name) if name.as_str() == wanted)
+}
+
 // The example of the first page of `bor_chains`.
+fn p1_is_behind(
+    rt: &impl Abort,
+    alloc: Global,
+    rows: &[Row],
+    day: Day,
+    e1: &Node,
+) -> Result<(), Fail> {
+    let mut source = ListSource::from_rows(alloc, rows, day)?;
+    let persons = persons_of(alloc, &mut source, e1).ok().ok_or("no report")?;
+    assert_eq!(rt; persons.len(), 1);
+    assert_eq!(rt; persons[0].node.rec.as_str(), "p1");
+    assert!(rt; is_named(&persons[0], "p1"));
+    Ok(())
+}
+
 #[test]
 fn the_first_page_is_right(rt: HostRuntime) -> Result<(), Fail> {
     let alloc = rt.alloc();
     let rows = over_a1(alloc, &[votes(60)])?.rows;
-    let day = day("2024-02-01")?;
     let e1 = node(alloc, "alder", "c1", "e1")?;
-    let mut source = ListSource::from_rows(alloc, &rows, day)?;
-    let persons = persons_of(alloc, &mut source, &e1).ok().ok_or("no report")?;
-    assert_eq!(rt; persons.len(), 1);
-    assert_eq!(rt; persons[0].node.rec.as_str(), "p1");
-    let name = persons[0].name.as_ref().ok_or("no name")?;
-    assert_eq!(rt; name.as_str(), "p1");
-    Ok(())
+    p1_is_behind(&rt, alloc, &rows, day("2024-02-01")?, &e1)
 }
 
 #[test]

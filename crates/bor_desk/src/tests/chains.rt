@@ -25,6 +25,14 @@ fn naming(alloc: Global, rec: &str, persons: &str) -> Result<String, Fail> {
     Ok(text)
 }
 
+// A new register with the file.
+fn with_file(rt: &impl Abort, alloc: Global, file: &str) -> Result<Desk, Fail> {
+    let mut desk = Desk::new(alloc)?;
+    let lodging = format!(in alloc; "alder lodge f1 2024-02-01 {file}")?;
+    assert_eq!(rt; desk.ask(lodging.as_str())?.as_str(), PUBLISHED);
+    Ok(desk)
+}
+
 // In a new register with the file, these persons stand behind the entity.
 fn behind(
     rt: &impl Abort,
@@ -33,15 +41,12 @@ fn behind(
     rec: &str,
     persons: &str,
 ) -> Result<(), Fail> {
-    let mut desk = Desk::new(alloc)?;
-    let lodging = format!(in alloc; "alder lodge f1 2024-02-01 {file}")?;
-    let lodged = desk.ask(lodging.as_str())?;
-    assert_eq!(rt; lodged.as_str(), PUBLISHED);
+    let mut desk = with_file(rt, alloc, file)?;
     let chains = format!(in alloc; "alder chains alder c1 {rec}")?;
-    let named = desk.ask(chains.as_str())?;
+    let named = naming(alloc, rec, persons)?;
     assert_eq!(rt;
+        desk.ask(chains.as_str())?.as_str(),
         named.as_str(),
-        naming(alloc, rec, persons)?.as_str(),
         "{file}"
     );
     Ok(())

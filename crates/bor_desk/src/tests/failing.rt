@@ -2,8 +2,7 @@
 //! register is as before.
 
 use crate::DeskReply;
-use crate::tests::asking::{new_keep, reply};
-use crate::tests::spelled::spelled;
+use crate::tests::asking::{new_keep, reply, told};
 use bor_failing::FailingKeep;
 use bor_machine::{Keep, ListKeep, StoreFault};
 use std::alloc::Global;
@@ -36,11 +35,10 @@ const LOOKS: [&str; 4] = [
     "alder chains alder c1 e1 2024-02-01",
 ];
 
-fn seen(alloc: Global, keep: &mut ListKeep) -> Result<String, Fail> {
+fn seen<K: Keep>(alloc: Global, keep: &mut K) -> Result<String, Fail> {
     let mut text = String::new(alloc);
     for ask in LOOKS {
-        let told = reply(alloc, keep, ask)?;
-        text.push_str(spelled(alloc, &told)?.as_str())?;
+        text.push_str(told(alloc, keep, ask)?.as_str())?;
         text.push(' ')?;
     }
     Ok(text)
@@ -55,6 +53,27 @@ fn keep_after(alloc: Global, count: usize) -> Result<ListKeep, Fail> {
     Ok(keep)
 }
 
+// Asks with so many calls left, and tells whether there was a fault: then it was one, and is told.
+fn is_failed<K: Keep>(
+    rt: &impl Abort,
+    alloc: Global,
+    failing: &mut FailingKeep<K>,
+    calls: u32,
+    ask: &str,
+) -> Result<bool, Fail> {
+    failing.left = calls;
+    let told = reply(alloc, failing, ask)?;
+    if failing.faults() == 0 {
+        return Ok(false);
+    }
+    assert!(rt;
+        matches!(&told, DeskReply::Failed(met) if *met == failing.fault),
+        "{ask} {calls}"
+    );
+    assert_eq!(rt; failing.faults(), 1);
+    Ok(true)
+}
+
 // How many calls of the keep an ask makes: each of them was made to answer the fault in turn.
 fn failed_calls(
     rt: &impl Abort,
@@ -63,24 +82,14 @@ fn failed_calls(
     ask: &str,
     fault: StoreFault,
 ) -> Result<u32, Fail> {
-    let mut before = keep_after(alloc, place)?;
-    let before = seen(alloc, &mut before)?;
+    let before = seen(alloc, &mut keep_after(alloc, place)?)?;
     for calls in 0..100 {
         let mut failing = FailingKeep::new(keep_after(alloc, place)?, fault);
-        failing.left = calls;
-        let told = reply(alloc, &mut failing, ask)?;
-        if failing.faults() == 0 {
+        if !is_failed(rt, alloc, &mut failing, calls, ask)? {
             return Ok(calls);
         }
-        assert!(rt;
-            matches!(&told, DeskReply::Failed(met) if *met == fault),
-            "{ask} {calls}"
-        );
-        assert_eq!(rt; failing.faults(), 1);
-        assert!(rt;
-            seen(alloc, &mut failing.keep)?.as_str() == before.as_str(),
-            "{ask} {calls}"
-        );
+        let after = seen(alloc, &mut failing.keep)?;
+        assert!(rt; after.as_str() == before.as_str(), "{ask} {calls}");
     }
     Err(Fail::from("too many calls"))
 }

@@ -1,8 +1,8 @@
 //! Files at the largest.
 
-use crate::tests::notation::{agent, day};
-use crate::tests::operations::{file, register};
-use bor_machine::{Keep, LodgeFault};
+use crate::tests::notation::day;
+use crate::tests::operations::{file, filing_count, register};
+use bor_machine::{Keep, LodgeFault, Lodged};
 use std::alloc::Global;
 use std::test::Fail;
 
@@ -25,16 +25,24 @@ fn entities(alloc: Global, count: u32, length: usize) -> Result<String, Fail> {
     Ok(text)
 }
 
+// Lodges the statements of so many entities.
+fn lodge_entities<K: Keep>(
+    alloc: Global,
+    keep: &mut K,
+    key: &str,
+    count: u32,
+) -> Result<Result<Lodged, LodgeFault>, Fail> {
+    let text = entities(alloc, count, 0)?;
+    file(alloc, keep, key, day("2024-02-01")?, text.as_bytes())
+}
+
 #[test]
 fn a_thousand_statements_are_lodged(rt: HostRuntime) -> Result<(), Fail> {
     let alloc = rt.alloc();
     let mut keep = register(alloc)?;
-    let today = day("2024-02-01")?;
-    let most = entities(alloc, 1000, 0)?;
-    let told = file(alloc, &mut keep, "f1", today, most.as_bytes())?;
+    let told = lodge_entities(alloc, &mut keep, "f1", 1000)?;
     assert!(rt; told.is_ok());
-    let more = entities(alloc, 1001, 0)?;
-    let told = file(alloc, &mut keep, "f2", today, more.as_bytes())?;
+    let told = lodge_entities(alloc, &mut keep, "f2", 1001)?;
     assert!(rt; matches!(told, Err(LodgeFault::Read(_))));
     for outward in keep.published()? {
         assert_eq!(rt; outward.statements.as_slice().len(), 1000);
@@ -51,10 +59,8 @@ fn a_file_of_1048576_bytes_is_lodged(rt: HostRuntime) -> Result<(), Fail> {
     assert_eq!(rt; text.len(), 1_048_576);
     for fresh in [true, false] {
         let told = file(alloc, &mut keep, "f1", today, text.as_bytes())?;
-        let told = told.ok().ok_or("not lodged")?;
-        assert_eq!(rt; told.fresh, fresh);
+        assert!(rt; matches!(told, Ok(told) if told.fresh == fresh));
     }
-    let lines = keep.filings(&agent(alloc, "alder")?)?;
-    assert_eq!(rt; lines.len(), 1);
+    assert_eq!(rt; filing_count(alloc, &mut keep)?, 1);
     Ok(())
 }

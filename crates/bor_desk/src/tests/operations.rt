@@ -10,6 +10,7 @@ use bor_records::RecordFault;
 use bor_rows::FIRST;
 use bor_terms::Day;
 use std::alloc::Global;
+use std::process::Abort;
 use std::test::Fail;
 
 // A later statement of the entity.
@@ -40,6 +41,19 @@ pub(super) fn file<K: Keep>(
     Ok(lodge(alloc, keep, &alder, &key, due, bytes))
 }
 
+pub(super) fn filing_count<K: Keep>(alloc: Global, keep: &mut K) -> Result<usize, Fail> {
+    Ok(keep.filings(&agent(alloc, "alder")?)?.len())
+}
+
+fn new_draft(number: u32, due: Day) -> Lodged {
+    Lodged {
+        number,
+        due,
+        state: State::Draft,
+        fresh: true,
+    }
+}
+
 // Withdraws for alder, and tells the filing's number and state.
 pub(super) fn undo<K: Keep>(
     alloc: Global,
@@ -59,19 +73,25 @@ fn the_example_of_the_root_page(rt: HostRuntime) -> Result<(), Fail> {
     let alloc = rt.alloc();
     let tomorrow = day("2024-02-02")?;
     let mut keep = register(alloc)?;
-    let told = Lodged {
-        number: 1,
-        due: tomorrow,
-        state: State::Draft,
-        fresh: true,
-    };
     assert_eq!(rt;
         file(alloc, &mut keep, "f1", tomorrow, FIRST.as_bytes())?,
-        Ok(told)
+        Ok(new_draft(1, tomorrow))
     );
     assert_eq!(rt; advance(&mut keep, tomorrow), Ok(tomorrow));
     assert_eq!(rt; keep.published()?.len(), 1);
     Ok(())
+}
+
+// The last of the three statements of the one filing that is published.
+fn third_published(keep: &mut ListKeep) -> Result<(RecordType, Option<Status>), Fail> {
+    let outwards = keep.published()?;
+    let [outward] = outwards.as_slice() else {
+        return Err(Fail::from("not one filing"));
+    };
+    let [_, _, last] = outward.statements.as_slice() else {
+        return Err(Fail::from("not three statements"));
+    };
+    Ok((last.record_type(), last.status))
 }
 
 #[test]
@@ -91,15 +111,8 @@ fn a_filing_due_today_is_published(rt: HostRuntime) -> Result<(), Fail> {
             Ok(told)
         );
     }
-    let outwards = keep.published()?;
-    let [outward] = outwards.as_slice() else {
-        return Err(Fail::from("not one filing"));
-    };
-    let [_, _, last] = outward.statements.as_slice() else {
-        return Err(Fail::from("not three statements"));
-    };
     assert_eq!(rt;
-        (last.record_type(), last.status),
+        third_published(&mut keep)?,
         (RecordType::Relationship, Some(Status::New))
     );
     Ok(())
@@ -110,33 +123,35 @@ fn a_refused_lodging_leaves_the_register(rt: HostRuntime) -> Result<(), Fail> {
     let alloc = rt.alloc();
     let mut keep = register(alloc)?;
     let (tomorrow, later) = (day("2024-02-02")?, day("2024-03-01")?);
-    assert!(rt; file(alloc, &mut keep, "f1", later, FIRST.as_bytes())?.is_ok());
     let no_list = LodgeFault::Read(FileFault::NotAList);
     let early = LodgeFault::Record {
         place: 1,
         fault: RecordFault::DueBeforeRecord,
     };
-    for (due, bytes, fault) in [(later, b"{}".as_slice(), no_list), (tomorrow, LATER, early)] {
-        assert_eq!(rt; file(alloc, &mut keep, "f2", due, bytes)?, Err(fault));
+    for (key, due, bytes, told) in [
+        ("f1", later, FIRST.as_bytes(), Ok(new_draft(1, later))),
+        ("f2", later, b"{}".as_slice(), Err(no_list)),
+        ("f2", tomorrow, LATER, Err(early)),
+        ("f2", later, LATER, Ok(new_draft(2, later))),
+    ] {
+        assert_eq!(rt; file(alloc, &mut keep, key, due, bytes)?, told);
     }
-    let told = Lodged {
-        number: 2,
-        due: later,
-        state: State::Draft,
-        fresh: true,
-    };
-    assert_eq!(rt; file(alloc, &mut keep, "f2", later, LATER)?, Ok(told));
     Ok(())
 }
 
-#[test]
-fn a_draft_is_withdrawn(rt: HostRuntime) -> Result<(), Fail> {
-    let alloc = rt.alloc();
+fn with_two_drafts(rt: &impl Abort, alloc: Global) -> Result<ListKeep, Fail> {
     let mut keep = register(alloc)?;
     let tomorrow = day("2024-02-02")?;
     for (key, bytes) in [("f1", FIRST.as_bytes()), ("f2", LATER)] {
         assert!(rt; file(alloc, &mut keep, key, tomorrow, bytes)?.is_ok());
     }
+    Ok(keep)
+}
+
+#[test]
+fn a_draft_is_withdrawn(rt: HostRuntime) -> Result<(), Fail> {
+    let alloc = rt.alloc();
+    let mut keep = with_two_drafts(&rt, alloc)?;
     let withdrawn = Ok((2, State::Withdrawn));
     for (key, told) in [
         ("f1", Err(WithdrawFault::HasSuccessor)),

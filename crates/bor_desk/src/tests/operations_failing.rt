@@ -2,7 +2,7 @@
 //! the register is as before.
 
 use crate::tests::notation::{agent, day, token};
-use crate::tests::operations::{file, register, undo};
+use crate::tests::operations::{file, filing_count, register, undo};
 use bor_failing::FailingKeep;
 use bor_machine::{
     AdvanceFault, EnrolFault, Keep, ListKeep, LodgeFault, State, StoreFault, WithdrawFault,
@@ -19,12 +19,12 @@ fn lodgings_fail(
     alloc: Global,
     keep: &mut FailingKeep<ListKeep>,
 ) -> Result<(), Fail> {
-    let (alder, tomorrow) = (agent(alloc, "alder")?, day("2024-02-02")?);
+    let tomorrow = day("2024-02-02")?;
     for calls in 1..11 {
         keep.left = calls;
         let told = file(alloc, keep, "f1", tomorrow, FIRST.as_bytes())?;
         assert_eq!(rt; told, Err(LodgeFault::Store(keep.fault)), "{calls}");
-        assert_eq!(rt; keep.keep.filings(&alder)?.len(), 0);
+        assert_eq!(rt; filing_count(alloc, &mut keep.keep)?, 0);
     }
     keep.left = 11;
     assert!(rt; file(alloc, keep, "f1", tomorrow, FIRST.as_bytes())?.is_ok());
@@ -34,30 +34,28 @@ fn lodgings_fail(
     Ok(())
 }
 
+fn are_drafts(alloc: Global, keep: &mut ListKeep) -> Result<bool, Fail> {
+    let lines = keep.filings(&agent(alloc, "alder")?)?;
+    Ok(lines.iter().all(|line| line.state == State::Draft))
+}
+
 fn withdrawals_fail(
     rt: &impl Abort,
     alloc: Global,
     keep: &mut FailingKeep<ListKeep>,
 ) -> Result<(), Fail> {
-    let alder = agent(alloc, "alder")?;
     for calls in 0..3 {
         keep.left = calls;
         let told = undo(alloc, keep, "f1")?;
         assert_eq!(rt; told, Err(WithdrawFault::Store(keep.fault)), "{calls}");
-        for line in keep.keep.filings(&alder)? {
-            assert_eq!(rt; line.state, State::Draft);
-        }
+        assert!(rt; are_drafts(alloc, &mut keep.keep)?, "{calls}");
     }
     keep.left = 3;
     assert_eq!(rt; undo(alloc, keep, "f1")?, Ok((1, State::Withdrawn)));
     Ok(())
 }
 
-fn the_registrars_fail(
-    rt: &impl Abort,
-    alloc: Global,
-    keep: &mut FailingKeep<ListKeep>,
-) -> Result<(), Fail> {
+fn advances_fail(rt: &impl Abort, keep: &mut FailingKeep<ListKeep>) -> Result<(), Fail> {
     let tomorrow = day("2024-02-02")?;
     for calls in 0..2 {
         keep.left = calls;
@@ -65,6 +63,14 @@ fn the_registrars_fail(
         assert_eq!(rt; told, Err(AdvanceFault::Store(keep.fault)), "{calls}");
         assert_eq!(rt; keep.keep.day()?, day("2024-02-01")?);
     }
+    Ok(())
+}
+
+fn enrolments_fail(
+    rt: &impl Abort,
+    alloc: Global,
+    keep: &mut FailingKeep<ListKeep>,
+) -> Result<(), Fail> {
     for calls in 0..3 {
         keep.left = calls;
         let token = token(alloc, "birch-token-000001")?;
@@ -81,7 +87,8 @@ fn a_fault_is_told_as_what_it_is(rt: HostRuntime) -> Result<(), Fail> {
         let mut keep = FailingKeep::new(register(rt.alloc())?, fault);
         lodgings_fail(&rt, rt.alloc(), &mut keep)?;
         withdrawals_fail(&rt, rt.alloc(), &mut keep)?;
-        the_registrars_fail(&rt, rt.alloc(), &mut keep)?;
+        advances_fail(&rt, &mut keep)?;
+        enrolments_fail(&rt, rt.alloc(), &mut keep)?;
         assert_eq!(rt; keep.faults(), 19);
     }
     Ok(())

@@ -1,6 +1,7 @@
 //! The report on who stands behind an entity, letter by letter.
 
 use crate::tests::asking::Desk;
+use crate::tests::is_text;
 use bor_rows::FIRST;
 use std::process::Abort;
 use std::test::Fail;
@@ -16,12 +17,7 @@ fn shown(
 ) -> Result<(), Fail> {
     let (rec, date) = at;
     let report = desk.report(viewer, rec, date)?;
-    assert_eq!(rt;
-        report.bytes.as_slice(),
-        text.as_bytes(),
-        "{viewer} {rec} {date}"
-    );
-    assert_eq!(rt; report.refused, refused, "{viewer} {rec} {date}");
+    assert!(rt; is_text(&report, text, refused), "{viewer} {rec} {date}");
     Ok(())
 }
 

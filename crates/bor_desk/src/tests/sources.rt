@@ -333,6 +333,17 @@ fn a_class_of_a_thousand_is_asked_for_once(rt: HostRuntime) -> Result<(), Fail> 
     Ok(())
 }
 
+fn told_behind<S: LinkSource>(
+    alloc: Global,
+    source: &mut S,
+    target: &Node,
+) -> Result<String, Fail> {
+    match persons_behind(alloc, source, target) {
+        Ok(lines) => Ok(told_lines(alloc, &lines)?),
+        Err(_) => Err(Fail::from("a fault")),
+    }
+}
+
 #[test]
 fn a_source_may_be_borrowed(rt: HostRuntime) -> Result<(), Fail> {
     let alloc = rt.alloc();
@@ -340,10 +351,8 @@ fn a_source_may_be_borrowed(rt: HostRuntime) -> Result<(), Fail> {
     let target = node(alloc, "alder", "c1", "e1")?;
     let mut source = ListSource::from_rows(alloc, &filed.rows, day("2024-02-01")?)?;
     for _ in 0..2 {
-        let lines = persons_behind(alloc, &mut source, &target)
-            .ok()
-            .ok_or("a fault")?;
-        assert_eq!(rt; told_lines(alloc, &lines)?.as_str(), "p1");
+        let told = told_behind(alloc, &mut source, &target)?;
+        assert_eq!(rt; told.as_str(), "p1");
     }
     Ok(())
 }
