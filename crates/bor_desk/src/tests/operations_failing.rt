@@ -26,6 +26,16 @@ fn lodgings_fail(
         assert_eq!(rt; told, Err(LodgeFault::Store(keep.fault)), "{calls}");
         assert_eq!(rt; filing_count(alloc, &mut keep.keep)?, 0);
     }
+    Ok(())
+}
+
+// The lodging that makes all its calls, and its repeat, whose second call fails.
+fn repeats_fail(
+    rt: &impl Abort,
+    alloc: Global,
+    keep: &mut FailingKeep<ListKeep>,
+) -> Result<(), Fail> {
+    let tomorrow = day("2024-02-02")?;
     keep.left = 11;
     assert!(rt; file(alloc, keep, "f1", tomorrow, FIRST.as_bytes())?.is_ok());
     keep.left = 2;
@@ -86,6 +96,7 @@ fn a_fault_is_told_as_what_it_is(rt: HostRuntime) -> Result<(), Fail> {
     for fault in [StoreFault::Memory, StoreFault::Store, StoreFault::Damaged] {
         let mut keep = FailingKeep::new(register(rt.alloc())?, fault);
         lodgings_fail(&rt, rt.alloc(), &mut keep)?;
+        repeats_fail(&rt, rt.alloc(), &mut keep)?;
         withdrawals_fail(&rt, rt.alloc(), &mut keep)?;
         advances_fail(&rt, &mut keep)?;
         enrolments_fail(&rt, rt.alloc(), &mut keep)?;
