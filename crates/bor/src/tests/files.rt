@@ -134,13 +134,8 @@ fn a_register_of_another_version_is_told(rt: HostRuntime) -> Result<(), Fail> {
     Ok(())
 }
 
-#[test]
-fn a_port_that_is_taken_is_told(rt: HostRuntime) -> Result<(), Fail> {
-    let path = "port.db";
-    clear(&rt, path)?;
-    let _set_up = run_on(&rt, &exchange(path, "a.http", "b.http"))?;
-    let listener = TcpListener::bind(&rt, "127.0.0.1:0")?;
-    let port = listener.local_addr()?.port();
+// A server of no connections on this port.
+fn serve_none(rt: &HostRuntime, path: &str, port: u16) -> Result<Ran, Fail> {
     let port = format!(in rt.alloc(); "{port}")?;
     let words = [
         "serve",
@@ -151,15 +146,28 @@ fn a_port_that_is_taken_is_told(rt: HostRuntime) -> Result<(), Fail> {
         "--connections",
         "0",
     ];
-    let taken = run_on(&rt, &words)?;
-    drop(listener);
-    let free = run_on(&rt, &words)?;
+    run_on(rt, &words)
+}
+
+// The same on a port that another one listens on, and which one that is.
+fn serve_on_taken(rt: &HostRuntime, path: &str) -> Result<(u16, Ran), Fail> {
+    let listener = TcpListener::bind(rt, "127.0.0.1:0")?;
+    let port = listener.local_addr()?.port();
+    let ran = serve_none(rt, path, port)?;
+    Ok((port, ran))
+}
+
+#[test]
+fn a_port_that_is_taken_is_told(rt: HostRuntime) -> Result<(), Fail> {
+    let path = "port.db";
+    clear(&rt, path)?;
+    let _set_up = run_on(&rt, &exchange(path, "a.http", "b.http"))?;
+    let (port, taken) = serve_on_taken(&rt, path)?;
+    let free = serve_none(&rt, path, port)?;
     clear(&rt, path)?;
     assert_eq!(rt; failure(taken)?.as_str(), "bor: cannot listen\n");
     assert_eq!(rt; free.status, 0);
-    assert_eq!(rt;
-        free.output.as_str(),
-        format!(in rt.alloc(); "listening 127.0.0.1:{port}\n")?.as_str()
-    );
+    let line = format!(in rt.alloc(); "listening 127.0.0.1:{port}\n")?;
+    assert_eq!(rt; free.output.as_str(), line.as_str());
     Ok(())
 }
