@@ -20,8 +20,8 @@ use Rattle.bor_links.specs.Orders.{node_equiv, node_ties}
 use Rattle.bor_links.specs.Shown.{Shown, listed_at, info_in}
 use Rattle.bor_links.specs.Stakes.{is_stake, is_holding}
 use Rattle.bor_links.specs.Rows.{is_entity_info, is_some_info, beside, link_in, link_with}
-use Rattle.bor_links.specs.Answers.{AreLinksInto}
-use Rattle.bor_chains.specs.Tables.{placed, items_of, items_at, StayAt, ArePlaces, AreInto, IsBelow, link_to, links_at}
+use Rattle.bor_links.specs.Answers.{AreLinksInto, only_into}
+use Rattle.bor_chains.specs.Tables.{placed, items_of, items_at, StayAt, ArePlaces, AreInto, IsBelow, links_at}
 use Rattle.bor_links.proofs.Found.{none, Contains-filter_map, Contains-from_filter_map}
 use Rattle.bor_links.proofs.SameNode.{same_node_is}
 
@@ -29,7 +29,7 @@ some_link : (x y : Link) → Some x ≡ Some y → x ≡ y
 some_link x y h = cc
 
 -- what is told of a place is the link there, with the subject
-link_is : (n : Node) (o : Option Link) (l : Link) → link_to n o ≡ Some l → (o ≡ Some l) × (same_node l.subject n ≡ true)
+link_is : (n : Node) (o : Option Link) (l : Link) → only_into n o ≡ Some l → (o ≡ Some l) × (same_node l.subject n ≡ true)
 link_is n None l e = let z : None ≡ Some l = e in absurd cc
 link_is n (Some k) l e = at (same_node k.subject n) refl e
   where
@@ -141,14 +141,14 @@ into_more links n one was now lt is before stays there i l below at = elim (spli
 pub into_told : (s : Shown) (n : Node) (into : Node → List ℕ) → AreInto (length s.links) s.links into → AreLinksInto s n (links_at s.links n (into n))
 into_told s n into under l = (
   (λ h.
-      let p = Contains-from_filter_map (λ i. link_to n (slice_get s.links i)) (into n) l h in
+      let p = Contains-from_filter_map (λ i. only_into n (slice_get s.links i)) (into n) l h in
       let k = link_is n (slice_get s.links p.0) l p.2 in
       ((p.0, slice_get_within s.links p.0 l k.0, get_or_from_slice_get s.links p.0 l l k.0), same_node_is l.subject n k.1)),
   (λ h.
       let at : slice_get s.links (h.0).0 ≡ Some l = slice_get-get_or s.links (h.0).0 l (h.0).1 ∙ ap (λ (k : Link). Some k) (h.0).2 in
       let found : Contains (into n) (h.0).0 = subst (λ (m : Node). Contains (into m) (h.0).0) h.1 (under (h.0).0 l (h.0).1 at) in
-      Contains-filter_map (λ i. link_to n (slice_get s.links i)) (into n) (h.0).0 l found
-      (ap (λ (o : Option Link). link_to n o) at ∙ ap (λ (b : Bool). cond b (Some l) None) (ap (λ (m : Node). same_node l.subject m) (sym h.1) ∙ node_equiv.refl l.subject))),
+      Contains-filter_map (λ i. only_into n (slice_get s.links i)) (into n) (h.0).0 l found
+      (ap (λ (o : Option Link). only_into n o) at ∙ ap (λ (b : Bool). cond b (Some l) None) (ap (λ (m : Node). same_node l.subject m) (sym h.1) ∙ node_equiv.refl l.subject))),
 )
 
 pub below_is : (n : ℕ) (o : Option ℕ) → IsBelow n o → (i : ℕ) × (o ≡ Some i) × (i < n)

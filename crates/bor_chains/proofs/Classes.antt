@@ -16,14 +16,14 @@ use Rattle.bor_links.specs.declared.node.Node.{Node}
 use Rattle.bor_links.specs.declared.node.OpenNode.{OpenNode}
 use Rattle.bor_links.specs.declared.sign.Sign.{Sign}
 use Rattle.bor_links.specs.Nodes.{same_node}
-use Rattle.bor_links.specs.Shown.{Shown, listed_at, are_alike, is_entity, same_record, share_identifier, same_identifier}
+use Rattle.bor_links.specs.Shown.{Shown, listed_at, are_alike, is_like, is_entity, same_record, share_identifier, same_identifier}
 use Rattle.bor_links.specs.Aliases.{Alias, Same}
 use Rattle.bor_links.specs.Answers.{AreSame}
 use Rattle.bor_chains.specs.Laws.{SameAreAClass}
 use Rattle.bor_chains.specs.Tables.{placed}
 use Rattle.bor_links.specs.Signs.{sign_cmp, by_record, by_identifier, signs}
 use Rattle.bor_chains.specs.Likeness.{AreUnder}
-use Rattle.bor_chains.specs.Classes.{is_like, node_at, entity_in, place_in, IsAmong, HasSign, Expands, AreGathered, Visits, AreAllSame}
+use Rattle.bor_chains.specs.Classes.{node_at, entity_in, place_in, IsAmong, HasSign, Expands, AreGathered, Visits, AreAllSame}
 use Rattle.bor_links.proofs.SameNode.{same_node_is}
 use Rattle.bor_links.proofs.Found.{Contains-filter_map, Contains-from_filter_map, none, here, cases, Contains-filter, Contains-from_filter, Contains-from_map}
 use Rattle.bor_links.proofs.Listed.{found_is}

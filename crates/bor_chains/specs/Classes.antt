@@ -1,17 +1,12 @@
--- All nodes that are the same as one, while they are looked for sign by sign.
-use Rattle.std.specs.Prelude.{◌≡◌, ◌⊎◌, ◌++◌, ℕ, Bool, true, false, List, Contains, IsTrue, Option, Some, None, option_map, if◌then◌else◌}
+-- All nodes that are the same as one, while they are looked for sign by sign; for clauses of private functions alone.
+use Rattle.std.specs.Prelude.{◌≡◌, ◌⊎◌, ◌++◌, ℕ, Bool, true, List, Contains, IsTrue, Option, Some, None, option_map, if◌then◌else◌}
 use Rattle.std.specs.List.{slice_get}
 use Rattle.bor_links.specs.declared.node.Node.{Node}
 use Rattle.bor_links.specs.declared.node.OpenNode.{OpenNode}
 use Rattle.bor_links.specs.declared.sign.Sign.{Sign}
-use Rattle.bor_links.specs.Shown.{Shown, is_entity, are_alike}
+use Rattle.bor_links.specs.Shown.{Shown, is_entity, is_like}
 use Rattle.bor_links.specs.Aliases.{Same}
 use Rattle.bor_links.specs.Signs.{signs}
-
--- an open node is there, and is one step away
-abbrev pub is_like : OpenNode → Option OpenNode → Bool
-is_like one None = false
-is_like one (Some x) = are_alike one x
 
 abbrev pub node_at : Option OpenNode → Option Node
 node_at None = None

@@ -9,12 +9,12 @@ ghost use Rattle.std.specs.Ordering.{nat_cmp};
 ghost use Rattle.bor_links.specs.declared.node.Node.{Node};
 ghost use Rattle.bor_links.specs.declared.node.OpenNode.{OpenNode};
 ghost use Rattle.bor_links.specs.Nodes.{same_node, node_cmp};
-ghost use Rattle.bor_links.specs.Shown.{Shown};
+ghost use Rattle.bor_links.specs.Shown.{Shown, is_like};
 ghost use Rattle.bor_links.specs.Answers.{AreSame};
 ghost use Rattle.bor_chains.specs.Tables.{items_of};
 ghost use Rattle.bor_links.specs.Signs.{sign_cmp, by_identifier, signs};
 ghost use Rattle.bor_chains.specs.Likeness.{AreUnder};
-ghost use Rattle.bor_chains.specs.Classes.{is_like, node_at, entity_in, place_in, Expands, Visits, AreAllSame};
+ghost use Rattle.bor_chains.specs.Classes.{node_at, entity_in, place_in, Expands, Visits, AreAllSame};
 
 use bods_read::Identifier;
 use bor_links::{Node, OpenNode, Sign, once};

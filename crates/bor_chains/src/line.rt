@@ -42,7 +42,7 @@ impl PartialOrd for PersonLine {
     }
 }
 
-/// Lines are ordered by their nodes.
+/// Lines are ordered by the agents of their nodes, then the declarations, then the records.
 impl Ord for PersonLine {
     ghost cmp = { line_cmp };
 
@@ -53,6 +53,12 @@ impl Ord for PersonLine {
     ghost matches_eq = { line_ties };
 
     fn cmp(&self, other: &PersonLine) -> Ordering {
-        self.node.cmp(&other.node)
+        match self.node.agent.cmp(&other.node.agent) {
+            Ordering::Equal => match self.node.declaration.cmp(&other.node.declaration) {
+                Ordering::Equal => self.node.rec.cmp(&other.node.rec),
+                unequal => unequal,
+            },
+            unequal => unequal,
+        }
     }
 }

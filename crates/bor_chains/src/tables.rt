@@ -5,7 +5,8 @@ ghost use Rattle.std.specs.List.{slice_get};
 ghost use Rattle.std.specs.BTreeMap.{get};
 ghost use Rattle.bor_links.specs.declared.node.Link.{Link};
 ghost use Rattle.bor_links.specs.Nodes.{node_cmp};
-ghost use Rattle.bor_chains.specs.Tables.{ArePlaces, AreInto, IsBelow, StayAt, items_at, items_of, link_to, links_at};
+ghost use Rattle.bor_links.specs.Answers.{only_into};
+ghost use Rattle.bor_chains.specs.Tables.{ArePlaces, AreInto, IsBelow, StayAt, items_at, items_of, links_at};
 
 use bor_links::{Link, Node, OpenNode};
 use std::alloc::{AllocError, Global};
@@ -93,7 +94,7 @@ fn link_at(
     subject: &Node,
     place: usize,
 ) -> Result<Option<Link>, AllocError>
-    ensures { IfOk result (λ link. link ≡ link_to subject.now (slice_get links.now place)) }
+    ensures { IfOk result (λ link. link ≡ only_into subject.now (slice_get links.now place)) }
 {
     match links.get(place) {
         Some(link) if link.subject == *subject => Ok(Some(link.copy(alloc)?)),

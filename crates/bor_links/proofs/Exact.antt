@@ -16,11 +16,11 @@ parts Greater q h = absurd (cc)
 
 pub exact_node : CmpEqualImpliesEq node_cmp
 exact_node a b h =
-    let one = parts (text_cmp a.agent b.agent) (ordering_then (text_cmp a.declaration b.declaration) (text_cmp a.rec b.rec)) h in
-    let two = parts (text_cmp a.declaration b.declaration) (text_cmp a.rec b.rec) one.1 in
-    ap (λ (t : List ℕ). let n : Node = record { agent = t; declaration = a.declaration; rec = a.rec } in n) (exact_bytes a.agent b.agent one.0)
+    let one = parts (text_cmp a.rec b.rec) (ordering_then (text_cmp a.declaration b.declaration) (text_cmp a.agent b.agent)) h in
+    let two = parts (text_cmp a.declaration b.declaration) (text_cmp a.agent b.agent) one.1 in
+    ap (λ (t : List ℕ). let n : Node = record { agent = t; declaration = a.declaration; rec = a.rec } in n) (exact_bytes a.agent b.agent two.1)
     ∙ ap (λ (t : List ℕ). let n : Node = record { agent = b.agent; declaration = t; rec = a.rec } in n) (exact_bytes a.declaration b.declaration two.0)
-    ∙ ap (λ (t : List ℕ). let n : Node = record { agent = b.agent; declaration = b.declaration; rec = t } in n) (exact_bytes a.rec b.rec two.1)
+    ∙ ap (λ (t : List ℕ). let n : Node = record { agent = b.agent; declaration = b.declaration; rec = t } in n) (exact_bytes a.rec b.rec one.0)
 
 pub sign_is : (a b : Sign) → a.of_record ≡ b.of_record → a.group ≡ b.group → a.name ≡ b.name → a ≡ b
 sign_is a b d e f =
@@ -36,6 +36,6 @@ exact_bool false false h = refl
 
 pub exact_sign : CmpEqualImpliesEq sign_cmp
 exact_sign a b h =
-    let one = parts (bool_cmp a.of_record b.of_record) (ordering_then (text_cmp a.group b.group) (text_cmp a.name b.name)) h in
-    let two = parts (text_cmp a.group b.group) (text_cmp a.name b.name) one.1 in
-    sign_is a b (exact_bool a.of_record b.of_record one.0) (exact_bytes a.group b.group two.0) (exact_bytes a.name b.name two.1)
+    let one = parts (text_cmp a.name b.name) (ordering_then (text_cmp a.group b.group) (bool_cmp a.of_record b.of_record)) h in
+    let two = parts (text_cmp a.group b.group) (bool_cmp a.of_record b.of_record) one.1 in
+    sign_is a b (exact_bool a.of_record b.of_record two.1) (exact_bytes a.group b.group two.0) (exact_bytes a.name b.name one.0)

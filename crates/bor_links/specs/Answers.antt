@@ -1,5 +1,5 @@
 -- What may be answered of a node.
-use Rattle.std.specs.Prelude.{◌≡◌, ◌↔◌, List, Contains}
+use Rattle.std.specs.Prelude.{◌≡◌, ◌↔◌, List, Contains, Option, None, Some, if◌then◌else◌}
 use Rattle.std.specs.List.{IsDistinct}
 use Rattle.bor_links.specs.declared.node.Node.{Node}
 use Rattle.bor_links.specs.declared.node.Link.{Link}
@@ -16,6 +16,11 @@ pub record AreAliases (s : Shown) (a : Node) (nodes : List Node) : Type 0 where
 pub record AreSame (s : Shown) (a : Node) (nodes : List Node) : Type 0 where
   pub each : (b : Node) → Contains nodes b ↔ Same s a b
   pub once : IsDistinct same_node nodes
+
+-- a link, where it is into the node
+abbrev pub only_into : Node → Option Link → Option Link
+only_into n None = None
+only_into n (Some l) = if same_node l.subject n then Some l else None
 
 -- exactly the links with this subject
 abbrev pub AreLinksInto : Shown → Node → List Link → Type 0

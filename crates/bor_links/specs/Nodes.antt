@@ -14,6 +14,6 @@ same_node a b = is_same a.agent b.agent && (is_same a.declaration b.declaration 
 abbrev pub text_cmp : List ℕ → List ℕ → Ordering
 text_cmp a b = slice_cmp nat_cmp a b
 
--- by agent, then declaration, then record
+-- by record, then declaration, then agent
 abbrev pub node_cmp : Node → Node → Ordering
-node_cmp a b = ordering_then (text_cmp a.agent b.agent) (ordering_then (text_cmp a.declaration b.declaration) (text_cmp a.rec b.rec))
+node_cmp a b = ordering_then (text_cmp a.rec b.rec) (ordering_then (text_cmp a.declaration b.declaration) (text_cmp a.agent b.agent))

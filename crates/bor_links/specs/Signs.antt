@@ -8,8 +8,9 @@ use Rattle.bor_links.specs.declared.node.OpenNode.{OpenNode}
 use Rattle.bor_links.specs.declared.sign.Sign.{Sign}
 use Rattle.bor_links.specs.Nodes.{text_cmp}
 
+-- by record or identifier, then agent or scheme, then kind
 abbrev pub sign_cmp : Sign → Sign → Ordering
-sign_cmp a b = ordering_then (bool_cmp a.of_record b.of_record) (ordering_then (text_cmp a.group b.group) (text_cmp a.name b.name))
+sign_cmp a b = ordering_then (text_cmp a.name b.name) (ordering_then (text_cmp a.group b.group) (bool_cmp a.of_record b.of_record))
 
 abbrev pub by_record : Node → Sign
 by_record n = record { of_record = true; group = n.agent; name = n.rec }

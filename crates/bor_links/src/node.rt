@@ -1,16 +1,19 @@
 //! Nodes, the links between them, and what is known of a node.
 
-ghost use Rattle.std.specs.Prelude.{◌≡◌, IfOk};
+ghost use Rattle.std.specs.Prelude.{◌≡◌, IfOk, Some, refl};
 ghost use Rattle.std.specs.List.{list_any};
+ghost use Rattle.bor_links.specs.Nodes.{node_cmp};
+ghost use Rattle.bor_links.specs.Orders.{node_po, node_total, node_ties};
 ghost use Rattle.bor_links.specs.Shown.{is_entity, are_alike, share_identifier, same_identifier, same_record};
 
 use bods_read::{FreeText, Identifier};
 use bor_terms::{AgentName, Ident, Listed};
 use std::alloc::{AllocError, Global};
+use std::cmp::Ordering;
 
 /// A record of an agent's declaration, by its key (this register's profile): the agent, the
-/// declaration's subject and the record's identifier. Nodes are ordered by these, byte by byte.
-#[derive(Debug, Drop, PartialEq, Eq, PartialOrd, Ord)]
+/// declaration's subject and the record's identifier.
+#[derive(Debug, Drop, PartialEq, Eq)]
 pub struct Node {
     /// The agent that lodged the record.
     pub agent: AgentName,
@@ -30,6 +33,38 @@ impl Node {
             declaration: self.declaration.copy(alloc)?,
             rec: self.rec.copy(alloc)?,
         })
+    }
+}
+
+impl PartialOrd for Node {
+    ghost partial_cmp = { λ x y. Some (node_cmp x y) };
+
+    ghost laws = { node_po };
+
+    fn partial_cmp(&self, other: &Node) -> Option<Ordering> {
+        Some(self.cmp(other))
+    }
+}
+
+/// Nodes are ordered by record, then declaration, then agent, byte by byte: among the nodes of few
+/// declarations nearly all compares end with the record.
+impl Ord for Node {
+    ghost cmp = { node_cmp };
+
+    ghost total = { node_total };
+
+    ghost matches_partial_cmp = { λ x y. refl };
+
+    ghost matches_eq = { node_ties };
+
+    fn cmp(&self, other: &Node) -> Ordering {
+        match self.rec.cmp(&other.rec) {
+            Ordering::Equal => match self.declaration.cmp(&other.declaration) {
+                Ordering::Equal => self.agent.cmp(&other.agent),
+                unequal => unequal,
+            },
+            unequal => unequal,
+        }
     }
 }
 

@@ -8,15 +8,15 @@ use bods_read::{FreeText, Identifier};
 use std::alloc::{AllocError, Global};
 
 /// An agent with a record, or a scheme with an identifier. Two entities that are alike have one in
-/// common.
+/// common. The name is compared first: most signs are of few agents and schemes.
 #[derive(Drop, PartialEq, Eq, PartialOrd, Ord)]
 pub struct Sign {
-    /// It is an agent with a record.
-    pub of_record: bool,
-    /// The agent, or the scheme.
-    pub group: FreeText,
     /// The record, or the identifier.
     pub name: FreeText,
+    /// The agent, or the scheme.
+    pub group: FreeText,
+    /// It is an agent with a record.
+    pub of_record: bool,
 }
 
 impl Sign {
@@ -25,9 +25,9 @@ impl Sign {
         ensures { IfOk result (λ sign. sign ≡ by_record node.now) }
     {
         Ok(Sign {
-            of_record: true,
-            group: text_of(alloc, node.agent.as_str())?,
             name: text_of(alloc, node.rec.as_str())?,
+            group: text_of(alloc, node.agent.as_str())?,
+            of_record: true,
         })
     }
 
@@ -36,9 +36,9 @@ impl Sign {
         ensures { IfOk result (λ sign. sign ≡ by_identifier identifier.now) }
     {
         Ok(Sign {
-            of_record: false,
-            group: identifier.scheme.copy(alloc)?,
             name: identifier.id.copy(alloc)?,
+            group: identifier.scheme.copy(alloc)?,
+            of_record: false,
         })
     }
 }
