@@ -17,12 +17,20 @@ use Rattle.bor_records.specs.Seen.{series_cmp, IsOf, is_in, has_dated}
 
 -- ---- two series
 
-three : (a d r : Ordering) → (is_eq a && (is_eq d && is_eq r)) ≡ is_eq (ordering_then a (ordering_then d r))
-three Less d r = refl
-three Greater d r = refl
-three Equal Less r = refl
-three Equal Greater r = refl
-three Equal Equal r = refl
+no : (b : Bool) → (b && false) ≡ false
+no true = refl
+no false = refl
+
+yes : (b : Bool) → (b && true) ≡ b
+yes true = refl
+yes false = refl
+
+three : (a d r : Ordering) → (is_eq a && (is_eq d && is_eq r)) ≡ is_eq (ordering_then r (ordering_then d a))
+three a d Less = ap (λ (b : Bool). is_eq a && b) (no (is_eq d)) ∙ no (is_eq a)
+three a d Greater = ap (λ (b : Bool). is_eq a && b) (no (is_eq d)) ∙ no (is_eq a)
+three a Less Equal = no (is_eq a)
+three a Greater Equal = no (is_eq a)
+three a Equal Equal = yes (is_eq a)
 
 all_three : (a b c e f g : Bool) → a ≡ e → b ≡ f → c ≡ g → (a && (b && c)) ≡ (e && (f && g))
 all_three a b c e f g p q r = ap (λ (x : Bool). x && (b && c)) p ∙ ap (λ (x : Bool). e && (x && c)) q ∙ ap (λ (x : Bool). e && (f && x)) r

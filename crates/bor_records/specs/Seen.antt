@@ -9,10 +9,10 @@ use Rattle.bor_records.specs.declared.row.Row.{Row}
 use Rattle.bor_records.specs.declared.series.Series.{Series}
 use Rattle.bor_records.specs.Snapshot.{is_dated}
 
--- by agent, then declaration, then record, byte by byte
+-- by record, then declaration, then agent, byte by byte
 abbrev pub series_cmp : Series → Series → Ordering
 series_cmp a b =
-    ordering_then (slice_cmp nat_cmp a.agent.now b.agent.now) (ordering_then (slice_cmp nat_cmp a.declaration.now b.declaration.now) (slice_cmp nat_cmp a.rec.now b.rec.now))
+    ordering_then (slice_cmp nat_cmp a.rec.now b.rec.now) (ordering_then (slice_cmp nat_cmp a.declaration.now b.declaration.now) (slice_cmp nat_cmp a.agent.now b.agent.now))
 
 -- The series that the row's statement is of.
 pub record IsOf (series : Series) (r : Row) : Type 0 where

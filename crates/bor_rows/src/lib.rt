@@ -26,6 +26,7 @@ mod notation;
 mod replies;
 pub mod sight;
 pub mod withdrawing;
+pub mod worlds;
 
 pub use ask::{Ask, Wish};
 pub use body::body_of;

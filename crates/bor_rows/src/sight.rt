@@ -114,6 +114,42 @@ pub const PUBLISHED_FILINGS_GO_BY_AGENT_FOR_WHOEVER_ASKS: [Row; 9] = [
     ("cedar filings", "[]"),
 ];
 
+/// Five agents, of whom one has a draft: what is published goes by agent, for each of them.
+pub const FIVE_AGENTS_SEE_WHAT_IS_PUBLISHED: [Row; 11] = [
+    (
+        "registrar enrol rowan rowan-token-000001",
+        r#"{"agent":"rowan"}"#,
+    ),
+    (
+        "registrar enrol cedar cedar-token-000001",
+        r#"{"agent":"cedar"}"#,
+    ),
+    (
+        "registrar enrol hazel hazel-token-000001",
+        r#"{"agent":"hazel"}"#,
+    ),
+    ("rowan lodge f1 2024-02-01 E s1 e1", PUBLISHED),
+    ("hazel lodge f1 2024-02-01 E s1 e1", PUBLISHED),
+    (
+        "cedar lodge f1 2024-02-02 E s1 e1",
+        r#"{"due":"2024-02-02","filing":1,"state":"draft"}"#,
+    ),
+    ("birch lodge f1 2024-02-01 E s1 e1", PUBLISHED),
+    ("alder lodge f1 2024-02-01 E s1 e1", PUBLISHED),
+    (
+        "cedar published",
+        r#"[{"agent":"alder","due":"2024-02-01","statements":[{"date":"2024-01-10","declaration":"c1","id":"s1","record":"e1","status":"new","type":"entity"}]},{"agent":"birch","due":"2024-02-01","statements":[{"date":"2024-01-10","declaration":"c1","id":"s1","record":"e1","status":"new","type":"entity"}]},{"agent":"hazel","due":"2024-02-01","statements":[{"date":"2024-01-10","declaration":"c1","id":"s1","record":"e1","status":"new","type":"entity"}]},{"agent":"rowan","due":"2024-02-01","statements":[{"date":"2024-01-10","declaration":"c1","id":"s1","record":"e1","status":"new","type":"entity"}]}]"#,
+    ),
+    (
+        "rowan published",
+        r#"[{"agent":"alder","due":"2024-02-01","statements":[{"date":"2024-01-10","declaration":"c1","id":"s1","record":"e1","status":"new","type":"entity"}]},{"agent":"birch","due":"2024-02-01","statements":[{"date":"2024-01-10","declaration":"c1","id":"s1","record":"e1","status":"new","type":"entity"}]},{"agent":"hazel","due":"2024-02-01","statements":[{"date":"2024-01-10","declaration":"c1","id":"s1","record":"e1","status":"new","type":"entity"}]},{"agent":"rowan","due":"2024-02-01","statements":[{"date":"2024-01-10","declaration":"c1","id":"s1","record":"e1","status":"new","type":"entity"}]}]"#,
+    ),
+    (
+        "cedar filings",
+        r#"[{"due":"2024-02-02","filing":1,"key":"f1","state":"draft"}]"#,
+    ),
+];
+
 /// Three drafts of two agents, of which one day publishes two.
 pub const A_DAY_PUBLISHES_ALL_THAT_IS_DUE_BY_THEN: [Row; 8] = [
     (

@@ -5,7 +5,7 @@ use bor_rows::{Row, RowFault, callers, keyed, lodging, sight, withdrawing};
 use std::alloc::{AllocError, Global};
 
 // Each of these is a table of rows, asked of a new register.
-const TABLES: [&[Row]; 19] = [
+const TABLES: [&[Row]; 20] = [
     &lodging::THE_FIRST_LODGING_IS_PUBLISHED_AND_TOLD,
     &lodging::A_STATEMENT_THAT_MAY_NOT_FOLLOW_LEAVES_NO_FILING,
     &lodging::A_FILE_THAT_IS_NOT_READ_IS_REFUSED_WHOLE,
@@ -17,6 +17,7 @@ const TABLES: [&[Row]; 19] = [
     &sight::A_SNAPSHOT_SHOWS_THE_LATEST_STATEMENT,
     &sight::A_DRAFT_JOINS_CHAINS_FOR_ITS_OWN_AGENT_ALONE,
     &sight::PUBLISHED_FILINGS_GO_BY_AGENT_FOR_WHOEVER_ASKS,
+    &sight::FIVE_AGENTS_SEE_WHAT_IS_PUBLISHED,
     &sight::A_DAY_PUBLISHES_ALL_THAT_IS_DUE_BY_THEN,
     &withdrawing::DRAFTS_ARE_WITHDRAWN_FROM_THE_LAST_ON,
     &withdrawing::A_WITHDRAWN_KEY_IS_NOT_FREE,
