@@ -1,4 +1,8 @@
-pub mod OneAgent
 pub mod SeriesSeen
 pub mod OpenAt
 pub mod Told
+pub mod Answered
+pub mod Recording
+pub mod Linking
+pub mod Signing
+pub mod Following

@@ -11,7 +11,6 @@ use Rattle.bor_links.specs.declared.node.Node.{Node}
 use Rattle.bor_links.specs.Series.{open_at, series}
 use Rattle.bor_links.proofs.ByKey.{open_at_in, open_row_is}
 use Rattle.bor_register.specs.Register.{Register, filings_of}
-use Rattle.bor_register.specs.Rows.{visible}
 use Rattle.bor_store_rows.specs.declared.rows.Placed.{Placed}
 use Rattle.bor_store_rows.specs.declared.rows.StatementRow.{StatementRow}
 use Rattle.bor_store_rows.specs.Placed.{bare}
@@ -21,6 +20,7 @@ use Rattle.bor_store_sql.specs.Selected.{in_series, placed_of}
 use Rattle.bor_store_reads.proofs.LastOnes.{or_else, last_or-append, last_or-map}
 use Rattle.bor_store_keys.specs.declared.view.View.{View}
 use Rattle.bor_store_keys.specs.Latest.{bare_row, is_told, unless_closed}
+use Rattle.bor_store_keys.specs.Viewed.{rows_seen}
 use Rattle.bor_store_keys.proofs.SeriesSeen.{series_seen, Stands, stands}
 
 -- ---- the last of a list that passes a test, from its end
@@ -46,9 +46,6 @@ filter_and p q (x ∷ xs) = go (p x) (q x) refl refl (filter_and p q xs)
     go true false e f more = rw (e, f) more
     go false true e f more = rw (e, f, e) more
     go false false e f more = rw (e, f) more
-
-abbrev pub rows_seen : View → Register → List Row
-rows_seen view r = visible view.viewer view.today r.members
 
 module _ (view : View) (n : Node) (r : Register) (stored : IsStored r) where
   -- the last statement of the series that is seen and dated

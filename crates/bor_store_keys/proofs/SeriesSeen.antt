@@ -26,7 +26,7 @@ use Rattle.bor_store_sql.specs.Selected.{in_series, placed_of}
 use Rattle.bor_store_reads.proofs.Declared.{IsAlone, each_alone}
 use Rattle.bor_store_reads.proofs.FoundFilings.{own_numbered}
 use Rattle.bor_store_reads.proofs.FoundStatements.{own_placed}
-use Rattle.bor_store_keys.proofs.OneAgent.{one_agent}
+use Rattle.bor_register.proofs.OneAgent.{one_agent}
 
 -- ---- an agent's own statements
 

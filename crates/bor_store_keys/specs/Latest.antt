@@ -1,13 +1,16 @@
 -- The statement that a record shows on a day, by its row in the table statement.
-use Rattle.std.specs.Prelude.{ℕ, int_le, List, Bool, Option, Some, None, unwrap_or, if◌then◌else◌, ◌&&◌, ◌==◌}
+use Rattle.std.specs.Prelude.{ℕ, int_le, List, map, Bool, Option, Some, None, unwrap_or, if◌then◌else◌, ◌&&◌, ◌==◌}
 use Rattle.std.specs.List.{list_any}
 use Rattle.bods_read.specs.declared.statement.Status.TheVariants.{New}
 use Rattle.bor_records.specs.declared.row.Row.{Row}
 use Rattle.bor_records.specs.Admission.{is_closed}
 use Rattle.bor_register.specs.declared.filing.AcceptedFiling.{AcceptedFiling}
+use Rattle.bor_register.specs.declared.member.Member.{Member}
 use Rattle.bor_register.specs.Rows.{is_visible}
 use Rattle.bor_store_rows.specs.declared.rows.StatementRow.{StatementRow}
-use Rattle.bor_store_rows.specs.Placed.{bare}
+use Rattle.bor_store_rows.specs.Placed.{bare, with_lists}
+use Rattle.bor_store_rows.specs.Seen.{row_placed}
+use Rattle.bor_store_sql.specs.Selected.{interests_at, identifiers_at}
 use Rattle.bor_store_keys.specs.declared.view.View.{View}
 
 -- what the table statement has of a row
@@ -21,3 +24,7 @@ is_told view agent filings row = int_le row.day view.day && list_any (λ f. f.nu
 -- a statement that isn't closed
 abbrev pub unless_closed : StatementRow → Option StatementRow
 unless_closed row = if is_closed (unwrap_or row.status New) then None else Some row
+
+-- the row of a statement, with the interests and identifiers that stand at its place
+abbrev pub listed_row : List Member → StatementRow → Row
+listed_row ms row = row_placed (with_lists row (map (λ x. x.interest) (interests_at row.at ms)) (map (λ x. x.identifier) (identifiers_at row.at ms)))

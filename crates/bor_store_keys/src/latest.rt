@@ -5,10 +5,10 @@ ghost use Rattle.std.specs.List.{last_or};
 ghost use Rattle.sqlite.specs.Held.{state};
 ghost use Rattle.bor_links.specs.Series.{open_at};
 ghost use Rattle.bor_register.specs.Register.{filings_of};
-ghost use Rattle.bor_register.specs.Rows.{visible};
 ghost use Rattle.bor_store_sql.specs.Shown.{IsClean};
 ghost use Rattle.bor_store_reads.specs.Answering.{Answers};
 ghost use Rattle.bor_store_keys.specs.Latest.{bare_row, is_told, unless_closed};
+ghost use Rattle.bor_store_keys.specs.Viewed.{rows_seen};
 
 use crate::view::View;
 use bods_read::Status;
@@ -85,7 +85,7 @@ pub(crate) fn open_statement<S: Alter>(
     ensures began { IsClean (state S.Store conn.new) → IsClean (state S.Store conn.old) }
     ensures kept { IsClean (state S.Store conn.new) → (state S.Store conn.new).committed ≡ (state S.Store conn.old).committed }
     ensures answer { Answers (state S.Store conn.old) (state S.Store conn.new) result (λ r row.
-        row ≡ option_map bare_row (open_at view.now.day node.now (visible view.now.viewer view.now.today r.members))) }
+        row ≡ option_map bare_row (open_at view.now.day node.now (rows_seen view.now r))) }
 {
     let rows = read_series(conn, alloc, &node.agent, &node.declaration, &node.rec)?;
     match last_told(conn, alloc, view, &node.agent, rows)? {

@@ -1,13 +1,21 @@
-//! Nodes of a register in tables, read by key over a connection.
+//! Nodes, links and aliases of a register in tables, read by key over a connection.
 //!
-//! A read asks by the indexes of the tables for the statements of the record that it is of, and for no
+//! A read asks by the indexes of the tables for the statements of the records that it meets, and for no
 //! others. What a record shows is the latest statement of its series that the viewer sees, where it isn't
-//! closed. Where the connection shows a register (`bor_store_sql`), the answer is that of the nodes of all
-//! rows that the viewer sees (`bor_links`), or memory or the store failed.
+//! closed; what is found by a subject, by a record or by an identifier is confirmed by it. Where the
+//! connection shows a register (`bor_store_sql`), the answers are those of the nodes and links of all rows
+//! that the viewer sees (`bor_links`), or memory or the store failed.
 #![tactic(auto)]
 
+mod alike;
 mod latest;
+mod links;
+mod list;
 mod nodes;
+mod opened;
+mod records;
 mod view;
 
+pub use alike::{read_aliases, read_same};
+pub use links::read_links_into;
 pub use nodes::read_node;

@@ -1,0 +1,17 @@
+use Rattle.std.proofs.Common.{◌≡◌, false, take}
+use Rattle.sqlite.specs.Held.{state}
+use Rattle.bor_links.specs.Growth.{Grown}
+use Rattle.bor_register.specs.Picked.{IsAlikeIn}
+use Rattle.bor_register.specs.Register.{Register}
+use Rattle.bor_store_sql.specs.Shown.{IsClean, ShowsIn}
+use Rattle.bor_store_keys.specs.Viewed.{rows_seen}
+use Rattle.bor_store_keys.proofs.alike.add_alike.Given as goal
+
+-- those of the candidates so far are added, and what is shown is as it was
+abbrev pub invariant-loop-candidate : goal.invariant-loop-candidate
+invariant-loop-candidate g l = record {
+  mode : l.conn.in_transaction ≡ false;
+  began : IsClean (state g.S.Store l.conn) → IsClean (state g.S.Store l.fn.conn);
+  kept : IsClean (state g.S.Store l.conn) → (state g.S.Store l.conn).committed ≡ (state g.S.Store l.fn.conn).committed;
+  grown : IsClean (state g.S.Store l.conn) → (r : Register) → ShowsIn r (state g.S.Store l.fn.conn) → Grown (IsAlikeIn l.view.day (rows_seen l.view r) l.one (take l.candidate-index l.candidates)) l.initial.class l.class;
+}

@@ -1,0 +1,16 @@
+use Rattle.std.proofs.Common.{subst}
+use Rattle.sqlite.specs.Held.{state}
+use Rattle.bor_links.specs.Answers.{AreAliases}
+use Rattle.bor_store_reads.proofs.Found.{still_shows}
+use Rattle.bor_store_keys.specs.Viewed.{seen}
+use Rattle.bor_store_keys.specs.declared.view.View.{View}
+use Rattle.bor_store_keys.proofs.Answered.{answered}
+use Rattle.bor_store_keys.proofs.alike.read_aliases.Goals as goal
+
+pub returns-clause-answer : goal.returns-clause-answer
+returns-clause-answer g c clean r shows =
+    let read = c.aliases_in.ensures.began clean in
+    let shown = still_shows r (state g.S.Store c.args.conn.now) (state g.S.Store c.view_of.new.conn) (c.view_of.ensures.kept read) shows in
+    answered c.aliases_in.result _ _
+    (λ nodes h. subst (λ (view : View). AreAliases (seen view r) c.args.node.now nodes.items) (c.in_ok-view.ensures.answer read r shows) h)
+    (c.aliases_in.ensures.answer clean r shown)

@@ -1,0 +1,22 @@
+use Rattle.std.proofs.Common.{◌≡◌, ◌-◌, ◌^◌, false}
+use Rattle.std.specs.BTreeSet.{contains}
+use Rattle.sqlite.specs.Held.{state}
+use Rattle.bor_links.specs.Signs.{sign_cmp}
+use Rattle.bor_links.proofs.Reached.{AreGathered}
+use Rattle.bor_register.specs.Register.{Register}
+use Rattle.bor_store_sql.specs.Shown.{IsClean, ShowsIn}
+use Rattle.bor_store_keys.specs.Viewed.{seen}
+use Rattle.bor_store_keys.proofs.alike.same_in.Given as goal
+
+-- the signs of the nodes before `next` are looked up, and all that have them are there; what is shown is as it was
+abbrev pub invariant-loop-next : goal.invariant-loop-next
+invariant-loop-next g l = record {
+  mode : l.conn.in_transaction ≡ false;
+  began : IsClean (state g.S.Store l.conn) → IsClean (state g.S.Store l.fn.conn);
+  kept : IsClean (state g.S.Store l.conn) → (state g.S.Store l.conn).committed ≡ (state g.S.Store l.fn.conn).committed;
+  gathered : IsClean (state g.S.Store l.conn) → (r : Register) → ShowsIn r (state g.S.Store l.fn.conn) → AreGathered (seen l.view r) l.node l.next l.class (λ k. contains sign_cmp l.looked k);
+}
+
+-- a list in memory has fewer than 2 ^ 64 elements
+abbrev pub decreases-loop-next : goal.decreases-loop-next
+decreases-loop-next g l = 2 ^ 64 - l.next

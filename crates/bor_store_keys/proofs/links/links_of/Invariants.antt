@@ -1,0 +1,20 @@
+use Rattle.std.proofs.Common.{◌≡◌, ◌++◌, true, false, drop}
+use Rattle.std.specs.List.{filter_map}
+use Rattle.sqlite.specs.Held.{state}
+use Rattle.bor_links.specs.Rows.{is_entity_info}
+use Rattle.bor_links.specs.Shown.{info_of}
+use Rattle.bor_register.specs.Picked.{link_at}
+use Rattle.bor_register.specs.Register.{Register}
+use Rattle.bor_store_sql.specs.Shown.{IsClean, ShowsIn}
+use Rattle.bor_store_keys.specs.Viewed.{rows_seen, seen}
+use Rattle.bor_store_keys.proofs.links.links_of.Given as goal
+
+-- the links so far and those of what is left are all, and what is shown is as it was
+abbrev pub invariant-loop-one : goal.invariant-loop-one
+invariant-loop-one g l = record {
+  mode : l.conn.in_transaction ≡ false;
+  began : IsClean (state g.S.Store l.conn) → IsClean (state g.S.Store l.fn.conn);
+  kept : IsClean (state g.S.Store l.conn) → (state g.S.Store l.conn).committed ≡ (state g.S.Store l.fn.conn).committed;
+  found : IsClean (state g.S.Store l.conn) → (r : Register) → ShowsIn r (state g.S.Store l.fn.conn) → is_entity_info (info_of (seen l.view r) l.node) ≡ true
+      → l.links.items ++ filter_map (link_at l.view.day (rows_seen l.view r) l.node) (drop l.one-index l.records) ≡ filter_map (link_at l.view.day (rows_seen l.view r) l.node) l.records;
+}

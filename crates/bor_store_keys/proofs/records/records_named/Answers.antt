@@ -1,0 +1,8 @@
+use Rattle.bor_store_sql.specs.Selected.{in_record, placed_of}
+use Rattle.bor_store_keys.proofs.Recording.{records_cover}
+use Rattle.bor_store_keys.proofs.records.records_named.Goals as goal
+
+pub returns-clause-answer : goal.returns-clause-answer
+returns-clause-answer g c clean r shows =
+    records_cover (in_record c.args.rec.now (placed_of c.args.agent.now r)) c.in_ok-rows.rows.items c.in_ok-records.records.items c.in_ok-once.field-0.items
+    (c.in_ok-rows.ensures.answer clean r shows) c.in_ok-records.ensures c.in_ok-once.ensures.same

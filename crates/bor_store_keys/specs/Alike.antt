@@ -1,0 +1,29 @@
+-- Nodes that stand for one entity, while they are looked for sign by sign.
+use Rattle.std.specs.Prelude.{◌≡◌, ◌⊎◌, ◌++◌, ℤ, true, Bool, List, Contains, Some}
+use Rattle.bor_records.specs.declared.row.Row.{Row}
+use Rattle.bor_links.specs.declared.node.Node.{Node}
+use Rattle.bor_links.specs.declared.node.OpenNode.{OpenNode}
+use Rattle.bor_links.specs.declared.sign.Sign.{Sign}
+use Rattle.bor_links.specs.Aliases.{Alias}
+use Rattle.bor_links.specs.ByKey.{node_at}
+use Rattle.bor_links.specs.Shown.{Shown, are_alike, is_like, listed_at}
+use Rattle.bor_links.specs.Signs.{signs}
+use Rattle.bor_chains.specs.Classes.{HasSign}
+
+-- Nodes are added that are alike by their latest statements. These signs have been looked up, and of each that hadn't been before, all that have it and are alike are there.
+pub record Expands (day : ℤ) (rows : List Row) (one : OpenNode) (ks : List Sign) (old new : List Node) (was now : Sign → Bool) : Type 0 where
+  pub rest : List Node
+  pub begins : new ≡ old ++ rest
+  pub alike : (n : Node) → Contains rest n → is_like one (node_at day n rows) ≡ true
+  pub stays : (k : Sign) → was k ≡ true → now k ≡ true
+  pub looked : (k : Sign) → Contains ks k → now k ≡ true
+  pub fresh : (k : Sign) → now k ≡ true → (was k ≡ true) ⊎ (Contains ks k × ((n : Node) (x : OpenNode) → node_at day n rows ≡ Some x → Contains (signs x) k → are_alike one x ≡ true → Contains new n))
+
+-- Aliases of a node are added. The signs of an open entity have been looked up, and of each that hadn't been before, all entities that have it are there, but for the node.
+pub record Follows (s : Shown) (node : Node) (old new : List Node) (was now : Sign → Bool) : Type 0 where
+  pub rest : List Node
+  pub begins : new ≡ old ++ rest
+  pub each : (n : Node) → Contains rest n → Alias s node n
+  pub stays : (k : Sign) → was k ≡ true → now k ≡ true
+  pub looked : (x : OpenNode) (k : Sign) → listed_at s.nodes node ≡ Some x → HasSign x k → now k ≡ true
+  pub fresh : (k : Sign) → now k ≡ true → (was k ≡ true) ⊎ ((y : OpenNode) → listed_at s.nodes y.node ≡ Some y → HasSign y k → (y.node ≡ node) ⊎ Contains new y.node)

@@ -1,0 +1,34 @@
+-- Which records have had a sign.
+use Rattle.std.specs.Prelude.{◌≡◌, ℕ, List, Contains, filter, ◌&&◌, Option, Some, option_map, slice_get, if◌then◌else◌}
+use Rattle.std.specs.List.{list_any}
+use Rattle.bor_terms.specs.Texts.{is_same}
+use Rattle.bor_records.specs.declared.row.Row.{Row}
+use Rattle.bor_links.specs.declared.node.Node.{Node}
+use Rattle.bor_links.specs.declared.node.OpenNode.{OpenNode}
+use Rattle.bor_links.specs.declared.sign.Sign.{Sign}
+use Rattle.bor_links.specs.Rows.{node_in}
+use Rattle.bor_links.specs.Series.{series_of}
+use Rattle.bor_links.specs.Signs.{signs}
+use Rattle.bor_register.specs.declared.member.Member.{Member}
+use Rattle.bor_register.specs.Register.{Register}
+use Rattle.bor_store_rows.specs.declared.places.At.{At}
+use Rattle.bor_store_rows.specs.declared.rows.Placed.{Placed}
+use Rattle.bor_store_rows.specs.Placed.{identifiers_of, placed}
+use Rattle.bor_store_sql.specs.Selected.{in_record, placed_of, standing_at}
+use Rattle.bor_store_keys.specs.Recorded.{record_of}
+
+-- the record of the live statement at a place
+abbrev pub record_standing : List Member → At → Option Node
+record_standing ms at = option_map record_of (slice_get (standing_at at ms) 0)
+
+-- of these statements those with this identifier of the scheme
+abbrev pub with_identifier : List ℕ → List ℕ → List Placed → List Placed
+with_identifier scheme id ps = filter (λ p. list_any (λ i. is_same i.scheme scheme && is_same i.id id) (identifiers_of p.statement.details)) ps
+
+-- the live statements that have a sign: those of an agent's record, or those with an identifier
+abbrev pub with_sign : Sign → Register → List Placed
+with_sign k r = if k.of_record then in_record k.name (placed_of k.group r) else with_identifier k.group k.name (placed r.members)
+
+-- among the nodes is the record of each row that has the sign
+abbrev pub CoverSign : List Row → Sign → List Node → Type 0
+CoverSign rows k nodes = (row : Row) (x : OpenNode) → Contains rows row → node_in row ≡ Some x → Contains (signs x) k → Contains nodes (series_of row)

@@ -1,0 +1,16 @@
+-- What a viewer sees of a register on a day.
+use Rattle.std.specs.Prelude.{List}
+use Rattle.bor_records.specs.declared.row.Row.{Row}
+use Rattle.bor_links.specs.Shown.{Shown}
+use Rattle.bor_links.specs.Rows.{shown_of}
+use Rattle.bor_register.specs.Register.{Register}
+use Rattle.bor_register.specs.Rows.{visible}
+use Rattle.bor_store_keys.specs.declared.view.View.{View}
+
+-- the rows that the viewer sees on the register's day
+abbrev pub rows_seen : View → Register → List Row
+rows_seen view r = visible view.viewer view.today r.members
+
+-- their nodes and links on the day of the answer
+abbrev pub seen : View → Register → Shown
+seen view r = shown_of view.day (rows_seen view r)

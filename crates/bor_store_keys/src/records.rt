@@ -1,0 +1,152 @@
+//! The records of statements that are found by what they name.
+
+ghost use Rattle.std.specs.Prelude.{◌≡◌, false, IfOk, map};
+ghost use Rattle.std.specs.List.{filter_map};
+ghost use Rattle.sqlite.specs.Held.{state};
+ghost use Rattle.bor_store_rows.specs.Placed.{placed};
+ghost use Rattle.bor_store_sql.specs.Selected.{in_record, placed_of, with_subject};
+ghost use Rattle.bor_store_sql.specs.Shown.{IsClean};
+ghost use Rattle.bor_store_reads.specs.Answering.{Answers};
+ghost use Rattle.bor_store_keys.specs.Recorded.{CoverRecords, record_at};
+ghost use Rattle.bor_store_keys.specs.Signed.{record_standing, with_identifier, with_sign};
+
+use crate::list::push_some;
+use bor_links::{Node, Sign, once};
+use bor_store_reads::{ReadError, read_identified, read_place, read_record, read_subject};
+use bor_store_rows::{At, IdentifierRow, StatementRow};
+use sqlite::{Alter, Connection};
+use std::alloc::{AllocError, Global};
+
+// The record that a statement is of.
+fn record_at(row: StatementRow) -> Node
+    ensures { result ≡ record_at row }
+{
+    Node {
+        agent: row.at.agent,
+        declaration: row.declaration,
+        rec: row.rec,
+    }
+}
+
+// The records that these statements are of.
+fn records_at(alloc: Global, rows: Vec<StatementRow>) -> Result<Vec<Node>, AllocError>
+    ensures { IfOk result (λ nodes. nodes.items ≡ map record_at rows.items) }
+{
+    rows.into_iter().map(|row| record_at(row)).collect(alloc)
+}
+
+/// The records of the statements that name this record as their subject, each once.
+pub(crate) fn records_into<S: Alter>(
+    conn: &mut Connection<S>,
+    alloc: Global,
+    node: &Node,
+) -> Result<Vec<Node>, ReadError>
+    requires { conn.old.in_transaction ≡ false }
+    ensures mode { conn.new.in_transaction ≡ false }
+    ensures began { IsClean (state S.Store conn.new) → IsClean (state S.Store conn.old) }
+    ensures kept { IsClean (state S.Store conn.new) → (state S.Store conn.new).committed ≡ (state S.Store conn.old).committed }
+    ensures answer { Answers (state S.Store conn.old) (state S.Store conn.new) result (λ r records.
+        CoverRecords (with_subject node.now.declaration node.now.rec (placed_of node.now.agent r)) records.items) }
+{
+    let rows = read_subject(conn, alloc, &node.agent, &node.declaration, &node.rec)?;
+    let records = records_at(alloc, rows)?;
+    Ok(once(records)?)
+}
+
+// The record of the statement at this place.
+fn record_standing<S: Alter>(
+    conn: &mut Connection<S>,
+    alloc: Global,
+    at: &At,
+) -> Result<Option<Node>, ReadError>
+    requires { conn.old.in_transaction ≡ false }
+    ensures mode { conn.new.in_transaction ≡ false }
+    ensures began { IsClean (state S.Store conn.new) → IsClean (state S.Store conn.old) }
+    ensures kept { IsClean (state S.Store conn.new) → (state S.Store conn.new).committed ≡ (state S.Store conn.old).committed }
+    ensures answer { Answers (state S.Store conn.old) (state S.Store conn.new) result (λ r one.
+        one ≡ record_standing r.members at.now) }
+{
+    match read_place(conn, alloc, at)? {
+        Some(row) => Ok(Some(record_at(row))),
+        None => Ok(None),
+    }
+}
+
+// The records of the statements that have these identifiers.
+fn records_standing<S: Alter>(
+    conn: &mut Connection<S>,
+    alloc: Global,
+    rows: &[IdentifierRow],
+) -> Result<Vec<Node>, ReadError>
+    requires { conn.old.in_transaction ≡ false }
+    ensures mode { conn.new.in_transaction ≡ false }
+    ensures began { IsClean (state S.Store conn.new) → IsClean (state S.Store conn.old) }
+    ensures kept { IsClean (state S.Store conn.new) → (state S.Store conn.new).committed ≡ (state S.Store conn.old).committed }
+    ensures answer { Answers (state S.Store conn.old) (state S.Store conn.new) result (λ r records.
+        records.items ≡ filter_map (λ row. record_standing r.members row.at) rows.now) }
+{
+    let mut records = Vec::new(alloc);
+    for row in rows {
+        let one = record_standing(conn, alloc, &row.at)?;
+        push_some(&mut records, one)?;
+    }
+    Ok(records)
+}
+
+// The records of the statements that have this identifier of the scheme, each once.
+fn records_identified<S: Alter>(
+    conn: &mut Connection<S>,
+    alloc: Global,
+    scheme: &str,
+    id: &str,
+) -> Result<Vec<Node>, ReadError>
+    requires { conn.old.in_transaction ≡ false }
+    ensures mode { conn.new.in_transaction ≡ false }
+    ensures began { IsClean (state S.Store conn.new) → IsClean (state S.Store conn.old) }
+    ensures kept { IsClean (state S.Store conn.new) → (state S.Store conn.new).committed ≡ (state S.Store conn.old).committed }
+    ensures answer { Answers (state S.Store conn.old) (state S.Store conn.new) result (λ r records.
+        CoverRecords (with_identifier scheme.now id.now (placed r.members)) records.items) }
+{
+    let rows = read_identified(conn, alloc, scheme, id)?;
+    let records = records_standing(conn, alloc, &rows)?;
+    Ok(once(records)?)
+}
+
+// The records of the agent with this identifier, of whatever declaration, each once.
+fn records_named<S: Alter>(
+    conn: &mut Connection<S>,
+    alloc: Global,
+    agent: &str,
+    rec: &str,
+) -> Result<Vec<Node>, ReadError>
+    requires { conn.old.in_transaction ≡ false }
+    ensures mode { conn.new.in_transaction ≡ false }
+    ensures began { IsClean (state S.Store conn.new) → IsClean (state S.Store conn.old) }
+    ensures kept { IsClean (state S.Store conn.new) → (state S.Store conn.new).committed ≡ (state S.Store conn.old).committed }
+    ensures answer { Answers (state S.Store conn.old) (state S.Store conn.new) result (λ r records.
+        CoverRecords (in_record rec.now (placed_of agent.now r)) records.items) }
+{
+    let rows = read_record(conn, alloc, agent, rec)?;
+    let records = records_at(alloc, rows)?;
+    Ok(once(records)?)
+}
+
+/// The records whose statements have a sign, each once.
+pub(crate) fn records_with<S: Alter>(
+    conn: &mut Connection<S>,
+    alloc: Global,
+    sign: &Sign,
+) -> Result<Vec<Node>, ReadError>
+    requires { conn.old.in_transaction ≡ false }
+    ensures mode { conn.new.in_transaction ≡ false }
+    ensures began { IsClean (state S.Store conn.new) → IsClean (state S.Store conn.old) }
+    ensures kept { IsClean (state S.Store conn.new) → (state S.Store conn.new).committed ≡ (state S.Store conn.old).committed }
+    ensures answer { Answers (state S.Store conn.old) (state S.Store conn.new) result (λ r records.
+        CoverRecords (with_sign sign.now r) records.items) }
+{
+    if sign.of_record {
+        records_named(conn, alloc, sign.group.as_str(), sign.name.as_str())
+    } else {
+        records_identified(conn, alloc, sign.group.as_str(), sign.name.as_str())
+    }
+}
