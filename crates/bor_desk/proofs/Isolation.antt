@@ -1,8 +1,7 @@
 -- What an agent is answered follows from its own exchanges, the day, and what the others have published.
-use Rattle.std.proofs.Common.{◌≡◌, ℕ, ℤ, List, [], ◌∷◌, Contains, Bool, true, false, Option, Some, None, inl, inr, refl, ◌∙◌, sym, ap, subst, arith}
-use Rattle.std.proofs.lemmas.List.Elements.{Contains-append_left, Contains-append_right, Contains-append_cases}
+use Rattle.std.proofs.Common.{◌≡◌, ℕ, ℤ, List, [], ◌∷◌, Bool, true, false, Option, Some, None, refl, ◌∙◌, sym, ap, subst, arith}
 use Rattle.std.specs.Prelude.{int_lt, if◌then◌else◌}
-use Rattle.bor_terms.specs.Texts.{is_same, is_below}
+use Rattle.bor_terms.specs.Texts.{is_same}
 use Rattle.bor_terms.proofs.Texts.{same_is, same_refl}
 use Rattle.bor_register.specs.declared.caller.Caller.{Caller}
 use Rattle.bor_register.specs.declared.caller.Caller.TheVariants.{Registrar, Agent}
@@ -14,7 +13,8 @@ use Rattle.bor_machine.specs.Legality.{IsLegal}
 use Rattle.bor_machine.specs.Sight.{sight_of}
 use Rattle.bor_machine.specs.Registrar.{advance_step, enrol_step}
 use Rattle.bor_machine.specs.Solo.{published_beside, with_outwards, member_with, alone}
-use Rattle.bor_machine.proofs.Legality.{other-with_filings, leaves-with_filings}
+use Rattle.bor_machine.specs.Laws.{KeepsAgents}
+use Rattle.bor_machine.proofs.Legality.{other-with_filings, leaves-with_filings, advance-keeps_agents, enrolment-keeps_agents}
 use Rattle.bor_machine.proofs.Alone.{filings-with_member, sight-alone}
 use Rattle.bor_desk.specs.declared.request.Request.{Request}
 use Rattle.bor_desk.specs.declared.request.Request.TheVariants as ask
@@ -22,7 +22,7 @@ use Rattle.bor_desk.specs.Step.{own_after, agent_answer, agent_step, registrar_s
 use Rattle.bor_desk.specs.Runs.{Asked, exchange, register_after, request_by, occasion_then, history, told_then, answers_to, solo}
 use Rattle.bor_desk.specs.declared.reply.DeskReply.{DeskReply}
 use Rattle.bor_desk.specs.Outcomes.{IsAnswered}
-use Rattle.bor_desk.specs.Laws.{is_agent, KeepsAgents, OwnFilingsUntouched, IsAsAlone, IsToldAlone, OneExchangeAlone, IsolationOfHistories}
+use Rattle.bor_desk.specs.Laws.{is_agent, OwnFilingsUntouched, IsAsAlone, IsToldAlone, OneExchangeAlone, IsolationOfHistories}
 use Rattle.bor_desk.proofs.Steps.{step-stays_legal}
 
 -- ---- the filings of the others
@@ -70,33 +70,10 @@ others-filings r (Some (Agent asking)) request name other = other-with_filings a
 
 -- ---- the agents that were there
 
-kept-with_member : (new m : Member) (ms : List Member) → Contains ms m → Contains (with_member new ms) m
-kept-with_member new m [] h = absurd (omega (arith, h.1))
-kept-with_member new m (x ∷ xs) h = at (is_below x.name new.name) (λ k. kept-with_member new m xs k)
-  where
-    at : (b : Bool) → (Contains xs m → Contains (with_member new xs) m) → Contains (if b then x ∷ with_member new xs else new ∷ x ∷ xs) m
-    at true rest = elim (Contains-append_cases (x ∷ []) xs m h) [
-      | inl first ↦ Contains-append_left (x ∷ []) (with_member new xs) m first
-      | inr later ↦ Contains-append_right (x ∷ []) (with_member new xs) m (rest later)
-    ]
-    at false rest = Contains-append_right (new ∷ []) (x ∷ xs) m h
-
-keeps_all : (r : Register) → KeepsAgents r r
-keeps_all r = record { registrar = refl; agents = λ m h. h }
-
-enrol-keeps : (r : Register) (name token : List ℕ) (b c : Bool) → is_enrolled name r.members ≡ b → is_taken token r ≡ c → KeepsAgents r (enrol_step r name token).register
-enrol-keeps r name token true c h k = rw h (keeps_all r)
-enrol-keeps r name token false true h k = rw (h, k) (keeps_all r)
-enrol-keeps r name token false false h k = rw (h, k) (record { registrar = refl; agents = λ m on. kept-with_member (new_member name token) m r.members on })
-
-advance-keeps : (r : Register) (day : ℤ) (b : Bool) → int_lt day r.day ≡ b → KeepsAgents r (advance_step r day).register
-advance-keeps r day true h = rw h (keeps_all r)
-advance-keeps r day false h = rw h (record { registrar = refl; agents = λ m on. on })
-
 registrar-keeps : (r : Register) (request : Request) → KeepsAgents r (registrar_step r request).register
-registrar-keeps r (ask.Day date) = advance-keeps r date (int_lt date r.day) refl
-registrar-keeps r (ask.Enrol name token) = enrol-keeps r name token _ _ refl refl
-registrar-keeps r request = keeps_all r
+registrar-keeps r (ask.Day date) = advance-keeps_agents r date
+registrar-keeps r (ask.Enrol name token) = enrolment-keeps_agents r name token
+registrar-keeps r request = record { registrar = refl; agents = λ m on. on }
 
 pub own_filings : OwnFilingsUntouched
 own_filings = record {

@@ -1,24 +1,27 @@
--- Who stands behind an entity, by the rows that a viewer sees.
-use Rattle.std.proofs.Common.{◌≡◌, ℕ, ℤ, cond, Option, Some, None, List, Result, Ok, Err, IsErr, IsErrAnd, refl, sym, ap, ◌∙◌, subst}
-use Rattle.bor_records.specs.declared.row.Row.{Row}
+-- Who stands behind an entity, by the nodes and links that a viewer sees.
+use Rattle.std.proofs.Common.{◌≡◌, ◌≢◌, ℕ, ℤ, cond, inl, inr, Option, Some, None, List, Result, Ok, Err, IsErr, IsErrAnd, Vec, Global, refl, sym, ap, subst}
 use Rattle.bor_links.specs.declared.node.Node.{Node}
 use Rattle.bor_links.specs.declared.node.NodeInfo.{NodeInfo}
 use Rattle.bor_links.specs.declared.node.NodeInfo.TheVariants.{Entity, Person}
+use Rattle.bor_records.specs.Promises.{Kept, Promised}
 use Rattle.bor_chains.specs.declared.line.PersonLine.{PersonLine}
 use Rattle.bor_chains.specs.declared.fault.ChainFault.{ChainFault}
 use Rattle.bor_chains.specs.declared.fault.ChainFault.TheVariants as chains
 use Rattle.bor_links.specs.Shown.{Shown, info_of, IsEntity}
 use Rattle.bor_links.specs.Rows.{is_entity_info, shown_of}
 use Rattle.bor_chains.specs.Chains.{AreJoined}
-use Rattle.bor_chains.specs.Promises.{OnNoEntity}
+use Rattle.bor_chains.specs.Promises.{chain_counted, OnNoEntity, OnSource}
 use Rattle.bor_keep.specs.declared.fault.StoreFault.{StoreFault}
 use Rattle.bor_register.specs.Register.{Register}
-use Rattle.bor_register.specs.Rows.{visible}
+use Rattle.bor_register.specs.Seen.{seen_at}
+use Rattle.bor_machine.specs.declared.keep_source.KeepSource.{KeepSource}
 use Rattle.bor_machine.specs.Sight.{seen_by}
+use Rattle.bor_machine.specs.Outlook.{Outlook}
+use Rattle.bor_machine.specs.Outcomes.{ByStore, IsFaultOf, IsAccounted}
 use Rattle.bor_machine.proofs.SeenLinks.{numbers_make_no_links}
 use Rattle.bor_desk.specs.declared.refusal.Refusal.TheVariants.{NoEntity}
 use Rattle.bor_desk.specs.declared.refusal.DeskFault.{DeskFault}
-use Rattle.bor_desk.specs.Refusals.{IsOfChains}
+use Rattle.bor_desk.specs.Refusals.{IsOfChains, failed}
 use Rattle.bor_desk.specs.Step.{report, refused, report_on}
 use Rattle.bor_desk.specs.Outcomes.{AreFound}
 
@@ -35,24 +38,68 @@ no_entity-refused s n day none = at (info_of s n) refl
     at (Some (Person name)) e = ap (λ (i : Option NodeInfo). cond (is_entity_info i) (report n day s) (refused NoEntity)) e
     at (Some (Entity legal)) e = absurd (none (legal, e))
 
--- what was found of the rows that a viewer sees
-pub persons-found : (day : ℤ) (viewer : List ℕ) (r : Register) (rows : List Row) (n : Node) (persons : List PersonLine) → rows ≡ visible viewer r.day r.members → IsEntity (shown_of day rows) n → AreJoined (shown_of day rows) n persons →
+-- what was found of the nodes and links that a viewer sees
+pub persons-found : (day : ℤ) (viewer : List ℕ) (r : Register) (n : Node) (persons : List PersonLine) → IsEntity (seen_at viewer day r) n → AreJoined (seen_at viewer day r) n persons →
     (report_on (shown_of day (seen_by viewer r)) n day ≡ report n day (shown_of day (seen_by viewer r))) × AreJoined (shown_of day (seen_by viewer r)) n persons
-persons-found day viewer r rows n persons e entity joined =
-    subst (λ (s : Shown). (report_on s n day ≡ report n day s) × AreJoined s n persons) (ap (shown_of day) e ∙ sym (numbers_make_no_links day viewer r)) (entity-report (shown_of day rows) n day entity, joined)
+persons-found day viewer r n persons entity joined =
+    subst (λ (s : Shown). (report_on s n day ≡ report n day s) × AreJoined s n persons) (sym (numbers_make_no_links day viewer r)) (entity-report (seen_at viewer day r) n day entity, joined)
 
 -- why nothing was
-refusal-found : {P F : Type 0} (into : F → StoreFault → Type 0) (items : P → List PersonLine) (day : ℤ) (viewer : List ℕ) (r : Register) (rows : List Row) (n : Node) (fault : ChainFault F) (given : DeskFault) → rows ≡ visible viewer r.day r.members → OnNoEntity fault (IsEntity (shown_of day rows) n → ⊥) → IsOfChains into fault given →
+refusal-found : {P F : Type 0} (into : F → StoreFault → Type 0) (items : P → List PersonLine) (day : ℤ) (viewer : List ℕ) (r : Register) (n : Node) (fault : ChainFault F) (given : DeskFault) → OnNoEntity fault (IsEntity (seen_at viewer day r) n → ⊥) → IsOfChains into fault given →
     AreFound items (Err given) (shown_of day (seen_by viewer r)) n day
-refusal-found into items day viewer r rows n chains.NoEntity given e none is =
+refusal-found into items day viewer r n chains.NoEntity given none is =
     subst (λ (g : DeskFault). AreFound items (Err g) (shown_of day (seen_by viewer r)) n day) (sym is)
-    (subst (λ (s : Shown). report_on s n day ≡ refused NoEntity) (ap (shown_of day) e ∙ sym (numbers_make_no_links day viewer r)) (no_entity-refused (shown_of day rows) n day none))
-refusal-found into items day viewer r rows n (chains.Source f) given e none is =
+    (subst (λ (s : Shown). report_on s n day ≡ refused NoEntity) (sym (numbers_make_no_links day viewer r)) (no_entity-refused (seen_at viewer day r) n day none))
+refusal-found into items day viewer r n (chains.Source f) given none is =
     subst (λ (g : DeskFault). AreFound items (Err g) (shown_of day (seen_by viewer r)) n day) (sym is.2) tt
-refusal-found into items day viewer r rows n chains.Memory given e none is =
+refusal-found into items day viewer r n chains.Memory given none is =
     subst (λ (g : DeskFault). AreFound items (Err g) (shown_of day (seen_by viewer r)) n day) (sym is) tt
 
-pub persons-refused : {P F : Type 0} (into : F → StoreFault → Type 0) (items : P → List PersonLine) (day : ℤ) (viewer : List ℕ) (r : Register) (rows : List Row) (n : Node) (fault : ChainFault F) (made : Result P DeskFault) → rows ≡ visible viewer r.day r.members → OnNoEntity fault (IsEntity (shown_of day rows) n → ⊥) →
+pub persons-refused : {P F : Type 0} (into : F → StoreFault → Type 0) (items : P → List PersonLine) (day : ℤ) (viewer : List ℕ) (r : Register) (n : Node) (fault : ChainFault F) (made : Result P DeskFault) → OnNoEntity fault (IsEntity (seen_at viewer day r) n → ⊥) →
     IsErr made → IsErrAnd made (IsOfChains into fault) → AreFound items made (shown_of day (seen_by viewer r)) n day
-persons-refused into items day viewer r rows n fault (Ok persons) e none is_err gives = absurd cc
-persons-refused into items day viewer r rows n fault (Err given) e none is_err gives = refusal-found into items day viewer r rows n fault given e none gives
+persons-refused into items day viewer r n fault (Ok persons) none is_err gives = absurd cc
+persons-refused into items day viewer r n fault (Err given) none is_err gives = refusal-found into items day viewer r n fault given none gives
+
+-- ---- whose fault it is
+
+-- a fault of the source is the keep's, and counted; any other leaves the count
+refusal-accounted : (may_tell : StoreFault → Type 0) (fault : ChainFault StoreFault) (given : DeskFault) (before after : ℕ) → IsOfChains (λ f s. s ≡ f) fault given →
+    after ≡ chain_counted {T = Vec PersonLine Global} (Err fault) before → OnSource fault may_tell → OnSource fault (λ _. after ≢ before) → ByStore (failed given) (after ≡ before) (IsFaultOf may_tell before after)
+refusal-accounted may_tell chains.NoEntity given before after is counts told moved = subst (λ (g : DeskFault). ByStore (failed g) (after ≡ before) (IsFaultOf may_tell before after)) (sym is) counts
+refusal-accounted may_tell (chains.Source f) given before after is counts told moved =
+    subst (λ (g : DeskFault). ByStore (failed g) (after ≡ before) (IsFaultOf may_tell before after)) (sym is.2) (inr (subst may_tell (sym is.1) told, moved))
+refusal-accounted may_tell chains.Memory given before after is counts told moved = subst (λ (g : DeskFault). ByStore (failed g) (after ≡ before) (IsFaultOf may_tell before after)) (sym is) (inl (refl, counts))
+
+pub persons-accounted : {P : Type 0} (may_tell : StoreFault → Type 0) (fault : ChainFault StoreFault) (made : Result P DeskFault) (before after : ℕ) →
+    IsErr made → IsErrAnd made (IsOfChains (λ f s. s ≡ f) fault) → after ≡ chain_counted {T = Vec PersonLine Global} (Err fault) before → OnSource fault may_tell → OnSource fault (λ _. after ≢ before) → IsAccounted failed may_tell made before after
+persons-accounted may_tell fault (Ok persons) before after is_err is counts told moved = absurd cc
+persons-accounted may_tell fault (Err given) before after is_err is counts told moved = refusal-accounted may_tell fault given before after is counts told moved
+
+-- ---- a source that borrows a keep
+
+-- what such a source shows
+abbrev pub IsShownBy : {K : Type 0} → (K → Register → Type 0) → KeepSource K → Outlook → Type 0
+IsShownBy shows x m = (x.viewer.now ≡ m.viewer) × (x.day ≡ m.day) × shows x.keep.now m.register
+
+-- where the source is kept from x to y, so is the keep that it borrows
+pub keep-kept : {K : Type 0} (shows : K → Register → Type 0) (is_clean : K → Type 0) (old new : K) (x y : KeepSource K) → x.keep.now ≡ old → new ≡ y.keep.now → Kept (IsShownBy shows) (λ z. is_clean z.keep.now) x y → Kept shows is_clean old new
+keep-kept {K} shows is_clean old new x y begins ends kept =
+    subst (λ (k : K). Kept shows is_clean old k) (sym ends) (subst (λ (k : K). Kept shows is_clean k y.keep.now) begins (record {
+      began = kept.began;
+      same = λ clean r. (
+        (λ h. ((kept.same clean (record { viewer = x.viewer.now; day = x.day; register = r })).0 (refl, refl, h)).2),
+        (λ h. ((kept.same clean (record { viewer = y.viewer.now; day = y.day; register = r })).1 (refl, refl, h)).2),
+      );
+    }))
+
+-- what is promised of the outlook of the source's viewer and day is promised of the register
+pub keep-promised : {K : Type 0} (shows : K → Register → Type 0) (is_clean : K → Type 0) (old new : K) (x y : KeepSource K) (viewer : List ℕ) (day : ℤ) (P : Register → Type 0) → x.viewer.now ≡ viewer → x.day ≡ day → x.keep.now ≡ old → new ≡ y.keep.now →
+    ((r : Register) → IsShownBy shows x (record { viewer = viewer; day = day; register = r }) → is_clean y.keep.now → P r) → Promised shows is_clean old new P
+keep-promised {K} shows is_clean old new x y viewer day P is_viewer is_day begins ends told =
+    λ r h clean. told r (is_viewer, is_day, subst (λ (k : K). shows k r) (sym begins) h) (subst is_clean ends clean)
+
+-- the source's count is the keep's
+pub keep-accounted : {K P : Type 0} (faults : K → ℕ) (may_tell : StoreFault → Type 0) (made : Result P DeskFault) (old new : K) (x y : KeepSource K) → x.keep.now ≡ old → new ≡ y.keep.now → IsAccounted failed may_tell made (faults x.keep.now) (faults y.keep.now) →
+    IsAccounted failed may_tell made (faults old) (faults new)
+keep-accounted {K} faults may_tell made old new x y begins ends accounted =
+    subst (λ (k : K). IsAccounted failed may_tell made (faults old) (faults k)) (sym ends) (subst (λ (k : K). IsAccounted failed may_tell made (faults k) (faults y.keep.now)) begins accounted)

@@ -1,13 +1,11 @@
 -- What an exchange tells an agent, and what it leaves.
 use Rattle.std.specs.Prelude.{◌≡◌, ℕ, List, length, Bool, true, false, Option, Some, None}
-use Rattle.std.specs.List.{Contains}
 use Rattle.bor_terms.specs.Texts.{is_same}
 use Rattle.bor_register.specs.declared.caller.Caller.{Caller}
 use Rattle.bor_register.specs.declared.caller.Caller.TheVariants.{Agent}
-use Rattle.bor_register.specs.declared.member.Member.{Member}
 use Rattle.bor_register.specs.Register.{Register, caller_of, filings_of}
 use Rattle.bor_machine.specs.Legality.{IsLegal}
-use Rattle.bor_machine.specs.Laws.{LeavesOthers}
+use Rattle.bor_machine.specs.Laws.{KeepsAgents, LeavesOthers}
 use Rattle.bor_machine.specs.Solo.{alone}
 use Rattle.bor_desk.specs.declared.request.Request.{Request}
 use Rattle.bor_desk.specs.declared.request.Request.TheVariants as ask
@@ -21,11 +19,6 @@ use Rattle.bor_desk.specs.Runs.{Asked, answers, register_after, history, answers
 abbrev pub is_agent : List ℕ → Option Caller → Bool
 is_agent name (Some (Agent other)) = is_same other name
 is_agent name caller = false
-
--- The registrar's token is as it was, and each agent that was there is there still, with its name, its token and its filings.
-pub record KeepsAgents (old new : Register) : Type 0 where
-  pub registrar : new.registrar ≡ old.registrar
-  pub agents : (m : Member) → Contains old.members m → Contains new.members m
 
 -- After an exchange the filings of all agents but the one that asks are as they were. After an exchange of an agent the day is too, and who has which token; after one of the registrar, the registrar's token and each agent; after one of nobody, all.
 pub record OwnFilingsUntouched : Type 0 where

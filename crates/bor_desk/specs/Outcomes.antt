@@ -40,7 +40,7 @@ IsLeft reply shown r after = ByStore (fault_of reply) (shown after) (λ fault. s
 abbrev pub IsReplyAccounted : (StoreFault → Type 0) → DeskReply → ℕ → ℕ → Type 0
 IsReplyAccounted may_tell reply before after = ByStore (fault_of reply) (after ≡ before) (IsFaultOf may_tell before after)
 
--- ---- parts of an answer
+-- ---- parts of an answer, for clauses of private functions alone
 
 -- the persons that were found, or why there is no report, are those of the answer to who stands behind an entity
 abbrev pub AreFound : {P : Type 0} → (P → List PersonLine) → Result P DeskFault → Shown → Node → ℤ → Type 0
@@ -52,6 +52,8 @@ AreFound items (Err (Failed fault)) shown entity day = Unit {0}
 abbrev pub reply_of : Result DeskReply DeskFault → DeskReply
 reply_of (Ok reply) = reply
 reply_of (Err fault) = denial fault
+
+-- ---- a law
 
 -- Two replies that tell one answer are one.
 abbrev pub AnswerIsDetermined : Type 0

@@ -16,8 +16,8 @@ ghost use Rattle.bor_desk.specs.ChainReport.{name_data, person_line, person_line
 use crate::refusal::DeskFault;
 use crate::text::{Text, refused, told};
 use bods_read::FreeText;
-use bor_chains::{ListSource, Node, PersonLine, persons_of};
-use bor_machine::{Keep, StoreFault};
+use bor_chains::{Node, PersonLine, persons_of};
+use bor_machine::{Keep, KeepSource, StoreFault};
 use bor_terms::{AgentName, Day};
 use serde_json::Value;
 use std::alloc::{AllocError, Global};
@@ -35,8 +35,7 @@ pub(crate) fn persons_seen<K: Keep>(
         AreFound (λ persons. persons.items) result (shown_of day (seen_by viewer.now r)) entity.now day) }
     ensures accounted { IsAccounted failed K.may_tell result (K.fault_count keep.old) (K.fault_count keep.new) }
 {
-    let rows = keep.visible_rows(viewer)?;
-    let mut source = ListSource::from_rows(alloc, &rows, day)?;
+    let mut source = KeepSource::new(keep, viewer, day);
     Ok(persons_of(alloc, &mut source, entity)?)
 }
 

@@ -5,6 +5,7 @@ ghost use Rattle.bor_records.specs.Promises.{counted};
 
 use bods_read::Statement;
 use bor_keep::{Keep, StoreFault};
+use bor_links::{Link, Node, NodeInfo};
 use bor_records::{Last, Row};
 use bor_register::{Caller, Filing, FilingLine, Outward};
 use bor_terms::{AgentName, Day, Ident, LodgeKey, Token};
@@ -171,6 +172,45 @@ impl<K: Keep> Keep for FailingKeep<K> {
     fn visible_rows(&mut self, viewer: &AgentName) -> Result<Vec<Row>, StoreFault> {
         self.begin()?;
         let told = self.keep.visible_rows(viewer);
+        self.end(told)
+    }
+
+    fn node(
+        &mut self,
+        viewer: &AgentName,
+        day: Day,
+        node: &Node,
+    ) -> Result<Option<NodeInfo>, StoreFault> {
+        self.begin()?;
+        let told = self.keep.node(viewer, day, node);
+        self.end(told)
+    }
+
+    fn aliases(
+        &mut self,
+        viewer: &AgentName,
+        day: Day,
+        node: &Node,
+    ) -> Result<Vec<Node>, StoreFault> {
+        self.begin()?;
+        let told = self.keep.aliases(viewer, day, node);
+        self.end(told)
+    }
+
+    fn same(&mut self, viewer: &AgentName, day: Day, node: &Node) -> Result<Vec<Node>, StoreFault> {
+        self.begin()?;
+        let told = self.keep.same(viewer, day, node);
+        self.end(told)
+    }
+
+    fn links_into(
+        &mut self,
+        viewer: &AgentName,
+        day: Day,
+        node: &Node,
+    ) -> Result<Vec<Link>, StoreFault> {
+        self.begin()?;
+        let told = self.keep.links_into(viewer, day, node);
         self.end(told)
     }
 

@@ -7,13 +7,17 @@ ghost use Rattle.bor_register.specs.Register.{Register, caller_of, is_enrolled, 
 ghost use Rattle.bor_register.specs.Publication.{published, line_of, filing_shown, has_bytes};
 ghost use Rattle.bor_register.specs.Live.{accepted, live_of, AreNew};
 ghost use Rattle.bor_register.specs.Rows.{rows_of, visible};
+ghost use Rattle.bor_register.specs.Seen.{seen_at};
 ghost use Rattle.bor_register.specs.Withdrawal.{has_successor, with_withdrawn};
 ghost use Rattle.bor_records.specs.Admission.{last_of};
 ghost use Rattle.bor_records.specs.Settling.{has_id};
 ghost use Rattle.bor_records.specs.Promises.{Changes, Promised, Reads, Sure};
+ghost use Rattle.bor_links.specs.Shown.{info_of};
+ghost use Rattle.bor_links.specs.Answers.{AreAliases, AreSame, AreLinksInto};
 
 use crate::fault::StoreFault;
 use bods_read::Statement;
+use bor_links::{Link, Node, NodeInfo};
 use bor_records::{Last, Row};
 use bor_register::{Caller, Filing, FilingLine, Outward};
 use bor_terms::{AgentName, Day, Ident, LodgeKey, Token};
@@ -127,6 +131,45 @@ pub trait Keep {
     fn visible_rows(&mut self, viewer: &AgentName) -> Result<Vec<Row>, StoreFault>
         ensures { Reads shows is_clean fault_count may_tell self.old self.new result (λ r rows.
             rows.items ≡ visible viewer.now r.day r.members) };
+
+    /// What a node is on a day by what the viewer sees, or `None` where it isn't open then. The day is
+    /// any day; what the viewer sees goes by the register's.
+    fn node(
+        &mut self,
+        viewer: &AgentName,
+        day: Day,
+        node: &Node,
+    ) -> Result<Option<NodeInfo>, StoreFault>
+        ensures { Reads shows is_clean fault_count may_tell self.old self.new result (λ r info.
+            info ≡ info_of (seen_at viewer.now day r) node.now) };
+
+    /// The nodes one alias away from a node on a day by what the viewer sees, each once and in any
+    /// order.
+    fn aliases(
+        &mut self,
+        viewer: &AgentName,
+        day: Day,
+        node: &Node,
+    ) -> Result<Vec<Node>, StoreFault>
+        ensures { Reads shows is_clean fault_count may_tell self.old self.new result (λ r nodes.
+            AreAliases (seen_at viewer.now day r) node.now nodes.items) };
+
+    /// All nodes that stand for one entity with a node on a day by what the viewer sees, by finitely
+    /// many aliases, each once and in any order. The node itself is one of them; where it isn't open,
+    /// it is the only one.
+    fn same(&mut self, viewer: &AgentName, day: Day, node: &Node) -> Result<Vec<Node>, StoreFault>
+        ensures { Reads shows is_clean fault_count may_tell self.old self.new result (λ r nodes.
+            AreSame (seen_at viewer.now day r) node.now nodes.items) };
+
+    /// The links with this subject on a day by what the viewer sees, in any order.
+    fn links_into(
+        &mut self,
+        viewer: &AgentName,
+        day: Day,
+        node: &Node,
+    ) -> Result<Vec<Link>, StoreFault>
+        ensures { Reads shows is_clean fault_count may_tell self.old self.new result (λ r links.
+            AreLinksInto (seen_at viewer.now day r) node.now links.items) };
 
     /// What all see of the published filings: by agent, those of an agent in order of acceptance.
     fn published(&mut self) -> Result<Vec<Outward>, StoreFault>

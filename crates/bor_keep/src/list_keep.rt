@@ -2,13 +2,15 @@
 
 ghost use Rattle.std.specs.Prelude.{◌≡◌, ◌+◌, ◌%◌, ◌^◌};
 ghost use Rattle.bor_register.specs.Register.{empty_register};
+ghost use Rattle.bor_register.specs.Rows.{visible};
 
 use crate::fault::StoreFault;
 use crate::keep::Keep;
 use bods_read::Statement;
+use bor_links::{Link, Node, NodeInfo};
 use bor_records::{Last, Row};
 use bor_register::{
-    Caller, Filing, FilingLine, Member, Outward, all_lines, all_published, all_visible,
+    Caller, Filing, FilingLine, Member, Outward, Viewpoint, all_lines, all_published, all_visible,
     any_live_has_id, caller_with, enrol_member, filing_under, is_enrolled, is_filed, is_succeeded,
     last_live, line_under, own_filings, push_filing, rows_seen, withdraw_of,
 };
@@ -52,6 +54,12 @@ impl ListKeep {
             members: Vec::new(alloc),
             faults: 0,
         }
+    }
+
+    fn seen_by<'a>(&'a self, viewer: &'a AgentName) -> Viewpoint<'a>
+        ensures { result ≡ visible viewer.now self.now.register.day self.now.register.members }
+    {
+        Viewpoint::new(self.alloc, viewer, self.day, &self.members)
     }
 
     fn want_of_memory(&mut self) -> StoreFault
@@ -169,6 +177,53 @@ impl Keep for ListKeep {
     fn visible_rows(&mut self, viewer: &AgentName) -> Result<Vec<Row>, StoreFault> {
         match all_visible(self.alloc, viewer, self.day, &self.members) {
             Ok(rows) => Ok(rows),
+            Err(_) => Err(self.want_of_memory()),
+        }
+    }
+
+    fn node(
+        &mut self,
+        viewer: &AgentName,
+        day: Day,
+        node: &Node,
+    ) -> Result<Option<NodeInfo>, StoreFault> {
+        let told = self.seen_by(viewer).node(day, node);
+        match told {
+            Ok(info) => Ok(info),
+            Err(_) => Err(self.want_of_memory()),
+        }
+    }
+
+    fn aliases(
+        &mut self,
+        viewer: &AgentName,
+        day: Day,
+        node: &Node,
+    ) -> Result<Vec<Node>, StoreFault> {
+        let told = self.seen_by(viewer).aliases(day, node);
+        match told {
+            Ok(nodes) => Ok(nodes),
+            Err(_) => Err(self.want_of_memory()),
+        }
+    }
+
+    fn same(&mut self, viewer: &AgentName, day: Day, node: &Node) -> Result<Vec<Node>, StoreFault> {
+        let told = self.seen_by(viewer).same(day, node);
+        match told {
+            Ok(nodes) => Ok(nodes),
+            Err(_) => Err(self.want_of_memory()),
+        }
+    }
+
+    fn links_into(
+        &mut self,
+        viewer: &AgentName,
+        day: Day,
+        node: &Node,
+    ) -> Result<Vec<Link>, StoreFault> {
+        let told = self.seen_by(viewer).links_into(day, node);
+        match told {
+            Ok(links) => Ok(links),
             Err(_) => Err(self.want_of_memory()),
         }
     }

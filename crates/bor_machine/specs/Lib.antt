@@ -7,3 +7,4 @@ pub mod Legality
 pub mod Forms
 pub mod Solo
 pub mod Laws
+pub mod Outlook

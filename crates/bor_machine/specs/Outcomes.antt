@@ -52,7 +52,7 @@ abbrev pub IsAccounted : {A E : Type 0} → (E → Option StoreFault) → (Store
 IsAccounted store may_tell (Ok answer) before after = after ≡ before
 IsAccounted store may_tell (Err fault) before after = ByStore (store fault) (after ≡ before) (IsFaultOf may_tell before after)
 
--- ---- parts of an operation
+-- ---- parts of an operation, for clauses of private functions alone
 
 -- a call that asks the keep alone moves the count where it answers a fault
 abbrev pub IsCounted : {A : Type 0} → Result A StoreFault → ℕ → ℕ → Type 0

@@ -15,11 +15,15 @@
 //! assert_eq!(rt; keep.published()?.len(), 1);
 //! ```
 //!
+//! [`KeepSource`] is any keep as a source of nodes and links, as a viewer sees them on a day: what a
+//! walk of `bor_chains` asks.
+//!
 //! Which statement may follow which is told by `bor_records`, what a file says by `bods_read`. Who
 //! asks is not looked into here: the callers say which agent it is.
 #![tactic(auto)]
 
 mod fault;
+mod keep_source;
 pub mod laws;
 mod lodging;
 mod registrar;
@@ -28,6 +32,7 @@ mod withdrawal;
 pub use bor_keep::{Keep, ListKeep, StoreFault};
 pub use bor_register::{AcceptedFiling, Caller, Filing, FilingLine, Member, Outward, State};
 pub use fault::{AdvanceFault, EnrolFault, LodgeFault, WithdrawFault};
+pub use keep_source::KeepSource;
 pub use lodging::{FILINGS_LIMIT, Lodged, lodge};
 pub use registrar::{advance, enrol};
 pub use withdrawal::withdraw;

@@ -18,7 +18,7 @@ use Rattle.bor_links.specs.Series.{series_of, stated, open_at}
 use Rattle.bor_links.specs.Shown.{Shown, listed_at, info_in, is_like, are_alike}
 use Rattle.bor_links.specs.Aliases.{Alias}
 use Rattle.bor_links.specs.Rows.{is_entity_info, is_some_info, beside, link_between, link_with, link_in, node_in, node_with, node_stated, info_stated, nodes_of, shown_of}
-use Rattle.bor_links.specs.Answers.{AreAliases, AreSame, AreLinksInto}
+use Rattle.bor_links.specs.Answers.{AreAliases, AreSame, AreLinksInto, only_into}
 use Rattle.bor_links.specs.Stakes.{is_stake, is_holding}
 use Rattle.bor_links.specs.ByKey.{node_at, AreAlikeAt, IsMade, CoverLinks, CoverAliases}
 use Rattle.bor_links.specs.Growth.{Grown}
@@ -29,7 +29,7 @@ use Rattle.bor_links.proofs.Reached.{AreReached, reached_start, reached_end}
 use Rattle.bor_links.proofs.SameNode.{same_node_is}
 use Rattle.bor_register.specs.declared.picked.Picked.{Picked}
 use Rattle.bor_register.specs.declared.picked.Wanted.{Wanted}
-use Rattle.bor_register.specs.Picked.{row_picked, takes_row, picked, names, is_into, only_into, link_into, link_at, IsAlike, IsAlikeIn}
+use Rattle.bor_register.specs.Picked.{row_picked, takes_row, picked, names, is_into, link_into, link_at, IsAlike, IsAlikeIn}
 
 -- ---- what is known of a node
 

@@ -1,8 +1,9 @@
 -- The rows of statements that are asked for, one after the other.
-use Rattle.std.proofs.Common.{◌≡◌, ℕ, ℤ, ◌+◌, ◌<◌, List, [], ◌∷◌, ◌++◌, length, drop, take, get_or, map, Option, None, Some, option_map, refl, ◌∙◌, sym, ap, append_assoc, true, false, Bool, cond}
+use Rattle.std.proofs.Common.{◌≡◌, ℕ, ℤ, ◌+◌, ◌<◌, List, [], ◌∷◌, ◌++◌, length, drop, take, get_or, map, Option, None, Some, refl, ◌∙◌, sym, ap, append_assoc, true, false, Bool, cond, ◌&&◌}
 use Rattle.std.specs.List.{filter, last_or}
 use Rattle.std.proofs.lemmas.List.{drop_more, take_more, map-append, append-nil}
 use Rattle.std.proofs.lemmas.List.Elements.{filter-append}
+use Rattle.bor_terms.specs.Texts.{is_same}
 use Rattle.bods_read.specs.declared.statement.Statement.{Statement}
 use Rattle.bor_records.specs.declared.row.Row.{Row}
 use Rattle.bor_records.specs.Snapshot.{is_dated, latest}
@@ -12,7 +13,8 @@ use Rattle.bor_register.specs.declared.member.Member.{Member}
 use Rattle.bor_register.specs.declared.picked.Picked.{Picked}
 use Rattle.bor_register.specs.declared.picked.Wanted.{Wanted}
 use Rattle.bor_register.specs.Rows.{is_visible, row_of, rows_from, rows_in, visible_in, visible}
-use Rattle.bor_register.specs.Picked.{row_picked, takes, takes_row, picked}
+use Rattle.bor_register.specs.declared.picked.Wanted.TheVariants.{Of, Into, Like}
+use Rattle.bor_register.specs.Picked.{row_picked, names, may_take, takes, takes_row, picked}
 
 -- the rows that are asked for, from the i-th statement on
 abbrev pub picked_left : Wanted → List ℕ → ℕ → List Statement → ℕ → List Row
@@ -69,17 +71,39 @@ pub ruleset more_filings = (filing_added, filing_passed)
 
 -- ---- one agent after the other
 
+members_more : (w : Wanted) (viewer : List ℕ) (day : ℤ) (ms : List Member) (i : ℕ) (m : Member) → i < length ms → m ≡ get_or ms i m
+    → picked w (visible viewer day (drop i ms)) ≡ picked w (visible_in viewer day m.name m.filings) ++ picked w (visible viewer day (drop (i + 1) ms))
+members_more w viewer day ms i m lt is =
+    ap (λ ns. picked w (visible viewer day ns)) (drop_more ms i m lt ∙ ap (λ n. n ∷ drop (i + 1) ms) (sym is))
+    ∙ filter-append (takes_row w) (visible_in viewer day m.name m.filings) (visible viewer day (drop (i + 1) ms))
+
 pub member_added : (w : Wanted) (viewer : List ℕ) (day : ℤ) (ms : List Member) (i : ℕ) (m : Member) (front now whole : List Row) → i < length ms → m ≡ get_or ms i m → now ≡ front ++ picked w (visible_in viewer day m.name m.filings)
     → front ++ picked w (visible viewer day (drop i ms)) ≡ whole → now ++ picked w (visible viewer day (drop (i + 1) ms)) ≡ whole
 member_added w viewer day ms i m front now whole lt is e h =
     ap (λ rows. rows ++ picked w (visible viewer day (drop (i + 1) ms))) e
     ∙ append_assoc front (picked w (visible_in viewer day m.name m.filings)) (picked w (visible viewer day (drop (i + 1) ms)))
-    ∙ ap (λ rows. front ++ rows) (sym more) ∙ h
-  where
-    more : picked w (visible viewer day (drop i ms)) ≡ picked w (visible_in viewer day m.name m.filings) ++ picked w (visible viewer day (drop (i + 1) ms))
-    more =
-        ap (λ ns. picked w (visible viewer day ns)) (drop_more ms i m lt ∙ ap (λ n. n ∷ drop (i + 1) ms) (sym is))
-        ∙ filter-append (takes_row w) (visible_in viewer day m.name m.filings) (visible viewer day (drop (i + 1) ms))
+    ∙ ap (λ rows. front ++ rows) (sym (members_more w viewer day ms i m lt is)) ∙ h
+
+none_taken : (w : Wanted) (name : List ℕ) (s : Statement) → may_take w name ≡ false → takes w name s ≡ false
+none_taken (Of n) name s h = ap (λ t. t && (is_same s.declaration n.now.declaration && is_same s.rec n.now.rec)) h
+none_taken (Into n) name s h = ap (λ t. t && (is_same s.declaration n.now.declaration && names n.now.rec s.details)) h
+none_taken (Like one) name s h = absurd cc
+
+none_from : (w : Wanted) (name : List ℕ) (number place : ℕ) (ss : List Statement) → may_take w name ≡ false → picked w (rows_from name number place ss) ≡ []
+none_from w name number place [] h = refl
+none_from w name number place (s ∷ ss) h =
+    ap (λ t. cond t (row_of name number place s ∷ picked w (rows_from name number (place + 1) ss)) (picked w (rows_from name number (place + 1) ss))) (none_taken w name s h)
+    ∙ none_from w name number (place + 1) ss h
+
+none_in : (w : Wanted) (name : List ℕ) (fs : List AcceptedFiling) → may_take w name ≡ false → picked w (rows_in name fs) ≡ []
+none_in w name [] h = refl
+none_in w name (f ∷ fs) h =
+    filter-append (takes_row w) (rows_from name f.number 1 f.statements) (rows_in name fs)
+    ∙ ap (λ rows. rows ++ picked w (rows_in name fs)) (none_from w name f.number 1 f.statements h) ∙ none_in w name fs h
+
+pub none_added : (w : Wanted) (viewer : List ℕ) (day : ℤ) (name : List ℕ) (filings : List AcceptedFiling) (front : List Row) → may_take w name ≡ false → front ≡ front ++ picked w (visible_in viewer day name filings)
+none_added w viewer day name filings front h =
+    sym (ap (λ rows. front ++ rows) (none_in w name (filter (is_visible viewer day name) filings) h) ∙ append-nil front)
 
 -- ---- the latest
 

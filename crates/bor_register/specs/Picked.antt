@@ -1,5 +1,5 @@
 -- Statements that are asked for, by reference, and the rows that they stand in; for clauses of private functions alone.
-use Rattle.std.specs.Prelude.{◌≡◌, ℕ, ℤ, List, Contains, Bool, true, false, ◌&&◌, Option, Some, None, option_and_then, filter, if◌then◌else◌}
+use Rattle.std.specs.Prelude.{◌≡◌, ℕ, ℤ, List, Contains, Bool, true, false, ◌&&◌, Option, Some, None, option_and_then, filter}
 use Rattle.bor_terms.specs.Texts.{is_same}
 use Rattle.bods_read.specs.declared.details.Details.{Details}
 use Rattle.bods_read.specs.declared.details.Details.TheVariants as details
@@ -11,6 +11,7 @@ use Rattle.bor_links.specs.declared.node.Link.{Link}
 use Rattle.bor_links.specs.Nodes.{same_node}
 use Rattle.bor_links.specs.Series.{stated, open_at}
 use Rattle.bor_links.specs.Shown.{is_like}
+use Rattle.bor_links.specs.Answers.{only_into}
 use Rattle.bor_links.specs.Rows.{node_stated, nodes_of, link_in}
 use Rattle.bor_links.specs.ByKey.{node_at}
 use Rattle.bor_register.specs.declared.picked.Picked.{Picked}
@@ -39,17 +40,18 @@ takes (Of n) agent s = same_node (stated agent s) n.now
 takes (Into n) agent s = is_into n.now agent s
 takes (Like one) agent s = is_like one.now (node_stated agent s)
 
+-- whether what is asked for may be among an agent's statements
+abbrev pub may_take : Wanted → List ℕ → Bool
+may_take (Of n) agent = is_same agent n.now.agent
+may_take (Into n) agent = is_same agent n.now.agent
+may_take (Like one) agent = true
+
 abbrev pub takes_row : Wanted → Row → Bool
 takes_row w r = takes w r.agent r.statement
 
 -- of these rows those that are asked for
 abbrev pub picked : Wanted → List Row → List Row
 picked w rows = filter (takes_row w) rows
-
--- a link, where it is into the node
-abbrev pub only_into : Node → Option Link → Option Link
-only_into n None = None
-only_into n (Some l) = if same_node l.subject n then Some l else None
 
 -- the link into the node that a row makes, were it the latest of its series
 abbrev pub link_into : ℤ → List Row → Node → Row → Option Link

@@ -4,7 +4,7 @@ ghost use Rattle.std.specs.Prelude.{◌≡◌, ◌++◌, OnOk, IfOk, Some, map, 
 ghost use Rattle.bor_records.specs.Admission.{is_closed, status_of};
 ghost use Rattle.bor_records.specs.Snapshot.{is_dated, latest, unless_closed};
 ghost use Rattle.bor_register.specs.Rows.{rows_from, visible_in, visible};
-ghost use Rattle.bor_register.specs.Picked.{row_picked, names, is_into, takes, picked};
+ghost use Rattle.bor_register.specs.Picked.{row_picked, names, is_into, may_take, takes, picked};
 
 use crate::filing::AcceptedFiling;
 use crate::member::Member;
@@ -42,6 +42,16 @@ pub(crate) enum Wanted<'a> {
 }
 
 impl<'a> Wanted<'a> {
+    // Whether it may be among an agent's statements.
+    fn may_take(self, agent: &AgentName) -> bool
+        ensures { result ≡ may_take self.entry agent.now }
+    {
+        match self {
+            Wanted::Of(node) | Wanted::Into(node) => *agent == node.agent,
+            Wanted::Like(_) => true,
+        }
+    }
+
     fn takes(self, agent: &AgentName, statement: &Statement) -> bool
         ensures { result ≡ takes self.entry agent.now statement.now }
     {
@@ -118,6 +128,25 @@ fn add_visible<'a>(
     Ok(())
 }
 
+// Adds those of an agent. One that can have none of them is passed over.
+#[tactic(auto, using(crate::proofs::PickedRows::none_added))]
+fn add_of<'a>(
+    found: &mut Vec<Picked<'a>>,
+    wanted: Wanted,
+    viewer: &AgentName,
+    day: Day,
+    member: &'a Member,
+) -> Result<(), AllocError>
+    ensures { OnOk result (map row_picked found.new.items ≡ map row_picked found.old.items
+        ++ picked wanted.entry (visible_in viewer.now day member.now.name member.now.filings)) }
+{
+    if !wanted.may_take(&member.name) {
+        return Ok(());
+    }
+    let filings = member.filings.as_slice();
+    add_visible(found, wanted, viewer, day, &member.name, filings)
+}
+
 // Of the statements that the viewer sees those that are asked for, in the order of the rows.
 #[tactic(auto, using(crate::proofs::PickedRows::member_added))]
 pub(crate) fn all_picked<'a>(
@@ -132,8 +161,7 @@ pub(crate) fn all_picked<'a>(
 {
     let mut found = Vec::new(alloc);
     for member in members {
-        let filings = member.filings.as_slice();
-        add_visible(&mut found, wanted, viewer, day, &member.name, filings)?;
+        add_of(&mut found, wanted, viewer, day, member)?;
     }
     Ok(found)
 }

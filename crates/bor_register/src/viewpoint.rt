@@ -7,11 +7,11 @@ ghost use Rattle.bor_links.specs.Series.{series_of, open_at};
 ghost use Rattle.bor_links.specs.Shown.{info_of, info_in, is_like};
 ghost use Rattle.bor_links.specs.Aliases.{Alias};
 ghost use Rattle.bor_links.specs.Rows.{is_entity_info, is_some_info, nodes_of, link_between, shown_of};
-ghost use Rattle.bor_links.specs.Answers.{AreAliases, AreSame, AreLinksInto};
+ghost use Rattle.bor_links.specs.Answers.{AreAliases, AreSame, AreLinksInto, only_into};
 ghost use Rattle.bor_links.specs.ByKey.{node_at};
 ghost use Rattle.bor_links.specs.Growth.{Grown};
 ghost use Rattle.bor_register.specs.Rows.{visible};
-ghost use Rattle.bor_register.specs.Picked.{row_picked, takes_row, picked, only_into, link_into, link_at, IsAlike, IsAlikeIn};
+ghost use Rattle.bor_register.specs.Picked.{row_picked, takes_row, picked, link_into, link_at, IsAlike, IsAlikeIn};
 
 use crate::member::Member;
 use crate::picked::{Picked, Wanted, all_picked, open_picked};

@@ -2,6 +2,8 @@
 
 ghost use Rattle.std.specs.Prelude.{◌≡◌, ⊤, ◌+◌, ◌<◌, ◌++◌, ◌∷◌, [], None, IfOk, IfErr, length, map, option_map, true, false, Result};
 ghost use Rattle.sqlite.specs.Held.{state};
+ghost use Rattle.bor_links.specs.Answers.{AreAliases, AreLinksInto, AreSame};
+ghost use Rattle.bor_links.specs.Shown.{info_of};
 ghost use Rattle.bor_records.specs.Admission.{last_of};
 ghost use Rattle.bor_records.specs.Promises.{counted, Changes, Promised, Reads, Sure};
 ghost use Rattle.bor_records.specs.Settling.{has_id};
@@ -10,6 +12,7 @@ ghost use Rattle.bor_register.specs.Live.{accepted, live_of, AreNew};
 ghost use Rattle.bor_register.specs.Publication.{published, line_of, filing_shown, has_bytes};
 ghost use Rattle.bor_register.specs.Register.{caller_of, is_enrolled, is_taken, filings_of, with_filings, new_member, with_member, filing_keyed};
 ghost use Rattle.bor_register.specs.Rows.{rows_of, visible};
+ghost use Rattle.bor_register.specs.Seen.{seen_at};
 ghost use Rattle.bor_register.specs.Withdrawal.{has_successor, with_withdrawn};
 ghost use Rattle.bor_store_sql.specs.Shown.{IsClean, ShowsIn};
 ghost use Rattle.bor_store.specs.Telling.{tells, fails, TellsNoDamage};
@@ -17,8 +20,10 @@ ghost use Rattle.bor_store.specs.Telling.{tells, fails, TellsNoDamage};
 use crate::lodging::add_next_filing;
 use bods_read::Statement;
 use bor_keep::{Keep, StoreFault};
+use bor_links::{Link, Node, NodeInfo};
 use bor_records::{Last, Row};
 use bor_register::{Caller, Filing, FilingLine, Outward};
+use bor_store_keys::{read_aliases, read_links_into, read_node, read_same};
 use bor_store_reads::{
     ReadError, filing_count, has_agent, has_file, has_statement, has_successor, read_day,
     read_filing, read_filings, read_last, read_line, read_published, read_rows_of, read_visible,
@@ -213,6 +218,57 @@ impl<S: Alter + Drop> Keep for SqlKeep<S> {
         ensures undamaged { let keep = ⟦<SqlKeep<S> as Keep>⟧ in Promised keep.shows keep.is_clean self.old self.new (λ r. IfErr result TellsNoDamage) }
     {
         let answer = read_visible(&mut self.conn, self.alloc, viewer);
+        self.told(answer)
+    }
+
+    fn node(
+        &mut self,
+        viewer: &AgentName,
+        day: Day,
+        node: &Node,
+    ) -> Result<Option<NodeInfo>, StoreFault>
+        ensures reads { let keep = ⟦<SqlKeep<S> as Keep>⟧ in Reads keep.shows keep.is_clean keep.fault_count keep.may_tell self.old self.new result (λ r info.
+            info ≡ info_of (seen_at viewer.now day r) node.now) }
+        ensures undamaged { let keep = ⟦<SqlKeep<S> as Keep>⟧ in Promised keep.shows keep.is_clean self.old self.new (λ r. IfErr result TellsNoDamage) }
+    {
+        let answer = read_node(&mut self.conn, self.alloc, viewer, day, node);
+        self.told(answer)
+    }
+
+    fn aliases(
+        &mut self,
+        viewer: &AgentName,
+        day: Day,
+        node: &Node,
+    ) -> Result<Vec<Node>, StoreFault>
+        ensures reads { let keep = ⟦<SqlKeep<S> as Keep>⟧ in Reads keep.shows keep.is_clean keep.fault_count keep.may_tell self.old self.new result (λ r nodes.
+            AreAliases (seen_at viewer.now day r) node.now nodes.items) }
+        ensures undamaged { let keep = ⟦<SqlKeep<S> as Keep>⟧ in Promised keep.shows keep.is_clean self.old self.new (λ r. IfErr result TellsNoDamage) }
+    {
+        let answer = read_aliases(&mut self.conn, self.alloc, viewer, day, node);
+        self.told(answer)
+    }
+
+    fn same(&mut self, viewer: &AgentName, day: Day, node: &Node) -> Result<Vec<Node>, StoreFault>
+        ensures reads { let keep = ⟦<SqlKeep<S> as Keep>⟧ in Reads keep.shows keep.is_clean keep.fault_count keep.may_tell self.old self.new result (λ r nodes.
+            AreSame (seen_at viewer.now day r) node.now nodes.items) }
+        ensures undamaged { let keep = ⟦<SqlKeep<S> as Keep>⟧ in Promised keep.shows keep.is_clean self.old self.new (λ r. IfErr result TellsNoDamage) }
+    {
+        let answer = read_same(&mut self.conn, self.alloc, viewer, day, node);
+        self.told(answer)
+    }
+
+    fn links_into(
+        &mut self,
+        viewer: &AgentName,
+        day: Day,
+        node: &Node,
+    ) -> Result<Vec<Link>, StoreFault>
+        ensures reads { let keep = ⟦<SqlKeep<S> as Keep>⟧ in Reads keep.shows keep.is_clean keep.fault_count keep.may_tell self.old self.new result (λ r links.
+            AreLinksInto (seen_at viewer.now day r) node.now links.items) }
+        ensures undamaged { let keep = ⟦<SqlKeep<S> as Keep>⟧ in Promised keep.shows keep.is_clean self.old self.new (λ r. IfErr result TellsNoDamage) }
+    {
+        let answer = read_links_into(&mut self.conn, self.alloc, viewer, day, node);
         self.told(answer)
     }
 

@@ -4,6 +4,7 @@ ghost use Rattle.std.specs.Prelude.{◌≡◌};
 
 use crate::tests::asking::{new_keep, reply};
 use bods_read::Statement;
+use bor_links::{Link, Node, NodeInfo};
 use bor_machine::{Caller, Filing, FilingLine, Keep, ListKeep, Outward, StoreFault};
 use bor_records::{Last, Row};
 use bor_terms::{AgentName, Day, Ident, LodgeKey, Token};
@@ -123,6 +124,41 @@ impl<K: Keep> Keep for Noting<K> {
         self.keep.visible_rows(viewer)
     }
 
+    fn node(
+        &mut self,
+        viewer: &AgentName,
+        day: Day,
+        node: &Node,
+    ) -> Result<Option<NodeInfo>, StoreFault> {
+        self.note("node");
+        self.keep.node(viewer, day, node)
+    }
+
+    fn aliases(
+        &mut self,
+        viewer: &AgentName,
+        day: Day,
+        node: &Node,
+    ) -> Result<Vec<Node>, StoreFault> {
+        self.note("aliases");
+        self.keep.aliases(viewer, day, node)
+    }
+
+    fn same(&mut self, viewer: &AgentName, day: Day, node: &Node) -> Result<Vec<Node>, StoreFault> {
+        self.note("same");
+        self.keep.same(viewer, day, node)
+    }
+
+    fn links_into(
+        &mut self,
+        viewer: &AgentName,
+        day: Day,
+        node: &Node,
+    ) -> Result<Vec<Link>, StoreFault> {
+        self.note("links_into");
+        self.keep.links_into(viewer, day, node)
+    }
+
     fn published(&mut self) -> Result<Vec<Outward>, StoreFault> {
         self.note("published");
         self.keep.published()
@@ -208,10 +244,13 @@ const CALLS: [(&str, &str); 23] = [
     ("alder published", "alder who published"),
     ("alder snapshot alder c1", "alder who day rows_of"),
     ("alder snapshot alder c1 2024-01-10", "alder who rows_of"),
-    ("alder chains alder c1 e1", "alder who day visible_rows"),
+    (
+        "alder chains alder c1 e1",
+        "alder who day node same links_into",
+    ),
     (
         "alder chains alder c1 e1 2024-01-10",
-        "alder who visible_rows",
+        "alder who node same links_into",
     ),
     ("alder withdraw k1", "alder who line has_successor withdraw"),
     ("alder withdraw k1", "alder who line"),
@@ -229,5 +268,59 @@ fn a_keep_is_asked_for_no_more_than_is_needed(rt: HostRuntime) -> Result<(), Fai
         assert_eq!(rt; calls(alloc, &mut keep, ask)?.as_str(), wanted, "{ask}");
     }
     assert_eq!(rt; keep.faults(), 0);
+    Ok(())
+}
+
+// A chain of entities, each wholly the next one's, and the last one a person's; `x` begins each name.
+fn chain(alloc: Global, x: &str, entities: u32) -> Result<String, Fail> {
+    let mut file = format!(in alloc; "P {x}s {x}p")?;
+    for i in 1..=entities {
+        write!(file, "; E {x}s{i} {x}e{i}; R {x}t{i} {x}r{i} {x}e{i}<-")?;
+        if i < entities {
+            let next = i + 1;
+            write!(file, "{x}e{next}")?;
+        } else {
+            write!(file, "{x}p")?;
+        }
+        file.push_str(" V100")?;
+    }
+    Ok(file)
+}
+
+fn lodge_chain(
+    alloc: Global,
+    keep: &mut Noting<ListKeep>,
+    x: &str,
+    entities: u32,
+) -> Result<(), Fail> {
+    let file = chain(alloc, x, entities)?;
+    let ask = format!(in alloc; "alder lodge {x} 2024-02-01 {file}")?;
+    if !calls(alloc, keep, ask.as_str())?.ends_with(" add_filing") {
+        return Err(Fail::from("not lodged"));
+    }
+    Ok(())
+}
+
+// How many words the calls of a report on the first entity are, the caller's name among them, where
+// there is another chain beside.
+fn words_of_a_report(alloc: Global, entities: u32, others: u32) -> Result<usize, Fail> {
+    let mut keep = Noting {
+        keep: new_keep(alloc)?,
+        calls: String::new(alloc),
+    };
+    let _ = calls(alloc, &mut keep, "registrar enrol alder alder-token-000001")?;
+    lodge_chain(alloc, &mut keep, "a", entities)?;
+    lodge_chain(alloc, &mut keep, "b", others)?;
+    let told = calls(alloc, &mut keep, "alder chains alder c1 ae1")?;
+    Ok(told.split(' ').count())
+}
+
+// Three calls for each entity, one for the person, one for who asks and one for the day.
+#[test]
+fn a_report_asks_for_what_its_chains_meet(rt: HostRuntime) -> Result<(), Fail> {
+    let alloc = rt.alloc();
+    for (entities, others, words) in [(1, 1, 7), (10, 1, 34), (10, 40, 34), (40, 10, 124)] {
+        assert_eq!(rt; words_of_a_report(alloc, entities, others)?, words);
+    }
     Ok(())
 }

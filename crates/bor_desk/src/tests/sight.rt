@@ -1,7 +1,7 @@
 //! What each agent sees of the others' filings, and when.
 
 use crate::tests::asking::Desk;
-use bor_rows::{DRAFT, PUBLISHED, keyed, sight as rows};
+use bor_rows::{PUBLISHED, keyed, sight as rows, worlds};
 use std::test::Fail;
 
 #[test]
@@ -32,56 +32,18 @@ fn a_draft_joins_chains_for_its_own_agent_alone(rt: HostRuntime) -> Result<(), F
 #[test]
 fn anothers_drafts_change_no_reply(rt: HostRuntime) -> Result<(), Fail> {
     let mut first = Desk::new(rt.alloc())?;
-    let asks = [
-        (
-            "birch lodge x1 2024-12-01 E s9 z1",
-            r#"{"due":"2024-12-01","filing":1,"state":"draft"}"#,
-        ),
-        (
-            "birch lodge x2 2024-12-01 E s8 z2",
-            r#"{"due":"2024-12-01","filing":2,"state":"draft"}"#,
-        ),
-        (
-            "birch withdraw x2",
-            r#"{"due":"2024-12-01","filing":2,"state":"withdrawn"}"#,
-        ),
-        (
-            rows::JOINED,
-            r#"{"due":"2024-02-01","filing":3,"state":"published"}"#,
-        ),
-    ];
-    first.talk(&rt, &asks)?;
+    first.talk(&rt, &worlds::WITH_DRAFTS)?;
     let mut second = Desk::new(rt.alloc())?;
     second.talk(&rt, &[(rows::JOINED, PUBLISHED)])?;
-    first.talk(&rt, &ALIKE)?;
-    second.talk(&rt, &ALIKE)
+    first.talk(&rt, &worlds::TOLD_TO_ALDER)?;
+    second.talk(&rt, &worlds::TOLD_TO_ALDER)
 }
 
-// What alder asks in both worlds, and is replied.
-const ALIKE: [(&str, &str); 7] = [
-    (rows::JOINING, DRAFT),
-    (
-        "alder filings",
-        r#"[{"due":"2024-03-01","filing":1,"key":"g1","state":"draft"}]"#,
-    ),
-    (
-        "alder published",
-        r#"[{"agent":"birch","due":"2024-02-01","statements":[{"date":"2024-01-10","declaration":"c9","id":"s1","record":"b1","status":"new","type":"entity"},{"date":"2024-01-10","declaration":"c9","id":"s2","record":"bp","status":"new","type":"person"},{"date":"2024-01-10","declaration":"c9","id":"s3","record":"br","status":"new","type":"relationship"}]}]"#,
-    ),
-    (
-        "alder snapshot birch c9",
-        r#"{"date":"2024-02-01","records":[{"date":"2024-01-10","details":{"identifiers":[{"id":"00000001","scheme":"GB-COH"}],"kind":"registeredEntity","name":null},"id":"s1","record":"b1","status":"new","type":"entity"},{"date":"2024-01-10","details":{"kind":"knownPerson","name":null},"id":"s2","record":"bp","status":"new","type":"person"},{"date":"2024-01-10","details":{"interestedParty":"bp","interests":[{"directness":"unknown","share":{"high":100,"highOpen":false,"low":100,"lowOpen":false},"type":"votingRights"}],"subject":"b1"},"id":"s3","record":"br","status":"new","type":"relationship"}]}"#,
-    ),
-    (
-        "alder snapshot birch c1",
-        r#"{"date":"2024-02-01","records":[]}"#,
-    ),
-    (
-        "alder chains alder c1 e1",
-        r#"{"agent":"alder","date":"2024-02-01","declaration":"c1","persons":[{"agent":"birch","declaration":"c9","name":null,"record":"bp"}],"record":"e1"}"#,
-    ),
-    (rows::JOINING, DRAFT),
-];
+#[test]
+fn another_share_that_is_published_changes_the_report(rt: HostRuntime) -> Result<(), Fail> {
+    let mut desk = Desk::new(rt.alloc())?;
+    desk.talk(&rt, &worlds::WITH_ANOTHER_SHARE)
+}
 
 // What cedar sees, that was enrolled after alder and birch had lodged: alder's first, though it was
 // accepted last.
@@ -89,6 +51,12 @@ const ALIKE: [(&str, &str); 7] = [
 fn published_filings_go_by_agent_for_whoever_asks(rt: HostRuntime) -> Result<(), Fail> {
     let mut desk = Desk::new(rt.alloc())?;
     desk.talk(&rt, &rows::PUBLISHED_FILINGS_GO_BY_AGENT_FOR_WHOEVER_ASKS)
+}
+
+#[test]
+fn five_agents_see_what_is_published(rt: HostRuntime) -> Result<(), Fail> {
+    let mut desk = Desk::new(rt.alloc())?;
+    desk.talk(&rt, &rows::FIVE_AGENTS_SEE_WHAT_IS_PUBLISHED)
 }
 
 // Three drafts of two agents, of which one day publishes two.

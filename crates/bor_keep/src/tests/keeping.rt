@@ -1,8 +1,9 @@
 //! The register in memory.
 
-use super::notation::{agent, day, entity, ident, key, token};
+use super::notation::{agent, day, entity, ident, key, statement, token};
 use crate::{Keep, ListKeep, StoreFault};
-use bods_read::Statement;
+use bods_read::{Statement, Status};
+use bor_links::{Node, NodeInfo};
 use bor_register::{Caller, State};
 use bor_terms::{AgentName, Day, LodgeKey, Token};
 use std::alloc::Global;
@@ -289,5 +290,66 @@ fn the_longest_file_is_kept(rt: HostRuntime) -> Result<(), Fail> {
     let bytes = vec![in alloc; b' '; 1_048_576]?;
     assert_eq!(rt; file_bytes(&mut keep, alloc, &bytes)?, 1);
     assert_eq!(rt; kept(&mut keep, alloc, &bytes)?, (true, 1_048_576));
+    Ok(())
+}
+
+// The node of alder's record e1 in declaration c1.
+fn e1(alloc: Global) -> Result<Node, Fail> {
+    Ok(Node {
+        agent: agent(alloc, "alder")?,
+        declaration: ident(alloc, "c1")?,
+        rec: ident(alloc, "e1")?,
+    })
+}
+
+// How many aliases e1 has, how many nodes are the same, and how many links lead into it, as the viewer
+// sees it on 2024-01-10.
+fn beside(
+    keep: &mut ListKeep,
+    alloc: Global,
+    viewer: &AgentName,
+) -> Result<(usize, usize, usize), Fail> {
+    let (date, e1) = (day("2024-01-10")?, e1(alloc)?);
+    let aliases = keep.aliases(viewer, date, &e1)?.len();
+    let same = keep.same(viewer, date, &e1)?.len();
+    Ok((aliases, same, keep.links_into(viewer, date, &e1)?.len()))
+}
+
+// Whether the viewer sees e1 as a legal entity on 2024-01-10, and what is beside it.
+fn told_of_e1(
+    keep: &mut ListKeep,
+    alloc: Global,
+    viewer: &str,
+) -> Result<(bool, (usize, usize, usize)), Fail> {
+    let viewer = agent(alloc, viewer)?;
+    let info = keep.node(&viewer, day("2024-01-10")?, &e1(alloc)?)?;
+    let is_legal = matches!(info, Some(NodeInfo::Entity { legal: true }));
+    Ok((is_legal, beside(keep, alloc, &viewer)?))
+}
+
+// Files e1 of declaration c2 as alder's draft, and gives the filing's number.
+fn file_elsewhere(keep: &mut ListKeep, alloc: Global) -> Result<u32, Fail> {
+    let (alder, f2) = (agent(alloc, "alder")?, key(alloc, "f2")?);
+    let stated = ("s2", "c2", "e1", "2024-01-10");
+    let statement = statement(alloc, stated, Some(Status::New))?;
+    add(
+        keep,
+        alloc,
+        (&alder, &f2),
+        day("2024-02-02")?,
+        b"[]",
+        &statement,
+    )
+}
+
+#[test]
+fn a_node_is_told_as_its_viewer_sees_it(rt: HostRuntime) -> Result<(), Fail> {
+    let alloc = rt.alloc();
+    let mut keep = register(alloc)?;
+    assert_eq!(rt; told_of_e1(&mut keep, alloc, "alder")?, (false, (0, 1, 0)));
+    file(&mut keep, alloc, "alder", "f1", "2024-02-01", "s1")?;
+    assert_eq!(rt; file_elsewhere(&mut keep, alloc)?, 2);
+    assert_eq!(rt; told_of_e1(&mut keep, alloc, "alder")?, (true, (1, 2, 0)));
+    assert_eq!(rt; told_of_e1(&mut keep, alloc, "birch")?, (true, (0, 1, 0)));
     Ok(())
 }

@@ -5,7 +5,7 @@ use crate::tests::asking::{day, reply, token_of};
 use crate::tests::stores::new_keep;
 use bor_keep::Keep;
 use bor_machine::ListKeep;
-use bor_rows::{callers, lodging, sight, withdrawing};
+use bor_rows::{callers, keyed, lodging, sight, withdrawing, worlds};
 use sqlite::{Connection, MemStore};
 use std::alloc::Global;
 use std::process::Abort;
@@ -59,7 +59,7 @@ impl Desks {
 }
 
 // Each of these is a table of rows, asked of new desks.
-const ROWS: [&[(&str, &str)]; 16] = [
+const ROWS: [&[(&str, &str)]; 22] = [
     &lodging::THE_FIRST_LODGING_IS_PUBLISHED_AND_TOLD,
     &lodging::A_REPEAT_TELLS_THE_FILING_THAT_IS_THERE,
     &lodging::A_STATEMENT_THAT_MAY_NOT_FOLLOW_LEAVES_NO_FILING,
@@ -72,10 +72,16 @@ const ROWS: [&[(&str, &str)]; 16] = [
     &sight::A_SNAPSHOT_SHOWS_THE_LATEST_STATEMENT,
     &sight::A_DRAFT_JOINS_CHAINS_FOR_ITS_OWN_AGENT_ALONE,
     &sight::PUBLISHED_FILINGS_GO_BY_AGENT_FOR_WHOEVER_ASKS,
+    &sight::FIVE_AGENTS_SEE_WHAT_IS_PUBLISHED,
     &sight::A_DAY_PUBLISHES_ALL_THAT_IS_DUE_BY_THEN,
     &callers::EACH_CALLER_HAS_ITS_OWN_REQUESTS,
     &callers::THE_DAY_NEVER_GOES_BACK,
     &callers::A_NAME_AND_A_TOKEN_ARE_TAKEN_ONCE,
+    &keyed::A_LINK_MOVES_WITH_ITS_LATEST_STATEMENT,
+    &keyed::AN_IDENTIFIER_THAT_WAS_DROPPED_JOINS_NO_MORE,
+    &keyed::A_PARTY_IS_OF_ITS_RELATIONSHIPS_DECLARATION,
+    &keyed::A_DRAFT_IN_THE_MIDDLE_JOINS_FOR_ITS_OWN_AGENT_ALONE,
+    &worlds::WITH_ANOTHER_SHARE,
 ];
 
 #[test]
@@ -83,6 +89,28 @@ fn tables_reply_as_lists_do(rt: HostRuntime) -> Result<(), Fail> {
     for rows in ROWS {
         Desks::new(&rt, rt.alloc())?.talk(&rt, rows)?;
     }
+    Ok(())
+}
+
+// A file of 998 entities under one identifier, the last of which a person holds.
+fn one_class(alloc: Global) -> Result<String, Fail> {
+    let mut ask = String::from_str(
+        alloc,
+        "alder lodge f1 2024-02-01 P p p1; R r r1 e997<-p1 V100",
+    )?;
+    for i in 0..998u32 {
+        ask.push_str(format!(in alloc; "; E s{i} e{i} #X/1")?.as_str())?;
+    }
+    Ok(ask)
+}
+
+#[test]
+fn a_class_of_a_thousand_entities_is_one_entity(rt: HostRuntime) -> Result<(), Fail> {
+    let mut desks = Desks::new(&rt, rt.alloc())?;
+    desks.ask(&rt, one_class(rt.alloc())?.as_str())?;
+    desks.ask(&rt, "birch chains alder c1 e0")?;
+    let told = told(rt.alloc(), &mut desks.tables, "birch chains alder c1 e0")?;
+    assert!(rt; told.as_str().contains("p1"), "{told}");
     Ok(())
 }
 

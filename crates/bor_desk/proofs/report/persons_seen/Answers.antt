@@ -1,17 +1,43 @@
-use Rattle.std.proofs.Common.{◌∙◌}
-use Rattle.bor_desk.proofs.SeenChains.{persons-found, persons-refused}
+use Rattle.std.proofs.Common.{◌∙◌, sym, Ok}
+use Rattle.bor_desk.proofs.SeenChains.{persons-found, persons-refused, persons-accounted, keep-kept, keep-promised, keep-accounted}
 use Rattle.bor_desk.proofs.report.persons_seen.Goals as goal
 
+pub returns-in_err-persons_of-clause-kept : goal.returns-in_err-persons_of-clause-kept
+returns-in_err-persons_of-clause-kept g c =
+    let ends = c.keep-1.given.1 (sym c.new-source.ensures.same_reference ∙ sym c.persons_of.ensures.same_reference) in
+    keep-kept g.K.Keep.shows g.K.Keep.is_clean _ _ c.new-source.result c.persons_of.new.source c.new-source.ensures.keep ends c.persons_of.ensures.kept
+
 pub returns-in_err-persons_of-clause-answer : goal.returns-in_err-persons_of-clause-answer
-returns-in_err-persons_of-clause-answer g c r shown clean =
-    let seen = c.deref.ensures.value ∙ c.in_ok-rows.ensures.answer r shown clean in
-    let none = c.in_err-persons_of.ensures.no_entity _ c.in_ok-source.ensures.shown tt in
-    let told = c.from_residual-in_err-persons_of.ensures in
-    persons-refused _ _ c.args.day c.args.viewer.now r c.deref.result.now c.args.entity.now c.in_err-persons_of.field-0.0 c.from_residual-in_err-persons_of.result seen none told.0 told.1
+returns-in_err-persons_of-clause-answer g c =
+    let source = c.new-source.ensures in
+    let ends = c.keep-1.given.1 (sym source.same_reference ∙ sym c.persons_of.ensures.same_reference) in
+    let told = c.from_residual.ensures in
+    keep-promised g.K.Keep.shows g.K.Keep.is_clean _ _ c.new-source.result c.persons_of.new.source c.args.viewer.now c.args.day _ source.viewer source.day source.keep ends
+    (λ r shown clean. persons-refused _ _ c.args.day c.args.viewer.now r c.args.entity.now c.in_err-persons_of.field-0.0 c.from_residual.result (c.in_err-persons_of.ensures.no_entity _ shown clean) told.0 told.1)
+
+pub returns-in_err-persons_of-clause-accounted : goal.returns-in_err-persons_of-clause-accounted
+returns-in_err-persons_of-clause-accounted g c =
+    let source = c.new-source.ensures in
+    let ends = c.keep-1.given.1 (sym source.same_reference ∙ sym c.persons_of.ensures.same_reference) in
+    let told = c.from_residual.ensures in
+    let walk = c.in_err-persons_of.ensures in
+    keep-accounted g.K.Keep.fault_count g.K.Keep.may_tell c.from_residual.result _ _ c.new-source.result c.persons_of.new.source source.keep ends
+    (persons-accounted g.K.Keep.may_tell c.in_err-persons_of.field-0.0 c.from_residual.result _ _ told.0 told.1 walk.counts walk.told walk.honest)
+
+pub returns-clause-kept : goal.returns-clause-kept
+returns-clause-kept g c =
+    let ends = c.keep-1.given.1 (sym c.new-source.ensures.same_reference ∙ sym c.persons_of.ensures.same_reference) in
+    keep-kept g.K.Keep.shows g.K.Keep.is_clean _ _ c.new-source.result c.persons_of.new.source c.new-source.ensures.keep ends c.persons_of.ensures.kept
 
 pub returns-clause-answer : goal.returns-clause-answer
-returns-clause-answer g c r shown clean =
-    let seen = c.deref.ensures.value ∙ c.in_ok-rows.ensures.answer r shown clean in
-    let entity = c.in_ok-persons_of.ensures.entity _ c.in_ok-source.ensures.shown tt in
-    let joined = c.in_ok-persons_of.ensures.joined _ c.in_ok-source.ensures.shown tt in
-    persons-found c.args.day c.args.viewer.now r c.deref.result.now c.args.entity.now c.in_ok-persons_of.field-0.items seen entity joined
+returns-clause-answer g c =
+    let source = c.new-source.ensures in
+    let ends = c.keep-1.given.1 (sym source.same_reference ∙ sym c.persons_of.ensures.same_reference) in
+    let walk = c.in_ok-persons_of.ensures in
+    keep-promised g.K.Keep.shows g.K.Keep.is_clean _ _ c.new-source.result c.persons_of.new.source c.args.viewer.now c.args.day _ source.viewer source.day source.keep ends
+    (λ r shown clean. persons-found c.args.day c.args.viewer.now r c.args.entity.now c.in_ok-persons_of.field-0.items (walk.entity _ shown clean) (walk.joined _ shown clean))
+
+pub returns-clause-accounted : goal.returns-clause-accounted
+returns-clause-accounted g c =
+    let ends = c.keep-1.given.1 (sym c.new-source.ensures.same_reference ∙ sym c.persons_of.ensures.same_reference) in
+    keep-accounted g.K.Keep.fault_count g.K.Keep.may_tell (Ok c.in_ok-persons_of.field-0) _ _ c.new-source.result c.persons_of.new.source c.new-source.ensures.keep ends c.in_ok-persons_of.ensures.counts

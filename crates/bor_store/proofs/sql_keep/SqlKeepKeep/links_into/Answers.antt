@@ -1,0 +1,26 @@
+use Rattle.std.proofs.Common.{sym, subst}
+use Rattle.std.specs.Prelude.{◌↔◌}
+use Rattle.sqlite.specs.Held.{state}
+use Rattle.bor_links.specs.Answers.{AreLinksInto}
+use Rattle.bor_register.specs.Seen.{seen_at}
+use Rattle.bor_store_sql.specs.Shown.{IsClean, ShowsIn}
+use Rattle.bor_store.proofs.Kept.{still_kept}
+use Rattle.bor_store.proofs.Reading.{told_answer, told_count, told_fault}
+use Rattle.bor_store.proofs.sql_keep.SqlKeepKeep.links_into.Goals as goal
+
+pub returns-clause-reads : goal.returns-clause-reads
+returns-clause-reads g c =
+    let read = c.read_links_into-answer.ensures in
+    let told = c.told.ensures in
+    record {
+      kept = record {
+        began = λ clean. read.began (subst (λ k. IsClean (state g.S.Store k)) told.conn clean);
+        same = λ clean r. subst (λ k. ShowsIn r (state g.S.Store c.args.self.now.conn) ↔ ShowsIn r (state g.S.Store k)) (sym told.conn)
+            (still_kept r (state g.S.Store c.args.self.now.conn) (state g.S.Store c.read_links_into-answer.new.conn) (read.kept (subst (λ k. IsClean (state g.S.Store k)) told.conn clean)));
+      };
+      counts = told_count c.read_links_into-answer.result c.told.result c.args.self.now.faults c.told.new.self.faults told.told told.counts;
+      told = told_fault c.told.result;
+      answer = λ r shows clean.
+          told_answer (λ links. AreLinksInto (seen_at c.args.viewer.now c.args.day r) c.args.node.now links.items) c.read_links_into-answer.result c.told.result told.told
+          (read.answer (subst (λ k. IsClean (state g.S.Store k)) told.conn clean) r shows);
+    }
