@@ -19,7 +19,13 @@ use Rattle.bor_wire.specs.Inputs.{IsSaid, after}
 use Rattle.bor_wire.specs.Reports.{IsExact}
 use Rattle.bor_wire.specs.Histories.{IsAlone}
 
--- ---- what goes out
+-- ---- what an input spells
+
+-- the input spells this, where it is known
+abbrev pub IsSpelled : Option (List ℕ) → Spelled → Type 0
+IsSpelled known spelled = IfSome known (λ input. Spells input spelled)
+
+-- ---- what goes out, for clauses of private functions alone
 
 -- the status and the bytes are those of what is said to the input, and the register after it is shown
 abbrev pub IsSent : (Register → Type 0) → Register → Spelled → ℕ → List ℕ → Type 0
@@ -44,10 +50,6 @@ IsRefusal outgoing.Unavailable why = ⊤
 abbrev pub IsDeskReply : Option DeskReply → (Register → Type 0) → Register → Asked → Type 0
 IsDeskReply (Some reply) shown r asked = IsTold (exchange r asked).answer reply × shown (exchange r asked).register
 IsDeskReply None shown r asked = shown r
-
--- the input spells this, where it is known
-abbrev pub IsSpelled : Option (List ℕ) → Spelled → Type 0
-IsSpelled known spelled = IfSome known (λ input. Spells input spelled)
 
 -- of a whole reply there is something that the input spells, of which P holds with its status and bytes; of anything else Q does
 abbrev pub ByOutgoing : Option Outgoing → Option (List ℕ) → (Spelled → ℕ → List ℕ → Type 0) → Type 0 → Type 0

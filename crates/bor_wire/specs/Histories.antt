@@ -6,7 +6,7 @@ use Rattle.bor_machine.specs.Legality.{IsLegal}
 use Rattle.bor_desk.specs.declared.reply.DeskReply.{DeskReply}
 use Rattle.bor_desk.specs.Step.{Answer}
 use Rattle.bor_desk.specs.Outcomes.{IsTold}
-use Rattle.bor_desk.specs.Runs.{Asked, told_to, history, solo}
+use Rattle.bor_desk.specs.Runs.{Asked, Occasion, told_to, history, solo}
 use Rattle.bor_wire_spell.specs.Spell.{Spelled}
 use Rattle.bor_wire_reply.specs.Replies.{answered, bytes_of}
 use Rattle.bor_wire.specs.Runs.{AreReplies}
@@ -32,13 +32,21 @@ told_in (Ok asked ∷ rest) (bytes ∷ replies) = bytes ∷ told_in rest replies
 abbrev pub received : List ℕ → Register → List Spelled → List (List ℕ) → List (List ℕ)
 received name r inputs replies = told_to name r (asked_in inputs) (told_in inputs replies)
 
+-- The agent's history in a run: of the inputs the requests that have its token, from its enrolment on, each with the day and what the others had published then.
+abbrev pub history_in : List ℕ → Register → List Spelled → List Occasion
+history_in name r inputs = history name r (asked_in inputs)
+
+-- The answers that follow from the agent's filings at the start and its history.
+abbrev pub solo_in : List ℕ → Register → List Spelled → List Answer
+solo_in name r inputs = solo name (filings_of name r.members) (history_in name r inputs)
+
 -- What the agent receives are the bytes of the answers to its own exchanges alone: those that follow from its filings at the start and its history.
 abbrev pub IsAlone : List ℕ → Register → List Spelled → List (List ℕ) → Type 0
-IsAlone name r inputs replies = AllZip AreBytesOf (solo name (filings_of name r.members) (history name r (asked_in inputs))) (received name r inputs replies)
+IsAlone name r inputs replies = AllZip AreBytesOf (solo_in name r inputs) (received name r inputs replies)
 
 -- Two runs that agree on an agent's filings at the start and on its history give it the same bytes, in the same order.
 abbrev pub SameHistorySameBytes : Type 0
 SameHistorySameBytes = (name : List ℕ) (r q : Register) (inputs others : List Spelled) (replies told : List (List ℕ)) → IsLegal r → IsLegal q →
     AreReplies r inputs replies → AreReplies q others told →
-    filings_of name r.members ≡ filings_of name q.members → history name r (asked_in inputs) ≡ history name q (asked_in others) →
+    filings_of name r.members ≡ filings_of name q.members → history_in name r inputs ≡ history_in name q others →
     received name r inputs replies ≡ received name q others told

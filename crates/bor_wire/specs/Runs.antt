@@ -39,7 +39,7 @@ full (Unavailable ∷ replies) = full replies
 abbrev pub AreSpelled : List (List ℕ) → List Spelled → Type 0
 AreSpelled inputs spelled = AllZip Spells inputs spelled
 
--- ---- one reply of a list
+-- ---- one reply of a list, for clauses of private functions alone
 
 -- of a full reply there is something that the input spells, of which P holds with its bytes; of another Q does
 abbrev pub ByReply : Reply → List ℕ → (Spelled → List ℕ → Type 0) → Type 0 → Type 0

@@ -41,7 +41,7 @@ fn each_input_has_its_reply(rt: HostRuntime) -> Result<(), Fail> {
 }
 
 #[test]
-fn the_worked_rows_are_20_talks(rt: HostRuntime) -> Result<(), Fail> {
-    assert_eq!(rt; worked(rt.alloc())?.len(), 20);
+fn the_worked_rows_are_21_talks(rt: HostRuntime) -> Result<(), Fail> {
+    assert_eq!(rt; worked(rt.alloc())?.len(), 21);
     Ok(())
 }
