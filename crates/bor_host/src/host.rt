@@ -1,13 +1,14 @@
 //! Registers in files, and ports.
 
-ghost use Rattle.std.specs.Prelude.{IfErr};
+ghost use Rattle.std.specs.Prelude.{◌≡◌, IfErr, IfOk, IsTrue, Ok};
+ghost use Rattle.bor_register.specs.Register.{empty_register};
 ghost use Rattle.bor_program.specs.Failures.{IsOpeningOf};
 
-use crate::file_keep::FileKeep;
+use crate::setup::set_up_on;
 use bor_machine::Keep;
-use bor_program::{Failure, Ports, Registers};
+use bor_program::{Failure, Opened, Ports, Registers};
 use bor_serve::serve_on;
-use bor_store::{OpenFault, SqlKeep, set_up};
+use bor_store::{OpenFault, SqlKeep};
 use bor_terms::{Day, Token};
 use sqlite::{Connection, File, FileStore};
 use std::fs;
@@ -27,8 +28,10 @@ impl<'r> Host<'r> {
     }
 }
 
-impl Registers<FileKeep> for Host<'_> {
-    fn open<'a>(&self, path: &'a str) -> Result<FileKeep, Failure<'a>> {
+impl Registers for Host<'_> {
+    type Register = SqlKeep<FileStore<File>>;
+
+    fn open<'a>(&self, path: &'a str) -> Result<SqlKeep<FileStore<File>>, Failure<'a>> {
         match is_vacant(self.rt, path) {
             Ok(true) => Err(Failure::NoRegister(path)),
             Ok(false) => told_of(path, SqlKeep::open(self.rt, path)),
@@ -42,15 +45,19 @@ impl Registers<FileKeep> for Host<'_> {
         path: &'a str,
         registrar: &Token,
         day: Day,
-    ) -> Result<FileKeep, Failure<'a>> {
+    ) -> Result<Opened<SqlKeep<FileStore<File>>>, Failure<'a>> {
         match SqlKeep::open(self.rt, path) {
+            Ok(register) => Ok(Opened {
+                register,
+                is_new: false,
+            }),
             Err(OpenFault::NoRegister) => told_of(path, set_up_in(self.rt, path, registrar, day)),
-            opened => told_of(path, opened),
+            Err(fault) => Err(failure_of(path, fault)),
         }
     }
 
-    fn close(&self, keep: FileKeep) {
-        keep.close();
+    fn close(&self, register: SqlKeep<FileStore<File>>) {
+        let _ = register.into_connection().close();
     }
 }
 
@@ -61,8 +68,13 @@ impl Ports for Host<'_> {
         TcpListener::bind(self.rt, ("127.0.0.1", port)).ok()
     }
 
-    fn serve<K: Keep>(&self, keep: &mut K, listener: &TcpListener, connections: u32) -> bool {
-        serve_on(self.rt, keep, listener, connections) == 0
+    fn serve(
+        &self,
+        register: &mut SqlKeep<FileStore<File>>,
+        listener: &TcpListener,
+        connections: u32,
+    ) -> u8 {
+        serve_on(self.rt, register, listener, connections)
     }
 }
 
@@ -85,21 +97,21 @@ fn set_up_in(
     path: &str,
     registrar: &Token,
     day: Day,
-) -> Result<SqlKeep<FileStore<File>>, OpenFault> {
-    let mut conn = Connection::open(rt, path)?;
-    set_up(&mut conn, registrar, day)?;
-    SqlKeep::adopt(rt.alloc(), conn)
+) -> Result<Opened<SqlKeep<FileStore<File>>>, OpenFault>
+    ensures { let keep = ⟦<SqlKeep<FileStore<File>> as Keep>⟧ in IfOk result (λ opened. IsTrue opened.is_new → keep.is_clean opened.register
+        → keep.shows opened.register (empty_register registrar.now day)) }
+{
+    let conn = Connection::open(rt, path)?;
+    set_up_on(rt.alloc(), conn, registrar, day)
 }
 
 // What was opened, or the failure of opening the file of this name.
-fn told_of<'a>(
-    path: &'a str,
-    opened: Result<SqlKeep<FileStore<File>>, OpenFault>,
-) -> Result<FileKeep, Failure<'a>>
-    ensures { IfErr result (IsOpeningOf path.entry) }
+fn told_of<T>(path: &str, opened: Result<T, OpenFault>) -> Result<T, Failure<'_>>
+    ensures ok { IfOk result (λ register. opened ≡ Ok register) }
+    ensures err { IfErr result (IsOpeningOf path.entry) }
 {
     match opened {
-        Ok(tables) => Ok(FileKeep::new(tables)),
+        Ok(register) => Ok(register),
         Err(fault) => Err(failure_of(path, fault)),
     }
 }

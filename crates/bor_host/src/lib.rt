@@ -6,8 +6,7 @@
 //! ```
 #![tactic(auto)]
 
-mod file_keep;
 mod host;
+mod setup;
 
-pub use file_keep::FileKeep;
 pub use host::Host;

@@ -1,6 +1,6 @@
 -- What the answer to words and a failure say of the words.
-use Rattle.std.proofs.Common.{◌≡◌, ◌≢◌, ◌∙◌, ap, ◌⊎◌, ℕ, List, [], Option, Some, None, refl, true, subst, sym, inl, inr}
-use Rattle.clap.specs.Words.{HasKind, IsAmong, Kinds, fault_of, kind_of}
+use Rattle.std.proofs.Common.{◌≡◌, ◌≢◌, ◌∙◌, ap, ◌⊎◌, ℕ, List, Option, Some, None, refl, subst, sym, inl, inr}
+use Rattle.clap.specs.Words.{IsAmong, Kinds, fault_of, kind_of}
 use Rattle.clap.specs.declared.error.kind.ErrorKind.{ErrorKind}
 use Rattle.clap.specs.declared.error.kind.ErrorKind.TheVariants.{DisplayHelp, OutOfMemory, ValueValidation}
 use Rattle.bor_words.specs.declared.source.Source.{Source}

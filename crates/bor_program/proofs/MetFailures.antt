@@ -6,7 +6,8 @@ use Rattle.bor_keep.specs.declared.fault.StoreFault.{StoreFault}
 use Rattle.bor_keep.specs.declared.fault.StoreFault.TheVariants as fault
 use Rattle.bor_program.specs.declared.failure.Failure.{Failure}
 use Rattle.bor_program.specs.declared.failure.Failure.TheVariants.{Unreadable, NoRegister, OtherVersion, Taken, Memory, Store, Unlistening, Unwritable}
-use Rattle.bor_program.specs.Failures.{IsMetIn, IsMetOnKeep, IsOpeningOf, LeavesOutput, failure_of}
+use Rattle.bor_program.specs.Failures.{IsMetIn, IsMetListening, IsMetOnKeep, IsOpeningOf, IsWantOfMemory, LeavesOutput, failure_line, failure_of}
+use Rattle.bor_program.specs.Performing.{FailsToOpen}
 use Rattle.bor_desk.specs.CheckReport.{check_report}
 use Rattle.bor_desk.specs.declared.text.Text.{Text as Written}
 use Rattle.bor_program.specs.Program.{IsWrittenOrCutOff}
@@ -57,6 +58,36 @@ met_opened path before after Unlistening h = absurd h.cause
 pub met_opening : (path : Bor Text) (known : Option (List ℕ)) (failure : Failure) → IsOpeningOf path failure → IsMetIn path known known failure
 met_opening path known failure h = record { cause = inl h; output = leaves known known failure (keeps_same known) }
 
+pub fails_to_open : (path : Bor Text) (known errors told : Option (List ℕ)) (failure : Failure) (status : ℕ) → status ≡ 3 → IsOpeningOf path failure
+    → AppendsPart errors told (failure_line failure) → FailsToOpen path known known errors told status
+fails_to_open path known errors told failure status three h line =
+    record { status_is = three; kept = keeps_same known; line = (failure, h, line) }
+
+-- ---- failures of a server before its first connection
+
+pub met_unlistening : (known : Option (List ℕ)) → IsMetListening known known Unlistening
+met_unlistening known = record { cause = tt; output = keeps_same known }
+
+pub met_wanting : (known : Option (List ℕ)) (failure : Failure) → IsWantOfMemory failure → IsMetListening known known failure
+met_wanting known Memory e = record { cause = tt; output = keeps_same known }
+met_wanting known Unwritable e = cc
+met_wanting known (Unreadable source) e = cc
+met_wanting known (NoRegister path) e = cc
+met_wanting known (OtherVersion path version) e = cc
+met_wanting known (Taken path) e = cc
+met_wanting known Store e = cc
+met_wanting known Unlistening e = cc
+
+pub met_closed : (before after : Option (List ℕ)) (failure : Failure) → failure ≡ Unwritable → IsMetListening before after failure
+met_closed before after Unwritable e = record { cause = tt; output = tt }
+met_closed before after Memory e = cc
+met_closed before after (Unreadable source) e = cc
+met_closed before after (NoRegister path) e = cc
+met_closed before after (OtherVersion path version) e = cc
+met_closed before after (Taken path) e = cc
+met_closed before after Store e = cc
+met_closed before after Unlistening e = cc
+
 -- ---- texts that were cut off
 
 -- nothing was written
@@ -69,3 +100,10 @@ pub cut_text : {P : Written → Type 0} (before after : Option (List ℕ)) (stat
     → ((text : Written) × P text × AppendsPart before after text.bytes) ⊎ Keeps before after → (text : Written) × IsWrittenOrCutOff text before after status
 cut_text before after status three (inl h) = (h.0, inr (record { text = h.2; told = three }))
 cut_text before after status three (inr kept) = no_text before after status three kept
+
+-- a front was written of a text of which P holds, or nothing
+pub tells_cut : {P : Written → Type 0} (before after : Option (List ℕ)) (status : ℕ) → status ≡ 3
+    → ((text : Written) × P text × AppendsPart before after text.bytes) ⊎ Keeps before after
+    → ((text : Written) × P text × IsWrittenOrCutOff text before after status) ⊎ (Keeps before after × (status ≡ 3))
+tells_cut before after status three (inl h) = inl (h.0, h.1, inr (record { text = h.2; told = three }))
+tells_cut before after status three (inr kept) = inr (kept, three)

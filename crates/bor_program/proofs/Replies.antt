@@ -1,5 +1,5 @@
 -- What is written part by part, and how replies end.
-use Rattle.std.proofs.Common.{◌≡◌, ◌∙◌, ◌≤◌, ◌<◌, ◌⊎◌, ℕ, List, [], ◌∷◌, ◌++◌, Option, Some, None, Result, Ok, Err, ap, arith, inl, inr, refl, sym, subst, true, false, Bool, max, IfSome, length, option_map, drop, take, append-nil, append_assoc, lit≤}
+use Rattle.std.proofs.Common.{◌≡◌, ◌∙◌, ◌≤◌, ◌⊎◌, ℕ, List, [], ◌∷◌, ◌++◌, Option, Some, None, Result, Ok, Err, ap, arith, inl, inr, refl, sym, subst, true, false, Bool, max, IfSome, length, option_map, take, append-nil, append_assoc, lit≤}
 use Rattle.std.specs.Io.KnownBytes.{Appends, Keeps}
 use Rattle.std.proofs.KnownBytes.{Appends-trans}
 use Rattle.bor_wire.specs.declared.replies.Reply.{Reply}
@@ -10,9 +10,13 @@ use Rattle.bor_program.specs.declared.status.Status.TheVariants.{Done, Refused, 
 use Rattle.std.specs.Result.{is_err}
 use Rattle.bor_program.specs.Reporting.{EndsTelling}
 use Rattle.bor_program.specs.Program.{exit_code, report_status}
-use Rattle.bor_program.specs.Replying.{AreRepliesTo, IsAnsweredOrCutOff, IsSentOrCutOff, EndsFiles, EndsSending, is_refusal, replies_status, reply_status, sent, sent_of}
+use Rattle.bor_program.specs.Replying.{AreAnswers, IsSentOrCutOff, EndsFiles, EndsSending, is_refusal, replies_status, reply_status, sent}
 use Rattle.bor_program.specs.Streams.{AppendsPart}
+use Rattle.bor_records.specs.Promises.{Kept, Promised}
 use Rattle.bor_register.specs.Register.{Register}
+use Rattle.bor_machine.specs.Legality.{IsLegal}
+use Rattle.bor_wire_spell.specs.Spell.{Spelled}
+use Rattle.bor_wire.specs.Runs.{AreReplies, AreSpelled, full, register_left, served}
 use Rattle.bor_program.proofs.Ends.{part_none}
 use Rattle.bor_program.proofs.KnownBytes.{IsWritten}
 
@@ -49,10 +53,11 @@ read_whole (Some bytes) limit items before e h = h ∙ ap (λ l. l ++ take limit
 
 -- ---- ends that are not told yet
 
-pub sends_err : {F : Type 0} (P : List Reply → Type 0) (before after : Option (List ℕ)) (end : Result Status F) → is_err end ≡ true
-    → ((replies : List Reply) × P replies × AppendsPart before after (sent replies)) ⊎ Keeps before after → EndsSending P before after end
-sends_err P before after (Err failure) e h = h
-sends_err P before after (Ok status) e h = cc
+pub sends_err : {F : Type 0} (P : List (List ℕ) → List Reply → Type 0) (inputs : List (List ℕ)) (before after : Option (List ℕ)) (end : Result Status F)
+    → is_err end ≡ true → ((replies : List Reply) × P inputs replies × AppendsPart before after (sent replies)) ⊎ (P [] [] × Keeps before after)
+    → EndsSending P inputs before after end
+sends_err P inputs before after (Err failure) e h = h
+sends_err P inputs before after (Ok status) e h = cc
 
 pub tells_err : {F : Type 0} (P : Text → Type 0) (before after : Option (List ℕ)) (end : Result Status F) → is_err end ≡ true
     → ((text : Text) × P text × AppendsPart before after text.bytes) ⊎ Keeps before after → EndsTelling P before after end
@@ -72,40 +77,58 @@ worse_done status read code e low (inr h) =
     let three : exit_code read ≡ 3 = ap exit_code h in
     absurd (omega (arith, e, low, three))
 
-pub ends_read : (P : List Reply → Type 0) (before after : Option (List ℕ)) (status read : Status) (code : ℕ) → code ≡ max (exit_code status) (exit_code read)
-    → (read ≡ Done) ⊎ (read ≡ Failed)
-    → ((replies : List Reply) × P replies × Appends before after (sent replies) × (exit_code status ≡ replies_status replies)) → EndsFiles P before after code
-ends_read P before after status read code e (inl h) s =
+pub ends_read : (P : List (List ℕ) → List Reply → Type 0) (inputs : List (List ℕ)) (count : ℕ) (before after : Option (List ℕ)) (status read : Status) (code : ℕ)
+    → code ≡ max (exit_code status) (exit_code read) → (read ≡ Done) ⊎ (read ≡ Failed) → (code ≤ 1 → length inputs ≡ count)
+    → ((replies : List Reply) × P inputs replies × Appends before after (sent replies) × (exit_code status ≡ replies_status replies)) → EndsFiles P count before after code
+ends_read P inputs count before after status read code e (inl h) counted s =
     let none : exit_code read ≡ 0 = ap exit_code h in
     let same : code ≡ exit_code status = omega (arith, e, none) in
-    inl (s.0, s.1, inl (s.2, same ∙ s.3))
-ends_read P before after status read code e (inr h) s =
+    (inputs, counted, (s.0, s.1, inl (s.2, same ∙ s.3)))
+ends_read P inputs count before after status read code e (inr h) counted s =
     let three : exit_code read ≡ 3 = ap exit_code h in
     let most : exit_code status ≤ 3 = code_most status in
     let same : code ≡ 3 = omega (arith, e, three, most) in
-    inl (s.0, s.1, inr (part_of_all before after (sent s.0) s.2, same))
+    (inputs, counted, (s.0, s.1, inr (part_of_all before after (sent s.0) s.2, same)))
 
-pub ends_failed : (P : List Reply → Type 0) (before after : Option (List ℕ)) (code : ℕ) → code ≡ 3
-    → ((replies : List Reply) × P replies × AppendsPart before after (sent replies)) ⊎ Keeps before after → EndsFiles P before after code
-ends_failed P before after code three (inl h) = inl (h.0, h.1, inr (h.2, three))
-ends_failed P before after code three (inr h) = inr (h, three)
+pub ends_failed : (P : List (List ℕ) → List Reply → Type 0) (inputs : List (List ℕ)) (count : ℕ) (before after : Option (List ℕ)) (code : ℕ) → code ≡ 3
+    → ((replies : List Reply) × P inputs replies × AppendsPart before after (sent replies)) ⊎ (P [] [] × Keeps before after) → EndsFiles P count before after code
+ends_failed P inputs count before after code three (inl h) = (inputs, (λ low. absurd (omega (arith, low, three))), (h.0, h.1, inr (h.2, three)))
+ends_failed P inputs count before after code three (inr h) =
+    ([], (λ low. absurd (omega (arith, low, three))), ([], h.0, inr (part_none before after [] h.1, three)))
 
 -- what was sent, whichever replies they are
-pub sent_some : (P : List Reply → Type 0) (before after : Option (List ℕ)) (code : ℕ) → EndsFiles P before after code
+pub sent_some : (P : List (List ℕ) → List Reply → Type 0) (count : ℕ) (before after : Option (List ℕ)) (code : ℕ) → EndsFiles P count before after code
     → (replies : List Reply) × IsSentOrCutOff replies before after code
-sent_some P before after code (inl h) = (h.0, h.2)
-sent_some P before after code (inr h) = ([], inr (part_none before after [] h.0, h.1))
+sent_some P count before after code h = (h.2.0, h.2.2)
 
--- what was sent are the replies to the inputs
-pub answered_some : (P : List Reply → Type 0) (r : Register) (inputs : List (List ℕ)) (count : ℕ) (before after : Option (List ℕ)) (code : ℕ)
-    → ((replies : List Reply) → P replies → AreRepliesTo r inputs replies) → (code ≤ 1 → length inputs ≡ count) → EndsFiles P before after code
-    → (known : List (List ℕ)) × (code ≤ 1 → length known ≡ count) × IsAnsweredOrCutOff r known before after code
-answered_some P r inputs count before after code are all (inl h) = (inputs, all, (h.0, are h.0 h.1, h.2))
-answered_some P r inputs count before after code are all (inr h) = (
-  [],
-  (λ low. absurd (omega (arith, low, h.1))),
-  ([], record { count = refl; spelled = []; spells = tt; replied = tt }, inr (part_none before after [] h.0, h.1)),
-)
+-- the same of replies of a wider kind
+pub sent_as : (P Q : List (List ℕ) → List Reply → Type 0) (count last : ℕ) (before after : Option (List ℕ)) (code : ℕ) → count ≡ last
+    → ((inputs : List (List ℕ)) (replies : List Reply) → P inputs replies → Q inputs replies) → EndsFiles P count before after code → EndsFiles Q last before after code
+sent_as P Q count last before after code e wider h = (h.0, (λ low. h.1 low ∙ e), (h.2.0, wider h.0 h.2.0 h.2.1, h.2.2))
+
+-- ---- what is answered of a register
+
+-- nothing was answered, and the register is as it was
+pub none_answered : {K : Type 0} (shows : K → Register → Type 0) (is_clean : K → Type 0) (opened left : K) → Kept shows is_clean opened left
+    → AreAnswers shows is_clean opened left [] []
+none_answered shows is_clean opened left kept = λ r shown clean legal. record {
+  replies_to = record { count = refl; spelled = []; spells = tt; replied = tt };
+  left = (kept.same clean r).0 shown;
+}
+
+pub kept_same : {K : Type 0} (shows : K → Register → Type 0) (is_clean : K → Type 0) (state : K) → Kept shows is_clean state state
+kept_same shows is_clean state = record { began = λ clean. clean; same = λ clean r. (λ shown. shown, λ shown. shown) }
+
+-- what is said of all that the inputs spell is said of them
+pub all_answered : {K : Type 0} (shows : K → Register → Type 0) (is_clean : K → Type 0) (opened left : K) (inputs : List (List ℕ)) (replies : List Reply)
+    → length replies ≡ length inputs → ((spelled : List Spelled) × AreSpelled (served inputs replies) spelled)
+    → Promised shows is_clean opened left (λ r. IsLegal r → (spelled : List Spelled) → AreSpelled (served inputs replies) spelled → AreReplies r spelled (full replies))
+    → Promised shows is_clean opened left (λ r. IsLegal r → (spelled : List Spelled) → AreSpelled (served inputs replies) spelled → shows left (register_left r spelled))
+    → AreAnswers shows is_clean opened left inputs replies
+all_answered shows is_clean opened left inputs replies count spelled are leaves = λ r shown clean legal. record {
+  replies_to = record { count = count; spelled = spelled.0; spells = spelled.1; replied = are r shown clean legal spelled.0 spelled.1 };
+  left = leaves r shown clean legal spelled.0 spelled.1;
+}
 
 -- ---- exit statuses
 

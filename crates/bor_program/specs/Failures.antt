@@ -102,6 +102,18 @@ pub record IsMetOnKeep (before after : Option (List ℕ)) (failure : Failure) : 
   pub cause : IsOfKeep failure
   pub output : LeavesOutput before after failure
 
+-- the port can't be listened on, memory was wanting, or standard output can't be written
+abbrev pub IsOfListening : Failure → Type 0
+IsOfListening Unlistening = ⊤
+IsOfListening Memory = ⊤
+IsOfListening Unwritable = ⊤
+IsOfListening failure = ⊥
+
+-- a failure of a server before its first connection, and no other was met
+pub record IsMetListening (before after : Option (List ℕ)) (failure : Failure) : Type 0 where
+  pub cause : IsOfListening failure
+  pub output : LeavesOutput before after failure
+
 -- a failure of opening the register in the file of this name, of its store, or of standard output, and no other was met
 pub record IsMetIn (path : Bor Text) (before after : Option (List ℕ)) (failure : Failure) : Type 0 where
   pub cause : IsOpeningOf path failure ⊎ (failure ≡ Unwritable)

@@ -1,9 +1,13 @@
 -- What each command leaves on the streams, and which exit status it gives.
 use Rattle.std.specs.Prelude.{◌≡◌, ◌≤◌, ◌⊎◌, ◌++◌, ◌∷◌, ℕ, List, [], Option, None, IfSome, IsSome, IsTrue, codes, decimal, length}
 use Rattle.std.specs.Io.KnownBytes.{Appends, Keeps}
-use Rattle.bor_register.specs.Register.{empty_register}
+use Rattle.std.specs.Borrow.{Bor}
+use Rattle.bor_records.specs.Promises.{Kept}
+use Rattle.bor_register.specs.Register.{Register, empty_register}
 use Rattle.bor_desk.specs.declared.text.Text.{Text}
 use Rattle.bor_wire.specs.declared.replies.Reply.{Reply}
+use Rattle.bor_serve.specs.Serving.{IsServed}
+use Rattle.clap.specs.Words.{Text as Words}
 use Rattle.bor_words.specs.declared.command.Command.{Command}
 use Rattle.bor_words.specs.declared.command.Command.TheVariants as command
 use Rattle.bor_words.specs.declared.exchange.Exchange.{Exchange}
@@ -11,9 +15,10 @@ use Rattle.bor_words.specs.declared.report.Report.{Report}
 use Rattle.bor_words.specs.declared.serve.Serve.{Serve}
 use Rattle.bor_words.specs.declared.source.Source.{Source}
 use Rattle.bor_words.specs.Asked.{name_of}
-use Rattle.bor_program.specs.Failures.{IsMetIn, IsMetOn, IsTold}
+use Rattle.bor_program.specs.Failures.{IsMetIn, IsMetListening, IsMetOn, IsOpeningOf, IsTold}
 use Rattle.bor_program.specs.Program.{IsReportedOrCutOff, IsWrittenOrCutOff}
-use Rattle.bor_program.specs.Replying.{IsAnsweredOrCutOff, IsSentOrCutOff, replies_status, sent}
+use Rattle.bor_program.specs.Replying.{AreAnswers, AreRepliesTo, EndsFiles, IsSentOrCutOff, replies_status, sent}
+use Rattle.bor_program.specs.Reporting.{IsToldOf}
 use Rattle.bor_program.specs.Streams.{AppendsPart, TakesAtMostPart, TakesPart, part_read}
 
 -- what is known of a stream's bytes
@@ -30,36 +35,70 @@ pub record Checks (source : Source) (input rest output printed errors told : Kno
   pub silent : status ≤ 1 → Keeps errors told
   pub line : status ≡ 3 → IsTold (IsMetOn source output printed) errors told
 
--- Replies are printed. Without a register's file they are those to some inputs from the new register on, and where the run doesn't fail, to one input a file.
-pub record Exchanges (asked : Exchange) (output printed errors told : Known) (status : ℕ) : Type 0 where
+-- ---- over a register in a file
+
+-- the register in the file of this name can't be opened: nothing is printed but the line of that
+pub record FailsToOpen (path : Bor Words) (output printed errors told : Known) (status : ℕ) : Type 0 where
+  pub status_is : status ≡ 3
+  pub kept : Keeps output printed
+  pub line : IsTold (IsOpeningOf path) errors told
+
+-- Replies are printed: from the new register on, or from the one that was opened. Where the run doesn't fail, they are those to one input a file.
+pub record Exchanges {K : Type 0} (shows : K → Register → Type 0) (is_clean : K → Type 0) (asked : Exchange) (output printed errors told : Known) (status : ℕ) : Type 0 where
   pub sent : (replies : List Reply) × IsSentOrCutOff replies output printed status
-  pub answered : asked.db ≡ None → (inputs : List (List ℕ)) × (status ≤ 1 → length inputs ≡ length asked.files.items)
-      × IsAnsweredOrCutOff (empty_register asked.registrar asked.day) inputs output printed status
+  pub answered : asked.db ≡ None
+      → EndsFiles (AreRepliesTo (empty_register asked.registrar asked.day)) (length asked.files.items) output printed status
+  pub opened : IfSome asked.db (λ path. FailsToOpen path output printed errors told status
+      ⊎ ((opened : K) × (left : K) × EndsFiles (AreAnswers shows is_clean opened left) (length asked.files.items) output printed status))
   pub silent : status ≤ 1 → Keeps errors told
 
 -- the line that tells that the server listens
 abbrev pub listening : ℕ → List ℕ
 listening port = codes "listening 127.0.0.1:" ++ decimal port ++ 10 ∷ []
 
--- the line is printed, and it fails or serves to the end
-pub record Serves (asked : Serve) (output printed errors told : Known) (status : ℕ) : Type 0 where
-  pub ends : ((status ≡ 0) × Appends output printed (listening asked.port)) ⊎ ((status ≡ 3) × AppendsPart output printed (listening asked.port))
-  pub silent : status ≤ 1 → Keeps errors told
+-- it can't listen, or tell that it does: it serves no connection, and a front of the line is printed
+pub record FailsToListen (port : ℕ) (output printed errors told : Known) (status : ℕ) : Type 0 where
+  pub status_is : status ≡ 3
+  pub part : AppendsPart output printed (listening port)
+  pub line : IsTold (IsMetListening output printed) errors told
 
--- a text is printed, or the line of a failure
-pub record Reports (asked : Report) (output printed errors told : Known) (status : ℕ) : Type 0 where
+-- The line is printed, and so many connections are served as are asked for, one after the other, from the register that was opened on. The status tells whether one failed, and nothing else is told.
+pub record ServesFrom {K : Type 0} (shows : K → Register → Type 0) (is_clean : K → Type 0) (opened left : K) (asked : Serve) (output printed errors told : Known) (status : ℕ) : Type 0 where
+  pub served : IsServed shows is_clean opened left asked.connections status
+  pub line : Appends output printed (listening asked.port)
+  pub silent : Keeps errors told
+
+-- a register is opened and served, or it fails before the first connection
+abbrev pub Serves : {K : Type 0} → (K → Register → Type 0) → (K → Type 0) → Serve → Known → Known → Known → Known → ℕ → Type 0
+Serves {K} shows is_clean asked output printed errors told status =
+    FailsToOpen asked.db output printed errors told status
+    ⊎ (FailsToListen asked.port output printed errors told status
+    ⊎ ((opened : K) × (left : K) × ServesFrom shows is_clean opened left asked output printed errors told status))
+
+-- a text on the register that was opened is printed, or nothing
+pub record TellsFrom {K : Type 0} (shows : K → Register → Type 0) (is_clean : K → Type 0) (opened left : K) (asked : Report) (output printed : Known) (status : ℕ) : Type 0 where
+  pub kept : Kept shows is_clean opened left
+  pub text : ((text : Text) × IsToldOf shows is_clean opened left asked text × IsWrittenOrCutOff text output printed status)
+      ⊎ (Keeps output printed × (status ≡ 3))
+
+-- a text is printed, on the register that was opened, or the line of a failure
+pub record Reports {K : Type 0} (shows : K → Register → Type 0) (is_clean : K → Type 0) (asked : Report) (output printed errors told : Known) (status : ℕ) : Type 0 where
   pub text : (text : Text) × IsWrittenOrCutOff text output printed status
+  pub opened : FailsToOpen asked.db output printed errors told status
+      ⊎ ((opened : K) × (left : K) × TellsFrom shows is_clean opened left asked output printed status)
   pub silent : status ≤ 1 → Keeps errors told
   pub line : status ≡ 3 → IsTold (IsMetIn asked.db output printed) errors told
 
--- what the command does; but for a check it leaves standard input alone
-abbrev pub Performs : Command → Known → Known → Known → Known → Known → Known → ℕ → Type 0
-Performs (command.Check source) input rest output printed errors told status = Checks source input rest output printed errors told status
-Performs (command.Exchange asked) input rest output printed errors told status =
-    Keeps input rest × Exchanges asked output printed errors told status
-Performs (command.Serve asked) input rest output printed errors told status = Keeps input rest × Serves asked output printed errors told status
-Performs (command.Report asked) input rest output printed errors told status =
-    Keeps input rest × Reports asked output printed errors told status
+-- What the command does, over whatever registers are opened; but for a check it leaves standard input alone.
+abbrev pub Performs : {K : Type 0} → (K → Register → Type 0) → (K → Type 0) → Command → Known → Known → Known → Known → Known → Known → ℕ → Type 0
+Performs shows is_clean (command.Check source) input rest output printed errors told status =
+    Checks source input rest output printed errors told status
+Performs shows is_clean (command.Exchange asked) input rest output printed errors told status =
+    Keeps input rest × Exchanges shows is_clean asked output printed errors told status
+Performs shows is_clean (command.Serve asked) input rest output printed errors told status =
+    Keeps input rest × Serves shows is_clean asked output printed errors told status
+Performs shows is_clean (command.Report asked) input rest output printed errors told status =
+    Keeps input rest × Reports shows is_clean asked output printed errors told status
 
 -- ---- what status 1 stands for
 

@@ -1,13 +1,15 @@
 -- Which replies `bor exchange` prints, and how it ends.
-use Rattle.std.specs.Prelude.{◌≡◌, ◌⊎◌, ℕ, List, [], ◌∷◌, ◌++◌, Bool, Option, Result, MatchResult, IfSome, if◌then◌else◌, false, length, max, nat_le, slice_get}
+use Rattle.std.specs.Prelude.{◌≡◌, ◌≤◌, ◌⊎◌, ℕ, List, [], ◌∷◌, ◌++◌, Bool, Option, Result, MatchResult, if◌then◌else◌, false, length, max, nat_le, slice_get}
 use Rattle.std.specs.Option.{option_map_or}
 use Rattle.std.specs.Io.KnownBytes.{Appends, Keeps}
+use Rattle.bor_records.specs.Promises.{Promised}
 use Rattle.bor_register.specs.Register.{Register}
+use Rattle.bor_machine.specs.Legality.{IsLegal}
 use Rattle.bor_wire_reply.specs.declared.reply.TheConstants.{UNAVAILABLE}
 use Rattle.bor_wire_spell.specs.Spell.{Spelled}
 use Rattle.bor_wire.specs.declared.replies.Reply.{Reply}
 use Rattle.bor_wire.specs.declared.replies.Reply.TheVariants.{Full, Unavailable}
-use Rattle.bor_wire.specs.Runs.{AreReplies, AreSpelled, full, served}
+use Rattle.bor_wire.specs.Runs.{AreReplies, AreSpelled, full, register_left, served}
 use Rattle.bor_program.specs.Program.{exit_code}
 use Rattle.bor_program.specs.Streams.{AppendsPart}
 use Rattle.bor_program.specs.declared.status.Status.{Status}
@@ -53,18 +55,26 @@ pub record AreRepliesTo (r : Register) (inputs : List (List ℕ)) (replies : Lis
   pub spells : AreSpelled (served inputs replies) spelled
   pub replied : AreReplies r spelled (full replies)
 
--- such replies were sent, of which P holds; or it failed, and a front of such was written, or nothing
-abbrev pub EndsSending : {F : Type 0} → (List Reply → Type 0) → Option (List ℕ) → Option (List ℕ) → Result Status F → Type 0
-EndsSending P before after end = MatchResult end
-    (λ status. (replies : List Reply) × P replies × Appends before after (sent replies) × (exit_code status ≡ replies_status replies))
-    (λ _. ((replies : List Reply) × P replies × AppendsPart before after (sent replies)) ⊎ Keeps before after)
+-- The same, and the register that the run leaves is shown.
+pub record AreRepliesLeaving (Shown : Register → Type 0) (r : Register) (inputs : List (List ℕ)) (replies : List Reply) : Type 0 where
+  pub replies_to : AreRepliesTo r inputs replies
+  pub left : Shown (register_left r replies_to.spelled)
 
--- the same of an exit status: such replies were sent, or it failed, and a front of such was written, or nothing
-abbrev pub EndsFiles : (List Reply → Type 0) → Option (List ℕ) → Option (List ℕ) → ℕ → Type 0
-EndsFiles P before after status =
-    ((replies : List Reply) × P replies × IsSentOrCutOff replies before after status) ⊎ (Keeps before after × (status ≡ 3))
+-- Of a register that was opened and what is left of it: each legal register that it showed has these replies to these inputs, and what is left shows the register after them.
+abbrev pub AreAnswers : {K : Type 0} → (K → Register → Type 0) → (K → Type 0) → K → K → List (List ℕ) → List Reply → Type 0
+AreAnswers shows is_clean opened left inputs replies =
+    Promised shows is_clean opened left (λ r. IsLegal r → AreRepliesLeaving (shows left) r inputs replies)
 
--- exactly the replies to these inputs from this register on were written, or the run failed on the way
-abbrev pub IsAnsweredOrCutOff : Register → List (List ℕ) → Option (List ℕ) → Option (List ℕ) → ℕ → Type 0
-IsAnsweredOrCutOff r inputs before after status =
-    (replies : List Reply) × AreRepliesTo r inputs replies × IsSentOrCutOff replies before after status
+-- ---- how they are sent
+
+-- such replies to these inputs were sent; or it failed, and a front of such was written, or none was answered and nothing written
+abbrev pub EndsSending : {F : Type 0} → (List (List ℕ) → List Reply → Type 0) → List (List ℕ) → Option (List ℕ) → Option (List ℕ) → Result Status F → Type 0
+EndsSending Suit inputs before after end = MatchResult end
+    (λ status. (replies : List Reply) × Suit inputs replies × Appends before after (sent replies) × (exit_code status ≡ replies_status replies))
+    (λ _. ((replies : List Reply) × Suit inputs replies × AppendsPart before after (sent replies)) ⊎ (Suit [] [] × Keeps before after))
+
+-- such replies to some inputs were sent, and to so many where the run doesn't fail; or it failed, and a front of such was written
+abbrev pub EndsFiles : (List (List ℕ) → List Reply → Type 0) → ℕ → Option (List ℕ) → Option (List ℕ) → ℕ → Type 0
+EndsFiles Suit count before after status =
+    (inputs : List (List ℕ)) × (status ≤ 1 → length inputs ≡ count)
+    × ((replies : List Reply) × Suit inputs replies × IsSentOrCutOff replies before after status)

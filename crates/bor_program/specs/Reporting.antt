@@ -1,6 +1,7 @@
 -- What `bor report` prints.
-use Rattle.std.specs.Prelude.{◌≡◌, ◌⊎◌, ℤ, ℕ, List, Option, Some, None, Result, MatchResult, IfOk}
+use Rattle.std.specs.Prelude.{◌⊎◌, ℤ, ℕ, List, Option, Some, None, Result, MatchResult}
 use Rattle.std.specs.Io.KnownBytes.{Keeps}
+use Rattle.bor_records.specs.Promises.{Promised}
 use Rattle.bor_register.specs.Register.{Register}
 use Rattle.bor_machine.specs.Sight.{seen_by}
 use Rattle.bor_desk.specs.Step.{chains_answer}
@@ -19,6 +20,10 @@ day_in None today = today
 -- the text tells who stands behind the entity, in what the viewer sees of the register
 abbrev pub IsReportOf : Report → Register → Text → Type 0
 IsReportOf asked r text = IsTextOf (chains_answer (seen_by asked.viewer r) asked.entity (day_in asked.date r.day)) text
+
+-- of a register that was opened and what is left of it: the text tells it of each register that was shown
+abbrev pub IsToldOf : {K : Type 0} → (K → Register → Type 0) → (K → Type 0) → K → K → Report → Text → Type 0
+IsToldOf shows is_clean opened left asked text = Promised shows is_clean opened left (λ r. IsReportOf asked r text)
 
 -- a text was written of which P holds; or it failed, and a front of such was written, or nothing
 abbrev pub EndsTelling : {F : Type 0} → (Text → Type 0) → Option (List ℕ) → Option (List ℕ) → Result Status F → Type 0

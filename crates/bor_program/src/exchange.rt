@@ -1,22 +1,20 @@
 //! `bor exchange`.
 
-ghost use Rattle.std.specs.Prelude.{◌≡◌, ◌≤◌, ℕ, List, IfErr, OnOk, length, map};
+ghost use Rattle.std.specs.Prelude.{◌≡◌, ◌≤◌, IfErr, OnOk, length, map};
 ghost use Rattle.std.specs.Io.KnownBytes.{Appends, Keeps};
-ghost use Rattle.bor_records.specs.Promises.{Promised};
-ghost use Rattle.bor_machine.specs.Legality.{IsLegal};
 ghost use Rattle.bor_program.specs.Failures.{IsMetUnread};
 ghost use Rattle.bor_program.specs.Performing.{Exchanges};
 ghost use Rattle.bor_program.specs.Program.{exit_code};
-ghost use Rattle.bor_program.specs.Replying.{AreRepliesTo, EndsFiles, EndsSending, is_refusal, replies_status, reply_status, sent, sent_of};
+ghost use Rattle.bor_program.specs.Replying.{AreAnswers, EndsFiles, EndsSending, is_refusal, replies_status, reply_status, sent, sent_of};
 ghost use Rattle.bor_program.specs.Streams.{AppendsPart};
 
 use crate::failure::Failure;
-use crate::host::Registers;
+use crate::host::{OpenRegister, Opened, Registers};
 use crate::inputs::read_inputs;
 use crate::output::write_part;
 use crate::status::Status;
-use bor_machine::{Keep, ListKeep};
-use bor_wire::{Reply, UNAVAILABLE, replay};
+use bor_machine::ListKeep;
+use bor_wire::{Reply, UNAVAILABLE};
 use bor_words::Exchange;
 use std::alloc::Global;
 use std::io::Write;
@@ -24,14 +22,15 @@ use std::rt::Files;
 
 /// Answers the requests in files in turn, in the register in a file or in a new one in memory, and
 /// prints the replies in order. A file that can't be read is told, and the next one is taken.
-pub fn exchange<R: Files + AllocGlobal, K: Keep + Drop, H: Registers<K>, O: Write, E: Write>(
+pub fn exchange<R: Files + AllocGlobal, H: Registers, O: Write, E: Write>(
     rt: &R,
     host: &H,
     asked: Exchange<'_>,
     output: &mut O,
     errors: &mut E,
 ) -> Status
-    ensures { Exchanges asked.entry (O.contents output.old) (O.contents output.new) (E.contents errors.old) (E.contents errors.new) (exit_code result) }
+    ensures { Exchanges H.Register.shows H.Register.is_clean asked.entry (O.contents output.old) (O.contents output.new)
+        (E.contents errors.old) (E.contents errors.new) (exit_code result) }
 {
     let Exchange {
         db,
@@ -41,35 +40,39 @@ pub fn exchange<R: Files + AllocGlobal, K: Keep + Drop, H: Registers<K>, O: Writ
     } = asked;
     match db {
         Some(path) => match host.open_or_set_up(path, &registrar, day) {
-            Ok(mut keep) => {
-                let status = exchange_files(rt, &mut keep, files.as_slice(), output, errors);
-                host.close(keep);
+            Ok(
+                Opened {
+                    mut register,
+                    is_new: _,
+                },
+            ) => {
+                let status = exchange_files(rt, &mut register, files.as_slice(), output, errors);
+                host.close(register);
                 status
             }
             Err(failure) => failure.tell(errors),
         },
         None => {
-            let mut keep = ListKeep::new(rt.alloc(), registrar, day);
-            exchange_files(rt, &mut keep, files.as_slice(), output, errors)
+            let mut register = ListKeep::new(rt.alloc(), registrar, day);
+            exchange_files(rt, &mut register, files.as_slice(), output, errors)
         }
     }
 }
 
-// Answers the requests in these files in the register of the keep.
-fn exchange_files<R: Files + AllocGlobal, K: Keep, O: Write, E: Write>(
+// Answers the requests in these files in the register.
+fn exchange_files<R: Files + AllocGlobal, K: OpenRegister, O: Write, E: Write>(
     rt: &R,
-    keep: &mut K,
+    register: &mut K,
     files: &[&str],
     output: &mut O,
     errors: &mut E,
 ) -> Status
-    ensures ends { (inputs : List (List ℕ)) × (exit_code result ≤ 1 → length inputs ≡ length files.now)
-        × EndsFiles (λ replies. Promised K.shows K.is_clean keep.old keep.new (λ r. IsLegal r → AreRepliesTo r inputs replies))
+    ensures ends { EndsFiles (AreAnswers K.shows K.is_clean register.old register.new) (length files.now)
         (O.contents output.old) (O.contents output.new) (exit_code result) }
     ensures silent { exit_code result ≤ 1 → Keeps (E.contents errors.old) (E.contents errors.new) }
 {
     match read_inputs(rt, files, errors) {
-        Ok(inputs) => match exchange_on(rt.alloc(), keep, inputs.requests.as_slice(), output) {
+        Ok(inputs) => match exchange_on(rt.alloc(), register, inputs.requests.as_slice(), output) {
             Ok(status) => status.worse(inputs.status),
             Err(failure) => failure.tell(errors),
         },
@@ -83,17 +86,17 @@ fn exchange_files<R: Files + AllocGlobal, K: Keep, O: Write, E: Write>(
 ///
 /// `Memory`: nothing was answered. `Unwritable`: the inputs are answered, and the replies can't be
 /// written, or not to their end.
-pub fn exchange_on<'a, K: Keep, O: Write>(
+pub fn exchange_on<'a, K: OpenRegister, O: Write>(
     alloc: Global,
-    keep: &mut K,
+    register: &mut K,
     inputs: &[Vec<u8>],
     output: &mut O,
 ) -> Result<Status, Failure<'a>>
-    ensures sent { EndsSending (λ replies. Promised K.shows K.is_clean keep.old keep.new (λ r. IsLegal r
-        → AreRepliesTo r (map (λ v. v.items) inputs.now) replies)) (O.contents output.old) (O.contents output.new) result }
+    ensures sent { EndsSending (AreAnswers K.shows K.is_clean register.old register.new) (map (λ v. v.items) inputs.now)
+        (O.contents output.old) (O.contents output.new) result }
     ensures err { IfErr result (IsMetUnread (O.contents output.old) (O.contents output.new)) }
 {
-    let replies = replay(alloc, keep, inputs)?;
+    let replies = register.replay(alloc, inputs)?;
     send(output, replies.as_slice())?;
     Ok(status_of(replies.as_slice()))
 }

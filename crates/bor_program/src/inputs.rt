@@ -2,6 +2,7 @@
 
 ghost use Rattle.std.specs.Prelude.{◌≡◌, ◌+◌, ◌⊎◌, IfErr, IfOk, IfSome, OnOk, length, take};
 ghost use Rattle.std.specs.Io.KnownBytes.{Keeps};
+ghost use Rattle.bor_program.specs.Failures.{IsReadingOf};
 ghost use Rattle.bor_program.specs.Streams.{request_limit};
 
 use crate::failure::Failure;
@@ -9,7 +10,7 @@ use crate::status::Status;
 use bor_words::Source;
 use std::alloc::{AllocError, Global};
 use std::fs;
-use std::io::{self, Read, Write};
+use std::io::{Read, Write};
 use std::rt::Files;
 
 // The longest head of a request and the longest body: as much is read of a file.
@@ -59,22 +60,32 @@ fn add(requests: &mut Vec<Vec<u8>>, bytes: Vec<u8>) -> Result<(), AllocError>
 }
 
 // The request in the file of this name.
-fn read_input<'a, R: Files + AllocGlobal>(rt: &R, name: &'a str) -> Result<Vec<u8>, Failure<'a>> {
-    match open_and_read(rt, name) {
-        Ok(bytes) => Ok(bytes),
-        Err(error) => Err(Failure::of_reading(Source::File(name), &error)),
+fn read_input<'a, R: Files + AllocGlobal>(rt: &R, name: &'a str) -> Result<Vec<u8>, Failure<'a>>
+    ensures { IfErr result (IsReadingOf (Source.File name.entry)) }
+{
+    let source = Source::File(name);
+    match fs::open(rt, name) {
+        Ok(file) => read_request(rt.alloc(), source, file),
+        Err(error) => Err(Failure::of_reading(source, &error)),
     }
 }
 
-fn open_and_read<R: Files + AllocGlobal>(rt: &R, name: &str) -> io::Result<Vec<u8>> {
-    read_request(rt.alloc(), fs::open(rt, name)?)
-}
-
 /// The bytes of a request, as far as one may go.
-pub fn read_request<I: Read + Drop>(alloc: Global, input: I) -> io::Result<Vec<u8>>
-    ensures { IfSome (I.remaining input) (λ bytes. IfOk result (λ read. read.items ≡ take request_limit bytes)) }
+///
+/// # Errors
+///
+/// `Unreadable` of `source`: it can't be read, or not to its end. `Memory`.
+pub fn read_request<'a, I: Read + Drop>(
+    alloc: Global,
+    source: Source<'a>,
+    input: I,
+) -> Result<Vec<u8>, Failure<'a>>
+    ensures read { IfSome (I.remaining input) (λ bytes. IfOk result (λ read. read.items ≡ take request_limit bytes)) }
+    ensures err { IfErr result (IsReadingOf source.entry) }
 {
     let mut bytes = Vec::new(alloc);
-    input.take(REQUEST_LIMIT).read_to_end(&mut bytes)?;
-    Ok(bytes)
+    match input.take(REQUEST_LIMIT).read_to_end(&mut bytes) {
+        Ok(_) => Ok(bytes),
+        Err(error) => Err(Failure::of_reading(source, &error)),
+    }
 }

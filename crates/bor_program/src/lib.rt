@@ -6,10 +6,10 @@
 //! let status = run(&rt, &host, &words, &mut rt.stdin(), &mut rt.stdout(), &mut rt.stderr());
 //! ```
 //!
-//! Each command is a function of its own over a keep of a register: [`exchange_on`] prints the replies to
-//! requests, [`report_on`] who stands behind an entity. [`run`] says what is written where, and what each
-//! exit status stands for. How a register is kept in a file
-//! ([`Registers`]) and what a socket is ([`Ports`]) are no part of it.
+//! Each command is a function of its own over a register that is open ([`OpenRegister`], as any keep
+//! is): [`exchange_on`] prints the replies to requests, [`report_on`] who stands behind an entity.
+//! [`run`] says what is written where, and what each exit status stands for. How a register is kept in a
+//! file ([`Registers`]) and what a socket is ([`Ports`]) are no part of it.
 #![tactic(auto)]
 
 mod check;
@@ -25,7 +25,7 @@ mod status;
 
 pub use exchange::exchange_on;
 pub use failure::Failure;
-pub use host::{Ports, Registers};
+pub use host::{OpenRegister, Opened, Ports, Registers};
 pub use program::run;
 pub use report::report_on;
 pub use status::Status;

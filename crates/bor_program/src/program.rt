@@ -15,12 +15,11 @@ ghost use Rattle.bor_program.specs.Words.{AsksForCheck, ChecksInput, file_of};
 use crate::check::check;
 use crate::exchange::exchange;
 use crate::failure::Failure;
-use crate::host::{Ports, Registers};
+use crate::host::Ports;
 use crate::output::write_text;
 use crate::report::report;
 use crate::serve::serve;
 use crate::status::Status;
-use bor_machine::Keep;
 use bor_words::{Command, HELP, Source, Unread};
 use clap::error::ErrorKind;
 use std::convert::AsStr;
@@ -35,20 +34,19 @@ use std::rt::Files;
 /// Standard output has the text of a command, or the help; with status 3 a front of it. Standard error
 /// has what is wrong with the words, or a line on what failed; that line is missing where it was
 /// standard output that failed, or a reply or a connection.
-pub fn run<
-    R: Files + AllocGlobal,
-    K: Keep + Drop,
-    H: Registers<K> + Ports,
-    S: AsStr,
-    I: Read,
-    O: Write,
-    E: Write,
->(rt: &R, host: &H, words: &[S], input: &mut I, output: &mut O, errors: &mut E) -> u8
+pub fn run<R: Files + AllocGlobal, H: Ports, S: AsStr, I: Read, O: Write, E: Write>(
+    rt: &R,
+    host: &H,
+    words: &[S],
+    input: &mut I,
+    output: &mut O,
+    errors: &mut E,
+) -> u8
     ensures at_most { result ≤ 3 }
 
     // Words that ask for a command have it done, as it is stated of each command, or memory is wanting.
     ensures performed { IsCommand (map S.text words.now) → ((result ≡ 3) × Keeps (O.contents output.old) (O.contents output.new))
-        ⊎ ((asked : Asked) × IsAsked (entered_by (map S.text words.now)) asked × Performs asked (I.remaining input.old) (I.remaining input.new)
+        ⊎ ((asked : Asked) × IsAsked (entered_by (map S.text words.now)) asked × Performs H.Register.shows H.Register.is_clean asked (I.remaining input.old) (I.remaining input.new)
         (O.contents output.old) (O.contents output.new) (E.contents errors.old) (E.contents errors.new) result) }
 
     // Words that ask for a check have its text written, or the run fails and wrote a front of it.
@@ -110,15 +108,15 @@ pub fn run<
 }
 
 // Does what is asked, and tells on standard error why it could not be done.
-fn perform<
-    R: Files + AllocGlobal,
-    K: Keep + Drop,
-    H: Registers<K> + Ports,
-    I: Read,
-    O: Write,
-    E: Write,
->(rt: &R, host: &H, command: Command<'_>, input: &mut I, output: &mut O, errors: &mut E) -> Status
-    ensures { Performs command.entry (I.remaining input.old) (I.remaining input.new) (O.contents output.old) (O.contents output.new)
+fn perform<R: Files + AllocGlobal, H: Ports, I: Read, O: Write, E: Write>(
+    rt: &R,
+    host: &H,
+    command: Command<'_>,
+    input: &mut I,
+    output: &mut O,
+    errors: &mut E,
+) -> Status
+    ensures { Performs H.Register.shows H.Register.is_clean command.entry (I.remaining input.old) (I.remaining input.new) (O.contents output.old) (O.contents output.new)
         (E.contents errors.old) (E.contents errors.new) (exit_code result) }
 {
     match command {
@@ -199,7 +197,8 @@ fn check_file<'a, R: Files + AllocGlobal, O: Write>(
     }
 }
 
-// Answers words that ask for no command.
+// Answers words that ask for no command: the help on standard output, or what is wrong with them on
+// standard error.
 fn answer<O: Write, E: Write>(unread: Unread<'_>, output: &mut O, errors: &mut E) -> Status
     ensures memory { kind_of_answer unread.entry ≡ ErrorKind.OutOfMemory → result ≡ Status.Failed }
     ensures never { result ≢ Status.Refused }
@@ -211,26 +210,6 @@ fn answer<O: Write, E: Write>(unread: Unread<'_>, output: &mut O, errors: &mut E
     ensures silent { result ≡ Status.Done → Keeps (E.contents errors.old) (E.contents errors.new) }
     ensures wrong { result ≡ Status.Usage → (kind_of_answer unread.entry ≢ ErrorKind.DisplayHelp)
         × (kind_of_answer unread.entry ≢ ErrorKind.OutOfMemory) }
-    ensures told { result ≡ Status.Failed
-        → IsTold (IsMetUnread (O.contents output.old) (O.contents output.new))
-        (E.contents errors.old) (E.contents errors.new) }
-{
-    explain(&unread, output, errors)
-}
-
-// Prints what the words are answered: the help on standard output, or what is wrong with them on
-// standard error.
-fn explain<O: Write, E: Write>(unread: &Unread<'_>, output: &mut O, errors: &mut E) -> Status
-    ensures memory { kind_of_answer unread.now ≡ ErrorKind.OutOfMemory → result ≡ Status.Failed }
-    ensures never { result ≢ Status.Refused }
-    ensures done { result ≡ Status.Done → (kind_of_answer unread.now ≡ ErrorKind.DisplayHelp)
-        × Appends (O.contents output.old) (O.contents output.new) HELP.now }
-    ensures help { AppendsPart (O.contents output.old) (O.contents output.new) HELP.now }
-    ensures kept { kind_of_answer unread.now ≢ ErrorKind.DisplayHelp
-        → Keeps (O.contents output.old) (O.contents output.new) }
-    ensures silent { result ≡ Status.Done → Keeps (E.contents errors.old) (E.contents errors.new) }
-    ensures wrong { result ≡ Status.Usage → (kind_of_answer unread.now ≢ ErrorKind.DisplayHelp)
-        × (kind_of_answer unread.now ≢ ErrorKind.OutOfMemory) }
     ensures told { result ≡ Status.Failed
         → IsTold (IsMetUnread (O.contents output.old) (O.contents output.new))
         (E.contents errors.old) (E.contents errors.new) }

@@ -3,5 +3,6 @@
 mod checks;
 mod exchanges;
 mod hosts;
+mod starved;
 mod streams;
 mod words;

@@ -1,10 +1,10 @@
 -- What a number on the command line is, as std reads it and as it is stated.
-use Rattle.std.proofs.Common.{◌≡◌, ◌∙◌, ◌<◌, ◌≤◌, ◌^◌, ◌&&◌, ℕ, Bool, List, [], ◌∷◌, Option, Some, None, ap, arith, cond, false, true, length, refl, sym, nat_le, nat_lt, lt-ltb, ltb-true, le-leb, leb-true}
+use Rattle.std.proofs.Common.{◌≡◌, ◌<◌, ◌≤◌, ◌^◌, ℕ, Bool, List, [], ◌∷◌, Option, Some, None, ap, arith, cond, false, true, length, refl, nat_le, nat_lt, lt-ltb, ltb-true, le-leb, leb-true}
 use Rattle.std.specs.List.{list_all}
 use Rattle.std.specs.Char.{digit_value}
 use Rattle.std.specs.Str.Parse.{AllDigits, IsNumeral, digits_value, without_leading_plus}
 use Rattle.std.proofs.lemmas.Bool.{and_from, and_left, and_parts, and_right, false_from_ne_true}
-use Rattle.bor_words.specs.Values.{is_between, is_numeral, number_within}
+use Rattle.bor_words.specs.Values.{is_numeral, number_within}
 
 digits_pass : (ds : List ℕ) → AllDigits 10 ds → list_all (λ c. nat_lt (digit_value c) 10) ds ≡ true
 digits_pass [] h = refl

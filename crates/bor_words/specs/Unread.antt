@@ -1,11 +1,11 @@
 -- Why words ask for no command, as it is answered.
 use Rattle.std.specs.Prelude.{◌≡◌, List, [], Bool, false, Some}
-use Rattle.clap.specs.Words.{HasKind, Text, fault_of, kind_of}
+use Rattle.clap.specs.Words.{HasKind, Row, Text, fault_of, kind_of}
 use Rattle.clap.specs.declared.error.kind.ErrorKind.{ErrorKind}
 use Rattle.clap.specs.declared.error.kind.ErrorKind.TheVariants.{OutOfMemory, ValueValidation}
 use Rattle.bor_words.specs.declared.unread.Unread.{Unread}
 use Rattle.bor_words.specs.declared.unread.Unread.TheVariants as unread
-use Rattle.bor_words.specs.Words.{bor_app, entered_by}
+use Rattle.bor_words.specs.Words.{bor_app, entered_by, given, rows_in}
 use Rattle.bor_words.specs.Values.{Value, first_unfit, values_of}
 
 -- what went wrong, or what was asked for
@@ -18,18 +18,19 @@ abbrev pub IsMemory : Unread → Type 0
 IsMemory (unread.Answered error) = kind_of error ≡ OutOfMemory
 IsMemory (unread.Unfit unfit) = ⊥
 
--- memory was wanting, or the value of this word is the one that doesn't fit
-abbrev pub IsUnfitAt : Text → Bool → Unread → Type 0
-IsUnfitAt word fits (unread.Answered error) = kind_of error ≡ OutOfMemory
-IsUnfitAt word fits (unread.Unfit unfit) = (unfit.word.now ≡ word) × (fits ≡ false)
+-- memory was wanting, or this is the value of this word, and it doesn't fit
+abbrev pub IsUnfitAt : Text → Text → Bool → Unread → Type 0
+IsUnfitAt word value fits (unread.Answered error) = kind_of error ≡ OutOfMemory
+IsUnfitAt word value fits (unread.Unfit unfit) = (unfit.word.now ≡ word) × (unfit.value.now ≡ value) × (fits ≡ false)
 
--- memory was wanting, or the value is the first of these that doesn't fit
-abbrev pub IsUnfitAmong : List Value → Unread → Type 0
-IsUnfitAmong values (unread.Answered error) = kind_of error ≡ OutOfMemory
-IsUnfitAmong values (unread.Unfit unfit) = first_unfit values ≡ Some unfit.word.now
+-- memory was wanting, or the word is the first of these whose value doesn't fit, and the value is the one that was given for it
+abbrev pub IsUnfitAmong : List Row → List Value → Unread → Type 0
+IsUnfitAmong rows values (unread.Answered error) = kind_of error ≡ OutOfMemory
+IsUnfitAmong rows values (unread.Unfit unfit) = (first_unfit values ≡ Some unfit.word.now) × (unfit.value.now ≡ given unfit.word.now rows)
 
 -- memory was wanting, clap finds this fault in the words, or it finds none and this is the first value that doesn't fit
 abbrev pub IsFaultOf : List Text → Unread → Type 0
 IsFaultOf words (unread.Answered error) = HasKind (fault_of bor_app words) error
 IsFaultOf words (unread.Unfit unfit) =
     (fault_of bor_app words ≡ []) × (first_unfit (values_of (entered_by words)) ≡ Some unfit.word.now)
+    × (unfit.value.now ≡ given unfit.word.now (rows_in (entered_by words)))

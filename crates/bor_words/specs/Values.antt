@@ -1,5 +1,5 @@
 -- What the value of each word has to be.
-use Rattle.std.specs.Prelude.{◌==◌, ◌&&◌, ℕ, List, [], ◌∷◌, ◌++◌, Bool, not, Option, Some, None, codes, find, is_some, length, nat_le, nat_lt, option_map, if◌then◌else◌, true}
+use Rattle.std.specs.Prelude.{◌&&◌, ℕ, List, [], ◌∷◌, Bool, not, Option, Some, None, codes, find, is_some, length, nat_le, nat_lt, option_map, if◌then◌else◌, true}
 use Rattle.std.specs.Option.{option_map_or}
 use Rattle.std.specs.List.{list_all}
 use Rattle.std.specs.Char.{digit_value}

@@ -1,5 +1,6 @@
 -- The words that the program takes, as clap sees them.
 use Rattle.std.specs.Prelude.{List, [], Option, Some, None, true, codes, option_and_then, unwrap_or, if◌then◌else◌}
+use Rattle.std.specs.Option.{option_map_or}
 use Rattle.std.specs.Str.{bytes_eq}
 use Rattle.clap.specs.Words.{App, Row, Rule, Text, all_of, first_of, new_app, new_rule, subcommand_of, with_rule, with_subcommand}
 use Rattle.clap.specs.declared.builder.action.ArgAction.TheVariants.{Append}
@@ -54,6 +55,10 @@ Entered = Option (Text × List Row)
 
 abbrev pub entered_by : List Text → Entered
 entered_by words = subcommand_of bor_app words
+
+-- what is found behind the command that is entered
+abbrev pub rows_in : Entered → List Row
+rows_in entered = option_map_or (λ e. e.1) entered []
 
 -- what is found behind the command of this name, where it is entered
 abbrev pub found_behind : Text → Entered → Option (List Row)

@@ -5,7 +5,7 @@ ghost use Rattle.clap.specs.Words.{HasKind, fault_of, subcommand_rows_of};
 ghost use Rattle.bor_words.specs.Asked.{IsAsked, IsCommand};
 ghost use Rattle.bor_words.specs.Unread.{IsFaultOf, IsUnfitAmong};
 ghost use Rattle.bor_words.specs.Values.{first_unfit, values_of};
-ghost use Rattle.bor_words.specs.Words.{bor_app, entered_by, file_at};
+ghost use Rattle.bor_words.specs.Words.{bor_app, entered_by, file_at, rows_in};
 
 use crate::exchange::Exchange;
 use crate::matches::{behind, optional};
@@ -53,7 +53,7 @@ impl<'a> Command<'a> {
     fn of(alloc: Global, matches: &ArgMatches<'a>) -> Result<Self, Unread<'a>>
         ensures fits { OnOk result (first_unfit (values_of (subcommand_rows_of matches.now)) ≡ None) }
         ensures asked { IfOk result (IsAsked (subcommand_rows_of matches.now)) }
-        ensures err { IfErr result (IsUnfitAmong (values_of (subcommand_rows_of matches.now))) }
+        ensures err { IfErr result (IsUnfitAmong (rows_in (subcommand_rows_of matches.now)) (values_of (subcommand_rows_of matches.now))) }
     {
         if let Some(found) = behind(matches, "exchange") {
             return Ok(Command::Exchange(Exchange::read(alloc, found)?));

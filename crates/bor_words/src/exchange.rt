@@ -32,7 +32,7 @@ impl<'a> Exchange<'a> {
     pub(crate) fn read(alloc: Global, found: &ArgMatches<'a>) -> Result<Self, Unread<'a>>
         ensures ok { IfOk result (IsExchange (rows_of (found_of found.now))) }
         ensures fits { OnOk result (first_unfit (exchange_values (rows_of (found_of found.now))) ≡ None) }
-        ensures err { IfErr result (IsUnfitAmong (exchange_values (rows_of (found_of found.now)))) }
+        ensures err { IfErr result (IsUnfitAmong (rows_of (found_of found.now)) (exchange_values (rows_of (found_of found.now)))) }
     {
         let registrar = token(alloc, found, "registrar")?;
         let day = day(found, "day")?;

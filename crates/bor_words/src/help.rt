@@ -66,9 +66,9 @@ Usage: bor report [OPTIONS] --db <PATH> --viewer <AGENT> --agent <AGENT> --decla
 Options:
       --db <PATH>            The register's file
       --viewer <AGENT>       Who asks: an agent's name, 1 to 32 of a-z, 0-9 and -
-      --agent <AGENT>        The agent that lodged the entity
-      --declaration <IDENT>  The declaration's subject: an identifier, 1 to 255 bytes
-      --record <IDENT>       The entity's record: an identifier, 1 to 255 bytes
+      --agent <AGENT>        The agent that lodged the entity: an agent's name, 1 to 32 of a-z, 0-9 and -
+      --declaration <IDENT>  The declaration's subject: an identifier, 1 to 255 bytes without control characters
+      --record <IDENT>       The entity's record: an identifier, 1 to 255 bytes without control characters
       --date <DAY>           The date: a day, YYYY-MM-DD; without it, the register's day
   -h, --help                 Print help
 

@@ -119,18 +119,23 @@ fn report<'a>(alloc: Global) -> Result<Parser<'a>, AllocError>
             "AGENT",
             "Who asks: an agent's name, 1 to 32 of a-z, 0-9 and -",
         ))?
-        .arg(required(alloc, "agent", "AGENT", "The agent that lodged the entity"))?
+        .arg(required(
+            alloc,
+            "agent",
+            "AGENT",
+            "The agent that lodged the entity: an agent's name, 1 to 32 of a-z, 0-9 and -",
+        ))?
         .arg(required(
             alloc,
             "declaration",
             "IDENT",
-            "The declaration's subject: an identifier, 1 to 255 bytes",
+            "The declaration's subject: an identifier, 1 to 255 bytes without control characters",
         ))?
         .arg(required(
             alloc,
             "record",
             "IDENT",
-            "The entity's record: an identifier, 1 to 255 bytes",
+            "The entity's record: an identifier, 1 to 255 bytes without control characters",
         ))?
         .arg(option(
             alloc,

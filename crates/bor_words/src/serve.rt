@@ -27,7 +27,7 @@ impl<'a> Serve<'a> {
     pub(crate) fn read(found: &ArgMatches<'a>) -> Result<Self, Unread<'a>>
         ensures ok { IfOk result (IsServe (rows_of (found_of found.now))) }
         ensures fits { OnOk result (first_unfit (serve_values (rows_of (found_of found.now))) ≡ None) }
-        ensures err { IfErr result (IsUnfitAmong (serve_values (rows_of (found_of found.now)))) }
+        ensures err { IfErr result (IsUnfitAmong (rows_of (found_of found.now)) (serve_values (rows_of (found_of found.now)))) }
     {
         Ok(Serve {
             db: given(found, "db"),

@@ -2,7 +2,7 @@
 
 use crate::tests::runs::{Ran, clear, exchange, report, run_on};
 use sqlite::Connection;
-use std::fs;
+use std::fs::{self, OpenOptions};
 use std::net::TcpListener;
 use std::test::Fail;
 
@@ -78,6 +78,33 @@ fn a_path_that_cannot_be_a_file_is_told(rt: HostRuntime) -> Result<(), Fail> {
     }
     let reported = run_on(&rt, &report("/", "e1"))?;
     assert_eq!(rt; failure(reported)?.as_str(), "bor: store failed\n");
+    Ok(())
+}
+
+// Lets nobody write the file, and tells whether that binds who runs this.
+fn lock(rt: &HostRuntime, path: &str) -> Result<bool, Fail> {
+    let mut permissions = fs::metadata(rt, path)?.permissions();
+    permissions.set_readonly(true);
+    fs::set_permissions(rt, path, permissions)?;
+    Ok(OpenOptions::new().write(true).open(rt, path).is_err())
+}
+
+#[test]
+fn a_register_that_may_not_be_written_is_told(rt: HostRuntime) -> Result<(), Fail> {
+    let path = "locked.db";
+    clear(&rt, path)?;
+    let _set_up = run_on(&rt, &exchange(path, "a.http", "b.http"))?;
+    let binds = lock(&rt, path)?;
+    let before = fs::read(&rt, path)?;
+    let reported = run_on(&rt, &report(path, "e1"))?;
+    let exchanged = run_on(&rt, &exchange(path, "a.http", "b.http"))?;
+    let after = fs::read(&rt, path)?;
+    clear(&rt, path)?;
+    if binds {
+        assert_eq!(rt; failure(reported)?.as_str(), "bor: store failed\n");
+        assert_eq!(rt; failure(exchanged)?.as_str(), "bor: store failed\n");
+        assert!(rt; before.as_slice() == after.as_slice());
+    }
     Ok(())
 }
 

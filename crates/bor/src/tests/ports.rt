@@ -26,7 +26,7 @@ fn a_register_in_a_file_is_served(rt: HostRuntime) -> Result<(), Fail> {
     let _set_up = run_on(&rt, &exchange(path, "served.http", "served.http"))?;
     fs::remove_file(&rt, "served.http")?;
     let host = Host::new(&rt);
-    let mut keep = host.open(path).ok().ok_or("not opened")?;
+    let mut register = host.open(path).ok().ok_or("not opened")?;
     let listener = host.listen(0).ok_or("not listened")?;
     let address = listener.local_addr()?;
     assert!(rt; address.ip().is_loopback());
@@ -42,12 +42,12 @@ fn a_register_in_a_file_is_served(rt: HostRuntime) -> Result<(), Fail> {
     ] {
         let mut client = TcpStream::connect(&rt, address)?;
         client.write_all(&input(&rt, asked)?)?;
-        assert!(rt; host.serve(&mut keep, &listener, 1));
+        assert_eq!(rt; host.serve(&mut register, &listener, 1), 0);
         let mut reply = Vec::new(alloc);
         client.read_to_end(&mut reply)?;
         assert!(rt; reply.ends_with(told.as_bytes()), "{asked}");
     }
-    host.close(keep);
+    host.close(register);
     fs::write(&rt, "copied.db", fs::read(&rt, path)?.as_slice())?;
     let found = run_on(&rt, &report("copied.db", "e2"))?;
     clear(&rt, path)?;

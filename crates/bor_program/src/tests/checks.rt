@@ -102,7 +102,7 @@ fn an_input_that_breaks_off_is_told(rt: HostRuntime) {
         let mut input = Broken { parts: 2, kind };
         let status = run(
             &rt,
-            &Machine::new(rt.alloc()),
+            &Machine::new(&rt),
             words,
             &mut input,
             &mut output,
@@ -125,7 +125,7 @@ fn an_output_that_does_not_hand_on_is_not_told(rt: HostRuntime) {
         let mut input: &[u8] = b"[]";
         let status = run(
             &rt,
-            &Machine::new(rt.alloc()),
+            &Machine::new(&rt),
             words,
             &mut input,
             &mut output,
@@ -149,7 +149,7 @@ fn an_output_that_breaks_off_is_not_told(rt: HostRuntime) {
         let mut input: &[u8] = b"[]";
         let status = run(
             &rt,
-            &Machine::new(rt.alloc()),
+            &Machine::new(&rt),
             words,
             &mut input,
             &mut output,
@@ -174,7 +174,7 @@ fn a_line_that_cannot_be_written_whole_is_cut_off(rt: HostRuntime) {
         let mut input: &[u8] = b"[]";
         let status = run(
             &rt,
-            &Machine::new(rt.alloc()),
+            &Machine::new(&rt),
             words,
             &mut input,
             &mut output,
@@ -193,7 +193,7 @@ fn a_closed_output_is_not_told(rt: HostRuntime) {
         let mut input: &[u8] = b"[]";
         let status = run(
             &rt,
-            &Machine::new(rt.alloc()),
+            &Machine::new(&rt),
             words,
             &mut input,
             &mut Closed,

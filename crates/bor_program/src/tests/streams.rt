@@ -4,12 +4,16 @@ ghost use Rattle.std.specs.Prelude.{IfErr};
 ghost use Rattle.bor_program.specs.Failures.{IsOpeningOf};
 
 use crate::failure::Failure;
-use crate::host::{Ports, Registers};
+use crate::host::{OpenRegister, Opened, Ports, Registers};
 use crate::program::run;
-use bor_machine::{Keep, ListKeep};
+use crate::tests::exchanges::ENROLMENT;
+use bor_machine::ListKeep;
+use bor_rows::FIRST;
+use bor_serve::serve_on;
 use bor_terms::{Day, Token};
-use std::alloc::Global;
+use std::alloc::{AllocError, Global};
 use std::io::{self, ErrorKind, Read, Write};
+use std::net::{OpenListener, SocketAddr, TcpStream};
 
 /// What a run wrote, and its exit status.
 #[derive(Debug, Drop)]
@@ -21,11 +25,11 @@ pub struct Ran {
 
 /// A run on these words with these bytes on standard input.
 pub fn run_on(rt: &HostRuntime, words: &[&str], input: &[u8]) -> Ran {
-    run_at(rt, &Machine::new(rt.alloc()), words, input)
+    run_at(rt, &Machine::new(rt), words, input)
 }
 
 /// The same at this host.
-pub fn run_at(rt: &HostRuntime, host: &Machine, words: &[&str], input: &[u8]) -> Ran {
+pub fn run_at(rt: &HostRuntime, host: &Machine<'_>, words: &[&str], input: &[u8]) -> Ran {
     let mut output = Vec::new(rt.alloc());
     let mut errors = Vec::new(rt.alloc());
     let mut bytes = input;
@@ -37,23 +41,21 @@ pub fn run_at(rt: &HostRuntime, host: &Machine, words: &[&str], input: &[u8]) ->
     }
 }
 
-/// A machine whose files are all new ones. `port` is the one port that is free; where so many connections
-/// are asked for as it serves, none of them fails.
+/// A machine in whose files alder has lodged the first file. `port` is the one port that is free, and
+/// nobody connects there.
 #[derive(Clone, Copy)]
-pub struct Machine {
-    alloc: Global,
+pub struct Machine<'r> {
+    rt: &'r HostRuntime,
     pub fault: Option<Failure<'static>>,
     pub port: u16,
-    pub serves: u32,
 }
 
-impl Machine {
-    pub fn new(alloc: Global) -> Self {
+impl<'r> Machine<'r> {
+    pub fn new(rt: &'r HostRuntime) -> Self {
         Machine {
-            alloc,
+            rt,
             fault: None,
             port: 80,
-            serves: 9,
         }
     }
 }
@@ -71,15 +73,48 @@ fn new_register(alloc: Global, path: &str) -> Result<ListKeep, Failure<'_>>
     }
 }
 
-impl Registers<ListKeep> for Machine {
+// The requests that enrol alder and lodge its first file, due on 2024-02-01.
+fn first_requests(alloc: Global) -> Result<Vec<Vec<u8>>, AllocError> {
+    let length = FIRST.len();
+    let lodging = format!(in alloc;
+        "PUT /filings/f1?due=2024-02-01 HTTP/1.1\r\nAuthorization: Bearer alder-token-000001\r\nContent-Length: {length}\r\n\r\n{FIRST}"
+    )?;
+    let mut requests = Vec::new(alloc);
+    requests.push(Vec::from_slice(alloc, ENROLMENT.as_bytes())?)?;
+    requests.push(Vec::from_slice(alloc, lodging.as_bytes())?)?;
+    Ok(requests)
+}
+
+// The same register after these.
+fn worked_register(alloc: Global, path: &str) -> Result<ListKeep, Failure<'_>>
+    ensures { IfErr result (IsOpeningOf path.entry) }
+{
+    let requests = first_requests(alloc)?;
+    let mut register = new_register(alloc, path)?;
+    let _replies = register.replay(alloc, requests.as_slice())?;
+    Ok(register)
+}
+
+// The failure that a machine has with the file of this name.
+fn failure_at<'a>(fault: Failure<'static>, path: &'a str) -> Failure<'a>
+    ensures { IsOpeningOf path.entry result }
+{
+    match fault {
+        Failure::Memory => Failure::Memory,
+        Failure::Store => Failure::Store,
+        Failure::Taken(_) => Failure::Taken(path),
+        Failure::OtherVersion(_, version) => Failure::OtherVersion(path, version),
+        _ => Failure::NoRegister(path),
+    }
+}
+
+impl Registers for Machine<'_> {
+    type Register = ListKeep;
+
     fn open<'a>(&self, path: &'a str) -> Result<ListKeep, Failure<'a>> {
         match self.fault {
-            None => new_register(self.alloc, path),
-            Some(Failure::Memory) => Err(Failure::Memory),
-            Some(Failure::Store) => Err(Failure::Store),
-            Some(Failure::Taken(_)) => Err(Failure::Taken(path)),
-            Some(Failure::OtherVersion(_, version)) => Err(Failure::OtherVersion(path, version)),
-            Some(_) => Err(Failure::NoRegister(path)),
+            None => worked_register(self.rt.alloc(), path),
+            Some(fault) => Err(failure_at(fault, path)),
         }
     }
 
@@ -88,25 +123,47 @@ impl Registers<ListKeep> for Machine {
         path: &'a str,
         registrar: &Token,
         day: Day,
-    ) -> Result<ListKeep, Failure<'a>> {
+    ) -> Result<Opened<ListKeep>, Failure<'a>> {
         match self.fault {
-            None => Ok(ListKeep::new(self.alloc, registrar.copy(self.alloc)?, day)),
-            Some(_) => self.open(path),
+            None => {
+                let alloc = self.rt.alloc();
+                Ok(Opened {
+                    register: ListKeep::new(alloc, registrar.copy(alloc)?, day),
+                    is_new: true,
+                })
+            }
+            Some(fault) => Err(failure_at(fault, path)),
         }
     }
 
-    fn close(&self, _keep: ListKeep) {}
+    fn close(&self, _register: ListKeep) {}
 }
 
-impl Ports for Machine {
-    type Listener = u16;
+/// A port to which nobody connects.
+#[derive(Clone, Copy)]
+pub struct Deserted;
 
-    fn listen(&self, port: u16) -> Option<u16> {
-        if port == self.port { Some(port) } else { None }
+impl OpenListener for Deserted {
+    type Stream = TcpStream;
+
+    fn accept(&self) -> io::Result<(TcpStream, SocketAddr)> {
+        Err(io::Error::from(ErrorKind::ConnectionAborted))
+    }
+}
+
+impl Ports for Machine<'_> {
+    type Listener = Deserted;
+
+    fn listen(&self, port: u16) -> Option<Deserted> {
+        if port == self.port {
+            Some(Deserted)
+        } else {
+            None
+        }
     }
 
-    fn serve<K: Keep>(&self, _keep: &mut K, _listener: &u16, connections: u32) -> bool {
-        connections == self.serves
+    fn serve(&self, register: &mut ListKeep, listener: &Deserted, connections: u32) -> u8 {
+        serve_on(self.rt, register, listener, connections)
     }
 }
 

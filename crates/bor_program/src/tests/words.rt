@@ -1,5 +1,6 @@
 //! What words ask for, the texts that they are answered, and the help.
 
+use crate::tests::streams::run_on;
 use bor_terms::Day;
 use bor_words::{Command, HELP, Source, Unread};
 use std::alloc::Global;
@@ -260,6 +261,17 @@ fn a_value_that_does_not_fit_is_told(rt: HostRuntime) -> Result<(), Fail> {
         assert!(rt; !by_clap, "{line}");
     }
     Ok(())
+}
+
+// No file is made for it, and nothing is printed.
+#[test]
+fn a_run_with_a_value_that_does_not_fit_ends_as_usage(rt: HostRuntime) {
+    for (words, line) in UNFIT {
+        let ran = run_on(&rt, words, b"");
+        assert_eq!(rt; ran.status, 2, "{line}");
+        assert!(rt; ran.output.is_empty(), "{line}");
+        assert!(rt; ran.errors.as_slice() == line.as_bytes(), "{line}");
+    }
 }
 
 #[test]

@@ -1,4 +1,4 @@
-use Rattle.std.proofs.Common.{◌≡◌, map, drop}
+use Rattle.std.proofs.Common.{map, drop}
 use Rattle.bor_program.specs.Failures.{joined}
 use Rattle.bor_program.proofs.KnownBytes.{IsWritten}
 use Rattle.bor_program.proofs.failure.write_texts.Given as goal

@@ -1,14 +1,36 @@
-use Rattle.std.proofs.Common.{◌≡◌, ap, arith}
-use Rattle.bor_program.specs.Program.{exit_code}
+use Rattle.std.proofs.Common.{◌≡◌, ◌∙◌, Bool, true, false, ap, arith, inl, inr, sym}
+use Rattle.bor_program.specs.Program.{exit_code, report_status}
 use Rattle.bor_program.proofs.Ends.{keeps_same}
-use Rattle.bor_program.proofs.MetFailures.{cut_text, met_opened, met_opening, no_text}
+use Rattle.bor_program.proofs.MetFailures.{cut_text, fails_to_open, met_opened, met_opening, no_text, tells_cut}
 use Rattle.bor_program.proofs.report.report.Goals as goal
+
+no_failure : (refused : Bool) → 3 ≡ report_status refused → ⊥
+no_failure true e = absurd (omega (arith, e))
+no_failure false e = absurd (omega (arith, e))
+
+pub returns-in-Ok-told : goal.returns-in-Ok-told
+returns-in-Ok-told g c =
+    let told = c.in-Ok-told.ensures.told in
+    record {
+      text = (told.0, inl told.2);
+      opened = inr (c.in-Ok.register, c.report_on-told.new.register, record { kept = c.in-Ok-told.ensures.kept; text = inl (told.0, told.1, inl told.2) });
+      silent = λ low. keeps_same _;
+      line = λ three. absurd (no_failure told.0.refused (sym three ∙ told.2.told));
+    }
 
 pub returns-in-Err-told : goal.returns-in-Err-told
 returns-in-Err-told g c =
     let three : exit_code c.tell.result ≡ 3 = ap exit_code c.tell.ensures.status in
     record {
       text = cut_text _ _ _ three c.in-Err-told.ensures.told;
+      opened = inr (
+        c.in-Ok.register,
+        c.report_on-told.new.register,
+        record {
+          kept = c.report_on-told.ensures.kept;
+          text = tells_cut _ _ _ three c.in-Err-told.ensures.told;
+        },
+      );
       silent = λ low. absurd (omega (arith, low, three));
       line = λ _. (c.in-Err-told.failure, met_opened c.args.asked.now.db _ _ _ c.in-Err-told.ensures.err, c.tell.ensures.line);
     }
@@ -18,6 +40,7 @@ returns-in-Err g c =
     let three : exit_code c.tell-in-Err.result ≡ 3 = ap exit_code c.tell-in-Err.ensures.status in
     record {
       text = no_text _ _ _ three (keeps_same _);
+      opened = inl (fails_to_open _ _ _ _ _ _ three c.in-Err.ensures c.tell-in-Err.ensures.line);
       silent = λ low. absurd (omega (arith, low, three));
-      line = λ _. (c.in-Err.failure, met_opening c.args.asked.now.db _ _ c.in-Err.ensures.err, c.tell-in-Err.ensures.line);
+      line = λ _. (c.in-Err.failure, met_opening c.args.asked.now.db _ _ c.in-Err.ensures, c.tell-in-Err.ensures.line);
     }

@@ -1,13 +1,22 @@
-use Rattle.std.proofs.Common.{◌≡◌, ap, arith, inr}
-use Rattle.bor_program.specs.Performing.{listening}
+use Rattle.std.proofs.Common.{◌≡◌, ap, inl, inr}
 use Rattle.bor_program.specs.Program.{exit_code}
-use Rattle.bor_program.proofs.Ends.{keeps_same, part_none}
+use Rattle.bor_program.proofs.Ends.{keeps_same}
+use Rattle.bor_program.proofs.MetFailures.{fails_to_open}
 use Rattle.bor_program.proofs.serve.serve.Goals as goal
+
+pub returns-in-Ok-served : goal.returns-in-Ok-served
+returns-in-Ok-served g c =
+    let served = c.in-Ok-served.ensures in
+    inr (inr (c.in-Ok.register, c.listen-served.new.register, record { served = served.ok.0; line = served.ok.1; silent = keeps_same _ }))
+
+pub returns-in-Err-served : goal.returns-in-Err-served
+returns-in-Err-served g c = inr (inl (record {
+  status_is = ap exit_code c.tell.ensures.status;
+  part = c.in-Err-served.ensures.part;
+  line = (c.in-Err-served.failure, c.in-Err-served.ensures.err, c.tell.ensures.line);
+}))
 
 pub returns-in-Err : goal.returns-in-Err
 returns-in-Err g c =
     let three : exit_code c.tell-in-Err.result ≡ 3 = ap exit_code c.tell-in-Err.ensures.status in
-    record {
-      ends = inr (three, part_none _ _ (listening c.args.asked.port) (keeps_same _));
-      silent = λ low. absurd (omega (arith, low, three));
-    }
+    inl (fails_to_open _ _ _ _ _ _ three c.in-Err.ensures c.tell-in-Err.ensures.line)

@@ -1,8 +1,7 @@
-use Rattle.std.proofs.Common.{◌≡◌, ◌∙◌, Result, List, ℕ, ap, map, subst, true}
+use Rattle.std.proofs.Common.{◌≡◌, Result, List, ℕ, map, subst, true}
 use Rattle.std.proofs.lemmas.Result.{IfOk-weaker}
-use Rattle.clap.specs.Words.{App, FailsBy, HasMatchesOf, Kinds, fault_of, is_simple_and_free}
+use Rattle.clap.specs.Words.{App, FailsBy, HasMatchesOf, fault_of, is_simple_and_free}
 use Rattle.clap.specs.declared.error.Error.{Error}
-use Rattle.clap.specs.declared.parser.matches.ArgMatches.{ArgMatches}
 use Rattle.bor_words.specs.Words.{bor_app}
 use Rattle.bor_words.proofs.KnownWords.{bor_is_free, bor_is_simple, clean, faulty}
 use Rattle.bor_words.proofs.command.parsed.Goals as goal
