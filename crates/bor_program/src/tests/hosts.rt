@@ -1,10 +1,13 @@
 //! The lines of what a machine fails in.
 
+use crate::exchange::exchange;
 use crate::failure::Failure;
 use crate::program::run;
+use crate::status::Status;
 use crate::tests::exchanges::ENROLMENT;
 use crate::tests::starved::Poor;
 use crate::tests::streams::{Closed, Machine, run_at};
+use bor_words::Command;
 use std::fs;
 use std::test::Fail;
 
@@ -174,13 +177,14 @@ fn where_memory_is_wanting_for_replies_none_is_printed(rt: HostRuntime) -> Resul
     fs::write(&rt, name, ENROLMENT)?;
     let mut words = EXCHANGE;
     words[7] = name;
-    let mut input: &[u8] = b"";
+    let Ok(Command::Exchange(asked)) = Command::read(rt.alloc(), &words) else {
+        return Err(Fail::from("no exchange is asked for"));
+    };
     let mut output = Vec::new(rt.alloc());
     let mut errors = Vec::new(rt.alloc());
-    let host = Poor { rt: &rt };
-    let status = run(&rt, &host, &words, &mut input, &mut output, &mut errors);
+    let status = exchange(&rt, &Poor { rt: &rt }, asked, &mut output, &mut errors);
     fs::remove_file(&rt, name)?;
-    assert_eq!(rt; status, 3);
+    assert_eq!(rt; status, Status::Failed);
     assert!(rt; output.is_empty());
     assert!(rt; errors.as_slice() == b"bor: out of memory\n".as_slice());
     Ok(())

@@ -4,14 +4,13 @@ ghost use Rattle.std.specs.Prelude.{IfErr};
 ghost use Rattle.bor_program.specs.Failures.{IsOpeningOf};
 
 use crate::failure::Failure;
-use crate::host::{OpenRegister, Opened, Ports, Registers};
+use crate::host::{OpenRegister, Opened, Registers};
 use bor_desk::Text;
 use bor_machine::{Keep, ListKeep, StoreFault};
 use bor_terms::{Day, Token};
 use bor_wire::Reply;
 use bor_words::Report;
 use std::alloc::{AllocError, Global};
-use std::convert::Infallible;
 
 /// A register for whose replies there is no memory.
 #[derive(Drop)]
@@ -33,7 +32,7 @@ impl OpenRegister for Starved {
     }
 }
 
-/// A machine of such registers, without ports.
+/// A machine of such registers.
 #[derive(Clone, Copy)]
 pub struct Poor<'r> {
     pub rt: &'r HostRuntime,
@@ -61,16 +60,4 @@ impl Registers for Poor<'_> {
     }
 
     fn close(&self, _register: Starved) {}
-}
-
-impl Ports for Poor<'_> {
-    type Listener = Infallible;
-
-    fn listen(&self, _port: u16) -> Option<Infallible> {
-        None
-    }
-
-    fn serve(&self, _register: &mut Starved, listener: &Infallible, _connections: u32) -> u8 {
-        match *listener {}
-    }
 }
