@@ -18,7 +18,7 @@ pub keeps_same : (known : Option (List ℕ)) → Keeps known known
 keeps_same None = tt
 keeps_same (Some xs) = refl
 
-kept_none : (before after : Option (List ℕ)) → Keeps before after → Appends before after []
+pub kept_none : (before after : Option (List ℕ)) → Keeps before after → Appends before after []
 kept_none None after h = tt
 kept_none (Some xs) None h = h
 kept_none (Some xs) (Some ys) h = h ∙ sym (append-nil xs)

@@ -14,7 +14,7 @@ use Rattle.bor_program.specs.declared.failure.Failure.{Failure}
 use Rattle.bor_program.specs.declared.failure.Failure.TheVariants.{Unreadable, NoRegister, OtherVersion, Taken, Memory, Store, Unlistening, Unwritable}
 use Rattle.bor_program.specs.declared.status.Status.{Status}
 use Rattle.bor_program.specs.declared.status.Status.TheVariants.{Done, Refused, Usage, Failed}
-use Rattle.bor_program.specs.Failures.{IsFailureOf, IsFailureOn, IsMetBy, IsMetOn, IsMetUnread, IsNoReading, IsTold, LeavesOutput, failure_line}
+use Rattle.bor_program.specs.Failures.{IsFailureOf, IsFailureOn, IsMetBy, IsMetOn, IsMetPrinting, IsOfPrinting, IsTold, LeavesOutput, failure_line}
 use Rattle.bor_program.specs.Streams.{AppendsPart}
 use Rattle.bor_program.specs.Program.{exit_code}
 use Rattle.bor_program.specs.Words.{AsksForCheck, file_of}
@@ -72,40 +72,40 @@ usage_or_failed Refused h k = absurd (k refl)
 usage_or_failed Usage h k = inl refl
 usage_or_failed Failed h k = inr refl
 
--- a failure on the source that a check reads is one of the words that ask for it
+-- a failure of a check of this source is one of the words that ask for it
 failure_on_source : (words : List (List ℕ)) (source : Source) (failure : Failure) → AsksForCheck words → name_of source ≡ file_of words
     → IsFailureOn source failure → IsFailureOf words failure
 failure_on_source words source (Unreadable unread) asked named h = (asked, ap name_of h ∙ named)
-failure_on_source words source (NoRegister path) asked named h = tt
-failure_on_source words source (OtherVersion path version) asked named h = tt
-failure_on_source words source (Taken path) asked named h = tt
 failure_on_source words source Memory asked named h = tt
-failure_on_source words source Store asked named h = tt
-failure_on_source words source Unlistening asked named h = tt
 failure_on_source words source Unwritable asked named h = tt
+failure_on_source words source (NoRegister path) asked named h = absurd h
+failure_on_source words source (OtherVersion path version) asked named h = absurd h
+failure_on_source words source (Taken path) asked named h = absurd h
+failure_on_source words source Store asked named h = absurd h
+failure_on_source words source Unlistening asked named h = absurd h
 
-failure_of_any_words : (words : List (List ℕ)) (failure : Failure) → IsNoReading failure → IsFailureOf words failure
-failure_of_any_words words (Unreadable unread) h = absurd h
-failure_of_any_words words (NoRegister path) h = tt
-failure_of_any_words words (OtherVersion path version) h = tt
-failure_of_any_words words (Taken path) h = tt
+failure_of_any_words : (words : List (List ℕ)) (failure : Failure) → IsOfPrinting failure → IsFailureOf words failure
 failure_of_any_words words Memory h = tt
-failure_of_any_words words Store h = tt
-failure_of_any_words words Unlistening h = tt
 failure_of_any_words words Unwritable h = tt
+failure_of_any_words words (Unreadable unread) h = absurd h
+failure_of_any_words words (NoRegister path) h = absurd h
+failure_of_any_words words (OtherVersion path version) h = absurd h
+failure_of_any_words words (Taken path) h = absurd h
+failure_of_any_words words Store h = absurd h
+failure_of_any_words words Unlistening h = absurd h
 
 -- the same, with what was written on standard output
 pub met_by_check : (words : List (List ℕ)) (source : Source) (before after : Option (List ℕ)) → AsksForCheck words
     → name_of source ≡ file_of words → (failure : Failure) → IsMetOn source before after failure → IsMetBy words before after failure
 met_by_check words source before after asked named failure h = record {
-  reading = failure_on_source words source failure asked named h.reading;
+  cause = failure_on_source words source failure asked named h.cause;
   output = h.output;
 }
 
 pub met_by_words : (words : List (List ℕ)) (before after last : Option (List ℕ)) → last ≡ after → (failure : Failure)
-    → IsMetUnread before after failure → IsMetBy words before last failure
+    → IsMetPrinting before after failure → IsMetBy words before last failure
 met_by_words words before after last same failure h = record {
-  reading = failure_of_any_words words failure h.reading;
+  cause = failure_of_any_words words failure h.cause;
   output = subst (λ (o : Option (List ℕ)). LeavesOutput before o failure) (sym same) h.output;
 }
 

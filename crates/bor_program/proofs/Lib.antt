@@ -2,5 +2,6 @@ pub mod KnownWords
 pub mod KnownBytes
 pub mod Ends
 pub mod MetFailures
+pub mod Unread
 pub mod Replies
 pub mod Performed

@@ -1,9 +1,10 @@
 -- What is told of a failure.
-use Rattle.std.specs.Prelude.{◌≡◌, ◌⊎◌, ⊤, ℕ, List, [], ◌∷◌, ◌++◌, Option, codes}
-use Rattle.std.specs.Io.KnownBytes.{Keeps}
+use Rattle.std.specs.Prelude.{◌≡◌, ◌⊎◌, ⊤, ℕ, List, [], ◌∷◌, ◌++◌, Option, codes, map}
+use Rattle.std.specs.Io.KnownBytes.{Appends, Keeps}
 use Rattle.bor_keep.specs.declared.fault.StoreFault.{StoreFault}
 use Rattle.bor_keep.specs.declared.fault.StoreFault.TheVariants.{Memory as WantOfMemory, Store as StoreFailed, Damaged}
 use Rattle.bor_words.specs.declared.source.Source.{Source}
+use Rattle.bor_words.specs.declared.source.Source.TheVariants.{File}
 use Rattle.bor_words.specs.Asked.{name_of, source_text}
 use Rattle.bor_program.specs.declared.failure.Failure.{Failure}
 use Rattle.bor_program.specs.declared.failure.Failure.TheVariants.{Unreadable, NoRegister, OtherVersion, Taken, Memory, Store, Unlistening, Unwritable}
@@ -40,10 +41,12 @@ failure_of WantOfMemory = Memory
 failure_of StoreFailed = Store
 failure_of Damaged = Store
 
--- where it is reading that failed, it was of this source
+-- it is reading of this source that failed, memory was wanting, or standard output can't be written
 abbrev pub IsFailureOn : Source → Failure → Type 0
 IsFailureOn source (Unreadable unread) = unread ≡ source
-IsFailureOn source failure = ⊤
+IsFailureOn source Memory = ⊤
+IsFailureOn source Unwritable = ⊤
+IsFailureOn source failure = ⊥
 
 -- it is reading of this source that failed, or memory was wanting for it
 abbrev pub IsReadingOf : Source → Failure → Type 0
@@ -60,34 +63,37 @@ IsOpeningOf path Memory = ⊤
 IsOpeningOf path Store = ⊤
 IsOpeningOf path failure = ⊥
 
--- it isn't reading that failed
-abbrev pub IsNoReading : Failure → Type 0
-IsNoReading (Unreadable unread) = ⊥
-IsNoReading failure = ⊤
+-- memory was wanting, or standard output can't be written
+abbrev pub IsOfPrinting : Failure → Type 0
+IsOfPrinting Memory = ⊤
+IsOfPrinting Unwritable = ⊤
+IsOfPrinting failure = ⊥
 
--- where it is reading that failed, the words ask for a check, and it was of the file that they name
+-- the words ask for a check, and reading of the file that they name failed; or memory was wanting, or standard output can't be written
 abbrev pub IsFailureOf : List Text → Failure → Type 0
 IsFailureOf words (Unreadable unread) = AsksForCheck words × (name_of unread ≡ file_of words)
-IsFailureOf words failure = ⊤
+IsFailureOf words Memory = ⊤
+IsFailureOf words Unwritable = ⊤
+IsFailureOf words failure = ⊥
 
 -- a failure that isn't one of standard output leaves that as it was
 abbrev pub LeavesOutput : Option (List ℕ) → Option (List ℕ) → Failure → Type 0
 LeavesOutput before after Unwritable = ⊤
 LeavesOutput before after failure = Keeps before after
 
--- a failure on this source, or one of standard output, and no other was met
+-- a failure of a check of this source was met, and no other
 pub record IsMetOn (source : Source) (before after : Option (List ℕ)) (failure : Failure) : Type 0 where
-  pub reading : IsFailureOn source failure
+  pub cause : IsFailureOn source failure
   pub output : LeavesOutput before after failure
 
--- no failure of reading, and where it isn't one of standard output, that is as it was
-pub record IsMetUnread (before after : Option (List ℕ)) (failure : Failure) : Type 0 where
-  pub reading : IsNoReading failure
+-- a failure of printing a text was met, and no other
+pub record IsMetPrinting (before after : Option (List ℕ)) (failure : Failure) : Type 0 where
+  pub cause : IsOfPrinting failure
   pub output : LeavesOutput before after failure
 
--- a failure on what the words ask for, or one of standard output, and no other was met
+-- a failure of a check that the words ask for, or of printing a text, was met, and no other
 pub record IsMetBy (words : List Text) (before after : Option (List ℕ)) (failure : Failure) : Type 0 where
-  pub reading : IsFailureOf words failure
+  pub cause : IsFailureOf words failure
   pub output : LeavesOutput before after failure
 
 -- memory was wanting, the store failed, or standard output can't be written
@@ -122,3 +128,24 @@ pub record IsMetIn (path : Bor Text) (before after : Option (List ℕ)) (failure
 -- the front of such a failure's line was written: all of it, some or nothing, and nothing else
 abbrev pub IsTold : (Failure → Type 0) → Option (List ℕ) → Option (List ℕ) → Type 0
 IsTold Of before after = (failure : Failure) × Of failure × AppendsPart before after (failure_line failure)
+
+-- ---- files that can't be read
+
+-- the line that is told of a file that can't be read
+abbrev pub unread_line : Bor Text → List ℕ
+unread_line file = failure_line (Unreadable (File file))
+
+-- these bytes are for each text in turn a front of it: all of it, some or nothing
+abbrev pub AreFronts : List (List ℕ) → List ℕ → Type 0
+AreFronts [] bytes = bytes ≡ []
+AreFronts (text ∷ texts) bytes =
+    (front : List ℕ) × (left : List ℕ) × (rest : List ℕ) × (text ≡ front ++ left) × (bytes ≡ front ++ rest) × AreFronts texts rest
+
+-- a front of the line of each file was written, in their order, and nothing else
+abbrev pub TellsUnread : List (Bor Text) → Option (List ℕ) → Option (List ℕ) → Type 0
+TellsUnread files before after = (lines : List ℕ) × AreFronts (map unread_line files) lines × Appends before after lines
+
+-- the same, and then a front of the line of a failure of printing that was met
+abbrev pub TellsFiles : List (Bor Text) → (output printed before after : Option (List ℕ)) → Type 0
+TellsFiles files output printed before after =
+    (between : Option (List ℕ)) × TellsUnread files before between × IsTold (IsMetPrinting output printed) between after

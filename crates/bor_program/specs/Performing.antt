@@ -15,7 +15,7 @@ use Rattle.bor_words.specs.declared.report.Report.{Report}
 use Rattle.bor_words.specs.declared.serve.Serve.{Serve}
 use Rattle.bor_words.specs.declared.source.Source.{Source}
 use Rattle.bor_words.specs.Asked.{name_of}
-use Rattle.bor_program.specs.Failures.{IsMetIn, IsMetListening, IsMetOn, IsOpeningOf, IsTold}
+use Rattle.bor_program.specs.Failures.{IsMetIn, IsMetListening, IsMetOn, IsOpeningOf, IsTold, TellsFiles}
 use Rattle.bor_program.specs.Program.{IsReportedOrCutOff, IsWrittenOrCutOff}
 use Rattle.bor_program.specs.Replying.{AreAnswers, AreRepliesTo, EndsFiles, IsSentOrCutOff, replies_status, sent}
 use Rattle.bor_program.specs.Reporting.{IsToldOf}
@@ -43,13 +43,15 @@ pub record FailsToOpen (path : Bor Words) (output printed errors told : Known) (
   pub kept : Keeps output printed
   pub line : IsTold (IsOpeningOf path) errors told
 
--- Replies are printed: from the new register on, or from the one that was opened. Where the run doesn't fail, they are those to one input a file.
+-- Replies are printed: from the new register on, or from the one that was opened. Where the run doesn't fail, they are those to one input a file. Nothing is told but of files that can't be read, and of want of memory.
 pub record Exchanges {K : Type 0} (shows : K → Register → Type 0) (is_clean : K → Type 0) (asked : Exchange) (output printed errors told : Known) (status : ℕ) : Type 0 where
   pub sent : (replies : List Reply) × IsSentOrCutOff replies output printed status
   pub answered : asked.db ≡ None
       → EndsFiles (AreRepliesTo (empty_register asked.registrar asked.day)) (length asked.files.items) output printed status
+      × TellsFiles asked.files.items output printed errors told
   pub opened : IfSome asked.db (λ path. FailsToOpen path output printed errors told status
-      ⊎ ((opened : K) × (left : K) × EndsFiles (AreAnswers shows is_clean opened left) (length asked.files.items) output printed status))
+      ⊎ ((opened : K) × (left : K) × EndsFiles (AreAnswers shows is_clean opened left) (length asked.files.items) output printed status
+      × TellsFiles asked.files.items output printed errors told))
   pub silent : status ≤ 1 → Keeps errors told
 
 -- the line that tells that the server listens

@@ -7,10 +7,6 @@ use Rattle.bor_desk.specs.Limits.{file_limit}
 abbrev pub part_read : List ℕ → List ℕ
 part_read bytes = take (file_limit + 1) bytes
 
--- as much of a file with a request: the longest head and the longest body
-abbrev pub request_limit : ℕ
-request_limit = 1_064_960
-
 -- of known bytes that part was read, and no more
 abbrev pub TakesPart : Option (List ℕ) → Option (List ℕ) → Type 0
 TakesPart before after = IfSome before (λ bytes. Consumes before after (part_read bytes))

@@ -2,7 +2,7 @@
 
 ghost use Rattle.std.specs.Prelude.{◌≡◌, ◌+◌, ◌-◌, ℕ, List, IfErr, IfOk, IfSome, OnOk};
 ghost use Rattle.bor_desk.specs.Limits.{file_limit};
-ghost use Rattle.bor_program.specs.Failures.{IsMetOn, IsMetUnread, IsReadingOf};
+ghost use Rattle.bor_program.specs.Failures.{IsMetOn, IsMetPrinting, IsReadingOf};
 ghost use Rattle.bor_program.specs.Program.{EndsReport, exit_code, report_status};
 ghost use Rattle.bor_program.specs.Streams.{TakesAtMostPart, TakesPart, part_read};
 
@@ -94,7 +94,7 @@ fn room_after(count: usize) -> usize
 // Prints the report on a file of these bytes.
 fn report<'a, O: Write>(alloc: Global, bytes: &[u8], output: &mut O) -> Result<Status, Failure<'a>>
     ensures report { EndsReport bytes.now (O.contents output.old) (O.contents output.new) result }
-    ensures err { IfErr result (IsMetUnread (O.contents output.old) (O.contents output.new)) }
+    ensures err { IfErr result (IsMetPrinting (O.contents output.old) (O.contents output.new)) }
 {
     let text = check_text(alloc, bytes)?;
     write_text(output, text.bytes.as_slice())?;

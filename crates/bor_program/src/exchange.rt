@@ -2,7 +2,7 @@
 
 ghost use Rattle.std.specs.Prelude.{◌≡◌, ◌≤◌, IfErr, OnOk, length, map};
 ghost use Rattle.std.specs.Io.KnownBytes.{Appends, Keeps};
-ghost use Rattle.bor_program.specs.Failures.{IsMetUnread};
+ghost use Rattle.bor_program.specs.Failures.{IsMetPrinting, TellsFiles};
 ghost use Rattle.bor_program.specs.Performing.{Exchanges};
 ghost use Rattle.bor_program.specs.Program.{exit_code};
 ghost use Rattle.bor_program.specs.Replying.{AreAnswers, EndsFiles, EndsSending, is_refusal, replies_status, reply_status, sent, sent_of};
@@ -70,6 +70,8 @@ fn exchange_files<R: Files + AllocGlobal, K: OpenRegister, O: Write, E: Write>(
     ensures ends { EndsFiles (AreAnswers K.shows K.is_clean register.old register.new) (length files.now)
         (O.contents output.old) (O.contents output.new) (exit_code result) }
     ensures silent { exit_code result ≤ 1 → Keeps (E.contents errors.old) (E.contents errors.new) }
+    ensures told { TellsFiles files.now (O.contents output.old) (O.contents output.new)
+        (E.contents errors.old) (E.contents errors.new) }
 {
     match read_inputs(rt, files, errors) {
         Ok(inputs) => match exchange_on(rt.alloc(), register, inputs.requests.as_slice(), output) {
@@ -94,7 +96,7 @@ pub fn exchange_on<'a, K: OpenRegister, O: Write>(
 ) -> Result<Status, Failure<'a>>
     ensures sent { EndsSending (AreAnswers K.shows K.is_clean register.old register.new) (map (λ v. v.items) inputs.now)
         (O.contents output.old) (O.contents output.new) result }
-    ensures err { IfErr result (IsMetUnread (O.contents output.old) (O.contents output.new)) }
+    ensures err { IfErr result (IsMetPrinting (O.contents output.old) (O.contents output.new)) }
 {
     let replies = register.replay(alloc, inputs)?;
     send(output, replies.as_slice())?;

@@ -6,7 +6,7 @@ ghost use Rattle.bor_words.specs.Asked.{IsAsked, IsCommand, IsWrong, MayAskForHe
 ghost use Rattle.bor_words.specs.Unread.{kind_of_answer};
 ghost use Rattle.bor_words.specs.Words.{entered_by};
 ghost use Rattle.bor_words.specs.declared.command.Command.{Command as Asked};
-ghost use Rattle.bor_program.specs.Failures.{IsMetBy, IsMetOn, IsMetUnread, IsTold};
+ghost use Rattle.bor_program.specs.Failures.{IsMetBy, IsMetOn, IsMetPrinting, IsTold};
 ghost use Rattle.bor_program.specs.Performing.{Checks, Performs, TellsRefusal};
 ghost use Rattle.bor_program.specs.Program.{EndsReport, IsReportedOrCutOff, exit_code};
 ghost use Rattle.bor_program.specs.Streams.{AppendsPart, TakesAtMostPart, TakesPart, part_read};
@@ -211,7 +211,7 @@ fn answer<O: Write, E: Write>(unread: Unread<'_>, output: &mut O, errors: &mut E
     ensures wrong { result ≡ Status.Usage → (kind_of_answer unread.entry ≢ ErrorKind.DisplayHelp)
         × (kind_of_answer unread.entry ≢ ErrorKind.OutOfMemory) }
     ensures told { result ≡ Status.Failed
-        → IsTold (IsMetUnread (O.contents output.old) (O.contents output.new))
+        → IsTold (IsMetPrinting (O.contents output.old) (O.contents output.new))
         (E.contents errors.old) (E.contents errors.new) }
 {
     match unread.kind() {

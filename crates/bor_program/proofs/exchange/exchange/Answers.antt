@@ -5,6 +5,7 @@ use Rattle.bor_program.specs.Program.{exit_code}
 use Rattle.bor_program.proofs.Ends.{keeps_same, part_none}
 use Rattle.bor_program.proofs.MetFailures.{fails_to_open}
 use Rattle.bor_program.proofs.Replies.{sent_as, sent_some}
+use Rattle.bor_program.proofs.Unread.{files_as}
 use Rattle.bor_program.proofs.exchange.exchange.Goals as goal
 
 named : {A : Type 0} (o : Option A) (x : A) → o ≡ Some x → o ≡ None → ⊥
@@ -19,10 +20,11 @@ of_none P o e = rw e tt
 pub returns-in-Ok : goal.returns-in-Ok
 returns-in-Ok g c =
     let ends = sent_as _ _ _ _ _ _ _ (ap length c.as_slice.ensures.value) (λ inputs replies h. h) c.exchange_files-status.ensures.ends in
+    let told = files_as _ _ _ _ _ _ c.as_slice.ensures.value c.exchange_files-status.ensures.told in
     record {
       sent = sent_some _ _ _ _ _ ends;
       answered = λ none. absurd (named _ _ c.in-Some.is none);
-      opened = of_named _ _ _ c.in-Some.is (inr (c.in-Ok.field-0.register, c.exchange_files-status.new.register, ends));
+      opened = of_named _ _ _ c.in-Some.is (inr (c.in-Ok.field-0.register, c.exchange_files-status.new.register, ends, told));
       silent = c.exchange_files-status.ensures.silent;
     }
 
@@ -39,10 +41,11 @@ returns-in-Some g c =
 pub returns : goal.returns
 returns g c =
     let ends = sent_as _ _ _ _ _ _ _ (ap length c.as_slice-in-None.ensures.value) (λ inputs replies h. h) c.exchange_files.ensures.ends in
+    let told = files_as _ _ _ _ _ _ c.as_slice-in-None.ensures.value c.exchange_files.ensures.told in
     let first = empty_register c.args.asked.registrar c.args.asked.day in
     record {
       sent = sent_some _ _ _ _ _ ends;
-      answered = λ none. sent_as _ _ _ _ _ _ _ refl (λ inputs replies h. (h first c.new-register.ensures.shown tt (empty-legal _ _)).replies_to) ends;
+      answered = λ none. (sent_as _ _ _ _ _ _ _ refl (λ inputs replies h. (h first c.new-register.ensures.shown tt (empty-legal _ _)).replies_to) ends, told);
       opened = of_none _ _ c.in-None.is;
       silent = c.exchange_files.ensures.silent;
     }

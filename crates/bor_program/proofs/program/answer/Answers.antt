@@ -7,7 +7,7 @@ pub returns-in-OutOfMemory-clause-help : goal.returns-in-OutOfMemory-clause-help
 returns-in-OutOfMemory-clause-help g c = part_none _ _ _ (keeps_same _)
 
 pub returns-in-OutOfMemory-clause-told : goal.returns-in-OutOfMemory-clause-told
-returns-in-OutOfMemory-clause-told g c failed = (Memory, record { reading = tt; output = keeps_same _ }, c.tell.ensures.line)
+returns-in-OutOfMemory-clause-told g c failed = (Memory, record { cause = tt; output = keeps_same _ }, c.tell.ensures.line)
 
 pub returns : goal.returns
 returns g c = record {
