@@ -6,7 +6,8 @@ use Rattle.std.specs.BTreeSet.{BTreeSet, IsEmpty, contains}
 use Rattle.std.specs.List.{filter, filter_map, slice_get, list_any, IsDistinct}
 use Rattle.std.proofs.lemmas.Map.Views.{tells_apart}
 use Rattle.std.proofs.lemmas.Map.Lookups.{exact_unsigned}
-use Rattle.std.proofs.lemmas.Bool.{and_parts}
+use Rattle.std.proofs.Math.Bool.{or-true}
+use Rattle.std.proofs.lemmas.Bool.{and_parts, not-false}
 use Rattle.std.proofs.lemmas.List.{append-nil, take_all, take-append-le}
 use Rattle.std.proofs.lemmas.List.Elements.{Contains-append_left, Contains-append_right, Contains-append_cases, Contains-get_or}
 use Rattle.bor_terms.specs.Texts.{is_same}
@@ -126,16 +127,12 @@ same_name x y e = ap (λ (k : Sign). k.name) e
 kinds_differ : (n : Node) (i : Identifier) → by_record n ≡ by_identifier i → ⊥
 kinds_differ n i e = let no : true ≡ false = ap (λ (k : Sign). k.of_record) e in cc
 
-any_is : {X : Type 0} (p : X → Bool) (xs : List X) (x : X) → Contains xs x → p x ≡ true → list_any p xs ≡ true
+pub any_is : {X : Type 0} (p : X → Bool) (xs : List X) (x : X) → Contains xs x → p x ≡ true → list_any p xs ≡ true
 any_is p [] x h t = absurd (none x h)
 any_is {X} p (y ∷ ys) x h t = elim (cases y ys x h) [
   | inl e ↦ ap (λ (b : Bool). b || list_any p ys) (ap p e ∙ t)
-  | inr k ↦ ap (λ (b : Bool). p y || b) (any_is p ys x k t) ∙ or_true (p y)
+  | inr k ↦ ap (λ (b : Bool). p y || b) (any_is p ys x k t) ∙ or-true (p y)
 ]
-  where
-    or_true : (b : Bool) → (b || true) ≡ true
-    or_true true = refl
-    or_true false = refl
 
 alike_by : (a b : OpenNode) → is_entity a.info ≡ true → is_entity b.info ≡ true → (same_record a.node b.node || share_identifier a.identifiers b.identifiers && not (same_node a.node b.node)) ≡ true → are_alike a b ≡ true
 alike_by a b ea eb h = ap (λ (x : Bool). x && is_entity b.info && (same_record a.node b.node || share_identifier a.identifiers b.identifiers && not (same_node a.node b.node))) ea
@@ -313,14 +310,10 @@ put_again place was now up done i = up i ∙ by (is_eq (nat_cmp place i)) refl
     by true e = sym (ap was (sym (tells_apart exact_unsigned place i e)) ∙ done)
     by false e = refl
 
-not_true : (b : Bool) → not b ≡ false → b ≡ true
-not_true true e = refl
-not_true false e = absurd (let no : true ≡ false = e in cc)
-
 -- the three ways of a visit
 pub visit_again : (s : Shown) (first : Node) (place : ℕ) (found : List ℕ) (seen : Sign → Bool) (was now : ℕ → Bool) (fresh : Bool) → fresh ≡ not (was place) → fresh ≡ false → PutDone place was now → Visits s first place found found seen seen was now
 visit_again s first place found seen was now fresh is again up =
-    let done = not_true (was place) (sym is ∙ again) in
+    let done = not-false (was place) (sym is ∙ again) in
     visits_done s first place found seen was now (put_again place was now up done) done
 
 pub visit_none : (s : Shown) (nodes : List OpenNode) (first : Node) (place : ℕ) (found : List ℕ) (seen : Sign → Bool) (was now : ℕ → Bool) → s.nodes ≡ nodes → PutDone place was now → now place ≡ true → entity_in (slice_get nodes place) ≡ None

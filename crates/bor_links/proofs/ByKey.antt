@@ -2,6 +2,7 @@
 -- are read by their keys, and a link by candidates that cover those which may make it.
 use Rattle.std.proofs.Common.{◌≡◌, ◌&&◌, ◌||◌, not, ℤ, Bool, true, false, cond, Option, Some, None, option_and_then, List, [], ◌∷◌, Contains, sym, refl, ap, ◌∙◌, subst, inl, inr}
 use Rattle.std.specs.List.{find, filter, filter_map, cons_option, list_any}
+use Rattle.std.proofs.lemmas.Bool.{not-true, or_parts}
 use Rattle.bor_terms.specs.Texts.{is_same}
 use Rattle.bods_read.specs.declared.details.Details.{Details}
 use Rattle.bods_read.specs.declared.details.Details.TheVariants as details
@@ -30,14 +31,6 @@ and_parts3 true true c e = (refl, e)
 and_parts3 true false c e = absurd cc
 and_parts3 false b c e = absurd cc
 
-not_true : (a : Bool) → not a ≡ true → a ≡ false
-not_true true e = absurd cc
-not_true false e = refl
-
-or_parts : (a b : Bool) → (a || b) ≡ false → (a ≡ false) × (b ≡ false)
-or_parts true b e = absurd cc
-or_parts false b e = (refl, e)
-
 and_left : (a b : Bool) → (a && b) ≡ false → b ≡ true → a ≡ false
 and_left a true e k = and_is a e
   where
@@ -48,7 +41,7 @@ and_left a false e k = absurd cc
 
 -- what an open row is, and that no later one is of its series
 opened : (day : ℤ) (r : Row) (rows : List Row) → is_open_before day r rows ≡ true → (is_dated day r ≡ true) × (has_dated day (series_of r) rows ≡ false)
-opened day r rows e = let p = and_parts3 (is_dated day r) (not (is_closed r.status)) (not (has_dated day (series_of r) rows)) e in (p.0, not_true (has_dated day (series_of r) rows) p.1)
+opened day r rows e = let p = and_parts3 (is_dated day r) (not (is_closed r.status)) (not (has_dated day (series_of r) rows)) e in (p.0, not-true (has_dated day (series_of r) rows) p.1)
 
 -- an open row is one of the rows, and dated
 pub open_row_is : (day : ℤ) (rows : List Row) (r : Row) → Contains (open_rows day rows) r → Contains rows r × (is_dated day r ≡ true)

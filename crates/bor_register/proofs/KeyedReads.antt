@@ -189,14 +189,6 @@ pub links_answered : {E : Type 0} (day : ℤ) (rows : List Row) (n : Node) (cand
 links_answered day rows n candidates slice (Ok v) e cover h = links_told day rows n candidates v.items (h ∙ ap (λ (ns : List Node). filter_map (link_at day rows n) ns) e) cover
 links_answered day rows n candidates slice (Err f) e cover h = tt
 
-pub not_false : (b : Bool) → not b ≡ false → b ≡ true
-not_false true h = refl
-not_false false h = absurd (let no : true ≡ false = h in cc)
-
-pub not_true : (b : Bool) → not b ≡ true → b ≡ false
-not_true true h = absurd (let no : false ≡ true = h in cc)
-not_true false h = refl
-
 pub link_is : (nodes : List OpenNode) (n party subject : Node) (interests : List Interest) (stake holding : Bool) → same_node subject n ≡ true → is_entity_info (info_in nodes n) ≡ true → is_some_info (info_in nodes party) ≡ true
     → stake ≡ is_stake interests → holding ≡ is_holding interests → Some (record { party = party; subject = subject; stake = stake; holding = holding }) ≡ only_into n (link_between nodes party subject interests)
 link_is nodes n party subject interests stake holding same entity known s h = sym (ap (only_into n) made ∙ only_made n l (same_node_is subject n same) ∙ ap (λ (k : Link). Some k) is)

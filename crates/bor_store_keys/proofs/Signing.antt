@@ -16,6 +16,7 @@ use Rattle.bor_links.specs.Rows.{node_in}
 use Rattle.bor_links.specs.Signs.{by_identifier, by_record, signs}
 use Rattle.bor_links.proofs.Found.{none, here, there, cases, Contains-filter, Contains-from_filter, Contains-from_map, Contains-filter_map}
 use Rattle.bor_links.proofs.Signs.{same_any}
+use Rattle.bor_chains.proofs.Classes.{any_is}
 use Rattle.bor_register.specs.Register.{Register}
 use Rattle.bor_store_rows.specs.declared.places.At.{At}
 use Rattle.bor_store_rows.specs.declared.rows.Placed.{Placed}
@@ -92,17 +93,6 @@ node_parts p x e = go p.statement.details e
     go (details.Entity kind name identifiers) h = let q = same_open _ x h in (ap (λ (y : OpenNode). y.node) q, ap (λ (y : OpenNode). y.identifiers) q)
     go (details.Person kind name) h = let q = same_open _ x h in (ap (λ (y : OpenNode). y.node) q, ap (λ (y : OpenNode). y.identifiers) q)
     go (details.Relationship subject party interests) h = let no : None ≡ Some x = h in absurd cc
-
-any_is : {X : Type 0} (p : X → Bool) (xs : List X) (x : X) → Contains xs x → p x ≡ true → list_any p xs ≡ true
-any_is p [] x h t = absurd (none x h)
-any_is {X} p (y ∷ ys) x h t = elim (cases y ys x h) [
-  | inl e ↦ ap (λ (b : Bool). b || list_any p ys) (ap p e ∙ t)
-  | inr k ↦ ap (λ (b : Bool). p y || b) (any_is p ys x k t) ∙ or_true (p y)
-]
-  where
-    or_true : (b : Bool) → (b || true) ≡ true
-    or_true true = refl
-    or_true false = refl
 
 kind_of : (j k : Sign) → j ≡ k → j.of_record ≡ k.of_record
 kind_of j k e = ap (λ (x : Sign). x.of_record) e

@@ -2,6 +2,7 @@
 use Rattle.std.proofs.Common.{◌≡◌, ℕ, ◌+◌, ◌<◌, ◌≤◌, ◌==◌, Bool, true, false, ◌&&◌, ◌||◌, List, [], ◌∷◌, ◌++◌, append-nil, Option, Some, None, refl, sym, ap, ap₂, ◌∙◌, arith, if◌then◌else◌}
 use Rattle.std.specs.Prelude.{filter, nat_lt}
 use Rattle.std.specs.List.{list_any, last_or}
+use Rattle.std.proofs.Math.Bool.{and-true, or-false}
 use Rattle.std.proofs.lemmas.Bool.Decides.{nat_tests}
 use Rattle.std.proofs.lemmas.List.Elements.{filter-append}
 use Rattle.std.proofs.lemmas.List.Folds.{list_any-append}
@@ -19,10 +20,6 @@ use Rattle.bor_store_rows.specs.Stored.{AreNumbered}
 any_same : {X : Type 0} (p q : X → Bool) (xs : List X) → ((x : X) → p x ≡ q x) → list_any p xs ≡ list_any q xs
 any_same p q [] same = refl
 any_same p q (x ∷ xs) same = ap₂ (λ a b. a || b) (same x) (any_same p q xs same)
-
-or_false : (b : Bool) → (b || false) ≡ b
-or_false true = refl
-or_false false = refl
 
 any_of_none : {X : Type 0} (xs : List X) → list_any (λ (x : X). false) xs ≡ false
 any_of_none [] = refl
@@ -51,10 +48,6 @@ and_false : (b : Bool) → (b && false) ≡ false
 and_false true = refl
 and_false false = refl
 
-and_true : (b : Bool) → (b && true) ≡ b
-and_true true = refl
-and_true false = refl
-
 none_after : (number : ℕ) (p : Placed) (agent : List ℕ) (filing place : ℕ) (ss : List Statement) → nat_lt number filing ≡ false → list_any (after number p) (placed_from agent filing place ss) ≡ false
 none_after number p agent filing place [] e = refl
 none_after number p agent filing place (s ∷ ss) e = rw (e, none_after number p agent filing (place + 1) ss e) (ap (λ b. b || false) (and_false (is_of p.statement.declaration p.statement.rec s)))
@@ -62,7 +55,7 @@ none_after number p agent filing place (s ∷ ss) e = rw (e, none_after number p
 all_after : (number : ℕ) (p : Placed) (agent : List ℕ) (filing place : ℕ) (ss : List Statement) → nat_lt number filing ≡ true
     → list_any (after number p) (placed_from agent filing place ss) ≡ list_any (is_of p.statement.declaration p.statement.rec) ss
 all_after number p agent filing place [] e = refl
-all_after number p agent filing place (s ∷ ss) e = rw (e, all_after number p agent filing (place + 1) ss e) (ap (λ b. b || list_any (is_of p.statement.declaration p.statement.rec) ss) (and_true (is_of p.statement.declaration p.statement.rec s)))
+all_after number p agent filing place (s ∷ ss) e = rw (e, all_after number p agent filing (place + 1) ss e) (ap (λ b. b || list_any (is_of p.statement.declaration p.statement.rec) ss) (and-true (is_of p.statement.declaration p.statement.rec s)))
 
 below_is : (n m : ℕ) → n < m → nat_lt n m ≡ true
 below_is n m low = grind (arith, nat_tests)
@@ -193,7 +186,7 @@ later_or number (Some p) m h = go (nat_lt number p.at.filing) refl
 
 last_later : (number : ℕ) (q : Placed → Bool) (o : Option Placed) (low : ℕ) (ps : List Placed) → Rises low ps → IsWithin low o
     → is_later number (last_or o (filter q ps)) ≡ (is_later number o || list_any (λ (p : Placed). q p && nat_lt number p.at.filing) ps)
-last_later number q o low [] rises within = sym (or_false (is_later number o))
+last_later number q o low [] rises within = sym (or-false (is_later number o))
 last_later number q o low (p ∷ ps) rises within =
     go (q p) (last_later number q (Some p) p.at.filing ps rises.1 (omega arith)) (last_later number q o p.at.filing ps rises.1 (within_on low p.at.filing o rises.0 within))
     (later_or number o p.at.filing (within_on low p.at.filing o rises.0 within))

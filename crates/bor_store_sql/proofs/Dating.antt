@@ -1,6 +1,7 @@
 -- What the UPDATE of the register's day does.
 use Rattle.std.proofs.Common.{◌≡◌, ◌≤◌, ℕ, ℤ, pos, Bool, true, false, cond, List, [], ◌∷◌, length, drop, ◌==◌, Ok, arith, refl, subst, ◌∙◌}
 use Rattle.std.specs.List.{flat_map, filter_map}
+use Rattle.std.proofs.Math.Bool.{and-true}
 use Rattle.sqlite.specs.declared.types.Value.TheVariants.{Null, Int}
 use Rattle.sqlite.specs.Order.{Row, column}
 use Rattle.sqlite.specs.Term.{Term, col}
@@ -23,7 +24,7 @@ use Rattle.bor_store_sql.specs.Changing.{is_the_one, dated, with_day, IsOneRegis
 use Rattle.bor_store_sql.proofs.Inserts.{cast_int}
 use Rattle.bor_store_sql.proofs.Writes.{updates}
 use Rattle.bor_store_sql.proofs.Tables.{updated}
-use Rattle.bor_store_sql.proofs.Selects.{int_test, and_true}
+use Rattle.bor_store_sql.proofs.Selects.{int_test}
 use Rattle.bor_store_sql.proofs.Others.{with_register}
 
 -- no key acts where the register's row changes
@@ -65,7 +66,7 @@ module _ (day : ℤ) where
       go false = omega arith
 
   is_it : (r : Register) → is_the_one day (register_columns r) ≡ true
-  is_it r = and_true _ ∙ int_test (pos 1) (pos 1)
+  is_it r = and-true _ ∙ int_test (pos 1) (pos 1)
 
   row_is : (r : Register) → cond (is_the_one day (register_columns r)) (dated day (register_columns r)) (register_columns r) ≡ register_columns (record r { day = day })
   row_is r = rw (is_it r) (rw (cast_int (pos 1), cast_int day) refl)

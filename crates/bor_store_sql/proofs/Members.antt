@@ -4,18 +4,12 @@ use Rattle.std.specs.Prelude.{if◌then◌else◌, ◌||◌}
 use Rattle.std.specs.List.{AllByRecursion}
 use Rattle.std.proofs.lemmas.List.{append_assoc}
 use Rattle.std.proofs.lemmas.List.Sorted.{IsPermutation-append_comm, IsPermutation-append_right, IsPermutation-cons, IsPermutation-refl}
+use Rattle.std.proofs.lemmas.List.Elements.{filter-append}
 use Rattle.bor_terms.specs.Texts.{is_same, is_below}
 use Rattle.bor_terms.proofs.Texts.{same_is, same_sym, below_differs}
 use Rattle.bor_register.specs.declared.filing.AcceptedFiling.{AcceptedFiling}
 use Rattle.bor_register.specs.declared.member.Member.{Member}
 use Rattle.bor_register.specs.Register.{IsOrdered, AllAbove, is_enrolled, filings_of, with_filings, with_member}
-
-pub filter_append : {X : Type 0} (p : X → Bool) (xs ys : List X) → filter p (xs ++ ys) ≡ filter p xs ++ filter p ys
-filter_append p [] ys = refl
-filter_append p (x ∷ xs) ys = elim (p x) as (λ b. cond b (x ∷ filter p (xs ++ ys)) (filter p (xs ++ ys)) ≡ cond b (x ∷ filter p xs) (filter p xs) ++ filter p ys) [
-  | true ↦ ap (λ l. x ∷ l) (filter_append p xs ys)
-  | false ↦ filter_append p xs ys
-]
 
 -- where one agent has the name, the others have other names
 pub apart_names : (agent name : List ℕ) (ms : List Member) → is_same name agent ≡ true → AllAbove name ms → AllByRecursion (λ (m : Member). is_same m.name agent ≡ false) ms
@@ -72,13 +66,13 @@ module _ {X : Type 0} (own : List ℕ → List AcceptedFiling → List X) (all :
     others_pass_not : (ms : List Member) → AllByRecursion (λ (m : Member). is_same m.name agent ≡ false) ms → filter (λ x. is_same (owner x) agent) (all ms) ≡ []
     others_pass_not [] h = ap (filter (λ x. is_same (owner x) agent)) none
     others_pass_not (m ∷ ms) h =
-        ap (filter (λ x. is_same (owner x) agent)) (some m ms) ∙ filter_append (λ x. is_same (owner x) agent) (own m.name m.filings) (all ms)
+        ap (filter (λ x. is_same (owner x) agent)) (some m ms) ∙ filter-append (λ x. is_same (owner x) agent) (own m.name m.filings) (all ms)
         ∙ ap₂ (λ x y. x ++ y) (none_pass (own m.name m.filings) m.name h.0 (owned m.name m.filings)) (others_pass_not ms h.1)
 
     pub own_alone : (ms : List Member) → IsOrdered ms → filter (λ x. is_same (owner x) agent) (all ms) ≡ own agent (filings_of agent ms)
     own_alone [] up = ap (filter (λ x. is_same (owner x) agent)) none ∙ sym (without agent)
     own_alone (m ∷ ms) up =
-        ap (filter (λ x. is_same (owner x) agent)) (some m ms) ∙ filter_append (λ x. is_same (owner x) agent) (own m.name m.filings) (all ms) ∙ go (is_same m.name agent) refl (own_alone ms up.1)
+        ap (filter (λ x. is_same (owner x) agent)) (some m ms) ∙ filter-append (λ x. is_same (owner x) agent) (own m.name m.filings) (all ms) ∙ go (is_same m.name agent) refl (own_alone ms up.1)
       where
         go : (b : Bool) → is_same m.name agent ≡ b → filter (λ x. is_same (owner x) agent) (all ms) ≡ own agent (filings_of agent ms)
             → filter (λ x. is_same (owner x) agent) (own m.name m.filings) ++ filter (λ x. is_same (owner x) agent) (all ms) ≡ own agent (if b then m.filings else filings_of agent ms)

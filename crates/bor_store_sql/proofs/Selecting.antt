@@ -7,6 +7,8 @@ use Rattle.std.proofs.lemmas.Int.{ints}
 use Rattle.std.proofs.lemmas.Bool.Decides.{nat_tests}
 use Rattle.std.proofs.lemmas.List.{map-append, reverse-append}
 use Rattle.std.proofs.lemmas.Map.Text.{is_eq-slice_cmp}
+use Rattle.std.proofs.Math.Bool.{and-true}
+use Rattle.std.proofs.lemmas.List.Elements.{filter-append}
 use Rattle.sqlite.specs.declared.types.Value.TheVariants.{Null, Int, Text, Blob}
 use Rattle.sqlite.specs.Order.{Row}
 use Rattle.sqlite.specs.Tree.{IsAscending}
@@ -39,12 +41,12 @@ use Rattle.bor_store_sql.specs.Changing.{passes}
 use Rattle.bor_store_sql.specs.Shown.{ShowsIn}
 use Rattle.bor_store_sql.proofs.Finding.{Shows, answers, has_now}
 use Rattle.bor_store_sql.proofs.FromTables.{from_agents, from_filings, from_statements, from_interests, from_identifiers, statement_shown, interest_shown}
-use Rattle.bor_store_sql.proofs.Members.{filter_append, own_alone}
+use Rattle.bor_store_sql.proofs.Members.{own_alone}
 use Rattle.bor_store_sql.proofs.Orders.{Owned, owned, owned_filing, owners, whole, filing_rows_are, int_same, IsLower}
 use Rattle.bor_store_sql.proofs.Picking.{all_pass, filter_both, picked_rows, picked_last}
 use Rattle.bor_store_sql.proofs.Rowids.{lower_id}
 use Rattle.bor_store_sql.proofs.Rising.{filings_rise, statements_rise, owned_by}
-use Rattle.bor_store_sql.proofs.Selects.{text_test, int_test, and_true}
+use Rattle.bor_store_sql.proofs.Selects.{text_test, int_test}
 use Rattle.bor_store_sql.proofs.StoredMembers.{numbered_of}
 
 -- ---- tests of columns
@@ -70,10 +72,10 @@ subject_test agent declaration rec q = go q.statement.details
   where
     go : (d : Details) → passes statements_of_subject_query.filter (Text agent ∷ Text declaration ∷ Text rec ∷ []) (statement_columns (bare (record q { statement = record q.statement { details = d } })))
         ≡ (is_same q.at.agent agent && (is_same q.statement.declaration declaration && names_subject rec d))
-    go (details.Entity kind name identifiers) = ap₂ (λ x y. x && y) (text_test q.at.agent agent) (ap₂ (λ x y. x && y) (text_test q.statement.declaration declaration) (and_true _ ∙ null_test rec))
-    go (details.Person kind name) = ap₂ (λ x y. x && y) (text_test q.at.agent agent) (ap₂ (λ x y. x && y) (text_test q.statement.declaration declaration) (and_true _ ∙ null_test rec))
-    go (details.Relationship None party interests) = ap₂ (λ x y. x && y) (text_test q.at.agent agent) (ap₂ (λ x y. x && y) (text_test q.statement.declaration declaration) (and_true _ ∙ null_test rec))
-    go (details.Relationship (Some subject) party interests) = ap₂ (λ x y. x && y) (text_test q.at.agent agent) (ap₂ (λ x y. x && y) (text_test q.statement.declaration declaration) (and_true _ ∙ text_test subject rec))
+    go (details.Entity kind name identifiers) = ap₂ (λ x y. x && y) (text_test q.at.agent agent) (ap₂ (λ x y. x && y) (text_test q.statement.declaration declaration) (and-true _ ∙ null_test rec))
+    go (details.Person kind name) = ap₂ (λ x y. x && y) (text_test q.at.agent agent) (ap₂ (λ x y. x && y) (text_test q.statement.declaration declaration) (and-true _ ∙ null_test rec))
+    go (details.Relationship None party interests) = ap₂ (λ x y. x && y) (text_test q.at.agent agent) (ap₂ (λ x y. x && y) (text_test q.statement.declaration declaration) (and-true _ ∙ null_test rec))
+    go (details.Relationship (Some subject) party interests) = ap₂ (λ x y. x && y) (text_test q.at.agent agent) (ap₂ (λ x y. x && y) (text_test q.statement.declaration declaration) (and-true _ ∙ text_test subject rec))
 
 -- ---- those of one agent
 
@@ -111,7 +113,7 @@ module _ {X : Type 0} (at_of : X → At) (t : At → Bool) (rows : Placed → Li
 
   rows_at : (ps : List Placed) → filter (λ x. t (at_of x)) (flat_map rows ps) ≡ flat_map rows (filter (λ (p : Placed). t p.at) ps)
   rows_at [] = refl
-  rows_at (p ∷ ps) = filter_append (λ x. t (at_of x)) (rows p) (flat_map rows ps) ∙ go (t p.at) refl (rows_at ps)
+  rows_at (p ∷ ps) = filter-append (λ x. t (at_of x)) (rows p) (flat_map rows ps) ∙ go (t p.at) refl (rows_at ps)
     where
       go : (b : Bool) → t p.at ≡ b → filter (λ x. t (at_of x)) (flat_map rows ps) ≡ flat_map rows (filter (λ (p : Placed). t p.at) ps)
           → filter (λ x. t (at_of x)) (rows p) ++ filter (λ x. t (at_of x)) (flat_map rows ps) ≡ flat_map rows (filter (λ (p : Placed). t p.at) (p ∷ ps))
@@ -189,40 +191,40 @@ module _ (r : Register) (old new : State) (shows : ShowsIn r old) (rows : List R
 
   pub agent_by_name_found : (name : List ℕ) → Shows agent_by_name_text (Text name ∷ []) old new rows → rows ≡ map agent_columns (named name r.members)
   agent_by_name_found name h =
-      from_agents r old new shows rows agent_by_name_text (Text name ∷ []) _ agent_by_name_query.filter agent_by_name_query.project h (λ m. is_same m.name name) (λ m. and_true _ ∙ text_test m.name name) agent_by_name_is (λ id x. refl) (λ id x. refl) (λ m. refl)
+      from_agents r old new shows rows agent_by_name_text (Text name ∷ []) _ agent_by_name_query.filter agent_by_name_query.project h (λ m. is_same m.name name) (λ m. and-true _ ∙ text_test m.name name) agent_by_name_is (λ id x. refl) (λ id x. refl) (λ m. refl)
 
   pub agent_by_token_found : (token : List ℕ) → Shows agent_by_token_text (Text token ∷ []) old new rows → rows ≡ map agent_columns (with_token token r.members)
   agent_by_token_found token h =
-      from_agents r old new shows rows agent_by_token_text (Text token ∷ []) _ agent_by_token_query.filter agent_by_token_query.project h (λ m. is_same m.token token) (λ m. and_true _ ∙ text_test m.token token) agent_by_token_is (λ id x. refl) (λ id x. refl) (λ m. refl)
+      from_agents r old new shows rows agent_by_token_text (Text token ∷ []) _ agent_by_token_query.filter agent_by_token_query.project h (λ m. is_same m.token token) (λ m. and-true _ ∙ text_test m.token token) agent_by_token_is (λ id x. refl) (λ id x. refl) (λ m. refl)
 
   pub filing_by_key_found : (agent key : List ℕ) → Shows filing_by_key_text (Text agent ∷ Text key ∷ []) old new rows → rows ≡ map (λ f. shown_columns (filing_shown f)) (keyed key (filings_of agent r.members))
   filing_by_key_found agent key h =
       from_filings r old new shows rows filing_by_key_text (Text agent ∷ Text key ∷ []) _ filing_by_key_query.filter filing_by_key_query.project h (λ o. shown_columns (filing_shown o.filing)) (λ o. is_same o.agent agent && is_same o.filing.key key)
-      (λ o. ap₂ (λ x y. x && y) (text_test o.agent agent) (and_true _ ∙ text_test o.filing.key key)) filing_by_key_is (λ id x. refl) (λ id x. refl) (λ o. refl)
+      (λ o. ap₂ (λ x y. x && y) (text_test o.agent agent) (and-true _ ∙ text_test o.filing.key key)) filing_by_key_is (λ id x. refl) (λ id x. refl) (λ o. refl)
       ∙ own_filings agent r.members shows.stored.ordered (λ f. is_same f.key key) (λ o. shown_columns (filing_shown o.filing))
 
   pub line_by_key_found : (agent key : List ℕ) → Shows line_by_key_text (Text agent ∷ Text key ∷ []) old new rows → rows ≡ map (λ f. line_columns (filing_row agent f)) (keyed key (filings_of agent r.members))
   line_by_key_found agent key h =
       from_filings r old new shows rows line_by_key_text (Text agent ∷ Text key ∷ []) _ line_by_key_query.filter line_by_key_query.project h (λ o. line_columns (filing_row o.agent o.filing)) (λ o. is_same o.agent agent && is_same o.filing.key key)
-      (λ o. ap₂ (λ x y. x && y) (text_test o.agent agent) (and_true _ ∙ text_test o.filing.key key)) line_by_key_is (λ id x. refl) (λ id x. refl) (λ o. refl)
+      (λ o. ap₂ (λ x y. x && y) (text_test o.agent agent) (and-true _ ∙ text_test o.filing.key key)) line_by_key_is (λ id x. refl) (λ id x. refl) (λ o. refl)
       ∙ own_filings agent r.members shows.stored.ordered (λ f. is_same f.key key) (λ o. line_columns (filing_row o.agent o.filing))
 
   pub line_by_number_found : (agent : List ℕ) (number : ℕ) → Shows line_by_number_text (Text agent ∷ Int (pos number) ∷ []) old new rows → rows ≡ map (λ f. line_columns (filing_row agent f)) (numbered number (filings_of agent r.members))
   line_by_number_found agent number h =
       from_filings r old new shows rows line_by_number_text (Text agent ∷ Int (pos number) ∷ []) _ line_by_number_query.filter line_by_number_query.project h (λ o. line_columns (filing_row o.agent o.filing)) (λ o. is_same o.agent agent && o.filing.number == number)
-      (λ o. ap₂ (λ x y. x && y) (text_test o.agent agent) (and_true _ ∙ int_test (pos o.filing.number) (pos number) ∙ number_test o.filing.number number)) line_by_number_is (λ id x. refl) (λ id x. refl) (λ o. refl)
+      (λ o. ap₂ (λ x y. x && y) (text_test o.agent agent) (and-true _ ∙ int_test (pos o.filing.number) (pos number) ∙ number_test o.filing.number number)) line_by_number_is (λ id x. refl) (λ id x. refl) (λ o. refl)
       ∙ own_filings agent r.members shows.stored.ordered (λ f. f.number == number) (λ o. line_columns (filing_row o.agent o.filing))
 
   pub same_bytes_found : (agent key bytes : List ℕ) → Shows same_bytes_text (Text agent ∷ Text key ∷ Blob bytes ∷ []) old new rows → rows ≡ map (λ f. truth (is_same f.bytes bytes) ∷ []) (keyed key (filings_of agent r.members))
   same_bytes_found agent key bytes h =
       from_filings r old new shows rows same_bytes_text (Text agent ∷ Text key ∷ Blob bytes ∷ []) _ same_bytes_query.filter same_bytes_query.project h (λ o. truth (is_same o.filing.bytes bytes) ∷ []) (λ o. is_same o.agent agent && is_same o.filing.key key)
-      (λ o. ap₂ (λ x y. x && y) (text_test o.agent agent) (and_true _ ∙ text_test o.filing.key key)) same_bytes_is (λ id x. refl) (λ id x. refl) (λ o. ap (λ v. v ∷ []) (blob_test o.filing.bytes bytes))
+      (λ o. ap₂ (λ x y. x && y) (text_test o.agent agent) (and-true _ ∙ text_test o.filing.key key)) same_bytes_is (λ id x. refl) (λ id x. refl) (λ o. ap (λ v. v ∷ []) (blob_test o.filing.bytes bytes))
       ∙ own_filings agent r.members shows.stored.ordered (λ f. is_same f.key key) (λ o. truth (is_same o.filing.bytes bytes) ∷ [])
 
   pub filings_of_agent_found : (agent : List ℕ) → Shows filings_of_agent_text (Text agent ∷ []) old new rows → rows ≡ map (λ f. line_columns (filing_row agent f)) (filings_of agent r.members)
   filings_of_agent_found agent h =
       from_filings r old new shows rows filings_of_agent_text (Text agent ∷ []) _ filings_of_agent_query.filter filings_of_agent_query.project h (λ o. line_columns (filing_row o.agent o.filing)) (λ o. is_same o.agent agent)
-      (λ o. and_true _ ∙ text_test o.agent agent) filings_of_agent_is (λ id x. refl) (λ id x. refl) (λ o. refl)
+      (λ o. and-true _ ∙ text_test o.agent agent) filings_of_agent_is (λ id x. refl) (λ id x. refl) (λ o. refl)
       ∙ ap (map (λ (o : Owned). line_columns (filing_row o.agent o.filing))) (own_owned agent r.members shows.stored.ordered) ∙ map-map (λ (o : Owned). line_columns (filing_row o.agent o.filing)) (owned_filing agent) (filings_of agent r.members)
 
   pub last_filing_found : (agent : List ℕ) → Shows last_filing_text (Text agent ∷ []) old new rows → rows ≡ map (λ f. line_columns (filing_row agent f)) (last (filings_of agent r.members))
@@ -231,7 +233,7 @@ module _ (r : Register) (old new : State) (shows : ShowsIn r old) (rows : List R
       let out : Owned → Row = λ o. line_columns (filing_row o.agent o.filing) in
       let own = own_owned agent r.members shows.stored.ordered in
       let up = filings_rise IsLaterNumber (owned_filing agent) (λ f g lt. lt) 1 fs (numbered_of agent r.members shows.stored.numbered) in
-      picked_last 5 refl last_filing_query.filter (Text agent ∷ []) last_filing_query.project last_filing_query.order (λ id x. refl) whole out (λ o. is_same o.agent agent) (λ o. and_true _ ∙ text_test o.agent agent) (owned r.members) old.now.trees
+      picked_last 5 refl last_filing_query.filter (Text agent ∷ []) last_filing_query.project last_filing_query.order (λ id x. refl) whole out (λ o. is_same o.agent agent) (λ o. and-true _ ∙ text_test o.agent agent) (owned r.members) old.now.trees
       (filing_rows r.members) rows (filing_rows_are r.members) (has_now r old new shows h.0).filings (λ id x. refl) (λ o. refl) (answers r old new shows h.0 last_filing_text (Text agent ∷ []) last_filing_query _ last_filing_is rows h.1)
       IsLaterNumber (λ a b lt. rw (lower_id a.filing.number b.filing.number lt) refl) (subst (IsAscending IsLaterNumber) (sym own) up)
       ∙ ap (λ l. map out (take 1 (reverse l))) own ∙ ap (map out) (last_of_map (owned_filing agent) fs) ∙ map-map out (owned_filing agent) (last fs)
@@ -245,7 +247,7 @@ module _ (r : Register) (old new : State) (shows : ShowsIn r old) (rows : List R
       let Up : Placed → Placed → Type 0 = λ a b. IsLaterPlace a.at b.at in
       let up = ascending-filter Up q (placed_of agent r) (statements_rise IsLaterPlace later_number later_place agent 1 (filings_of agent r.members) (numbered_of agent r.members shows.stored.numbered)) in
       picked_last 8 refl last_of_series_query.filter (Text agent ∷ Text declaration ∷ Text rec ∷ []) last_of_series_query.project last_of_series_query.order (λ id x. refl) out out (λ p. is_same p.at.agent agent && q p)
-      (λ p. ap₂ (λ x y. x && y) (text_test p.at.agent agent) (ap₂ (λ x y. x && y) (text_test p.statement.declaration declaration) (and_true _ ∙ text_test p.statement.rec rec))) (placed r.members) old.now.trees
+      (λ p. ap₂ (λ x y. x && y) (text_test p.at.agent agent) (ap₂ (λ x y. x && y) (text_test p.statement.declaration declaration) (and-true _ ∙ text_test p.statement.rec rec))) (placed r.members) old.now.trees
       (map out (placed r.members)) rows refl (has_now r old new shows h.0).statements (λ id x. refl) (λ p. statement_shown (bare p))
       (answers r old new shows h.0 last_of_series_text (Text agent ∷ Text declaration ∷ Text rec ∷ []) last_of_series_query _ last_of_series_is rows h.1) Up (λ a b lt. lt) (subst (IsAscending Up) (sym own) up)
       ∙ ap (λ l. map out (last l)) own
@@ -253,14 +255,14 @@ module _ (r : Register) (old new : State) (shows : ShowsIn r old) (rows : List R
   pub statement_by_id_found : (agent id : List ℕ) → Shows statement_by_id_text (Text agent ∷ Text id ∷ []) old new rows → rows ≡ map place_columns (identified id (placed_of agent r))
   statement_by_id_found agent id h =
       from_statements r old new shows rows statement_by_id_text (Text agent ∷ Text id ∷ []) _ statement_by_id_query.filter statement_by_id_query.project h place_columns (λ p. is_same p.at.agent agent && is_same p.statement.id id)
-      (λ p. ap₂ (λ x y. x && y) (text_test p.at.agent agent) (and_true _ ∙ text_test p.statement.id id)) statement_by_id_is (λ id x. refl) (λ id x. refl) (λ p. refl)
+      (λ p. ap₂ (λ x y. x && y) (text_test p.at.agent agent) (and-true _ ∙ text_test p.statement.id id)) statement_by_id_is (λ id x. refl) (λ id x. refl) (λ p. refl)
       ∙ ap (map place_columns) (own_statements agent r.members shows.stored.ordered (λ p. is_same p.statement.id id))
 
   pub statements_of_filing_found : (agent : List ℕ) (number : ℕ) → Shows statements_of_filing_text (Text agent ∷ Int (pos number) ∷ []) old new rows
       → rows ≡ map (λ p. statement_columns (bare p)) (in_filing number (placed_of agent r))
   statements_of_filing_found agent number h =
       from_statements r old new shows rows statements_of_filing_text (Text agent ∷ Int (pos number) ∷ []) _ statements_of_filing_query.filter statements_of_filing_query.project h (λ p. statement_columns (bare p)) (λ p. is_same p.at.agent agent && p.at.filing == number)
-      (λ p. ap₂ (λ x y. x && y) (text_test p.at.agent agent) (and_true _ ∙ int_test (pos p.at.filing) (pos number) ∙ number_test p.at.filing number)) statements_of_filing_is (λ id x. refl) (λ id x. refl) (λ p. statement_shown (bare p))
+      (λ p. ap₂ (λ x y. x && y) (text_test p.at.agent agent) (and-true _ ∙ int_test (pos p.at.filing) (pos number) ∙ number_test p.at.filing number)) statements_of_filing_is (λ id x. refl) (λ id x. refl) (λ p. statement_shown (bare p))
       ∙ ap (map (λ p. statement_columns (bare p))) (own_statements agent r.members shows.stored.ordered (λ p. p.at.filing == number))
 
   pub statements_of_declaration_found : (agent declaration : List ℕ) → Shows statements_of_declaration_text (Text agent ∷ Text declaration ∷ []) old new rows
@@ -268,7 +270,7 @@ module _ (r : Register) (old new : State) (shows : ShowsIn r old) (rows : List R
   statements_of_declaration_found agent declaration h =
       from_statements r old new shows rows statements_of_declaration_text (Text agent ∷ Text declaration ∷ []) _ statements_of_declaration_query.filter statements_of_declaration_query.project h (λ p. statement_columns (bare p))
       (λ p. is_same p.at.agent agent && is_same p.statement.declaration declaration)
-      (λ p. ap₂ (λ x y. x && y) (text_test p.at.agent agent) (and_true _ ∙ text_test p.statement.declaration declaration)) statements_of_declaration_is (λ id x. refl) (λ id x. refl) (λ p. statement_shown (bare p))
+      (λ p. ap₂ (λ x y. x && y) (text_test p.at.agent agent) (and-true _ ∙ text_test p.statement.declaration declaration)) statements_of_declaration_is (λ id x. refl) (λ id x. refl) (λ p. statement_shown (bare p))
       ∙ ap (map (λ p. statement_columns (bare p))) (own_statements agent r.members shows.stored.ordered (λ p. is_same p.statement.declaration declaration))
 
   pub statements_of_series_found : (agent declaration rec : List ℕ) → Shows statements_of_series_text (Text agent ∷ Text declaration ∷ Text rec ∷ []) old new rows
@@ -276,13 +278,13 @@ module _ (r : Register) (old new : State) (shows : ShowsIn r old) (rows : List R
   statements_of_series_found agent declaration rec h =
       from_statements r old new shows rows statements_of_series_text (Text agent ∷ Text declaration ∷ Text rec ∷ []) _ statements_of_series_query.filter statements_of_series_query.project h (λ p. statement_columns (bare p))
       (λ p. is_same p.at.agent agent && (is_same p.statement.declaration declaration && is_same p.statement.rec rec))
-      (λ p. ap₂ (λ x y. x && y) (text_test p.at.agent agent) (ap₂ (λ x y. x && y) (text_test p.statement.declaration declaration) (and_true _ ∙ text_test p.statement.rec rec))) statements_of_series_is (λ id x. refl) (λ id x. refl) (λ p. statement_shown (bare p))
+      (λ p. ap₂ (λ x y. x && y) (text_test p.at.agent agent) (ap₂ (λ x y. x && y) (text_test p.statement.declaration declaration) (and-true _ ∙ text_test p.statement.rec rec))) statements_of_series_is (λ id x. refl) (λ id x. refl) (λ p. statement_shown (bare p))
       ∙ ap (map (λ p. statement_columns (bare p))) (own_statements agent r.members shows.stored.ordered (λ p. is_same p.statement.declaration declaration && is_same p.statement.rec rec))
 
   pub statements_of_record_found : (agent rec : List ℕ) → Shows statements_of_record_text (Text agent ∷ Text rec ∷ []) old new rows → rows ≡ map (λ p. statement_columns (bare p)) (in_record rec (placed_of agent r))
   statements_of_record_found agent rec h =
       from_statements r old new shows rows statements_of_record_text (Text agent ∷ Text rec ∷ []) _ statements_of_record_query.filter statements_of_record_query.project h (λ p. statement_columns (bare p)) (λ p. is_same p.at.agent agent && is_same p.statement.rec rec)
-      (λ p. ap₂ (λ x y. x && y) (text_test p.at.agent agent) (and_true _ ∙ text_test p.statement.rec rec)) statements_of_record_is (λ id x. refl) (λ id x. refl) (λ p. statement_shown (bare p))
+      (λ p. ap₂ (λ x y. x && y) (text_test p.at.agent agent) (and-true _ ∙ text_test p.statement.rec rec)) statements_of_record_is (λ id x. refl) (λ id x. refl) (λ p. statement_shown (bare p))
       ∙ ap (map (λ p. statement_columns (bare p))) (own_statements agent r.members shows.stored.ordered (λ p. is_same p.statement.rec rec))
 
   pub statements_of_subject_found : (agent declaration rec : List ℕ) → Shows statements_of_subject_text (Text agent ∷ Text declaration ∷ Text rec ∷ []) old new rows
@@ -296,7 +298,7 @@ module _ (r : Register) (old new : State) (shows : ShowsIn r old) (rows : List R
   pub identifiers_by_id_found : (scheme id : List ℕ) → Shows identifiers_by_id_text (Text scheme ∷ Text id ∷ []) old new rows → rows ≡ map identifier_columns (identified_by scheme id r.members)
   identifiers_by_id_found scheme id h =
       from_identifiers r old new shows rows identifiers_by_id_text (Text scheme ∷ Text id ∷ []) _ identifiers_by_id_query.filter identifiers_by_id_query.project h (λ i. is_same i.identifier.scheme scheme && is_same i.identifier.id id)
-      (λ i. ap₂ (λ x y. x && y) (text_test i.identifier.scheme scheme) (and_true _ ∙ text_test i.identifier.id id)) identifiers_by_id_is (λ id x. refl) (λ id x. refl) (λ i. refl)
+      (λ i. ap₂ (λ x y. x && y) (text_test i.identifier.scheme scheme) (and-true _ ∙ text_test i.identifier.id id)) identifiers_by_id_is (λ id x. refl) (λ id x. refl) (λ i. refl)
 
   module _ (at : At) where
     abbrev place_params : Row
@@ -305,19 +307,19 @@ module _ (r : Register) (old new : State) (shows : ShowsIn r old) (rows : List R
     pub interests_of_statement_found : Shows interests_of_statement_text place_params old new rows → rows ≡ map interest_columns (interests_at at r.members)
     interests_of_statement_found h =
         from_interests r old new shows rows interests_of_statement_text place_params _ interests_of_statement_query.filter interests_of_statement_query.project h (λ i. same_place i.at at)
-        (λ i. ap₂ (λ x y. x && y) (text_test i.at.agent at.agent) (ap₂ (λ x y. x && y) (int_test (pos i.at.filing) (pos at.filing) ∙ number_test i.at.filing at.filing) (and_true _ ∙ int_test (pos i.at.place) (pos at.place) ∙ number_test i.at.place at.place)))
+        (λ i. ap₂ (λ x y. x && y) (text_test i.at.agent at.agent) (ap₂ (λ x y. x && y) (int_test (pos i.at.filing) (pos at.filing) ∙ number_test i.at.filing at.filing) (and-true _ ∙ int_test (pos i.at.place) (pos at.place) ∙ number_test i.at.place at.place)))
         interests_of_statement_is (λ id x. refl) (λ id x. refl) interest_shown
         ∙ ap (map interest_columns) (rows_at (λ (i : InterestRow). i.at) (λ a. same_place a at) interest_rows (λ p. interests_stand p.at 1 (interests_of p.statement.details)) (placed r.members))
 
     pub identifiers_of_statement_found : Shows identifiers_of_statement_text place_params old new rows → rows ≡ map identifier_columns (identifiers_at at r.members)
     identifiers_of_statement_found h =
         from_identifiers r old new shows rows identifiers_of_statement_text place_params _ identifiers_of_statement_query.filter identifiers_of_statement_query.project h (λ i. same_place i.at at)
-        (λ i. ap₂ (λ x y. x && y) (text_test i.at.agent at.agent) (ap₂ (λ x y. x && y) (int_test (pos i.at.filing) (pos at.filing) ∙ number_test i.at.filing at.filing) (and_true _ ∙ int_test (pos i.at.place) (pos at.place) ∙ number_test i.at.place at.place)))
+        (λ i. ap₂ (λ x y. x && y) (text_test i.at.agent at.agent) (ap₂ (λ x y. x && y) (int_test (pos i.at.filing) (pos at.filing) ∙ number_test i.at.filing at.filing) (and-true _ ∙ int_test (pos i.at.place) (pos at.place) ∙ number_test i.at.place at.place)))
         identifiers_of_statement_is (λ id x. refl) (λ id x. refl) (λ i. refl)
         ∙ ap (map identifier_columns) (rows_at (λ (i : IdentifierRow). i.at) (λ a. same_place a at) identifier_rows (λ p. identifiers_stand p.at 1 (identifiers_of p.statement.details)) (placed r.members))
 
     pub statement_by_place_found : Shows statement_by_place_text place_params old new rows → rows ≡ map (λ p. statement_columns (bare p)) (standing_at at r.members)
     statement_by_place_found h =
         from_statements r old new shows rows statement_by_place_text place_params _ statement_by_place_query.filter statement_by_place_query.project h (λ p. statement_columns (bare p)) (λ p. same_place p.at at)
-        (λ p. ap₂ (λ x y. x && y) (text_test p.at.agent at.agent) (ap₂ (λ x y. x && y) (int_test (pos p.at.filing) (pos at.filing) ∙ number_test p.at.filing at.filing) (and_true _ ∙ int_test (pos p.at.place) (pos at.place) ∙ number_test p.at.place at.place)))
+        (λ p. ap₂ (λ x y. x && y) (text_test p.at.agent at.agent) (ap₂ (λ x y. x && y) (int_test (pos p.at.filing) (pos at.filing) ∙ number_test p.at.filing at.filing) (and-true _ ∙ int_test (pos p.at.place) (pos at.place) ∙ number_test p.at.place at.place)))
         statement_by_place_is (λ id x. refl) (λ id x. refl) (λ p. statement_shown (bare p))

@@ -64,10 +64,6 @@ module _ (t : ℕ) (tests : List Term) (params : Row) where
         let kept = a.distinct ∙ ap (map (output first)) staged in
         (a.ordered, subst (λ k. IsPermutation k a.ordered) kept a.same, a.sorted, a.shown)
 
-pub and_true : (b : Bool) → (b && true) ≡ b
-and_true true = refl
-and_true false = refl
-
 -- an equality of integers
 pub int_test : (m n : ℤ) → is_true (binary (Compare Eq Binary) (Int m) (Int n)) ≡ is_eq (int_cmp m n)
 unfolding binary

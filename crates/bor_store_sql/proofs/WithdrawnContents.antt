@@ -7,6 +7,8 @@ use Rattle.std.specs.Ordering.{is_eq, int_cmp}
 use Rattle.std.proofs.lemmas.Int.{ints}
 use Rattle.std.proofs.lemmas.Bool.Decides.{nat_tests}
 use Rattle.std.proofs.lemmas.List.{map-append}
+use Rattle.std.proofs.Math.Bool.{and-true}
+use Rattle.std.proofs.lemmas.List.Elements.{filter-append}
 use Rattle.sqlite.specs.declared.types.Value.TheVariants.{Int, Text}
 use Rattle.sqlite.specs.Order.{Row}
 use Rattle.sqlite.specs.Effect.{Database}
@@ -28,16 +30,16 @@ use Rattle.bor_register.proofs.Forms.{formed-with_filings, formed-with_withdrawn
 use Rattle.bor_store_rows.specs.Stored.{AreNumbered, AllNumbered, IsCounted, AreCounted, IsStored}
 use Rattle.bor_store_sql.specs.Changing.{is_of_filing, marked, others, withdrawn_in, withdrawn}
 use Rattle.bor_store_sql.proofs.Inserts.{cast_int}
-use Rattle.bor_store_sql.proofs.Members.{filter_append, apart_names}
+use Rattle.bor_store_sql.proofs.Members.{apart_names}
 use Rattle.bor_store_sql.proofs.StoredMembers.{AllCounted, numbered_with, numbered_of, ordered_with, counted_of, counted_with}
-use Rattle.bor_store_sql.proofs.Selects.{text_test, int_test, and_true}
+use Rattle.bor_store_sql.proofs.Selects.{text_test, int_test}
 
 same_number : (m n : ℕ) → is_eq (int_cmp (pos m) (pos n)) ≡ (m == n)
 same_number m n = grind (arith, ints, nat_tests)
 
 -- a row that begins with an agent and a filing's number
 pub begins : (agent : List ℕ) (number : ℕ) (a : List ℕ) (n : ℕ) (rest : Row) → is_of_filing agent number (Text a ∷ Int (pos n) ∷ rest) ≡ (is_same a agent && n == number)
-begins agent number a n rest = ap₂ (λ x y. x && y) (text_test a agent) (and_true _ ∙ int_test (pos n) (pos number) ∙ same_number n number)
+begins agent number a n rest = ap₂ (λ x y. x && y) (text_test a agent) (and-true _ ∙ int_test (pos n) (pos number) ∙ same_number n number)
 
 pub agents_with : (agent : List ℕ) (new : List AcceptedFiling) (ms : List Member) → map agent_columns (with_filings agent new ms) ≡ map agent_columns ms
 agents_with agent new [] = refl
@@ -127,11 +129,11 @@ module _ (agent : List ℕ) (number : ℕ) where
 
   placed_stay : (name : List ℕ) (fs : List AcceptedFiling) → AreOthers name fs → filter stays (placed_by name fs) ≡ placed_by name fs
   placed_stay name [] all = refl
-  placed_stay name (f ∷ fs) all = filter_append stays (placed_from name f.number 1 f.statements) (placed_by name fs) ∙ ap₂ (λ x y. x ++ y) (kept_all name f.number 1 f.statements all.0) (placed_stay name fs all.1)
+  placed_stay name (f ∷ fs) all = filter-append stays (placed_from name f.number 1 f.statements) (placed_by name fs) ∙ ap₂ (λ x y. x ++ y) (kept_all name f.number 1 f.statements all.0) (placed_stay name fs all.1)
 
   one_gone : (name : List ℕ) (n : ℕ) (fs : List AcceptedFiling) → is_same name agent ≡ true → AreNumbered n fs → filter stays (placed_by name fs) ≡ placed_by name (with_withdrawn number fs)
   one_gone name n [] same up = refl
-  one_gone name n (f ∷ fs) same up = filter_append stays (placed_from name f.number 1 f.statements) (placed_by name fs) ∙ go (f.number == number) refl (one_gone name (n + 1) fs same up.1)
+  one_gone name n (f ∷ fs) same up = filter-append stays (placed_from name f.number 1 f.statements) (placed_by name fs) ∙ go (f.number == number) refl (one_gone name (n + 1) fs same up.1)
     where
       go : (b : Bool) → (f.number == number) ≡ b → filter stays (placed_by name fs) ≡ placed_by name (with_withdrawn number fs)
           → filter stays (placed_from name f.number 1 f.statements) ++ filter stays (placed_by name fs) ≡ placed_by name (with_withdrawn number (f ∷ fs))
@@ -142,11 +144,11 @@ module _ (agent : List ℕ) (number : ℕ) where
 
   all_stay : (ms : List Member) → AllByRecursion (λ (m : Member). is_same m.name agent ≡ false) ms → filter stays (placed ms) ≡ placed ms
   all_stay [] all = refl
-  all_stay (m ∷ ms) all = filter_append stays (placed_by m.name m.filings) (placed ms) ∙ ap₂ (λ x y. x ++ y) (placed_stay m.name m.filings (other_name m.name m.filings all.0)) (all_stay ms all.1)
+  all_stay (m ∷ ms) all = filter-append stays (placed_by m.name m.filings) (placed ms) ∙ ap₂ (λ x y. x ++ y) (placed_stay m.name m.filings (other_name m.name m.filings all.0)) (all_stay ms all.1)
 
   pub statements_gone : (ms : List Member) → IsOrdered ms → AllNumbered ms → filter stays (placed ms) ≡ placed (changed ms)
   statements_gone [] up all = refl
-  statements_gone (m ∷ ms) up all = filter_append stays (placed_by m.name m.filings) (placed ms) ∙ go (is_same m.name agent) refl (statements_gone ms up.1 all.1)
+  statements_gone (m ∷ ms) up all = filter-append stays (placed_by m.name m.filings) (placed ms) ∙ go (is_same m.name agent) refl (statements_gone ms up.1 all.1)
     where
       go : (b : Bool) → is_same m.name agent ≡ b → filter stays (placed ms) ≡ placed (changed ms) → filter stays (placed_by m.name m.filings) ++ filter stays (placed ms) ≡ placed (changed_by m ms b)
       go true e more = (ap₂ (λ x y. x ++ y) (one_gone m.name 1 m.filings e all.0) (all_stay ms (apart_names agent m.name ms e up.0)))
@@ -156,7 +158,7 @@ module _ (agent : List ℕ) (number : ℕ) where
   module _ (g : Placed → List Row) (whole : (p : Placed) (b : Bool) → (is_same p.at.agent agent && p.at.filing == number) ≡ b → others agent number (g p) ≡ cond b [] (g p)) where
     pub rows_gone : (ps : List Placed) → others agent number (flat_map g ps) ≡ flat_map g (filter stays ps)
     rows_gone [] = refl
-    rows_gone (p ∷ ps) = filter_append (λ x. not (is_of_filing agent number x)) (g p) (flat_map g ps) ∙ go (is_same p.at.agent agent && p.at.filing == number) refl (rows_gone ps)
+    rows_gone (p ∷ ps) = filter-append (λ x. not (is_of_filing agent number x)) (g p) (flat_map g ps) ∙ go (is_same p.at.agent agent && p.at.filing == number) refl (rows_gone ps)
       where
         go : (b : Bool) → (is_same p.at.agent agent && p.at.filing == number) ≡ b → others agent number (flat_map g ps) ≡ flat_map g (filter stays ps)
             → others agent number (g p) ++ others agent number (flat_map g ps) ≡ flat_map g (filter stays (p ∷ ps))
@@ -208,11 +210,11 @@ module _ (agent : List ℕ) (number : ℕ) where
   none_in : (ms : List Member) → AllByRecursion (λ (m : Member). is_same m.name agent ≡ false) ms → filter (is_of_filing agent number) (filing_rows ms) ≡ []
   none_in [] all = refl
   none_in (m ∷ ms) all =
-      filter_append (is_of_filing agent number) (map (filing_columns m.name) m.filings) (filing_rows ms) ∙ ap₂ (λ x y. x ++ y) (none_found m.name m.filings (other_name m.name m.filings all.0)) (none_in ms all.1)
+      filter-append (is_of_filing agent number) (map (filing_columns m.name) m.filings) (filing_rows ms) ∙ ap₂ (λ x y. x ++ y) (none_found m.name m.filings (other_name m.name m.filings all.0)) (none_in ms all.1)
 
   pub once : (ms : List Member) → IsOrdered ms → AllNumbered ms → length (filter (is_of_filing agent number) (filing_rows ms)) ≤ 1
   once [] up all = omega arith
-  once (m ∷ ms) up all = rw (filter_append (is_of_filing agent number) (map (filing_columns m.name) m.filings) (filing_rows ms)) (go (is_same m.name agent) refl (once ms up.1 all.1))
+  once (m ∷ ms) up all = rw (filter-append (is_of_filing agent number) (map (filing_columns m.name) m.filings) (filing_rows ms)) (go (is_same m.name agent) refl (once ms up.1 all.1))
     where
       go : (b : Bool) → is_same m.name agent ≡ b → length (filter (is_of_filing agent number) (filing_rows ms)) ≤ 1
           → length (filter (is_of_filing agent number) (map (filing_columns m.name) m.filings) ++ filter (is_of_filing agent number) (filing_rows ms)) ≤ 1

@@ -1,10 +1,11 @@
 use Rattle.std.proofs.Common.{◌∙◌, sym}
+use Rattle.std.proofs.lemmas.Bool.{not-false}
 use Rattle.bor_links.specs.Rows.{nodes_of}
-use Rattle.bor_register.proofs.KeyedReads.{link_is, not_false}
+use Rattle.bor_register.proofs.KeyedReads.{link_is}
 use Rattle.bor_store_keys.specs.Viewed.{rows_seen}
 use Rattle.bor_store_keys.proofs.links.link_between.Goals as goal
 
 pub returns-clause-answer : goal.returns-clause-answer
 returns-clause-answer g c clean r shows entity =
-    link_is (nodes_of c.args.view.now.day (rows_seen c.args.view.now r)) c.args.node.now c.args.party c.args.subject c.args.interests.now c.stake_of.result c.holding_of.result (not_false _ (sym c.if-ne.ensures)) entity
+    link_is (nodes_of c.args.view.now.day (rows_seen c.args.view.now r)) c.args.node.now c.args.party c.args.subject c.args.interests.now c.stake_of.result c.holding_of.result (not-false _ (sym c.if-ne.ensures)) entity
     (sym (c.in_ok-is_node.ensures.answer clean r shows) ∙ c.if-not-branch.false) c.stake_of.ensures c.holding_of.ensures
