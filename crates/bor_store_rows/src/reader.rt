@@ -168,8 +168,13 @@ fn span_of(row: &Row) -> Result<Span, RowFault>
 fn share_of(row: &Row) -> Result<Option<Span>, RowFault>
     ensures { (o : Option Range) → HasFour row.now 6 (share_columns o) → IfSome o IsShare → result ≡ Ok o }
 {
-    match value_at(row, 6) {
-        ValueRef::Null => Ok(None),
+    match (
+        value_at(row, 6),
+        value_at(row, 7),
+        value_at(row, 8),
+        value_at(row, 9),
+    ) {
+        (ValueRef::Null, ValueRef::Null, ValueRef::Null, ValueRef::Null) => Ok(None),
         _ => Ok(Some(span_of(row)?)),
     }
 }
