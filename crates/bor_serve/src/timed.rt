@@ -1,6 +1,6 @@
 //! One direction of a connection, with a limit to how long its peer is waited for.
 
-ghost use Rattle.std.specs.Prelude.{◌≡◌, ◌<◌, ◌≤◌, ◌+◌, IfOk, MatchOption};
+ghost use Rattle.std.specs.Prelude.{◌≡◌, ◌<◌, ◌≤◌, ◌+◌, IfOk, IfSome, IsSome, MatchOption, None, Some};
 ghost use Rattle.std.specs.Duration.{as_nanos};
 ghost use Rattle.bor_wire_read.specs.Reading.{TakesAtMost};
 ghost use Rattle.bor_serve.specs.Limits.{rest_limit};
@@ -30,6 +30,7 @@ impl<'a, C: Clock, S: OpenStream> Timed<'a, C, S> {
     pub fn new(clock: &'a C, stream: S, limit: Duration) -> Timed<'a, C, S>
         ensures stream { result.stream ≡ stream }
         ensures limit { result.limit ≡ limit }
+        ensures start { result.start ≡ None }
     {
         Timed {
             clock,
@@ -39,9 +40,12 @@ impl<'a, C: Clock, S: OpenStream> Timed<'a, C, S> {
         }
     }
 
-    // What is left of the time.
+    // What is left of the time. It begins here where it hasn't yet, and never anew.
     fn left(&mut self) -> io::Result<Duration>
         ensures stream { self.new.stream ≡ self.old.stream }
+        ensures limit { self.new.limit ≡ self.old.limit }
+        ensures start { IfSome self.old.start (λ start. self.new.start ≡ Some start) }
+        ensures begun { IfOk result (λ _. IsSome self.new.start) }
         ensures left { IfOk result (λ left. (0 < as_nanos left) × (as_nanos left ≤ as_nanos self.old.limit)) }
     {
         let now = Instant::now(self.clock)?;

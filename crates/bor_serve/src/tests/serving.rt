@@ -1,8 +1,8 @@
 //! Clients without sockets: what each has time for, and what the server ends as.
 
-use crate::serve_on;
 use crate::tests::clients::{Broken, Client, Queue, Ticking};
 use crate::tests::requests::{FILINGS, LISTED, NOTHING_LISTED, first_lodging, new_keep, published};
+use crate::{Limits, serve_on, serve_within};
 use bor_failing::FailingKeep;
 use bor_machine::StoreFault;
 use bor_wire::UNAVAILABLE;
@@ -85,6 +85,29 @@ fn a_call_waits_for_what_is_left(rt: HostRuntime) -> Result<(), Fail> {
     );
     let waits = client.waits.try_borrow().map_err(|_| "in use")?;
     let wanted = [10_000, 9_900, 9_800, 10_000, 1_000].map(Duration::from_millis);
+    assert!(rt; waits.as_slice() == wanted.as_slice());
+    Ok(())
+}
+
+// The same where a request, its reply and the rest have limits of their own.
+#[test]
+fn a_call_waits_for_what_is_left_of_its_own_limit(rt: HostRuntime) -> Result<(), Fail> {
+    let alloc = rt.alloc();
+    let mut keep = new_keep(alloc)?;
+    let client = Client::new(alloc, FILINGS, FILINGS.len().div_ceil(2));
+    let clients = [Some(&client)];
+    let queue = Queue::new(&clients);
+    let limits = Limits {
+        request: Duration::from_millis(700),
+        reply: Duration::from_millis(500),
+        rest: Duration::from_millis(300),
+    };
+    assert_eq!(rt;
+        serve_within(&(Ticking::new(100), alloc), &mut keep, &queue, 1, limits),
+        0
+    );
+    let waits = client.waits.try_borrow().map_err(|_| "in use")?;
+    let wanted = [700, 600, 500, 300].map(Duration::from_millis);
     assert!(rt; waits.as_slice() == wanted.as_slice());
     Ok(())
 }
