@@ -27,6 +27,7 @@
 
 mod fault;
 mod keep;
+mod last_asked;
 mod list_keep;
 #[cfg(test)]
 mod tests;

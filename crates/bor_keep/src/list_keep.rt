@@ -1,36 +1,47 @@
 //! The register in memory.
 
-ghost use Rattle.std.specs.Prelude.{◌≡◌, ◌+◌, ◌%◌, ◌^◌};
+ghost use Rattle.std.specs.Prelude.{◌≡◌, ◌+◌, ◌%◌, ◌^◌, IfOk};
+ghost use Rattle.bor_links.specs.Answers.{AreAliases, AreLinksInto, AreSame};
+ghost use Rattle.bor_links.specs.Shown.{info_of};
 ghost use Rattle.bor_register.specs.Register.{empty_register};
-ghost use Rattle.bor_register.specs.Rows.{visible};
+ghost use Rattle.bor_register.specs.Seen.{seen_at};
 
 use crate::fault::StoreFault;
 use crate::keep::Keep;
+use crate::last_asked::LastAsked;
 use bods_read::Statement;
+use bor_chains::{LinkSource, ListSource};
 use bor_links::{Link, Node, NodeInfo};
 use bor_records::{Last, Row};
 use bor_register::{
-    Caller, Filing, FilingLine, Member, Outward, Viewpoint, all_lines, all_published, all_visible,
+    Caller, Filing, FilingLine, Member, Outward, all_lines, all_published, all_visible,
     any_live_has_id, caller_with, enrol_member, filing_under, is_enrolled, is_filed, is_succeeded,
     last_live, line_under, own_filings, push_filing, rows_seen, withdraw_of,
 };
 use bor_terms::{AgentName, Day, Ident, LodgeKey, Token};
-use std::alloc::Global;
+use std::alloc::{AllocError, Global};
 use std::marker::Model;
 
 /// A register in memory: the plain implementation of `Keep`. It has no store that could fail, so
 /// its one fault is want of memory.
+///
+/// What a viewer sees is listed as nodes and links where a chain first asks for one of them, and
+/// the lists are kept until another viewer or day is asked for, or the register changes. So a
+/// report makes them once.
 #[derive(Drop)]
 pub struct ListKeep {
     alloc: Global,
     day: Day,
     registrar: Token,
     members: Vec<Member>,
+    last_asked: Option<LastAsked>,
     faults: u64,
 }
 
 impl Model for ListKeep {
+    ghost use Rattle.std.specs.Prelude.{◌≡◌, IfSome};
     ghost use Rattle.bor_keep.specs.Holding.{Holding};
+    ghost use Rattle.bor_register.specs.Seen.{seen_at};
 
     ghost Value = { Holding };
 
@@ -38,6 +49,10 @@ impl Model for ListKeep {
       register = record { day = k.day; registrar = k.registrar; members = k.members.items };
       faults = k.faults;
     } };
+
+    // What was last asked is of the register as it is.
+    ghost invariant = { λ k. IfSome k.last_asked (λ o.
+        o.source.shown ≡ seen_at o.viewer o.day (record { day = k.day; registrar = k.registrar; members = k.members.items })) };
 }
 
 impl ListKeep {
@@ -52,14 +67,97 @@ impl ListKeep {
             day,
             registrar,
             members: Vec::new(alloc),
+            last_asked: None,
             faults: 0,
         }
     }
 
-    fn seen_by<'a>(&'a self, viewer: &'a AgentName) -> Viewpoint<'a>
-        ensures { result ≡ visible viewer.now self.now.register.day self.now.register.members }
+    // The nodes and links that the viewer sees on a day. They are taken out, so that they can be asked.
+    fn take_source(&mut self, viewer: &AgentName, day: Day) -> Result<ListSource, AllocError>
+        ensures kept { self.new ≡ self.old }
+        ensures seen { IfOk result (λ source. source.shown ≡ seen_at viewer.now day self.old.register) }
     {
-        Viewpoint::new(self.alloc, viewer, self.day, &self.members)
+        match self.last_asked.take() {
+            Some(last) if last.is_of(viewer, day) => Ok(last.source),
+            _ => {
+                let rows = all_visible(self.alloc, viewer, self.day, &self.members)?;
+                ListSource::from_rows(self.alloc, &rows, day)
+            }
+        }
+    }
+
+    // Puts them back, where there is memory for the viewer's name.
+    fn put_source(&mut self, viewer: &AgentName, day: Day, source: ListSource)
+        requires { source.shown ≡ seen_at viewer.now day self.old.register }
+        ensures { self.new ≡ self.old }
+    {
+        if let Ok(viewer) = viewer.copy(self.alloc) {
+            self.last_asked = Some(LastAsked {
+                viewer,
+                day,
+                source,
+            });
+        }
+    }
+
+    fn node_seen(
+        &mut self,
+        viewer: &AgentName,
+        day: Day,
+        node: &Node,
+    ) -> Result<Option<NodeInfo>, AllocError>
+        ensures kept { self.new ≡ self.old }
+        ensures told { IfOk result (λ info. info ≡ info_of (seen_at viewer.now day self.old.register) node.now) }
+    {
+        let mut source = self.take_source(viewer, day)?;
+        let told = source.node(node);
+        self.put_source(viewer, day, source);
+        told
+    }
+
+    fn aliases_seen(
+        &mut self,
+        viewer: &AgentName,
+        day: Day,
+        node: &Node,
+    ) -> Result<Vec<Node>, AllocError>
+        ensures kept { self.new ≡ self.old }
+        ensures told { IfOk result (λ nodes. AreAliases (seen_at viewer.now day self.old.register) node.now nodes.items) }
+    {
+        let mut source = self.take_source(viewer, day)?;
+        let told = source.aliases(node);
+        self.put_source(viewer, day, source);
+        told
+    }
+
+    fn same_seen(
+        &mut self,
+        viewer: &AgentName,
+        day: Day,
+        node: &Node,
+    ) -> Result<Vec<Node>, AllocError>
+        ensures kept { self.new ≡ self.old }
+        ensures told { IfOk result (λ nodes. AreSame (seen_at viewer.now day self.old.register) node.now nodes.items) }
+    {
+        let mut source = self.take_source(viewer, day)?;
+        let told = source.same(node);
+        self.put_source(viewer, day, source);
+        told
+    }
+
+    fn links_seen(
+        &mut self,
+        viewer: &AgentName,
+        day: Day,
+        node: &Node,
+    ) -> Result<Vec<Link>, AllocError>
+        ensures kept { self.new ≡ self.old }
+        ensures told { IfOk result (λ links. AreLinksInto (seen_at viewer.now day self.old.register) node.now links.items) }
+    {
+        let mut source = self.take_source(viewer, day)?;
+        let told = source.links_into(node);
+        self.put_source(viewer, day, source);
+        told
     }
 
     fn want_of_memory(&mut self) -> StoreFault
@@ -187,8 +285,7 @@ impl Keep for ListKeep {
         day: Day,
         node: &Node,
     ) -> Result<Option<NodeInfo>, StoreFault> {
-        let told = self.seen_by(viewer).node(day, node);
-        match told {
+        match self.node_seen(viewer, day, node) {
             Ok(info) => Ok(info),
             Err(_) => Err(self.want_of_memory()),
         }
@@ -200,16 +297,14 @@ impl Keep for ListKeep {
         day: Day,
         node: &Node,
     ) -> Result<Vec<Node>, StoreFault> {
-        let told = self.seen_by(viewer).aliases(day, node);
-        match told {
+        match self.aliases_seen(viewer, day, node) {
             Ok(nodes) => Ok(nodes),
             Err(_) => Err(self.want_of_memory()),
         }
     }
 
     fn same(&mut self, viewer: &AgentName, day: Day, node: &Node) -> Result<Vec<Node>, StoreFault> {
-        let told = self.seen_by(viewer).same(day, node);
-        match told {
+        match self.same_seen(viewer, day, node) {
             Ok(nodes) => Ok(nodes),
             Err(_) => Err(self.want_of_memory()),
         }
@@ -221,8 +316,7 @@ impl Keep for ListKeep {
         day: Day,
         node: &Node,
     ) -> Result<Vec<Link>, StoreFault> {
-        let told = self.seen_by(viewer).links_into(day, node);
-        match told {
+        match self.links_seen(viewer, day, node) {
             Ok(links) => Ok(links),
             Err(_) => Err(self.want_of_memory()),
         }
@@ -243,6 +337,7 @@ impl Keep for ListKeep {
         bytes: &[u8],
         statements: &[Statement],
     ) -> Result<u32, StoreFault> {
+        self.last_asked = None;
         match push_filing(
             self.alloc,
             &mut self.members,
@@ -258,16 +353,19 @@ impl Keep for ListKeep {
     }
 
     fn withdraw(&mut self, agent: &AgentName, number: u32) -> Result<(), StoreFault> {
+        self.last_asked = None;
         withdraw_of(self.alloc, &mut self.members, agent, number);
         Ok(())
     }
 
     fn set_day(&mut self, day: Day) -> Result<(), StoreFault> {
+        self.last_asked = None;
         self.day = day;
         Ok(())
     }
 
     fn add_agent(&mut self, agent: &AgentName, token: &Token) -> Result<(), StoreFault> {
+        self.last_asked = None;
         match enrol_member(self.alloc, &mut self.members, agent, token) {
             Ok(()) => Ok(()),
             Err(_) => Err(self.want_of_memory()),

@@ -1,6 +1,6 @@
 -- What a series' latest statement tells of the nodes and links of all rows: an open record and an alias
 -- are read by their keys, and a link by candidates that cover those which may make it.
-use Rattle.std.proofs.Common.{◌≡◌, ◌&&◌, ◌||◌, not, ℤ, Bool, true, false, cond, Option, Some, None, option_and_then, List, [], ◌∷◌, Contains, sym, refl, ap, ◌∙◌, subst, inl, inr}
+use Rattle.std.proofs.Common.{◌≡◌, ◌&&◌, not, ℤ, Bool, true, false, cond, Option, Some, None, option_and_then, List, [], ◌∷◌, Contains, sym, refl, ap, ◌∙◌, subst, inl, inr}
 use Rattle.std.specs.List.{find, filter, filter_map, cons_option, list_any}
 use Rattle.std.proofs.lemmas.Bool.{not-true, or_parts}
 use Rattle.bor_terms.specs.Texts.{is_same}

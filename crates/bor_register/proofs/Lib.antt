@@ -9,6 +9,4 @@ pub mod Journals
 pub mod SeenRows
 pub mod Withdrawals
 pub mod Examples
-pub mod PickedRows
 pub mod OneAgent
-pub mod KeyedReads

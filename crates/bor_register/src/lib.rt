@@ -15,8 +15,7 @@
 //!
 //! Who keeps members calls what is told of them here, wherever it gets them from: who has a token
 //! ([`caller_with`]), filings and their lines, live statements ([`last_live`], [`any_live_has_id`]),
-//! the rows that a viewer sees, what is published; and [`Viewpoint`], which reads nodes and links one
-//! at a time. What keeps a register is `bor_keep`.
+//! the rows that a viewer sees, and what is published. What keeps a register is `bor_keep`.
 #![tactic(auto)]
 
 mod caller;
@@ -25,11 +24,9 @@ mod filings;
 pub mod laws;
 mod live;
 mod member;
-mod picked;
 mod publication;
 mod rows;
 mod statements;
-mod viewpoint;
 mod withdrawal;
 
 pub use caller::Caller;
@@ -42,5 +39,4 @@ pub use member::{
 pub use publication::all_published;
 pub use rows::{all_visible, rows_seen};
 pub use statements::{any_has_id, last_in};
-pub use viewpoint::Viewpoint;
 pub use withdrawal::is_succeeded;

@@ -37,7 +37,7 @@ use Rattle.bor_links.proofs.Signs.{in_common}
 use Rattle.bor_chains.specs.Classes.{HasSign}
 use Rattle.bor_chains.proofs.Classes.{common_alike}
 use Rattle.bor_chains.proofs.Signs.{identifiers_more}
-use Rattle.bor_register.specs.Picked.{IsAlikeIn}
+use Rattle.bor_store_keys.specs.Candidates.{IsAlikeIn}
 use Rattle.bor_store_keys.specs.Alike.{Expands, Follows}
 use Rattle.bor_store_keys.specs.Signed.{CoverSign}
 

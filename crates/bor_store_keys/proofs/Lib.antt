@@ -1,3 +1,4 @@
+pub mod ByRecord
 pub mod SeriesSeen
 pub mod OpenAt
 pub mod Told

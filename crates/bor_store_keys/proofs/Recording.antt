@@ -11,7 +11,7 @@ use Rattle.bor_links.specs.Series.{series_of}
 use Rattle.bor_links.proofs.Found.{Contains-filter, Contains-from_filter, Contains-map}
 use Rattle.bor_register.specs.Register.{Register}
 use Rattle.bor_register.specs.Rows.{visible}
-use Rattle.bor_register.specs.Picked.{is_into, names}
+use Rattle.bor_store_keys.specs.Candidates.{is_into, names}
 use Rattle.bor_store_rows.specs.declared.rows.Placed.{Placed}
 use Rattle.bor_store_rows.specs.declared.rows.StatementRow.{StatementRow}
 use Rattle.bor_store_rows.specs.Placed.{bare}

@@ -9,7 +9,7 @@ use Rattle.bor_links.specs.Rows.{info_stated}
 use Rattle.bor_links.specs.Series.{open_at}
 use Rattle.bor_links.specs.Shown.{info_of}
 use Rattle.bor_register.specs.Register.{Register}
-use Rattle.bor_register.proofs.KeyedReads.{info_by_key}
+use Rattle.bor_store_keys.proofs.ByRecord.{info_by_key}
 use Rattle.bor_store_rows.specs.declared.rows.Placed.{Placed}
 use Rattle.bor_store_rows.specs.declared.rows.StatementRow.{StatementRow}
 use Rattle.bor_store_rows.specs.declared.rows.InterestRow.{InterestRow}

@@ -8,7 +8,7 @@ ghost use Rattle.bor_links.specs.ByKey.{node_at};
 ghost use Rattle.bor_links.specs.Growth.{Grown};
 ghost use Rattle.bor_links.specs.Shown.{is_like};
 ghost use Rattle.bor_links.specs.Signs.{by_identifier, sign_cmp, signs};
-ghost use Rattle.bor_register.specs.Picked.{IsAlike, IsAlikeIn};
+ghost use Rattle.bor_store_keys.specs.Candidates.{IsAlike, IsAlikeIn};
 ghost use Rattle.bor_register.specs.Seen.{seen_at};
 ghost use Rattle.bor_store_sql.specs.Shown.{IsClean};
 ghost use Rattle.bor_store_reads.specs.Answering.{Answers};

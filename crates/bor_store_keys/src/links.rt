@@ -6,7 +6,7 @@ ghost use Rattle.sqlite.specs.Held.{state};
 ghost use Rattle.bor_links.specs.Answers.{AreLinksInto, only_into};
 ghost use Rattle.bor_links.specs.Rows.{is_entity_info, link_between, nodes_of};
 ghost use Rattle.bor_links.specs.Shown.{info_of};
-ghost use Rattle.bor_register.specs.Picked.{link_at, link_into};
+ghost use Rattle.bor_store_keys.specs.Candidates.{link_at, link_into};
 ghost use Rattle.bor_register.specs.Seen.{seen_at};
 ghost use Rattle.bor_store_sql.specs.Shown.{IsClean};
 ghost use Rattle.bor_store_reads.specs.Answering.{Answers};

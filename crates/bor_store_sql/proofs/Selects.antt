@@ -1,5 +1,5 @@
 -- What a SELECT over one table answers.
-use Rattle.std.proofs.Common.{◌≡◌, ℕ, ◌^◌, Bool, true, false, ◌&&◌, ℤ, List, [], ◌∷◌, map, filter, take, flat_map, nat_le, Some, refl, ap, subst, ◌∙◌, bytes_eq, if◌then◌else◌, IsPermutation, IsSorted}
+use Rattle.std.proofs.Common.{◌≡◌, ℕ, ◌^◌, Bool, true, false, ℤ, List, [], ◌∷◌, map, filter, take, flat_map, nat_le, Some, refl, ap, subst, ◌∙◌, bytes_eq, if◌then◌else◌, IsPermutation, IsSorted}
 use Rattle.std.specs.List.{list_all}
 use Rattle.std.specs.Ordering.{is_eq, int_cmp}
 use Rattle.std.proofs.lemmas.Map.Text.{is_eq-slice_cmp}

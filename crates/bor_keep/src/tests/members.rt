@@ -2,11 +2,10 @@
 
 use super::notation::{agent, day, entity, ident, key, token};
 use bods_read::Statement;
-use bor_links::{Node, NodeInfo};
 use bor_register::{
-    AcceptedFiling, Caller, Member, State, Viewpoint, all_lines, all_published, all_visible,
-    any_live_has_id, caller_with, enrol_member, filing_under, is_enrolled, is_filed, is_succeeded,
-    last_live, line_under, own_filings, push_filing, rows_seen, withdraw_of,
+    AcceptedFiling, Caller, Member, State, all_lines, all_published, all_visible, any_live_has_id,
+    caller_with, enrol_member, filing_under, is_enrolled, is_filed, is_succeeded, last_live,
+    line_under, own_filings, push_filing, rows_seen, withdraw_of,
 };
 use bor_terms::{AgentName, Day, Listed, LodgeKey};
 use std::alloc::Global;
@@ -148,61 +147,5 @@ fn members_tell_what_is_theirs(rt: HostRuntime) -> Result<(), Fail> {
     assert!(rt; !is_succeeded(filings, 1));
     assert_eq!(rt; seen_by_birch(alloc, today, filings)?, 1);
     assert_eq!(rt; seen_of_all(alloc, today, &members)?, (1, 1));
-    Ok(())
-}
-
-fn is_legal_entity(seen: &Viewpoint<'_>, today: Day, node: &Node) -> Result<bool, Fail> {
-    let info = seen.node(today, node)?;
-    Ok(matches!(info, Some(NodeInfo::Entity { legal: true })))
-}
-
-fn is_no_node(seen: &Viewpoint<'_>, date: &str, node: &Node) -> Result<bool, Fail> {
-    Ok(seen.node(day(date)?, node)?.is_none())
-}
-
-// How many aliases the node has, and how many links lead into it.
-fn beside(seen: &Viewpoint<'_>, today: Day, node: &Node) -> Result<(usize, usize), Fail> {
-    let aliases = seen.aliases(today, node)?.len();
-    Ok((aliases, seen.links_into(today, node)?.len()))
-}
-
-// Whether the node is the only one that is the same as it.
-fn is_alone(alloc: Global, seen: &Viewpoint<'_>, today: Day, node: &Node) -> Result<bool, Fail> {
-    let same = seen.same(today, node)?;
-    Ok(same.as_slice() == [node.copy(alloc)?].as_slice())
-}
-
-// The node of alder's record e1 in declaration c1.
-fn e1(alloc: Global) -> Result<Node, Fail> {
-    Ok(Node {
-        agent: agent(alloc, "alder")?,
-        declaration: ident(alloc, "c1")?,
-        rec: ident(alloc, "e1")?,
-    })
-}
-
-// Of e1, whether it is a legal entity today, whether it was no node the day before its statement's, and
-// whether it is alone.
-fn told_of_e1(
-    alloc: Global,
-    seen: &Viewpoint<'_>,
-    today: Day,
-    e1: &Node,
-) -> Result<(bool, bool, bool), Fail> {
-    let is_legal = is_legal_entity(seen, today, e1)?;
-    let is_new = is_no_node(seen, "2024-01-09", e1)?;
-    Ok((is_legal, is_new, is_alone(alloc, seen, today, e1)?))
-}
-
-#[test]
-fn a_viewpoint_tells_of_one_record(rt: HostRuntime) -> Result<(), Fail> {
-    let alloc = rt.alloc();
-    let members = alder_alone(alloc)?;
-    let (birch, e1) = (agent(alloc, "birch")?, e1(alloc)?);
-    let today = day("2024-02-01")?;
-    let seen = Viewpoint::new(alloc, &birch, today, &members);
-    let told = told_of_e1(alloc, &seen, today, &e1)?;
-    assert_eq!(rt; told, (true, true, true));
-    assert_eq!(rt; beside(&seen, today, &e1)?, (0, 0));
     Ok(())
 }

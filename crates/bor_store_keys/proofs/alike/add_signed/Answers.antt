@@ -4,7 +4,7 @@ use Rattle.sqlite.specs.Held.{state}
 use Rattle.bor_links.specs.declared.node.Node.{Node}
 use Rattle.bor_links.specs.Growth.{Grown}
 use Rattle.bor_links.specs.Signs.{sign_cmp}
-use Rattle.bor_register.specs.Picked.{IsAlikeIn}
+use Rattle.bor_store_keys.specs.Candidates.{IsAlikeIn}
 use Rattle.bor_store_reads.proofs.Found.{still_shows}
 use Rattle.bor_store_keys.specs.Viewed.{rows_seen}
 use Rattle.bor_store_keys.proofs.Following.{expands_seen, expands_sign}

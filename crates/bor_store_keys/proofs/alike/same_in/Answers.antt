@@ -4,7 +4,7 @@ use Rattle.sqlite.specs.Held.{state}
 use Rattle.bor_chains.proofs.Classes.{empty_has}
 use Rattle.bor_links.specs.Signs.{sign_cmp}
 use Rattle.bor_links.proofs.Reached.{gathered_reached}
-use Rattle.bor_register.proofs.KeyedReads.{reached_told}
+use Rattle.bor_store_keys.proofs.ByRecord.{reached_told}
 use Rattle.bor_store_reads.proofs.Found.{still_shows}
 use Rattle.bor_store_keys.specs.Viewed.{rows_seen, seen}
 use Rattle.bor_store_keys.proofs.Following.{gathered_more, gathered_start}

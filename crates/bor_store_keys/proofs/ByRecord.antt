@@ -1,6 +1,6 @@
 -- Nodes, links and aliases of some rows, read record by record.
-use Rattle.std.proofs.Common.{◌≡◌, ◌↔◌, ◌+◌, ◌<◌, ◌≤◌, ◌&&◌, not, ℕ, ℤ, Bool, true, false, cond, IsTrue, Option, Some, None, option_map, option_and_then, Result, Ok, Err, IfOk, List, [], ◌∷◌, map, take, length, get_or, Contains, Vec, Global, sym, refl, ap, ◌∙◌, subst, inl, inr}
-use Rattle.std.specs.List.{filter, filter_map, IsDistinct}
+use Rattle.std.proofs.Common.{◌≡◌, ◌+◌, ◌<◌, ◌≤◌, ◌&&◌, ℕ, ℤ, Bool, true, false, cond, Option, Some, None, option_map, option_and_then, List, [], take, length, get_or, Contains, sym, refl, ap, ◌∙◌, subst, inl, inr}
+use Rattle.std.specs.List.{filter_map, IsDistinct}
 use Rattle.bor_terms.specs.Texts.{is_same}
 use Rattle.bor_terms.proofs.Texts.{is_same-of}
 use Rattle.bods_read.specs.declared.details.Details.{Details}
@@ -9,27 +9,23 @@ use Rattle.bods_read.specs.declared.interest.Interest.{Interest}
 use Rattle.bor_records.specs.declared.row.Row.{Row}
 use Rattle.bor_records.specs.OpenRows.{open_rows}
 use Rattle.bor_links.specs.declared.node.Node.{Node}
-use Rattle.bor_links.specs.declared.node.NodeInfo.{NodeInfo}
 use Rattle.bor_links.specs.declared.node.OpenNode.{OpenNode}
 use Rattle.bor_links.specs.declared.node.Link.{Link}
 use Rattle.bor_links.specs.Nodes.{same_node}
 use Rattle.bor_links.specs.Orders.{node_equiv}
-use Rattle.bor_links.specs.Series.{series_of, stated, open_at}
-use Rattle.bor_links.specs.Shown.{Shown, listed_at, info_in, is_like, are_alike}
-use Rattle.bor_links.specs.Aliases.{Alias}
-use Rattle.bor_links.specs.Rows.{is_entity_info, is_some_info, beside, link_between, link_with, link_in, node_in, node_with, node_stated, info_stated, nodes_of, shown_of}
-use Rattle.bor_links.specs.Answers.{AreAliases, AreSame, AreLinksInto, only_into}
+use Rattle.bor_links.specs.Series.{series_of, open_at}
+use Rattle.bor_links.specs.Shown.{Shown, info_in, is_like}
+use Rattle.bor_links.specs.Rows.{is_entity_info, is_some_info, beside, link_between, link_with, link_in, node_in, node_with, info_stated, nodes_of, shown_of}
+use Rattle.bor_links.specs.Answers.{AreSame, AreLinksInto, only_into}
 use Rattle.bor_links.specs.Stakes.{is_stake, is_holding}
-use Rattle.bor_links.specs.ByKey.{node_at, AreAlikeAt, IsMade, CoverLinks, CoverAliases}
+use Rattle.bor_links.specs.ByKey.{node_at, IsMade, CoverLinks}
 use Rattle.bor_links.specs.Growth.{Grown}
-use Rattle.bor_links.proofs.ByKey.{listed_by_key, links_by_candidates, alias_by_key, alike_covered}
-use Rattle.bor_links.proofs.Found.{none, Contains-filter, Contains-map, Contains-from_map, Contains-filter_map, Contains-from_filter_map}
-use Rattle.bor_links.proofs.Growth.{grown_none, grown_like, grown_more, grown_cases, Contains-take_more, Contains-take_front, Contains-take_last}
-use Rattle.bor_links.proofs.Reached.{AreReached, reached_start, reached_end}
+use Rattle.bor_links.proofs.ByKey.{listed_by_key, links_by_candidates}
+use Rattle.bor_links.proofs.Found.{none, Contains-filter_map, Contains-from_filter_map}
+use Rattle.bor_links.proofs.Growth.{grown_none, grown_like, grown_more, Contains-take_more, Contains-take_front, Contains-take_last}
+use Rattle.bor_links.proofs.Reached.{AreReached, reached_end}
 use Rattle.bor_links.proofs.SameNode.{same_node_is}
-use Rattle.bor_register.specs.declared.picked.Picked.{Picked}
-use Rattle.bor_register.specs.declared.picked.Wanted.{Wanted}
-use Rattle.bor_register.specs.Picked.{row_picked, takes_row, picked, names, is_into, link_into, link_at, IsAlike, IsAlikeIn}
+use Rattle.bor_store_keys.specs.Candidates.{names, is_into, link_into, link_at, IsAlike, IsAlikeIn}
 
 -- ---- what is known of a node
 
@@ -44,21 +40,6 @@ info_by_key day rows n = ap (λ (o : Option OpenNode). option_map (λ x. x.info)
     at : (o : Option Row) → option_map (λ x. x.info) (option_and_then node_in o) ≡ option_and_then (λ r. info_stated r.statement.details) o
     at None = refl
     at (Some r) = info_with (series_of r) r.statement.details
-
-info_open : (day : ℤ) (rows : List Row) (n : Node) (x : Picked) → Some (row_picked x) ≡ open_at day n rows → info_stated x.statement.now.details ≡ info_in (nodes_of day rows) n
-info_open day rows n x e = ap (λ (o : Option Row). option_and_then (λ r. info_stated r.statement.details) o) e ∙ sym (info_by_key day rows n)
-
-info_none : (day : ℤ) (rows : List Row) (n : Node) → None ≡ open_at day n rows → None ≡ info_in (nodes_of day rows) n
-info_none day rows n e = ap (λ (o : Option Row). option_and_then (λ r. info_stated r.statement.details) o) e ∙ sym (info_by_key day rows n)
-
--- ---- candidates
-
-pub candidates_cover : (w : Wanted) (rows : List Row) (found : List Picked) (nodes out : List Node) → map row_picked found ≡ picked w rows → nodes ≡ map (λ x. series_of (row_picked x)) found
-    → ((n : Node) → Contains out n ↔ Contains nodes n) → (r : Row) → Contains rows r → takes_row w r ≡ true → Contains out (series_of r)
-candidates_cover w rows found nodes out e f same r h t =
-    let m = Contains-from_map row_picked found r (subst (λ (rs : List Row). Contains rs r) (sym e) (Contains-filter (takes_row w) rows r h t)) in
-    (same (series_of r)).1 (subst (λ (ns : List Node). Contains ns (series_of r)) (sym f)
-    (subst (λ (n : Node). Contains (map (λ (x : Picked). series_of (row_picked x)) found) n) (ap series_of m.2) (Contains-map (λ (x : Picked). series_of (row_picked x)) found m.0 m.1)))
 
 -- ---- links
 
@@ -142,53 +123,6 @@ no_links day rows n links e gone l = (
       absurd (let no : true ≡ false = sym is ∙ gone in cc)),
 )
 
--- ---- aliases
-
-like_is : (one : OpenNode) (o : Option OpenNode) → is_like one o ≡ true → (two : OpenNode) × (o ≡ Some two) × (are_alike one two ≡ true)
-like_is one None h = absurd (let no : false ≡ true = h in cc)
-like_is one (Some two) h = (two, refl, h)
-
-same_one : (x y : OpenNode) → Some x ≡ Some y → x ≡ y
-same_one x y h = cc
-
-pub aliases_grown : (day : ℤ) (rows : List Row) (n : Node) (one : OpenNode) (candidates a b : List Node) → node_at day n rows ≡ Some one
-    → ((r : Row) → Contains rows r → is_like one (node_stated r.agent r.statement) ≡ true → Contains candidates (series_of r))
-    → Grown (IsAlikeIn day rows one candidates) a b → Grown (λ m. Alias (shown_of day rows) n m) a b
-aliases_grown day rows n one candidates a b here cover g = grown_like (IsAlikeIn day rows one candidates) (λ m. Alias (shown_of day rows) n m) a b g into from
-  where
-    covers : CoverAliases rows candidates one
-    covers r two h is alike = cover r h (ap (is_like one) is ∙ alike)
-
-    into : (m : Node) → IsAlikeIn day rows one candidates m → Alias (shown_of day rows) n m
-    into m h = let t = like_is one (node_at day m rows) h.1 in (alias_by_key day rows n m).1 (record { one = one; two = t.0; one_is = here; two_is = t.1; alike = t.2 })
-
-    from : (m : Node) → Alias (shown_of day rows) n m → IsAlikeIn day rows one candidates m
-    from m l =
-        let h = (alias_by_key day rows n m).0 l in
-        let same : h.one ≡ one = same_one h.one one (sym h.one_is ∙ here) in
-        (alike_covered day rows candidates n m one here covers h, ap (is_like one) h.two_is ∙ subst (λ (x : OpenNode). are_alike x h.two ≡ true) same h.alike)
-
-pub no_aliases : (day : ℤ) (rows : List Row) (n : Node) (nodes : List Node) → node_at day n rows ≡ None → Grown (λ m. Alias (shown_of day rows) n m) nodes nodes
-no_aliases day rows n nodes gone = grown_none (λ m. Alias (shown_of day rows) n m) nodes
-    (λ m l. absurd (let no : None ≡ Some l.one = sym gone ∙ sym (listed_by_key day n rows) ∙ l.one_is in cc))
-
--- ---- answers
-
--- what is told of the latest statement is told of the node
-pub info_told : {E : Type 0} (day : ℤ) (rows : List Row) (n : Node) (o : Option Picked) (x : Picked) (r : Result (Option NodeInfo) E) → o ≡ Some x → option_map row_picked o ≡ open_at day n rows
-    → IfOk r (λ i. i ≡ info_stated x.statement.now.details) → IfOk r (λ i. i ≡ info_in (nodes_of day rows) n)
-info_told day rows n o x (Ok i) is e h = h ∙ info_open day rows n x (ap (λ (p : Option Picked). option_map row_picked p) (sym is) ∙ e)
-info_told day rows n o x (Err f) is e h = tt
-
-pub info_gone : (day : ℤ) (rows : List Row) (n : Node) (o : Option Picked) → o ≡ None → option_map row_picked o ≡ open_at day n rows → None ≡ info_in (nodes_of day rows) n
-info_gone day rows n o is e = info_none day rows n (ap (λ (p : Option Picked). option_map row_picked p) (sym is) ∙ e)
-
-pub links_answered : {E : Type 0} (day : ℤ) (rows : List Row) (n : Node) (candidates slice : List Node) (r : Result (Vec Link Global) E) → slice ≡ candidates
-    → ((r : Row) → Contains rows r → is_into n r.agent r.statement ≡ true → Contains candidates (series_of r))
-    → IfOk r (λ v. v.items ≡ filter_map (link_at day rows n) slice) → IfOk r (λ v. AreLinksInto (shown_of day rows) n v.items)
-links_answered day rows n candidates slice (Ok v) e cover h = links_told day rows n candidates v.items (h ∙ ap (λ (ns : List Node). filter_map (link_at day rows n) ns) e) cover
-links_answered day rows n candidates slice (Err f) e cover h = tt
-
 pub link_is : (nodes : List OpenNode) (n party subject : Node) (interests : List Interest) (stake holding : Bool) → same_node subject n ≡ true → is_entity_info (info_in nodes n) ≡ true → is_some_info (info_in nodes party) ≡ true
     → stake ≡ is_stake interests → holding ≡ is_holding interests → Some (record { party = party; subject = subject; stake = stake; holding = holding }) ≡ only_into n (link_between nodes party subject interests)
 link_is nodes n party subject interests stake holding same entity known s h = sym (ap (only_into n) made ∙ only_made n l (same_node_is subject n same) ∙ ap (λ (k : Link). Some k) is)
@@ -229,23 +163,7 @@ alike_more day rows one candidates i x a b c lt at g h = grown_more (IsAlikeIn d
       | inr e ↦ inr (e ∙ sym at, r.1)
     ])
 
-pub alike_none : (day : ℤ) (rows : List Row) (one : OpenNode) (candidates nodes : List Node) → Grown (IsAlikeIn day rows one (take 0 candidates)) nodes nodes
-alike_none day rows one candidates nodes = grown_none (IsAlikeIn day rows one (take 0 candidates)) nodes (λ b h. absurd (none b h.0))
-
 -- ---- what is added is what is answered
-
-pub aliases_are : (s : Shown) (n : Node) (before class nodes : List Node) → before ≡ [] → Grown (λ m. Alias s n m) before class → nodes ≡ class → IsDistinct same_node nodes → AreAliases s n nodes
-aliases_are s n before class nodes empty g is once = record {
-  each = λ b. (
-    (λ h. elim (grown_cases g b (subst (λ (ms : List Node). Contains ms b) is h)) [ inl k ↦ absurd (none b (subst (λ (ms : List Node). Contains ms b) empty k)) | inr l ↦ l ]),
-    (λ l. subst (λ (ms : List Node). Contains ms b) (sym is) (g.every b l)),
-  );
-  once = once;
-}
-
-pub reached_first : (s : Shown) (first node : Node) (before class : List Node) → before ≡ [] → node ≡ first → Grown (λ n. n ≡ node) before class → AreReached s first 0 class
-reached_first s first node before class empty is g =
-    reached_start s first class (subst (λ (ms : List Node). Grown (λ n. n ≡ first) ms class) empty (subst (λ (m : Node). Grown (λ n. n ≡ m) before class) is g))
 
 pub reached_told : (s : Shown) (first : Node) (next : ℕ) (class nodes : List Node) → nodes ≡ class → length class ≤ next → AreReached s first next class → IsDistinct same_node nodes → AreSame s first nodes
 reached_told s first next class nodes is all r once = reached_end s first next nodes (subst (λ (ms : List Node). length ms ≤ next) (sym is) all) (subst (λ (ms : List Node). AreReached s first next ms) (sym is) r) once
