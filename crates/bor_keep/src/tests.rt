@@ -8,3 +8,10 @@ mod members;
 mod notation;
 mod records;
 mod worked_rows;
+
+use std::process::Abort;
+
+// The text is the wanted one, at what is named.
+fn same(rt: &impl Abort, at: &str, text: &str, wanted: &str) {
+    assert_eq!(rt; text, wanted, "{at}");
+}

@@ -1,22 +1,23 @@
 //! Which statement may follow which, and what a record says on a day.
 
 use super::notation::{day, ident, row, statement, statements};
+use super::same;
 use bods_read::{Details, EntityKind, RecordType, Status};
 use bor_records::{Entry, Last, Row, admit, latest, snapshot};
 use bor_terms::Listed;
 use std::alloc::Global;
-use std::test::Fail;
+use std::process::Abort;
 
 // Two statements of one entity, of which neither gives a status.
 const FILE: &str =
     "[{\"statementId\":\"s1\",\"statementDate\":\"2024-01-10\",\"declarationSubject\":\"c1\",\"recordId\":\"e1\",\"recordType\":\"entity\",\"recordDetails\":{}},{\"statementId\":\"s2\",\"statementDate\":\"2024-01-10\",\"declarationSubject\":\"c1\",\"recordId\":\"e1\",\"recordType\":\"entity\",\"recordDetails\":{}}]";
 
 #[test]
-fn the_example_of_the_root_page(rt: HostRuntime) -> Result<(), Fail> {
-    let due = day("2024-02-01")?;
-    let statements = statements(rt.alloc(), FILE)?;
+fn the_example_of_the_root_page(rt: HostRuntime) {
+    let due = day(&rt, "2024-02-01");
+    let statements = statements(&rt, rt.alloc(), FILE);
     let [one, two] = statements.as_slice() else {
-        return Err(Fail::from("not two statements"));
+        panic!(rt; "not two statements");
     };
     assert_eq!(rt; admit(None, one, due), Ok(Status::New));
     let last = Last {
@@ -27,30 +28,30 @@ fn the_example_of_the_root_page(rt: HostRuntime) -> Result<(), Fail> {
     };
     assert_eq!(rt; admit(Some(last), two, due), Ok(Status::Updated));
     assert_eq!(rt; admit(None, two, due), Ok(Status::New));
-    Ok(())
 }
 
 // What was last said of a record on 2024-01-10, due on 2024-03-01.
-fn last_of((kind, status): (RecordType, Status)) -> Result<Last, Fail> {
-    Ok(Last {
+fn last_of(rt: &impl Abort, (kind, status): (RecordType, Status)) -> Last {
+    Last {
         kind,
         status,
-        day: day("2024-01-10")?,
-        due: day("2024-03-01")?,
-    })
+        day: day(rt, "2024-01-10"),
+        due: day(rt, "2024-03-01"),
+    }
 }
 
 // What a statement of a company is refused for, and the empty text where it is admitted.
 fn refusal_of(
+    rt: &impl Abort,
     alloc: Global,
     last: Option<Last>,
     status: Option<Status>,
     (date, due): (&str, &str),
-) -> Result<&'static str, Fail> {
-    let statement = statement(alloc, ("s2", "c1", "e1", date), status)?;
-    match admit(last, &statement, day(due)?) {
-        Ok(_) => Ok(""),
-        Err(fault) => Ok(fault.name()),
+) -> &'static str {
+    let statement = statement(rt, alloc, ("s2", "c1", "e1", date), status);
+    match admit(last, &statement, day(rt, due)) {
+        Ok(_) => "",
+        Err(fault) => fault.name(),
     }
 }
 
@@ -94,49 +95,54 @@ const REFUSALS: [Refusal; 6] = [
 ];
 
 #[test]
-fn each_refusal_has_its_own_name(rt: HostRuntime) -> Result<(), Fail> {
+fn each_refusal_has_its_own_name(rt: HostRuntime) {
     for (last, status, days, name) in REFUSALS {
         let last = match last {
-            Some(last) => Some(last_of(last)?),
+            Some(last) => Some(last_of(&rt, last)),
             None => None,
         };
-        assert_eq!(rt; refusal_of(rt.alloc(), last, status, days)?, name);
+        same(
+            &rt,
+            name,
+            refusal_of(&rt, rt.alloc(), last, status, days),
+            name,
+        );
     }
-    Ok(())
 }
 
 // A row of a company: the statement's identifier, its declaration, record, day and status.
 type Line<'a> = (&'a str, &'a str, &'a str, &'a str, Status);
 
-fn row_of(alloc: Global, (id, declaration, rec, date, status): Line<'_>) -> Result<Row, Fail> {
-    let statement = statement(alloc, (id, declaration, rec, date), Some(status))?;
-    row(alloc, status, statement)
+fn row_of(rt: &impl Abort, alloc: Global, (id, declaration, rec, date, status): Line<'_>) -> Row {
+    let statement = statement(rt, alloc, (id, declaration, rec, date), Some(status));
+    row(rt, alloc, status, statement)
 }
 
-fn rows_of(alloc: Global, lines: &[Line<'_>]) -> Result<Vec<Row>, Fail> {
+fn rows_of(rt: &impl Abort, alloc: Global, lines: &[Line<'_>]) -> Vec<Row> {
     let mut rows = Vec::new(alloc);
     for line in lines {
-        rows.push(row_of(alloc, *line)?)?;
+        rows.push(row_of(rt, alloc, *line)).expect(rt, "memory");
     }
-    Ok(rows)
+    rows
 }
 
 fn entries_of(
+    rt: &impl Abort,
     alloc: Global,
     rows: &[Row],
     declaration: &str,
     date: &str,
-) -> Result<Vec<Entry>, Fail> {
-    Ok(snapshot(alloc, rows, &ident(alloc, declaration)?, day(date)?)?)
+) -> Vec<Entry> {
+    snapshot(alloc, rows, &ident(rt, alloc, declaration), day(rt, date)).expect(rt, "memory")
 }
 
 // The statements' identifiers of a declaration's snapshot on a day, each followed by a space.
-fn shown(alloc: Global, rows: &[Row], declaration: &str, date: &str) -> Result<String, Fail> {
+fn shown(rt: &impl Abort, alloc: Global, rows: &[Row], declaration: &str, date: &str) -> String {
     let mut ids = String::new(alloc);
-    for entry in &entries_of(alloc, rows, declaration, date)? {
-        write!(ids, "{} ", entry.statement.id.as_str())?;
+    for entry in &entries_of(rt, alloc, rows, declaration, date) {
+        write!(ids, "{} ", entry.statement.id.as_str()).expect(rt, "memory");
     }
-    Ok(ids)
+    ids
 }
 
 // A record that is closed on the second of two days.
@@ -145,14 +151,14 @@ const CLOSED: [Line<'static>; 2] = [
     ("s2", "c1", "e1", "2024-01-12", Status::Closed),
 ];
 
-fn latest_on(rows: &[Row], date: &str) -> Result<Option<usize>, Fail> {
-    Ok(latest(rows, day(date)?))
+fn latest_on(rt: &impl Abort, rows: &[Row], date: &str) -> Option<usize> {
+    latest(rows, day(rt, date))
 }
 
 #[test]
-fn a_closed_record_is_shown_until_its_closing(rt: HostRuntime) -> Result<(), Fail> {
+fn a_closed_record_is_shown_until_its_closing(rt: HostRuntime) {
     let alloc = rt.alloc();
-    let rows = rows_of(alloc, &CLOSED)?;
+    let rows = rows_of(&rt, alloc, &CLOSED);
     for (date, place, ids) in [
         ("2024-01-09", None, ""),
         ("2024-01-10", Some(0), "s1 "),
@@ -160,33 +166,39 @@ fn a_closed_record_is_shown_until_its_closing(rt: HostRuntime) -> Result<(), Fai
         ("2024-01-12", Some(1), ""),
         ("2024-01-13", Some(1), ""),
     ] {
-        assert_eq!(rt; latest_on(&rows, date)?, place, "on {date}");
-        assert_eq!(rt; shown(alloc, &rows, "c1", date)?.as_str(), ids, "on {date}");
+        assert_eq!(rt; latest_on(&rt, &rows, date), place, "on {date}");
+        same(
+            &rt,
+            date,
+            shown(&rt, alloc, &rows, "c1", date).as_str(),
+            ids,
+        );
     }
-    Ok(())
 }
 
 #[test]
-fn of_one_day_the_later_statement_is_shown(rt: HostRuntime) -> Result<(), Fail> {
+fn of_one_day_the_later_statement_is_shown(rt: HostRuntime) {
     let alloc = rt.alloc();
     let mut rows = rows_of(
+        &rt,
         alloc,
         &[
             ("s1", "c1", "e1", "2024-01-10", Status::New),
             ("s2", "c1", "e1", "2024-01-10", Status::Updated),
         ],
-    )?;
-    let last = rows.last_mut().ok_or("no rows")?;
+    );
+    let last = rows.last_mut().expect(&rt, "no rows");
     last.statement.details = Details::Entity {
         kind: EntityKind::Arrangement,
         name: None,
         identifiers: Listed::new(Vec::new(alloc)),
     };
-    let entries = entries_of(alloc, &rows, "c1", "2024-01-10")?;
+    let entries = entries_of(&rt, alloc, &rows, "c1", "2024-01-10");
     let [Entry { status, statement }] = entries.as_slice() else {
-        return Err(Fail::from("not one entry"));
+        panic!(rt; "not one entry");
     };
-    assert_eq!(rt; (*status, statement.id.as_str()), (Status::Updated, "s2"));
+    assert!(rt; *status == Status::Updated);
+    same(&rt, "the later", statement.id.as_str(), "s2");
     assert!(rt;
         matches!(
             &statement.details,
@@ -196,7 +208,6 @@ fn of_one_day_the_later_statement_is_shown(rt: HostRuntime) -> Result<(), Fail> 
             }
         )
     );
-    Ok(())
 }
 
 // A record that is closed in one declaration before another begins.
@@ -207,9 +218,9 @@ const OF_TWO_DECLARATIONS: [Line<'static>; 3] = [
 ];
 
 #[test]
-fn a_record_closed_in_one_declaration_is_open_in_another(rt: HostRuntime) -> Result<(), Fail> {
+fn a_record_closed_in_one_declaration_is_open_in_another(rt: HostRuntime) {
     let alloc = rt.alloc();
-    let rows = rows_of(alloc, &OF_TWO_DECLARATIONS)?;
+    let rows = rows_of(&rt, alloc, &OF_TWO_DECLARATIONS);
     for (declaration, date, ids) in [
         ("c1", "2024-01-11", "s1 "),
         ("c2", "2024-01-11", ""),
@@ -217,23 +228,23 @@ fn a_record_closed_in_one_declaration_is_open_in_another(rt: HostRuntime) -> Res
         ("c2", "2024-01-13", "s3 "),
         ("c3", "2024-01-13", ""),
     ] {
-        let told = shown(alloc, &rows, declaration, date)?;
-        assert_eq!(rt; told.as_str(), ids, "{declaration} on {date}");
+        let told = shown(&rt, alloc, &rows, declaration, date);
+        assert!(rt; told.as_str() == ids, "{declaration} on {date}: {told}");
     }
-    Ok(())
 }
 
 #[test]
-fn of_no_rows_nothing_is_shown(rt: HostRuntime) -> Result<(), Fail> {
-    assert_eq!(rt; latest(&[], day("2024-01-13")?), None);
-    assert_eq!(rt; shown(rt.alloc(), &[], "c1", "2024-01-13")?.as_str(), "");
-    Ok(())
+fn of_no_rows_nothing_is_shown(rt: HostRuntime) {
+    assert_eq!(rt; latest(&[], day(&rt, "2024-01-13")), None);
+    let told = shown(&rt, rt.alloc(), &[], "c1", "2024-01-13");
+    same(&rt, "of no rows", told.as_str(), "");
 }
 
 #[test]
-fn records_stand_in_the_order_of_their_bytes(rt: HostRuntime) -> Result<(), Fail> {
+fn records_stand_in_the_order_of_their_bytes(rt: HostRuntime) {
     let alloc = rt.alloc();
     let rows = rows_of(
+        &rt,
         alloc,
         &[
             ("é", "c1", "é", "2024-01-10", Status::New),
@@ -242,10 +253,7 @@ fn records_stand_in_the_order_of_their_bytes(rt: HostRuntime) -> Result<(), Fail
             ("e10", "c1", "e10", "2024-01-10", Status::New),
             ("E9", "c1", "E9", "2024-01-10", Status::New),
         ],
-    )?;
-    assert_eq!(rt;
-        shown(alloc, &rows, "c1", "2024-01-10")?.as_str(),
-        "E9 e e10 e9 é "
     );
-    Ok(())
+    let told = shown(&rt, alloc, &rows, "c1", "2024-01-10");
+    same(&rt, "in order", told.as_str(), "E9 e e10 e9 é ");
 }

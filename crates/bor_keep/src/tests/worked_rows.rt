@@ -1,10 +1,10 @@
 //! Worked rows: files as they stand in them, and each row an ask.
 
+use super::same;
 use bor_rows::{Ask, Wish, body_of};
-use std::test::Fail;
 
 #[test]
-fn a_file_is_what_its_notation_says(rt: HostRuntime) -> Result<(), Fail> {
+fn a_file_is_what_its_notation_says(rt: HostRuntime) {
     let alloc = rt.alloc();
     for (words, text) in [
         (
@@ -16,11 +16,14 @@ fn a_file_is_what_its_notation_says(rt: HostRuntime) -> Result<(), Fail> {
             r#"[{"statementId":"s2","statementDate":"2024-01-12","declarationSubject":"c9","recordId":"p1","recordType":"person","recordStatus":"closed","recordDetails":{"personType":"knownPerson"}}]"#,
         ),
     ] {
-        assert!(rt; body_of(alloc, words)?.as_str() == text, "{words}");
+        assert!(rt;
+            body_of(alloc, words).expect(&rt, "memory").as_str() == text,
+            "{words}"
+        );
     }
-    assert_eq!(rt; body_of(alloc, "FIRST")?.len(), 622);
-    assert_eq!(rt; body_of(alloc, "[]")?.as_str(), "[]");
-    Ok(())
+    assert_eq!(rt; body_of(alloc, "FIRST").expect(&rt, "memory").len(), 622);
+    let none = body_of(alloc, "[]").expect(&rt, "memory");
+    same(&rt, "no statement", none.as_str(), "[]");
 }
 
 #[test]
