@@ -6,7 +6,6 @@ use bor_machine::{Keep, ListKeep};
 use bor_terms::{AgentName, Token};
 use std::alloc::Global;
 use std::process::Abort;
-use std::test::Fail;
 
 // The first lines of the page, of any keep.
 fn is_enrolled<K: Keep>(
@@ -16,11 +15,10 @@ fn is_enrolled<K: Keep>(
     registrar: &Token,
     alder: &Token,
     name: AgentName,
-) -> Result<(), Fail> {
-    let token = alder.copy(alloc)?;
+) {
+    let token = alder.copy(alloc).expect(rt, "memory");
     let reply = answer(alloc, keep, registrar, &Request::Enrol { name, token });
     assert!(rt; matches!(&reply, DeskReply::Enrolled(_)));
-    Ok(())
 }
 
 // The lines after them.
@@ -30,13 +28,12 @@ fn is_told_of_no_filing<K: Keep>(rt: &impl Abort, alloc: Global, keep: &mut K, a
 }
 
 #[test]
-fn an_agent_is_enrolled_and_asks(rt: HostRuntime) -> Result<(), Fail> {
+fn an_agent_is_enrolled_and_asks(rt: HostRuntime) {
     let alloc = rt.alloc();
-    let registrar = token(alloc, "registrar-token-0001")?;
-    let alder = token(alloc, "alder-token-000001")?;
-    let (day, name) = (day("2024-02-01")?, agent(alloc, "alder")?);
-    let mut keep = ListKeep::new(alloc, registrar.copy(alloc)?, day);
-    is_enrolled(&rt, alloc, &mut keep, &registrar, &alder, name)?;
+    let registrar = token(&rt, alloc, "registrar-token-0001");
+    let alder = token(&rt, alloc, "alder-token-000001");
+    let (day, name) = (day(&rt, "2024-02-01"), agent(&rt, alloc, "alder"));
+    let mut keep = ListKeep::new(alloc, registrar.copy(alloc).expect(&rt, "memory"), day);
+    is_enrolled(&rt, alloc, &mut keep, &registrar, &alder, name);
     is_told_of_no_filing(&rt, alloc, &mut keep, &alder);
-    Ok(())
 }

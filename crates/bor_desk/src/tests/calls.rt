@@ -3,13 +3,14 @@
 ghost use Rattle.std.specs.Prelude.{◌≡◌};
 
 use crate::tests::asking::{new_keep, reply};
+use crate::tests::same;
 use bods_read::Statement;
 use bor_links::{Link, Node, NodeInfo};
 use bor_machine::{Caller, Filing, FilingLine, Keep, ListKeep, Outward, StoreFault};
 use bor_records::{Last, Row};
 use bor_terms::{AgentName, Day, Ident, LodgeKey, Token};
 use std::alloc::Global;
-use std::test::Fail;
+use std::process::Abort;
 
 // A keep that notes the calls that it hands on.
 #[derive(Drop)]
@@ -192,12 +193,20 @@ impl<K: Keep> Keep for Noting<K> {
     }
 }
 
-// The calls that the keep gets for an ask, in order.
-fn calls(alloc: Global, keep: &mut Noting<ListKeep>, ask: &str) -> Result<String, Fail> {
-    let (caller, _) = ask.split_once(' ').ok_or("no words")?;
-    keep.calls = String::from_str(alloc, caller)?;
-    let _ = reply(alloc, keep, ask)?;
-    Ok(keep.calls.clone()?)
+impl Noting<ListKeep> {
+    // A new register that notes its calls.
+    fn new(rt: &impl Abort, alloc: Global) -> Noting<ListKeep> {
+        let keep = new_keep(rt, alloc);
+        let calls = String::new(alloc);
+        Noting { keep, calls }
+    }
+
+    // Asks, and then has the caller's name and the calls that the keep got, in order.
+    fn ask(&mut self, rt: &impl Abort, alloc: Global, ask: &str) {
+        let (caller, _) = ask.split_once(' ').expect(rt, "no words");
+        self.calls = String::from_str(alloc, caller).expect(rt, "memory");
+        let _ = reply(rt, alloc, self, ask);
+    }
 }
 
 // What is asked one after the other, and the calls that come of it.
@@ -258,69 +267,67 @@ const CALLS: [(&str, &str); 23] = [
 ];
 
 #[test]
-fn a_keep_is_asked_for_no_more_than_is_needed(rt: HostRuntime) -> Result<(), Fail> {
-    let alloc = rt.alloc();
-    let mut keep = Noting {
-        keep: new_keep(alloc)?,
-        calls: String::new(alloc),
-    };
+fn a_keep_is_asked_for_no_more_than_is_needed(rt: HostRuntime) {
+    let mut keep = Noting::new(&rt, rt.alloc());
     for (ask, wanted) in CALLS {
-        assert_eq!(rt; calls(alloc, &mut keep, ask)?.as_str(), wanted, "{ask}");
+        keep.ask(&rt, rt.alloc(), ask);
+        same(&rt, "calls", ask, keep.calls.as_str(), wanted);
     }
-    assert_eq!(rt; keep.faults(), 0);
-    Ok(())
+    assert!(rt; keep.faults() == 0);
+}
+
+// Adds the entity of this number to a chain, and who holds it: the next one, or a person.
+fn add_link(rt: &impl Abort, file: &mut String, x: &str, i: u32, entities: u32) {
+    write!(file, "; E {x}s{i} {x}e{i}; R {x}t{i} {x}r{i} {x}e{i}<-").expect(rt, "memory");
+    if i < entities {
+        let next = i + 1;
+        write!(file, "{x}e{next} V100").expect(rt, "memory");
+    } else {
+        write!(file, "{x}p V100").expect(rt, "memory");
+    }
 }
 
 // A chain of entities, each wholly the next one's, and the last one a person's; `x` begins each name.
-fn chain(alloc: Global, x: &str, entities: u32) -> Result<String, Fail> {
-    let mut file = format!(in alloc; "P {x}s {x}p")?;
+fn chain(rt: &impl Abort, alloc: Global, x: &str, entities: u32) -> String {
+    let mut file = format!(in alloc; "P {x}s {x}p").expect(rt, "memory");
     for i in 1..=entities {
-        write!(file, "; E {x}s{i} {x}e{i}; R {x}t{i} {x}r{i} {x}e{i}<-")?;
-        if i < entities {
-            let next = i + 1;
-            write!(file, "{x}e{next}")?;
-        } else {
-            write!(file, "{x}p")?;
-        }
-        file.push_str(" V100")?;
+        add_link(rt, &mut file, x, i, entities);
     }
-    Ok(file)
+    file
 }
 
 fn lodge_chain(
+    rt: &impl Abort,
     alloc: Global,
     keep: &mut Noting<ListKeep>,
     x: &str,
     entities: u32,
-) -> Result<(), Fail> {
-    let file = chain(alloc, x, entities)?;
-    let ask = format!(in alloc; "alder lodge {x} 2024-02-01 {file}")?;
-    if !calls(alloc, keep, ask.as_str())?.ends_with(" add_filing") {
-        return Err(Fail::from("not lodged"));
-    }
-    Ok(())
+) {
+    let file = chain(rt, alloc, x, entities);
+    let ask = format!(in alloc; "alder lodge {x} 2024-02-01 {file}").expect(rt, "memory");
+    keep.ask(rt, alloc, ask.as_str());
+    assert!(rt; keep.calls.ends_with(" add_filing"), "{ask}");
 }
 
 // How many words the calls of a report on the first entity are, the caller's name among them, where
 // there is another chain beside.
-fn words_of_a_report(alloc: Global, entities: u32, others: u32) -> Result<usize, Fail> {
-    let mut keep = Noting {
-        keep: new_keep(alloc)?,
-        calls: String::new(alloc),
-    };
-    let _ = calls(alloc, &mut keep, "registrar enrol alder alder-token-000001")?;
-    lodge_chain(alloc, &mut keep, "a", entities)?;
-    lodge_chain(alloc, &mut keep, "b", others)?;
-    let told = calls(alloc, &mut keep, "alder chains alder c1 ae1")?;
-    Ok(told.split(' ').count())
+fn words_of_a_report(rt: &impl Abort, alloc: Global, entities: u32, others: u32) -> usize {
+    let mut keep = Noting::new(rt, alloc);
+    keep.ask(rt, alloc, "registrar enrol alder alder-token-000001");
+    lodge_chain(rt, alloc, &mut keep, "a", entities);
+    lodge_chain(rt, alloc, &mut keep, "b", others);
+    keep.ask(rt, alloc, "alder chains alder c1 ae1");
+    keep.calls.split(' ').count()
 }
 
 // Three calls for each entity, one for the person, one for who asks and one for the day.
 #[test]
-fn a_report_asks_for_what_its_chains_meet(rt: HostRuntime) -> Result<(), Fail> {
-    let alloc = rt.alloc();
+fn a_report_asks_for_what_its_chains_meet(rt: HostRuntime) {
     for (entities, others, words) in [(1, 1, 7), (10, 1, 34), (10, 40, 34), (40, 10, 124)] {
-        assert_eq!(rt; words_of_a_report(alloc, entities, others)?, words);
+        let asked = words_of_a_report(&rt, rt.alloc(), entities, others);
+        assert!(rt;
+            asked == words,
+            "{asked} words of {entities} beside {others}"
+        );
     }
-    Ok(())
 }

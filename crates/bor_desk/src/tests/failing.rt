@@ -3,11 +3,11 @@
 
 use crate::DeskReply;
 use crate::tests::asking::{new_keep, reply, told};
+use crate::tests::same;
 use bor_failing::FailingKeep;
 use bor_machine::{Keep, ListKeep, StoreFault};
 use std::alloc::Global;
 use std::process::Abort;
-use std::test::Fail;
 
 // What is asked for in turn, of a register in which the asks before have been answered.
 const ASKS: [&str; 14] = [
@@ -35,22 +35,22 @@ const LOOKS: [&str; 4] = [
     "alder chains alder c1 e1 2024-02-01",
 ];
 
-fn seen<K: Keep>(alloc: Global, keep: &mut K) -> Result<String, Fail> {
+fn seen<K: Keep>(rt: &impl Abort, alloc: Global, keep: &mut K) -> String {
     let mut text = String::new(alloc);
     for ask in LOOKS {
-        text.push_str(told(alloc, keep, ask)?.as_str())?;
-        text.push(' ')?;
+        let told = told(rt, alloc, keep, ask);
+        write!(text, "{told} ").expect(rt, "memory");
     }
-    Ok(text)
+    text
 }
 
 // The register after the first so many asks.
-fn keep_after(alloc: Global, count: usize) -> Result<ListKeep, Fail> {
-    let mut keep = new_keep(alloc)?;
+fn keep_after(rt: &impl Abort, alloc: Global, count: usize) -> ListKeep {
+    let mut keep = new_keep(rt, alloc);
     for ask in ASKS.iter().take(count) {
-        let _ = reply(alloc, &mut keep, ask)?;
+        let _ = reply(rt, alloc, &mut keep, ask);
     }
-    Ok(keep)
+    keep
 }
 
 // Asks with so many calls left, and tells whether there was a fault: then it was one, and is told.
@@ -60,49 +60,42 @@ fn is_failed<K: Keep>(
     failing: &mut FailingKeep<K>,
     calls: u32,
     ask: &str,
-) -> Result<bool, Fail> {
+) -> bool {
     failing.left = calls;
-    let told = reply(alloc, failing, ask)?;
+    let told = reply(rt, alloc, failing, ask);
     if failing.faults() == 0 {
-        return Ok(false);
+        return false;
     }
     assert!(rt;
         matches!(&told, DeskReply::Failed(met) if *met == failing.fault),
         "{ask} {calls}"
     );
-    assert_eq!(rt; failing.faults(), 1);
-    Ok(true)
+    assert!(rt; failing.faults() == 1, "{ask} {calls}");
+    true
 }
 
 // How many calls of the keep an ask makes: each of them was made to answer the fault in turn.
-fn failed_calls(
-    rt: &impl Abort,
-    alloc: Global,
-    place: usize,
-    ask: &str,
-    fault: StoreFault,
-) -> Result<u32, Fail> {
-    let before = seen(alloc, &mut keep_after(alloc, place)?)?;
+fn failed_calls(rt: &impl Abort, alloc: Global, place: usize, ask: &str, fault: StoreFault) -> u32 {
+    let before = seen(rt, alloc, &mut keep_after(rt, alloc, place));
     for calls in 0..100 {
-        let mut failing = FailingKeep::new(keep_after(alloc, place)?, fault);
-        if !is_failed(rt, alloc, &mut failing, calls, ask)? {
-            return Ok(calls);
+        let mut failing = FailingKeep::new(keep_after(rt, alloc, place), fault);
+        if !is_failed(rt, alloc, &mut failing, calls, ask) {
+            return calls;
         }
-        let after = seen(alloc, &mut failing.keep)?;
-        assert!(rt; after.as_str() == before.as_str(), "{ask} {calls}");
+        let after = seen(rt, alloc, &mut failing.keep);
+        same(rt, "after a fault", ask, after.as_str(), before.as_str());
     }
-    Err(Fail::from("too many calls"))
+    panic!(rt; "too many calls of {ask}")
 }
 
 #[test]
-fn each_call_that_fails_is_told_and_leaves_the_register(rt: HostRuntime) -> Result<(), Fail> {
+fn each_call_that_fails_is_told_and_leaves_the_register(rt: HostRuntime) {
     for fault in [StoreFault::Memory, StoreFault::Store, StoreFault::Damaged] {
         for (place, ask) in ASKS.iter().enumerate() {
             assert!(rt;
-                failed_calls(&rt, rt.alloc(), place, ask, fault)? > 1,
+                failed_calls(&rt, rt.alloc(), place, ask, fault) > 1,
                 "{ask}"
             );
         }
     }
-    Ok(())
 }

@@ -2,6 +2,7 @@
 
 use crate::tests::notation::{day, ident, node};
 use crate::tests::rounds::{by_rounds, tell};
+use crate::tests::same;
 use bods_read::{
     Details, Directness, EntityKind, FreeText, Identifier, Interest, InterestKind, PersonKind,
     Statement, Status,
@@ -9,59 +10,66 @@ use bods_read::{
 use bor_chains::{ChainFault, ListSource, Node, PersonLine, persons_of};
 use bor_records::Row;
 use bor_terms::{Day, Listed, Span};
-use std::alloc::{AllocError, Global};
+use std::alloc::Global;
 use std::process::Abort;
-use std::test::Fail;
 
-pub(super) fn text(alloc: Global, text: &str) -> Result<FreeText, AllocError> {
-    Ok(FreeText::new(String::from_str(alloc, text)?))
+fn text(rt: &impl Abort, alloc: Global, text: &str) -> FreeText {
+    FreeText::new(String::from_str(alloc, text).expect(rt, "memory"))
+}
+
+fn identifier(rt: &impl Abort, alloc: Global, scheme: &str, id: &str) -> Identifier {
+    Identifier {
+        scheme: text(rt, alloc, scheme),
+        id: text(rt, alloc, id),
+    }
 }
 
 pub(super) fn entity(
+    rt: &impl Abort,
     alloc: Global,
     kind: EntityKind,
     numbers: &[(&str, &str)],
-) -> Result<Details, AllocError> {
+) -> Details {
     let mut identifiers = Vec::new(alloc);
     for (scheme, id) in numbers {
-        identifiers.push(Identifier {
-            scheme: text(alloc, scheme)?,
-            id: text(alloc, id)?,
-        })?;
+        let number = identifier(rt, alloc, scheme, id);
+        identifiers.push(number).expect(rt, "memory");
     }
-    Ok(Details::Entity {
+    Details::Entity {
         kind,
         name: None,
         identifiers: Listed::new(identifiers),
-    })
+    }
 }
 
-pub(super) fn company(alloc: Global) -> Result<Details, AllocError> {
-    entity(alloc, EntityKind::RegisteredEntity, &[])
+pub(super) fn company(rt: &impl Abort, alloc: Global) -> Details {
+    entity(rt, alloc, EntityKind::RegisteredEntity, &[])
 }
 
-pub(super) fn numbered(alloc: Global, numbers: &[(&str, &str)]) -> Result<Details, AllocError> {
-    entity(alloc, EntityKind::RegisteredEntity, numbers)
+pub(super) fn numbered(rt: &impl Abort, alloc: Global, numbers: &[(&str, &str)]) -> Details {
+    entity(rt, alloc, EntityKind::RegisteredEntity, numbers)
 }
 
-pub(super) fn person(alloc: Global, name: &str) -> Result<Details, AllocError> {
-    Ok(Details::Person {
+pub(super) fn person(rt: &impl Abort, alloc: Global, name: &str) -> Details {
+    Details::Person {
         kind: PersonKind::KnownPerson,
-        name: Some(text(alloc, name)?),
-    })
+        name: Some(text(rt, alloc, name)),
+    }
 }
 
 pub(super) fn held(
+    rt: &impl Abort,
     alloc: Global,
     subject: &str,
     party: &str,
     interests: &[Interest],
-) -> Result<Details, Fail> {
-    Ok(Details::Relationship {
-        subject: Some(ident(alloc, subject)?),
-        party: Some(ident(alloc, party)?),
-        interests: Listed::new(Vec::from_slice(alloc, interests)?),
-    })
+) -> Details {
+    let interests = Vec::from_slice(alloc, interests).expect(rt, "memory");
+    Details::Relationship {
+        subject: Some(ident(rt, alloc, subject)),
+        party: Some(ident(rt, alloc, party)),
+        interests: Listed::new(interests),
+    }
 }
 
 // The rows of an agent's declaration.
@@ -81,93 +89,100 @@ impl Filed {
 
     pub(super) fn add(
         &mut self,
+        rt: &impl Abort,
         at: (&str, &str, &str),
         dated: &str,
         status: Status,
         details: Details,
-    ) -> Result<(), Fail> {
-        let node = node(self.alloc, at.0, at.1, at.2)?;
-        self.rows.push(Row {
+    ) {
+        let node = node(rt, self.alloc, at.0, at.1, at.2);
+        let row = Row {
             agent: node.agent,
             filing: 1,
             place: 1,
             status,
             statement: Statement {
-                id: ident(self.alloc, "s")?,
-                day: day(dated)?,
+                id: ident(rt, self.alloc, "s"),
+                day: day(rt, dated),
                 declaration: node.declaration,
                 rec: node.rec,
                 status: None,
                 details,
             },
-        })?;
-        Ok(())
+        };
+        self.rows.push(row).expect(rt, "memory");
     }
 
-    fn stated(&mut self, at: (&str, &str, &str), details: Details) -> Result<(), Fail> {
-        self.add(at, "2024-01-10", Status::New, details)
+    fn stated(&mut self, rt: &impl Abort, at: (&str, &str, &str), details: Details) {
+        self.add(rt, at, "2024-01-10", Status::New, details);
     }
 
     // A statement of alder's declaration c1.
-    pub(super) fn with(&mut self, rec: &str, details: Details) -> Result<(), Fail> {
-        self.stated(("alder", "c1", rec), details)
+    pub(super) fn with(&mut self, rt: &impl Abort, rec: &str, details: Details) {
+        self.stated(rt, ("alder", "c1", rec), details);
     }
 
     // Of an agent's declaration: an entity, and a person that holds 5 percent of its shares.
     pub(super) fn held_beside(
         &mut self,
+        rt: &impl Abort,
         of: (&str, &str),
         entity: (&str, Details),
         holder: &str,
-    ) -> Result<(), Fail> {
+    ) {
         let (agent, declaration) = of;
         let (rec, details) = entity;
-        self.stated((agent, declaration, rec), details)?;
-        let details = person(self.alloc, holder)?;
-        self.stated((agent, declaration, holder), details)?;
-        let details = held(self.alloc, rec, holder, &[shares(5)])?;
-        self.stated((agent, declaration, "r9"), details)
+        self.stated(rt, (agent, declaration, rec), details);
+        let details = person(rt, self.alloc, holder);
+        self.stated(rt, (agent, declaration, holder), details);
+        let details = held(rt, self.alloc, rec, holder, &[shares(5)]);
+        self.stated(rt, (agent, declaration, "r9"), details);
     }
 
-    pub(super) fn closed(&mut self, rec: &str, details: Details) -> Result<(), Fail> {
-        self.add(("alder", "c1", rec), "2024-01-12", Status::Closed, details)
+    pub(super) fn closed(&mut self, rt: &impl Abort, rec: &str, details: Details) {
+        let at = ("alder", "c1", rec);
+        self.add(rt, at, "2024-01-12", Status::Closed, details);
     }
 
     pub(super) fn link(
         &mut self,
+        rt: &impl Abort,
         subject: &str,
         party: &str,
         interests: &[Interest],
-    ) -> Result<(), Fail> {
-        let rec = format!(in self.alloc; "r-{subject}-{party}")?;
-        let details = held(self.alloc, subject, party, interests)?;
-        self.with(rec.as_str(), details)
+    ) {
+        let rec = format!(in self.alloc; "r-{subject}-{party}").expect(rt, "memory");
+        let details = held(rt, self.alloc, subject, party, interests);
+        self.with(rt, rec.as_str(), details);
     }
 
     pub(super) fn links(
         &mut self,
+        rt: &impl Abort,
         subject: &str,
         parties: &[&str],
         interests: &[Interest],
-    ) -> Result<(), Fail> {
+    ) {
         for party in parties {
-            self.link(subject, party, interests)?;
+            self.link(rt, subject, party, interests);
         }
-        Ok(())
     }
 
-    // Entities that begin with e, a or b, and persons that begin with anything else.
-    pub(super) fn records(&mut self, recs: &[&str]) -> Result<(), Fail> {
+    // An entity that begins with e, a or b, or a person that begins with anything else.
+    fn record(&mut self, rt: &impl Abort, rec: &str) {
+        let is_entity = rec.starts_with("e") || rec.starts_with("a") || rec.starts_with("b");
+        let details = if is_entity {
+            company(rt, self.alloc)
+        } else {
+            person(rt, self.alloc, rec)
+        };
+        self.with(rt, rec, details);
+    }
+
+    pub(super) fn records(&mut self, rt: &impl Abort, recs: &[&str]) {
         for rec in recs {
-            let is_entity = rec.starts_with("e") || rec.starts_with("a") || rec.starts_with("b");
-            let details = if is_entity {
-                company(self.alloc)?
-            } else {
-                person(self.alloc, rec)?
-            };
-            self.with(rec, details)?;
+            self.record(rt, rec);
         }
-        Ok(())
     }
 }
 
@@ -198,62 +213,56 @@ pub(super) fn board(share: Option<Span>) -> Interest {
 }
 
 // p1's interests in a1, which holds 10 percent of the shares of e1.
-pub(super) fn over_a1(alloc: Global, interests: &[Interest]) -> Result<Filed, Fail> {
+pub(super) fn over_a1(rt: &impl Abort, alloc: Global, interests: &[Interest]) -> Filed {
     let mut filed = Filed::new(alloc);
-    filed.records(&["e1", "a1", "p1"])?;
-    filed.link("a1", "p1", interests)?;
-    filed.link("e1", "a1", &[shares(10)])?;
-    Ok(filed)
+    filed.records(rt, &["e1", "a1", "p1"]);
+    filed.link(rt, "a1", "p1", interests);
+    filed.link(rt, "e1", "a1", &[shares(10)]);
+    filed
 }
 
 // A letter with a number.
-pub(super) fn name_of(alloc: Global, letter: &str, number: u32) -> Result<String, AllocError> {
-    format!(in alloc; "{letter}{number}")
+pub(super) fn name_of(rt: &impl Abort, alloc: Global, letter: &str, number: u32) -> String {
+    format!(in alloc; "{letter}{number}").expect(rt, "memory")
 }
 
 // ---- two answers
 
-pub(super) fn told_lines(alloc: Global, lines: &[PersonLine]) -> Result<String, AllocError> {
+pub(super) fn told_lines(rt: &impl Abort, alloc: Global, lines: &[PersonLine]) -> String {
     let mut out = String::new(alloc);
     for line in lines {
-        tell(&mut out, &line.node)?;
+        tell(rt, &mut out, &line.node);
     }
-    Ok(out)
+    out
 }
 
 // The answer of the walk: the persons' records in order, or the refusal.
-pub(super) fn walked(alloc: Global, rows: &[Row], day: Day, target: &Node) -> Result<String, Fail> {
-    let mut source = ListSource::from_rows(alloc, rows, day)?;
+pub(super) fn walked(
+    rt: &impl Abort,
+    alloc: Global,
+    rows: &[Row],
+    day: Day,
+    target: &Node,
+) -> String {
+    let mut source = ListSource::from_rows(alloc, rows, day).expect(rt, "memory");
     match persons_of(alloc, &mut source, target) {
-        Ok(lines) => Ok(told_lines(alloc, &lines)?),
-        Err(ChainFault::NoEntity) => Ok(String::from_str(alloc, "NoEntity")?),
-        Err(ChainFault::Source(_)) => Ok(String::from_str(alloc, "Source")?),
-        Err(ChainFault::Memory) => Ok(String::from_str(alloc, "Memory")?),
+        Ok(lines) => told_lines(rt, alloc, &lines),
+        Err(ChainFault::NoEntity) => String::from_str(alloc, "NoEntity").expect(rt, "memory"),
+        Err(ChainFault::Source(_)) => String::from_str(alloc, "Source").expect(rt, "memory"),
+        Err(ChainFault::Memory) => String::from_str(alloc, "Memory").expect(rt, "memory"),
     }
 }
 
 // Both answers are the wanted one.
-pub(super) fn answers(
-    rt: &impl Abort,
-    filed: &Filed,
-    dated: &str,
-    rec: &str,
-    wanted: &str,
-) -> Result<(), Fail> {
-    let target = node(filed.alloc, "alder", "c1", rec)?;
-    let day = day(dated)?;
-    let found = walked(filed.alloc, &filed.rows, day, &target)?;
-    assert_eq!(rt; found.as_str(), wanted, "chains of {rec}");
-    let again = by_rounds(filed.alloc, &filed.rows, day, &target)?;
-    assert_eq!(rt; again.as_str(), wanted, "chains of {rec} by rounds");
-    Ok(())
+pub(super) fn answers(rt: &impl Abort, filed: &Filed, dated: &str, rec: &str, wanted: &str) {
+    let target = node(rt, filed.alloc, "alder", "c1", rec);
+    let day = day(rt, dated);
+    let found = walked(rt, filed.alloc, &filed.rows, day, &target);
+    same(rt, "chains", rec, found.as_str(), wanted);
+    let again = by_rounds(rt, filed.alloc, &filed.rows, day, &target);
+    same(rt, "chains by rounds", rec, again.as_str(), wanted);
 }
 
-pub(super) fn chains_of(
-    rt: &impl Abort,
-    filed: &Filed,
-    rec: &str,
-    wanted: &str,
-) -> Result<(), Fail> {
-    answers(rt, filed, "2024-02-01", rec, wanted)
+pub(super) fn chains_of(rt: &impl Abort, filed: &Filed, rec: &str, wanted: &str) {
+    answers(rt, filed, "2024-02-01", rec, wanted);
 }

@@ -1,18 +1,10 @@
-//! What is lodged, told again, refused and withdrawn.
+//! What is lodged, told again and refused.
 
 use crate::DeskReply;
 use crate::tests::asking::Desk;
-use bor_rows::{FIRST, lodging as rows};
+use bor_rows::lodging as rows;
+use std::alloc::Global;
 use std::process::Abort;
-use std::test::Fail;
-
-#[test]
-fn the_first_lodging_is_published_and_told(rt: HostRuntime) -> Result<(), Fail> {
-    let mut desk = Desk::new(rt.alloc())?;
-    desk.talk(&rt, &rows::THE_FIRST_LODGING_IS_PUBLISHED_AND_TOLD)?;
-    assert_eq!(rt; FIRST.len(), 622);
-    Ok(())
-}
 
 // Whether a reply tells of a filing that is new.
 fn is_fresh(reply: &DeskReply) -> Option<bool> {
@@ -22,28 +14,37 @@ fn is_fresh(reply: &DeskReply) -> Option<bool> {
     }
 }
 
+// What is asked is told as a filing that is new, or isn't, or as none.
+fn is_told_fresh(rt: &impl Abort, desk: &mut Desk, ask: &str, fresh: Option<bool>) {
+    let told = desk.reply(rt, ask);
+    assert!(rt; is_fresh(&told) == fresh, "{ask}");
+}
+
 #[test]
-fn a_repeat_tells_the_filing_that_is_there(rt: HostRuntime) -> Result<(), Fail> {
-    let mut desk = Desk::new(rt.alloc())?;
+fn a_repeat_tells_the_filing_that_is_there(rt: HostRuntime) {
+    let mut desk = Desk::new(&rt, rt.alloc());
     let first = "alder lodge f1 2024-02-01 FIRST";
     for fresh in [true, false, false] {
-        assert_eq!(rt; is_fresh(&desk.reply(first)?), Some(fresh));
+        is_told_fresh(&rt, &mut desk, first, Some(fresh));
     }
-    desk.talk(&rt, &rows::A_REPEAT_TELLS_THE_FILING_THAT_IS_THERE)?;
+    desk.talk(
+        &rt,
+        "a repeat",
+        &rows::A_REPEAT_TELLS_THE_FILING_THAT_IS_THERE,
+    );
     let second = "alder lodge f2 2024-03-01 E s4 e2";
     for (ask, fresh) in [
         (second, Some(true)),
         ("alder withdraw f2", None),
         (second, Some(false)),
     ] {
-        assert_eq!(rt; is_fresh(&desk.reply(ask)?), fresh, "{ask}");
+        is_told_fresh(&rt, &mut desk, ask, fresh);
     }
-    Ok(())
 }
 
 #[test]
-fn a_statement_that_may_not_follow_leaves_no_filing(rt: HostRuntime) -> Result<(), Fail> {
-    let mut desk = Desk::new(rt.alloc())?;
+fn a_statement_that_may_not_follow_leaves_no_filing(rt: HostRuntime) {
+    let mut desk = Desk::new(&rt, rt.alloc());
     for (file, reply) in [
         (
             "E s1 e1; E s2 e1 +new",
@@ -67,35 +68,28 @@ fn a_statement_that_may_not_follow_leaves_no_filing(rt: HostRuntime) -> Result<(
             r#"{"place":2,"refusal":"StatementTwice"}"#,
         ),
     ] {
-        let ask = format!(in rt.alloc(); "alder lodge f1 2024-02-01 {file}")?;
-        assert_eq!(rt; desk.ask(ask.as_str())?.as_str(), reply, "{file}");
-        assert_eq!(rt; desk.ask("alder filings")?.as_str(), "[]", "{file}");
+        let ask = format!(in rt.alloc(); "alder lodge f1 2024-02-01 {file}");
+        desk.is_told(&rt, file, ask.expect(&rt, "memory").as_str(), reply);
+        desk.is_told(&rt, file, "alder filings", "[]");
     }
-    desk.talk(&rt, &rows::A_STATEMENT_THAT_MAY_NOT_FOLLOW_LEAVES_NO_FILING)
+    let table = &rows::A_STATEMENT_THAT_MAY_NOT_FOLLOW_LEAVES_NO_FILING;
+    desk.talk(&rt, "a statement that may not follow", table);
 }
 
-// A file that isn't read is refused with the place and the member that the fault is of.
-#[test]
-fn a_file_that_is_not_read_is_refused_whole(rt: HostRuntime) -> Result<(), Fail> {
-    let mut desk = Desk::new(rt.alloc())?;
-    desk.talk(&rt, &rows::A_FILE_THAT_IS_NOT_READ_IS_REFUSED_WHOLE)
-}
-
-// Lodges so many entities, each in a filing of its own that is published at once.
-fn lodge_entities(rt: &(impl Abort + Alloc), desk: &mut Desk, count: u32) -> Result<(), Fail> {
-    for i in 1..count.wrapping_add(1) {
-        let ask = format!(in rt.alloc(); "alder lodge k{i} 2024-02-01 E s{i} e{i}")?;
-        let reply = format!(in rt.alloc();
-            r#"{{"due":"2024-02-01","filing":{i},"state":"published"}}"#
-        )?;
-        assert_eq!(rt; desk.ask(ask.as_str())?.as_str(), reply.as_str());
-    }
-    Ok(())
+// Lodges an entity in a filing of its own, of this number, that is published at once.
+fn lodge_entity(rt: &impl Abort, alloc: Global, desk: &mut Desk, i: u32) {
+    let ask = format!(in alloc; "alder lodge k{i} 2024-02-01 E s{i} e{i}").expect(rt, "memory");
+    let reply = format!(in alloc;
+        r#"{{"due":"2024-02-01","filing":{i},"state":"published"}}"#
+    ).expect(rt, "memory");
+    desk.is_told(rt, "of 999", ask.as_str(), reply.as_str());
 }
 
 #[test]
-fn an_agent_has_at_most_999_filings(rt: HostRuntime) -> Result<(), Fail> {
-    let mut desk = Desk::new(rt.alloc())?;
-    lodge_entities(&rt, &mut desk, 999)?;
-    desk.talk(&rt, &rows::AN_AGENT_HAS_AT_MOST_999_FILINGS)
+fn an_agent_has_at_most_999_filings(rt: HostRuntime) {
+    let mut desk = Desk::new(&rt, rt.alloc());
+    for i in 1..1000 {
+        lodge_entity(&rt, rt.alloc(), &mut desk, i);
+    }
+    desk.talk(&rt, "beyond 999", &rows::AN_AGENT_HAS_AT_MOST_999_FILINGS);
 }

@@ -3,37 +3,45 @@
 use bor_chains::Node;
 use bor_terms::{AgentName, Day, Form, Ident, LodgeKey, Text, Token};
 use std::alloc::Global;
-use std::test::Fail;
+use std::process::Abort;
 
-pub(crate) fn day(text: &str) -> Result<Day, Fail> {
-    Ok(Day::read(text).ok_or("no day")?)
+pub(crate) fn day(rt: &impl Abort, text: &str) -> Day {
+    Day::read(text).expect(rt, "no day")
 }
 
-fn read<F: Form>(alloc: Global, text: &str) -> Result<Text<F>, Fail> {
-    Ok(Text::read(alloc, text)?.ok_or("not of the form")?)
+fn read<F: Form>(rt: &impl Abort, alloc: Global, text: &str) -> Text<F> {
+    Text::read(alloc, text)
+        .expect(rt, "memory")
+        .expect(rt, "not of the form")
 }
 
-pub(crate) fn agent(alloc: Global, text: &str) -> Result<AgentName, Fail> {
-    read(alloc, text)
+pub(crate) fn agent(rt: &impl Abort, alloc: Global, text: &str) -> AgentName {
+    read(rt, alloc, text)
 }
 
-pub(crate) fn ident(alloc: Global, text: &str) -> Result<Ident, Fail> {
-    read(alloc, text)
+pub(crate) fn ident(rt: &impl Abort, alloc: Global, text: &str) -> Ident {
+    read(rt, alloc, text)
 }
 
-pub(crate) fn key(alloc: Global, text: &str) -> Result<LodgeKey, Fail> {
-    read(alloc, text)
+pub(crate) fn key(rt: &impl Abort, alloc: Global, text: &str) -> LodgeKey {
+    read(rt, alloc, text)
 }
 
-pub(crate) fn token(alloc: Global, text: &str) -> Result<Token, Fail> {
-    read(alloc, text)
+pub(crate) fn token(rt: &impl Abort, alloc: Global, text: &str) -> Token {
+    read(rt, alloc, text)
 }
 
 /// The record of an agent's declaration.
-pub(crate) fn node(alloc: Global, name: &str, declaration: &str, rec: &str) -> Result<Node, Fail> {
-    Ok(Node {
-        agent: agent(alloc, name)?,
-        declaration: ident(alloc, declaration)?,
-        rec: ident(alloc, rec)?,
-    })
+pub(crate) fn node(
+    rt: &impl Abort,
+    alloc: Global,
+    name: &str,
+    declaration: &str,
+    rec: &str,
+) -> Node {
+    Node {
+        agent: agent(rt, alloc, name),
+        declaration: ident(rt, alloc, declaration),
+        rec: ident(rt, alloc, rec),
+    }
 }

@@ -11,38 +11,39 @@ use bor_rows::FIRST;
 use bor_terms::Day;
 use std::alloc::Global;
 use std::process::Abort;
-use std::test::Fail;
 
 // A later statement of the entity.
 const LATER: &[u8] =
     b"[{\"statementId\":\"s4\",\"statementDate\":\"2024-01-11\",\"declarationSubject\":\"c1\",\"recordId\":\"e1\",\"recordType\":\"entity\",\"recordDetails\":{}}]";
 
 // The register on 2024-02-01 with the agent alder.
-pub(super) fn register(alloc: Global) -> Result<ListKeep, Fail> {
-    let registrar = token(alloc, "registrar-token-0001")?;
-    let mut keep = ListKeep::new(alloc, registrar, day("2024-02-01")?);
-    let (alder, token) = (agent(alloc, "alder")?, token(alloc, "alder-token-000001")?);
-    enrol(&mut keep, alder, token)?;
-    Ok(keep)
+pub(super) fn register(rt: &impl Abort, alloc: Global) -> ListKeep {
+    let registrar = token(rt, alloc, "registrar-token-0001");
+    let mut keep = ListKeep::new(alloc, registrar, day(rt, "2024-02-01"));
+    let alder = agent(rt, alloc, "alder");
+    enrol(&mut keep, alder, token(rt, alloc, "alder-token-000001")).expect(rt, "not enrolled");
+    keep
 }
 
 // Lodges for alder where `lodge` may be called.
 pub(super) fn file<K: Keep>(
+    rt: &impl Abort,
     alloc: Global,
     keep: &mut K,
     key: &str,
     due: Day,
     bytes: &[u8],
-) -> Result<Result<Lodged, LodgeFault>, Fail> {
-    let (alder, key) = (agent(alloc, "alder")?, read_key(alloc, key)?);
-    if !keep.has_agent(&alder)? {
-        return Err(Fail::from("not enrolled"));
+) -> Result<Lodged, LodgeFault> {
+    let (alder, key) = (agent(rt, alloc, "alder"), read_key(rt, alloc, key));
+    match keep.has_agent(&alder) {
+        Ok(true) => lodge(alloc, keep, &alder, &key, due, bytes),
+        _ => panic!(rt; "not enrolled"),
     }
-    Ok(lodge(alloc, keep, &alder, &key, due, bytes))
 }
 
-pub(super) fn filing_count<K: Keep>(alloc: Global, keep: &mut K) -> Result<usize, Fail> {
-    Ok(keep.filings(&agent(alloc, "alder")?)?.len())
+pub(super) fn filing_count<K: Keep>(rt: &impl Abort, alloc: Global, keep: &mut K) -> usize {
+    let alder = agent(rt, alloc, "alder");
+    keep.filings(&alder).expect(rt, "a fault").len()
 }
 
 fn new_draft(number: u32, due: Day) -> Lodged {
@@ -56,49 +57,70 @@ fn new_draft(number: u32, due: Day) -> Lodged {
 
 // Withdraws for alder, and tells the filing's number and state.
 pub(super) fn undo<K: Keep>(
+    rt: &impl Abort,
     alloc: Global,
     keep: &mut K,
     key: &str,
-) -> Result<Result<(u32, State), WithdrawFault>, Fail> {
-    let (alder, key) = (agent(alloc, "alder")?, read_key(alloc, key)?);
-    Ok(match withdraw(keep, &alder, &key) {
+) -> Result<(u32, State), WithdrawFault> {
+    let (alder, key) = (agent(rt, alloc, "alder"), read_key(rt, alloc, key));
+    match withdraw(keep, &alder, &key) {
         Ok(line) => Ok((line.number, line.state)),
         Err(fault) => Err(fault),
-    })
+    }
+}
+
+// Lodges for alder, and is told this.
+fn is_filed(
+    rt: &impl Abort,
+    alloc: Global,
+    keep: &mut ListKeep,
+    filed: (&str, Day, &[u8]),
+    wanted: Result<Lodged, LodgeFault>,
+) {
+    let (key, due, bytes) = filed;
+    let told = file(rt, alloc, keep, key, due, bytes);
+    assert_eq!(rt; told, wanted, "{key}");
+}
+
+fn published_count(rt: &impl Abort, keep: &mut ListKeep) -> usize {
+    keep.published().expect(rt, "a fault").len()
 }
 
 // The example of the first page of `bor_machine`.
 #[test]
-fn the_example_of_the_root_page(rt: HostRuntime) -> Result<(), Fail> {
+fn the_example_of_the_root_page(rt: HostRuntime) {
     let alloc = rt.alloc();
-    let tomorrow = day("2024-02-02")?;
-    let mut keep = register(alloc)?;
-    assert_eq!(rt;
-        file(alloc, &mut keep, "f1", tomorrow, FIRST.as_bytes())?,
-        Ok(new_draft(1, tomorrow))
+    let tomorrow = day(&rt, "2024-02-02");
+    let mut keep = register(&rt, alloc);
+    let lodged = Ok(new_draft(1, tomorrow));
+    is_filed(
+        &rt,
+        alloc,
+        &mut keep,
+        ("f1", tomorrow, FIRST.as_bytes()),
+        lodged,
     );
-    assert_eq!(rt; advance(&mut keep, tomorrow), Ok(tomorrow));
-    assert_eq!(rt; keep.published()?.len(), 1);
-    Ok(())
+    assert!(rt; advance(&mut keep, tomorrow) == Ok(tomorrow));
+    assert!(rt; published_count(&rt, &mut keep) == 1);
 }
 
 // The last of the three statements of the one filing that is published.
-fn third_published(keep: &mut ListKeep) -> Result<(RecordType, Option<Status>), Fail> {
-    let outwards = keep.published()?;
+fn third_published(rt: &impl Abort, keep: &mut ListKeep) -> (RecordType, Option<Status>) {
+    let outwards = keep.published().expect(rt, "a fault");
     let [outward] = outwards.as_slice() else {
-        return Err(Fail::from("not one filing"));
+        panic!(rt; "not one filing");
     };
     let [_, _, last] = outward.statements.as_slice() else {
-        return Err(Fail::from("not three statements"));
+        panic!(rt; "not three statements");
     };
-    Ok((last.record_type(), last.status))
+    (last.record_type(), last.status)
 }
 
 #[test]
-fn a_filing_due_today_is_published(rt: HostRuntime) -> Result<(), Fail> {
+fn a_filing_due_today_is_published(rt: HostRuntime) {
     let alloc = rt.alloc();
-    let mut keep = register(alloc)?;
-    let today = day("2024-02-01")?;
+    let mut keep = register(&rt, alloc);
+    let today = day(&rt, "2024-02-01");
     for fresh in [true, false] {
         let told = Lodged {
             number: 1,
@@ -106,23 +128,23 @@ fn a_filing_due_today_is_published(rt: HostRuntime) -> Result<(), Fail> {
             state: State::Published,
             fresh,
         };
-        assert_eq!(rt;
-            file(alloc, &mut keep, "f1", today, FIRST.as_bytes())?,
-            Ok(told)
+        is_filed(
+            &rt,
+            alloc,
+            &mut keep,
+            ("f1", today, FIRST.as_bytes()),
+            Ok(told),
         );
     }
-    assert_eq!(rt;
-        third_published(&mut keep)?,
-        (RecordType::Relationship, Some(Status::New))
-    );
-    Ok(())
+    let last = third_published(&rt, &mut keep);
+    assert!(rt; last == (RecordType::Relationship, Some(Status::New)));
 }
 
 #[test]
-fn a_refused_lodging_leaves_the_register(rt: HostRuntime) -> Result<(), Fail> {
+fn a_refused_lodging_leaves_the_register(rt: HostRuntime) {
     let alloc = rt.alloc();
-    let mut keep = register(alloc)?;
-    let (tomorrow, later) = (day("2024-02-02")?, day("2024-03-01")?);
+    let mut keep = register(&rt, alloc);
+    let (tomorrow, later) = (day(&rt, "2024-02-02"), day(&rt, "2024-03-01"));
     let no_list = LodgeFault::Read(FileFault::NotAList);
     let early = LodgeFault::Record {
         place: 1,
@@ -134,24 +156,37 @@ fn a_refused_lodging_leaves_the_register(rt: HostRuntime) -> Result<(), Fail> {
         ("f2", tomorrow, LATER, Err(early)),
         ("f2", later, LATER, Ok(new_draft(2, later))),
     ] {
-        assert_eq!(rt; file(alloc, &mut keep, key, due, bytes)?, told);
+        is_filed(&rt, alloc, &mut keep, (key, due, bytes), told);
     }
-    Ok(())
 }
 
-fn with_two_drafts(rt: &impl Abort, alloc: Global) -> Result<ListKeep, Fail> {
-    let mut keep = register(alloc)?;
-    let tomorrow = day("2024-02-02")?;
+fn with_two_drafts(rt: &impl Abort, alloc: Global) -> ListKeep {
+    let mut keep = register(rt, alloc);
+    let tomorrow = day(rt, "2024-02-02");
     for (key, bytes) in [("f1", FIRST.as_bytes()), ("f2", LATER)] {
-        assert!(rt; file(alloc, &mut keep, key, tomorrow, bytes)?.is_ok());
+        assert!(rt;
+            file(rt, alloc, &mut keep, key, tomorrow, bytes).is_ok(),
+            "{key}"
+        );
     }
-    Ok(keep)
+    keep
+}
+
+// Withdraws for alder, and is told this.
+fn is_undone(
+    rt: &impl Abort,
+    alloc: Global,
+    keep: &mut ListKeep,
+    key: &str,
+    wanted: Result<(u32, State), WithdrawFault>,
+) {
+    assert_eq!(rt; undo(rt, alloc, keep, key), wanted, "{key}");
 }
 
 #[test]
-fn a_draft_is_withdrawn(rt: HostRuntime) -> Result<(), Fail> {
+fn a_draft_is_withdrawn(rt: HostRuntime) {
     let alloc = rt.alloc();
-    let mut keep = with_two_drafts(&rt, alloc)?;
+    let mut keep = with_two_drafts(&rt, alloc);
     let withdrawn = Ok((2, State::Withdrawn));
     for (key, told) in [
         ("f1", Err(WithdrawFault::HasSuccessor)),
@@ -160,41 +195,49 @@ fn a_draft_is_withdrawn(rt: HostRuntime) -> Result<(), Fail> {
         ("f1", Ok((1, State::Withdrawn))),
         ("f3", Err(WithdrawFault::NoSuchFiling)),
     ] {
-        assert_eq!(rt; undo(alloc, &mut keep, key)?, told, "{key}");
+        is_undone(&rt, alloc, &mut keep, key, told);
     }
-    Ok(())
 }
 
 #[test]
-fn a_published_filing_stays(rt: HostRuntime) -> Result<(), Fail> {
+fn a_published_filing_stays(rt: HostRuntime) {
     let alloc = rt.alloc();
-    let mut keep = register(alloc)?;
-    let today = day("2024-02-01")?;
-    assert!(rt; file(alloc, &mut keep, "f1", today, FIRST.as_bytes())?.is_ok());
-    assert_eq!(rt;
-        undo(alloc, &mut keep, "f1")?,
-        Err(WithdrawFault::Published)
+    let mut keep = register(&rt, alloc);
+    let today = day(&rt, "2024-02-01");
+    assert!(rt; file(&rt, alloc, &mut keep, "f1", today, FIRST.as_bytes()).is_ok());
+    is_undone(&rt, alloc, &mut keep, "f1", Err(WithdrawFault::Published));
+    assert!(rt; published_count(&rt, &mut keep) == 1);
+}
+
+// An enrolment that is refused with this fault.
+fn is_refused(
+    rt: &impl Abort,
+    alloc: Global,
+    keep: &mut ListKeep,
+    name: &str,
+    secret: &str,
+    fault: EnrolFault,
+) {
+    let (agent, token) = (agent(rt, alloc, name), token(rt, alloc, secret));
+    assert!(rt;
+        enrol(keep, agent, token).err() == Some(fault),
+        "{name} {secret}"
     );
-    assert_eq!(rt; keep.published()?.len(), 1);
-    Ok(())
 }
 
 #[test]
-fn a_refused_registrar_leaves_the_register(rt: HostRuntime) -> Result<(), Fail> {
+fn a_refused_registrar_leaves_the_register(rt: HostRuntime) {
     let alloc = rt.alloc();
-    let mut keep = register(alloc)?;
-    let today = day("2024-02-01")?;
-    let back = advance(&mut keep, day("2024-01-31")?);
-    assert_eq!(rt; back, Err(AdvanceFault::DayBack));
-    assert_eq!(rt; keep.day()?, today);
+    let mut keep = register(&rt, alloc);
+    let (yesterday, today) = (day(&rt, "2024-01-31"), day(&rt, "2024-02-01"));
+    assert!(rt; advance(&mut keep, yesterday) == Err(AdvanceFault::DayBack));
+    assert!(rt; keep.day() == Ok(today));
     for (name, secret, fault) in [
         ("alder", "registrar-token-0001", EnrolFault::NameTaken),
         ("birch", "registrar-token-0001", EnrolFault::TokenTaken),
         ("birch", "alder-token-000001", EnrolFault::TokenTaken),
     ] {
-        let refused = enrol(&mut keep, agent(alloc, name)?, token(alloc, secret)?).err();
-        assert_eq!(rt; refused, Some(fault), "{name} {secret}");
+        is_refused(&rt, alloc, &mut keep, name, secret, fault);
     }
-    assert!(rt; !keep.has_agent(&agent(alloc, "birch")?)?);
-    Ok(())
+    assert!(rt; keep.has_agent(&agent(&rt, alloc, "birch")) == Ok(false));
 }

@@ -4,7 +4,6 @@ use crate::tests::asking::Desk;
 use crate::tests::is_text;
 use bor_rows::FIRST;
 use std::process::Abort;
-use std::test::Fail;
 
 // The viewer is shown this text of a record of alder's declaration c1.
 fn shown(
@@ -14,18 +13,17 @@ fn shown(
     at: (&str, &str),
     text: &str,
     refused: bool,
-) -> Result<(), Fail> {
+) {
     let (rec, date) = at;
-    let report = desk.report(viewer, rec, date)?;
+    let report = desk.report(rt, viewer, rec, date);
     assert!(rt; is_text(&report, text, refused), "{viewer} {rec} {date}");
-    Ok(())
 }
 
 #[test]
-fn a_report_names_the_persons(rt: HostRuntime) -> Result<(), Fail> {
-    let mut desk = Desk::new(rt.alloc())?;
-    let _ = desk.ask("alder lodge f1 2024-02-01 FIRST")?;
-    let _ = desk.ask("alder lodge f2 2024-03-01 E s4 e3")?;
+fn a_report_names_the_persons(rt: HostRuntime) {
+    let mut desk = Desk::new(&rt, rt.alloc());
+    let _ = desk.reply(&rt, "alder lodge f1 2024-02-01 FIRST");
+    let _ = desk.reply(&rt, "alder lodge f2 2024-03-01 E s4 e3");
     let named =
         "entity\talder\tc1\te1\t2024-02-01\nperson\talder\tc1\tp1\t\"Ann Moss\"\npersons 1\n";
     let nobody = "entity\talder\tc1\te3\t2024-02-01\npersons 0\n";
@@ -41,21 +39,20 @@ fn a_report_names_the_persons(rt: HostRuntime) -> Result<(), Fail> {
         ("cedar", ("e1", "2024-02-01"), named, false),
         ("cedar", ("e3", "2024-02-01"), no_entity, true),
     ] {
-        shown(&rt, &mut desk, viewer, at, text, refused)?;
+        shown(&rt, &mut desk, viewer, at, text, refused);
     }
-    Ok(())
 }
 
 #[test]
-fn a_report_writes_names_as_json(rt: HostRuntime) -> Result<(), Fail> {
-    let mut desk = Desk::new(rt.alloc())?;
-    let (before, after) = FIRST.split_once("Ann Moss").ok_or("no name")?;
+fn a_report_writes_names_as_json(rt: HostRuntime) {
+    let mut desk = Desk::new(&rt, rt.alloc());
+    let (before, after) = FIRST.split_once("Ann Moss").expect(&rt, "no name");
     let ask = format!(in rt.alloc();
         r#"alder lodge f1 2024-02-01 {before}Ann \"A\\\" M\u00f6ss\t{after}"#
-    )?;
-    let _ = desk.ask(ask.as_str())?;
+    ).expect(&rt, "memory");
+    let _ = desk.reply(&rt, ask.as_str());
     let unnamed = "alder lodge f2 2024-02-01 P s4 p2; E s5 e2; R s6 r2 e2<-p2 S5";
-    let _ = desk.ask(unnamed)?;
+    let _ = desk.reply(&rt, unnamed);
     for (at, text) in [
         (
             ("e1", "2024-02-01"),
@@ -66,7 +63,6 @@ fn a_report_writes_names_as_json(rt: HostRuntime) -> Result<(), Fail> {
             "entity\talder\tc1\te2\t2024-02-01\nperson\talder\tc1\tp2\tnull\npersons 1\n",
         ),
     ] {
-        shown(&rt, &mut desk, "alder", at, text, false)?;
+        shown(&rt, &mut desk, "alder", at, text, false);
     }
-    Ok(())
 }

@@ -9,12 +9,13 @@ ghost use Rattle.bor_chains.specs.Chains.{AreJoined};
 use crate::tests::filed::{Filed, name_of, numbered, over_a1, shares, told_lines, votes};
 use crate::tests::notation::{day, node};
 use crate::tests::rounds::told;
+use crate::tests::same;
 use bor_chains::{
     ChainFault, Link, LinkSource, ListSource, Node, NodeInfo, PersonLine, persons_of,
 };
 use bor_records::Row;
 use std::alloc::{AllocError, Global};
-use std::test::Fail;
+use std::process::Abort;
 
 // Which call failed.
 #[derive(Clone, Copy, Debug, PartialEq, Eq)]
@@ -187,39 +188,54 @@ fn persons_behind<S: LinkSource>(
     persons_of(alloc, &mut borrowing, target)
 }
 
-fn source_of(alloc: Global, rows: &[Row], fails_at: u64) -> Result<Counting, Fail> {
-    Ok(Counting {
+fn source_of(rt: &impl Abort, alloc: Global, rows: &[Row], fails_at: u64) -> Counting {
+    let day = day(rt, "2024-02-01");
+    Counting {
         alloc,
-        source: ListSource::from_rows(alloc, rows, day("2024-02-01")?)?,
+        source: ListSource::from_rows(alloc, rows, day).expect(rt, "memory"),
         fails_at,
         calls: 0,
         faults: 0,
         asked: Vec::new(alloc),
-    })
+    }
+}
+
+// How many persons stand behind the target.
+fn count_behind<S: LinkSource>(
+    rt: &impl Abort,
+    alloc: Global,
+    source: &mut S,
+    target: &Node,
+) -> usize {
+    match persons_of(alloc, source, target) {
+        Ok(lines) => lines.len(),
+        Err(_) => panic!(rt; "a fault"),
+    }
+}
+
+// A source whose call of this number fails: its fault is told, and it is asked for no more.
+fn fails(rt: &impl Abort, alloc: Global, rows: &[Row], target: &Node, call: u64) {
+    let mut source = source_of(rt, alloc, rows, call);
+    let told = match persons_of(alloc, &mut source, target) {
+        Err(ChainFault::Source(trouble)) => Some(trouble),
+        _ => None,
+    };
+    assert!(rt; told == Some(Trouble::Call(call)), "{call}");
+    assert!(rt; source.calls == call, "{call}");
+    assert!(rt; source.faults() == 1, "{call}");
 }
 
 #[test]
-fn a_fault_of_the_source_is_handed_on(rt: HostRuntime) -> Result<(), Fail> {
+fn a_fault_of_the_source_is_handed_on(rt: HostRuntime) {
     let alloc = rt.alloc();
-    let filed = over_a1(alloc, &[votes(60)])?;
-    let target = node(alloc, "alder", "c1", "e1")?;
-    let mut whole = source_of(alloc, &filed.rows, 0)?;
-    let lines = persons_of(alloc, &mut whole, &target)
-        .ok()
-        .ok_or("a fault")?;
-    assert_eq!(rt; lines.len(), 1);
-    assert_eq!(rt; whole.faults(), 0);
+    let rows = over_a1(&rt, alloc, &[votes(60)]).rows;
+    let target = node(&rt, alloc, "alder", "c1", "e1");
+    let mut whole = source_of(&rt, alloc, &rows, 0);
+    assert!(rt; count_behind(&rt, alloc, &mut whole, &target) == 1);
+    assert!(rt; whole.faults() == 0);
     for call in 1..whole.calls.wrapping_add(1) {
-        let mut source = source_of(alloc, &filed.rows, call)?;
-        let told = match persons_of(alloc, &mut source, &target) {
-            Err(ChainFault::Source(trouble)) => Some(trouble),
-            _ => None,
-        };
-        assert_eq!(rt; told, Some(Trouble::Call(call)));
-        assert_eq!(rt; source.calls, call);
-        assert_eq!(rt; source.faults(), 1);
+        fails(&rt, alloc, &rows, &target, call);
     }
-    Ok(())
 }
 
 // A source that answers each call with the same nodes: whatever is asked for is an entity, the same
@@ -296,82 +312,72 @@ impl LinkSource for Lying {
 }
 
 #[test]
-fn a_walk_over_a_lying_source_ends(rt: HostRuntime) -> Result<(), Fail> {
+fn a_walk_over_a_lying_source_ends(rt: HostRuntime) {
     let alloc = rt.alloc();
-    let target = node(alloc, "alder", "c1", "e1")?;
+    let target = node(&rt, alloc, "alder", "c1", "e1");
     let mut nodes = Vec::new(alloc);
     for rec in ["a1", "a2", "a3"] {
-        nodes.push(node(alloc, "alder", "c1", rec)?)?;
+        let node = node(&rt, alloc, "alder", "c1", rec);
+        nodes.push(node).expect(&rt, "memory");
     }
     let mut source = Lying { alloc, nodes };
-    let lines = persons_of(alloc, &mut source, &target)
-        .ok()
-        .ok_or("a fault")?;
-    assert_eq!(rt; lines.len(), 0);
-    Ok(())
+    assert!(rt; count_behind(&rt, alloc, &mut source, &target) == 0);
 }
 
 // A thousand entities under one identifier: the class is asked for once, and so are links into each.
 #[test]
-fn a_class_of_a_thousand_is_asked_for_once(rt: HostRuntime) -> Result<(), Fail> {
+fn a_class_of_a_thousand_is_asked_for_once(rt: HostRuntime) {
     let alloc = rt.alloc();
     let mut filed = Filed::new(alloc);
     for i in 0..1000_u32 {
-        let rec = name_of(alloc, "e", i)?;
-        filed.with(rec.as_str(), numbered(alloc, &[("X", "1")])?)?;
+        let rec = name_of(&rt, alloc, "e", i);
+        filed.with(&rt, rec.as_str(), numbered(&rt, alloc, &[("X", "1")]));
     }
-    filed.records(&["p"])?;
-    filed.link("e999", "p", &[shares(1)])?;
-    let target = node(alloc, "alder", "c1", "e0")?;
-    let mut source = source_of(alloc, &filed.rows, 0)?;
-    let lines = persons_of(alloc, &mut source, &target)
-        .ok()
-        .ok_or("a fault")?;
-    assert_eq!(rt; lines.len(), 1);
+    filed.records(&rt, &["p"]);
+    filed.link(&rt, "e999", "p", &[shares(1)]);
+    let target = node(&rt, alloc, "alder", "c1", "e0");
+    let mut source = source_of(&rt, alloc, &filed.rows, 0);
+    assert!(rt; count_behind(&rt, alloc, &mut source, &target) == 1);
     // the target and the person, the class, and the links into each of it
-    assert_eq!(rt; source.calls, 1003);
-    Ok(())
+    assert!(rt; source.calls == 1003);
 }
 
 fn told_behind<S: LinkSource>(
+    rt: &impl Abort,
     alloc: Global,
     source: &mut S,
     target: &Node,
-) -> Result<String, Fail> {
+) -> String {
     match persons_behind(alloc, source, target) {
-        Ok(lines) => Ok(told_lines(alloc, &lines)?),
-        Err(_) => Err(Fail::from("a fault")),
+        Ok(lines) => told_lines(rt, alloc, &lines),
+        Err(_) => panic!(rt; "a fault"),
     }
 }
 
 #[test]
-fn a_source_may_be_borrowed(rt: HostRuntime) -> Result<(), Fail> {
+fn a_source_may_be_borrowed(rt: HostRuntime) {
     let alloc = rt.alloc();
-    let filed = over_a1(alloc, &[votes(60)])?;
-    let target = node(alloc, "alder", "c1", "e1")?;
-    let mut source = ListSource::from_rows(alloc, &filed.rows, day("2024-02-01")?)?;
+    let rows = over_a1(&rt, alloc, &[votes(60)]).rows;
+    let target = node(&rt, alloc, "alder", "c1", "e1");
+    let day = day(&rt, "2024-02-01");
+    let mut source = ListSource::from_rows(alloc, &rows, day).expect(&rt, "memory");
     for _ in 0..2 {
-        let told = told_behind(alloc, &mut source, &target)?;
-        assert_eq!(rt; told.as_str(), "p1");
+        let told = told_behind(&rt, alloc, &mut source, &target);
+        same(&rt, "borrowed", "e1", told.as_str(), "p1");
     }
-    Ok(())
 }
 
 #[test]
-fn links_are_asked_for_at_most_twice(rt: HostRuntime) -> Result<(), Fail> {
+fn links_are_asked_for_at_most_twice(rt: HostRuntime) {
     let alloc = rt.alloc();
     let mut filed = Filed::new(alloc);
-    filed.records(&["e1", "a1", "p1"])?;
-    filed.link("e1", "a1", &[votes(60)])?;
-    filed.link("a1", "e1", &[votes(60)])?;
-    filed.link("a1", "p1", &[votes(60)])?;
-    let target = node(alloc, "alder", "c1", "e1")?;
-    let mut source = source_of(alloc, &filed.rows, 0)?;
-    let lines = persons_of(alloc, &mut source, &target)
-        .ok()
-        .ok_or("a fault")?;
-    assert_eq!(rt; lines.len(), 1);
-    let asked = told(alloc, &source.asked)?;
-    assert_eq!(rt; asked.as_str(), "e1 a1 e1");
-    Ok(())
+    filed.records(&rt, &["e1", "a1", "p1"]);
+    filed.link(&rt, "e1", "a1", &[votes(60)]);
+    filed.link(&rt, "a1", "e1", &[votes(60)]);
+    filed.link(&rt, "a1", "p1", &[votes(60)]);
+    let target = node(&rt, alloc, "alder", "c1", "e1");
+    let mut source = source_of(&rt, alloc, &filed.rows, 0);
+    assert!(rt; count_behind(&rt, alloc, &mut source, &target) == 1);
+    let asked = told(&rt, alloc, &source.asked);
+    same(&rt, "asked for", "e1", asked.as_str(), "e1 a1 e1");
 }

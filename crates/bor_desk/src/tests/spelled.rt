@@ -10,35 +10,43 @@ use bor_machine::{FilingLine, Lodged, Outward};
 use bor_records::Entry;
 use bor_terms::{Day, Ident, Span};
 use serde_json::Value;
-use std::alloc::{AllocError, Global};
+use std::alloc::Global;
+use std::process::Abort;
 
-fn day_text(alloc: Global, day: Day) -> Result<String, AllocError> {
-    String::from_utf8_lossy(alloc, day.text().as_slice())
+fn day_text(rt: &impl Abort, alloc: Global, day: Day) -> String {
+    String::from_utf8_lossy(alloc, day.text().as_slice()).expect(rt, "memory")
+}
+
+fn add(rt: &impl Abort, text: &mut String, more: &str) {
+    text.push_str(more).expect(rt, "memory");
 }
 
 // Begins another item of a list.
-fn begin_item(text: &mut String) -> Result<(), AllocError> {
+fn begin_item(rt: &impl Abort, text: &mut String) {
     if !text.ends_with("[") {
-        text.push(',')?;
+        add(rt, text, ",");
     }
-    Ok(())
 }
 
-fn add_name(text: &mut String, alloc: Global, name: &Option<FreeText>) -> Result<(), AllocError> {
+fn add_name(rt: &impl Abort, text: &mut String, alloc: Global, name: &Option<FreeText>) {
     let value = match name {
-        Some(name) => Value::String(String::from_str(alloc, name.as_str())?),
+        Some(name) => {
+            let name = String::from_str(alloc, name.as_str());
+            Value::String(name.expect(rt, "memory"))
+        }
         None => Value::Null,
     };
-    text.push_str(value.to_string(alloc)?.as_str())
+    let value = value.to_string(alloc).expect(rt, "memory");
+    add(rt, text, value.as_str());
 }
 
-fn add_end(text: &mut String, end: &Option<Ident>) -> Result<(), AllocError> {
+fn add_end(rt: &impl Abort, text: &mut String, end: &Option<Ident>) {
     match end {
         Some(end) => {
             let end = end.as_str();
-            write!(text, r#""{end}""#)
+            write!(text, r#""{end}""#).expect(rt, "memory");
         }
-        None => text.push_str("null"),
+        None => add(rt, text, "null"),
     }
 }
 
@@ -88,7 +96,7 @@ fn status_word(status: Option<Status>) -> &'static str {
     }
 }
 
-fn add_share(text: &mut String, share: Option<Span>) -> Result<(), AllocError> {
+fn add_share(rt: &impl Abort, text: &mut String, share: Option<Span>) {
     match share {
         Some(share) => {
             let (low, low_open) = (share.low(), share.low_is_open());
@@ -97,75 +105,69 @@ fn add_share(text: &mut String, share: Option<Span>) -> Result<(), AllocError> {
                 text,
                 r#"{{"high":{high},"highOpen":{high_open},"low":{low},"lowOpen":{low_open}}}"#
             )
+            .expect(rt, "memory");
         }
-        None => text.push_str("null"),
+        None => add(rt, text, "null"),
     }
 }
 
-fn add_interests(text: &mut String, interests: &[Interest]) -> Result<(), AllocError> {
+fn add_interests(rt: &impl Abort, text: &mut String, interests: &[Interest]) {
     for interest in interests {
-        begin_item(text)?;
+        begin_item(rt, text);
         let directness = directness_word(interest.directness);
         let kind = interest_word(interest.kind);
-        write!(text, r#"{{"directness":"{directness}","share":"#)?;
-        add_share(text, interest.share)?;
-        write!(text, r#","type":"{kind}"}}"#)?;
+        write!(text, r#"{{"directness":"{directness}","share":"#).expect(rt, "memory");
+        add_share(rt, text, interest.share);
+        write!(text, r#","type":"{kind}"}}"#).expect(rt, "memory");
     }
-    Ok(())
 }
 
-fn add_identifiers(text: &mut String, identifiers: &[Identifier]) -> Result<(), AllocError> {
+fn add_identifiers(rt: &impl Abort, text: &mut String, identifiers: &[Identifier]) {
     for identifier in identifiers {
-        begin_item(text)?;
+        begin_item(rt, text);
         let (scheme, id) = (identifier.scheme.as_str(), identifier.id.as_str());
-        write!(text, r#"{{"id":"{id}","scheme":"{scheme}"}}"#)?;
+        write!(text, r#"{{"id":"{id}","scheme":"{scheme}"}}"#).expect(rt, "memory");
     }
-    Ok(())
 }
 
-fn add_details(text: &mut String, alloc: Global, details: &Details) -> Result<(), AllocError> {
+fn add_details(rt: &impl Abort, text: &mut String, alloc: Global, details: &Details) {
     match details {
         Details::Entity {
             kind,
             name,
             identifiers,
         } => {
-            text.push_str(r#"{"identifiers":["#)?;
-            add_identifiers(text, identifiers.as_slice())?;
+            add(rt, text, r#"{"identifiers":["#);
+            add_identifiers(rt, text, identifiers.as_slice());
             let kind = entity_word(*kind);
-            write!(text, r#"],"kind":"{kind}","name":"#)?;
-            add_name(text, alloc, name)?;
+            write!(text, r#"],"kind":"{kind}","name":"#).expect(rt, "memory");
+            add_name(rt, text, alloc, name);
         }
         Details::Person { kind, name } => {
             let kind = person_word(*kind);
-            write!(text, r#"{{"kind":"{kind}","name":"#)?;
-            add_name(text, alloc, name)?;
+            write!(text, r#"{{"kind":"{kind}","name":"#).expect(rt, "memory");
+            add_name(rt, text, alloc, name);
         }
         Details::Relationship {
             subject,
             party,
             interests,
         } => {
-            text.push_str(r#"{"interestedParty":"#)?;
-            add_end(text, party)?;
-            text.push_str(r#","interests":["#)?;
-            add_interests(text, interests.as_slice())?;
-            text.push_str(r#"],"subject":"#)?;
-            add_end(text, subject)?;
+            add(rt, text, r#"{"interestedParty":"#);
+            add_end(rt, text, party);
+            add(rt, text, r#","interests":["#);
+            add_interests(rt, text, interests.as_slice());
+            add(rt, text, r#"],"subject":"#);
+            add_end(rt, text, subject);
         }
     }
-    text.push('}')?;
-    Ok(())
+    add(rt, text, "}");
 }
 
-fn add_statements(
-    text: &mut String,
-    alloc: Global,
-    statements: &[Statement],
-) -> Result<(), AllocError> {
+fn add_statements(rt: &impl Abort, text: &mut String, alloc: Global, statements: &[Statement]) {
     for statement in statements {
-        begin_item(text)?;
-        let date = day_text(alloc, statement.day)?;
+        begin_item(rt, text);
+        let date = day_text(rt, alloc, statement.day);
         let declaration = statement.declaration.as_str();
         let (id, rec) = (statement.id.as_str(), statement.rec.as_str());
         let status = status_word(statement.status);
@@ -173,159 +175,173 @@ fn add_statements(
         write!(
             text,
             r#"{{"date":"{date}","declaration":"{declaration}","id":"{id}","record":"{rec}","status":"{status}","type":"{record_type}"}}"#
-        )?;
+        )
+        .expect(rt, "memory");
     }
-    Ok(())
 }
 
-fn add_outwards(text: &mut String, alloc: Global, outwards: &[Outward]) -> Result<(), AllocError> {
-    text.push('[')?;
+fn add_outwards(rt: &impl Abort, text: &mut String, alloc: Global, outwards: &[Outward]) {
+    add(rt, text, "[");
     for outward in outwards {
-        begin_item(text)?;
+        begin_item(rt, text);
         let agent = outward.agent.as_str();
-        let due = day_text(alloc, outward.due)?;
-        write!(text, r#"{{"agent":"{agent}","due":"{due}","statements":["#)?;
-        add_statements(text, alloc, outward.statements.as_slice())?;
-        text.push_str("]}")?;
+        let due = day_text(rt, alloc, outward.due);
+        write!(text, r#"{{"agent":"{agent}","due":"{due}","statements":["#).expect(rt, "memory");
+        add_statements(rt, text, alloc, outward.statements.as_slice());
+        add(rt, text, "]}");
     }
-    text.push(']')?;
-    Ok(())
+    add(rt, text, "]");
 }
 
-fn add_records(
-    text: &mut String,
-    alloc: Global,
-    date: Day,
-    records: &[Entry],
-) -> Result<(), AllocError> {
-    let date = day_text(alloc, date)?;
-    write!(text, r#"{{"date":"{date}","records":["#)?;
+fn add_record(rt: &impl Abort, text: &mut String, alloc: Global, record: &Entry) {
+    begin_item(rt, text);
+    let statement = &record.statement;
+    let dated = day_text(rt, alloc, statement.day);
+    write!(text, r#"{{"date":"{dated}","details":"#).expect(rt, "memory");
+    add_details(rt, text, alloc, &statement.details);
+    let (id, rec) = (statement.id.as_str(), statement.rec.as_str());
+    let status = record.status.as_str();
+    let record_type = statement.record_type().as_str();
+    write!(
+        text,
+        r#","id":"{id}","record":"{rec}","status":"{status}","type":"{record_type}"}}"#
+    )
+    .expect(rt, "memory");
+}
+
+fn add_records(rt: &impl Abort, text: &mut String, alloc: Global, date: Day, records: &[Entry]) {
+    let date = day_text(rt, alloc, date);
+    write!(text, r#"{{"date":"{date}","records":["#).expect(rt, "memory");
     for record in records {
-        begin_item(text)?;
-        let statement = &record.statement;
-        let dated = day_text(alloc, statement.day)?;
-        write!(text, r#"{{"date":"{dated}","details":"#)?;
-        add_details(text, alloc, &statement.details)?;
-        let (id, rec) = (statement.id.as_str(), statement.rec.as_str());
-        let status = record.status.as_str();
-        let record_type = statement.record_type().as_str();
-        write!(
-            text,
-            r#","id":"{id}","record":"{rec}","status":"{status}","type":"{record_type}"}}"#
-        )?;
+        add_record(rt, text, alloc, record);
     }
-    text.push_str("]}")
+    add(rt, text, "]}");
+}
+
+fn add_person(rt: &impl Abort, text: &mut String, alloc: Global, person: &PersonLine) {
+    begin_item(rt, text);
+    let (agent, declaration) = (person.node.agent.as_str(), person.node.declaration.as_str());
+    let rec = person.node.rec.as_str();
+    write!(
+        text,
+        r#"{{"agent":"{agent}","declaration":"{declaration}","name":"#
+    )
+    .expect(rt, "memory");
+    add_name(rt, text, alloc, &person.name);
+    write!(text, r#","record":"{rec}"}}"#).expect(rt, "memory");
 }
 
 fn add_persons(
+    rt: &impl Abort,
     text: &mut String,
     alloc: Global,
     entity: &Node,
     date: Day,
     persons: &[PersonLine],
-) -> Result<(), AllocError> {
+) {
     let (agent, declaration) = (entity.agent.as_str(), entity.declaration.as_str());
-    let date = day_text(alloc, date)?;
+    let date = day_text(rt, alloc, date);
     write!(
         text,
         r#"{{"agent":"{agent}","date":"{date}","declaration":"{declaration}","persons":["#
-    )?;
+    )
+    .expect(rt, "memory");
     for person in persons {
-        begin_item(text)?;
-        let (agent, declaration) = (person.node.agent.as_str(), person.node.declaration.as_str());
-        let rec = person.node.rec.as_str();
-        write!(
-            text,
-            r#"{{"agent":"{agent}","declaration":"{declaration}","name":"#
-        )?;
-        add_name(text, alloc, &person.name)?;
-        write!(text, r#","record":"{rec}"}}"#)?;
+        add_person(rt, text, alloc, person);
     }
     let rec = entity.rec.as_str();
-    write!(text, r#"],"record":"{rec}"}}"#)
+    write!(text, r#"],"record":"{rec}"}}"#).expect(rt, "memory");
 }
 
-fn add_lines(text: &mut String, alloc: Global, lines: &[FilingLine]) -> Result<(), AllocError> {
-    text.push('[')?;
+fn add_lines(rt: &impl Abort, text: &mut String, alloc: Global, lines: &[FilingLine]) {
+    add(rt, text, "[");
     for line in lines {
-        begin_item(text)?;
-        let due = day_text(alloc, line.due)?;
+        begin_item(rt, text);
+        let due = day_text(rt, alloc, line.due);
         let (number, key, state) = (line.number, line.key.as_str(), line.state.as_str());
         write!(
             text,
             r#"{{"due":"{due}","filing":{number},"key":"{key}","state":"{state}"}}"#
-        )?;
+        )
+        .expect(rt, "memory");
     }
-    text.push(']')?;
-    Ok(())
+    add(rt, text, "]");
 }
 
 fn add_filing(
+    rt: &impl Abort,
     text: &mut String,
     alloc: Global,
     number: u32,
     due: Day,
     state: &str,
-) -> Result<(), AllocError> {
-    let due = day_text(alloc, due)?;
+) {
+    let due = day_text(rt, alloc, due);
     write!(
         text,
         r#"{{"due":"{due}","filing":{number},"state":"{state}"}}"#
     )
+    .expect(rt, "memory");
 }
 
-fn add_refusal(text: &mut String, refusal: Refusal) -> Result<(), AllocError> {
-    text.push('{')?;
+fn add_refusal(rt: &impl Abort, text: &mut String, refusal: Refusal) {
+    add(rt, text, "{");
     if let Some(field) = refusal.field() {
         let field = field.as_str();
-        write!(text, r#""field":"{field}","#)?;
+        write!(text, r#""field":"{field}","#).expect(rt, "memory");
     }
     if let Some(place) = refusal.place() {
-        write!(text, r#""place":{place},"#)?;
+        write!(text, r#""place":{place},"#).expect(rt, "memory");
     }
     let name = refusal.name();
-    write!(text, r#""refusal":"{name}"}}"#)
+    write!(text, r#""refusal":"{name}"}}"#).expect(rt, "memory");
 }
 
-fn add_lodged(text: &mut String, alloc: Global, lodged: &Lodged) -> Result<(), AllocError> {
+fn add_lodged(rt: &impl Abort, text: &mut String, alloc: Global, lodged: &Lodged) {
     let state = lodged.state.as_str();
-    add_filing(text, alloc, lodged.number, lodged.due, state)
+    add_filing(rt, text, alloc, lodged.number, lodged.due, state);
 }
 
-fn add_withdrawn(text: &mut String, alloc: Global, line: &FilingLine) -> Result<(), AllocError> {
-    add_filing(text, alloc, line.number, line.due, line.state.as_str())
+fn add_withdrawn(rt: &impl Abort, text: &mut String, alloc: Global, line: &FilingLine) {
+    add_filing(rt, text, alloc, line.number, line.due, line.state.as_str());
+}
+
+fn add_file(rt: &impl Abort, text: &mut String, alloc: Global, file: &[u8]) {
+    let file = String::from_utf8_lossy(alloc, file).expect(rt, "memory");
+    add(rt, text, file.as_str());
+}
+
+fn add_day(rt: &impl Abort, text: &mut String, alloc: Global, day: Day) {
+    let day = day_text(rt, alloc, day);
+    write!(text, r#"{{"day":"{day}"}}"#).expect(rt, "memory");
+}
+
+fn add_enrolled(rt: &impl Abort, text: &mut String, name: &str) {
+    write!(text, r#"{{"agent":"{name}"}}"#).expect(rt, "memory");
 }
 
 /// The reply as JSON; a file as it was lodged.
-pub(crate) fn spelled(alloc: Global, reply: &DeskReply) -> Result<String, AllocError> {
+pub(crate) fn spelled(rt: &impl Abort, alloc: Global, reply: &DeskReply) -> String {
     let mut text = String::new(alloc);
+    let to = &mut text;
     match reply {
-        DeskReply::Lodged(lodged) => add_lodged(&mut text, alloc, lodged)?,
-        DeskReply::Withdrawn(line) => add_withdrawn(&mut text, alloc, line)?,
-        DeskReply::Filings(lines) => add_lines(&mut text, alloc, lines.as_slice())?,
-        DeskReply::File(file) => {
-            let file = String::from_utf8_lossy(alloc, file.as_slice())?;
-            text.push_str(file.as_str())?;
-        }
-        DeskReply::Published(outwards) => add_outwards(&mut text, alloc, outwards.as_slice())?,
+        DeskReply::Lodged(lodged) => add_lodged(rt, to, alloc, lodged),
+        DeskReply::Withdrawn(line) => add_withdrawn(rt, to, alloc, line),
+        DeskReply::Filings(lines) => add_lines(rt, to, alloc, lines.as_slice()),
+        DeskReply::File(file) => add_file(rt, to, alloc, file.as_slice()),
+        DeskReply::Published(outwards) => add_outwards(rt, to, alloc, outwards.as_slice()),
         DeskReply::Snapshot { date, records } => {
-            add_records(&mut text, alloc, *date, records.as_slice())?;
+            add_records(rt, to, alloc, *date, records.as_slice());
         }
         DeskReply::Chains {
             entity,
             date,
             persons,
-        } => add_persons(&mut text, alloc, entity, *date, persons.as_slice())?,
-        DeskReply::Day(day) => {
-            let day = day_text(alloc, *day)?;
-            write!(text, r#"{{"day":"{day}"}}"#)?;
-        }
-        DeskReply::Enrolled(name) => {
-            let name = name.as_str();
-            write!(text, r#"{{"agent":"{name}"}}"#)?;
-        }
-        DeskReply::Refused(refusal) => add_refusal(&mut text, *refusal)?,
-        DeskReply::Failed(_) => text.push_str(r#"{"refusal":"StoreFault"}"#)?,
+        } => add_persons(rt, to, alloc, entity, *date, persons.as_slice()),
+        DeskReply::Day(day) => add_day(rt, to, alloc, *day),
+        DeskReply::Enrolled(name) => add_enrolled(rt, to, name.as_str()),
+        DeskReply::Refused(refusal) => add_refusal(rt, to, *refusal),
+        DeskReply::Failed(_) => add(rt, to, r#"{"refusal":"StoreFault"}"#),
     }
-    Ok(text)
+    text
 }
