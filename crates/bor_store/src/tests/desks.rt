@@ -1,15 +1,16 @@
 //! The worked rows of a desk over tables, with the replies of one over lists.
 
 use crate::SqlKeep;
-use crate::tests::asking::{day, reply, token_of};
+use crate::tests::asking::{agent, asking, day, token_of, told};
+use crate::tests::checks::{begins, counts, names, same};
 use crate::tests::stores::new_keep;
 use bor_keep::Keep;
 use bor_machine::ListKeep;
+use bor_register::FilingLine;
 use bor_rows::{callers, keyed, lodging, sight, withdrawing, worlds};
 use sqlite::{Connection, MemStore};
 use std::alloc::Global;
 use std::process::Abort;
-use std::test::Fail;
 
 // Two desks that are asked the same.
 #[derive(Drop)]
@@ -19,43 +20,43 @@ struct Desks {
     lists: ListKeep,
 }
 
-fn told<K: Keep>(alloc: Global, keep: &mut K, ask: &str) -> Result<String, Fail> {
-    let reply = reply(alloc, keep, ask)?;
-    Ok(format!(in alloc; "{reply:?}")?)
-}
+const AGENTS: [&str; 2] = [
+    "registrar enrol alder alder-token-000001",
+    "registrar enrol birch birch-token-000001",
+];
 
 impl Desks {
     // Desks on 2024-02-01 with the agents alder and birch and no filings.
-    fn new(rt: &impl Abort, alloc: Global) -> Result<Desks, Fail> {
-        let registrar = token_of(alloc, "registrar")?;
+    fn new(rt: &impl Abort, alloc: Global) -> Desks {
+        let registrar = token_of(rt, alloc, "registrar");
         let mut desks = Desks {
             alloc,
-            tables: new_keep(alloc)?,
-            lists: ListKeep::new(alloc, registrar, day("2024-02-01")?),
+            tables: new_keep(rt, alloc),
+            lists: ListKeep::new(alloc, registrar, day(rt, "2024-02-01")),
         };
-        desks.ask(rt, "registrar enrol alder alder-token-000001")?;
-        desks.ask(rt, "registrar enrol birch birch-token-000001")?;
-        Ok(desks)
+        for ask in AGENTS {
+            desks.ask(rt, ask);
+        }
+        desks
     }
 
     // Both reply the same, and neither fails.
-    fn ask(&mut self, rt: &impl Abort, ask: &str) -> Result<(), Fail> {
-        let wanted = told(self.alloc, &mut self.lists, ask)?;
-        assert_eq!(rt;
-            told(self.alloc, &mut self.tables, ask)?.as_str(),
-            wanted.as_str(),
-            "{ask}"
-        );
-        assert!(rt; !wanted.starts_with("Failed"), "{ask}");
-        Ok(())
+    fn ask(&mut self, rt: &impl Abort, ask: &str) {
+        let wanted = told(rt, self.alloc, &mut self.lists, ask);
+        let told = told(rt, self.alloc, &mut self.tables, ask);
+        same(rt, ask, told.as_str(), wanted.as_str());
+        succeeds(rt, ask, wanted.as_str());
     }
 
-    fn talk(&mut self, rt: &impl Abort, rows: &[(&str, &str)]) -> Result<(), Fail> {
+    fn talk(&mut self, rt: &impl Abort, rows: &[(&str, &str)]) {
         for (ask, _reply) in rows {
-            self.ask(rt, ask)?;
+            self.ask(rt, ask);
         }
-        Ok(())
     }
+}
+
+fn succeeds(rt: &impl Abort, ask: &str, told: &str) {
+    assert!(rt; !told.starts_with("Failed"), "{ask}");
 }
 
 // Each of these is a table of rows, asked of new desks.
@@ -85,64 +86,119 @@ const ROWS: [&[(&str, &str)]; 22] = [
 ];
 
 #[test]
-fn tables_reply_as_lists_do(rt: HostRuntime) -> Result<(), Fail> {
+fn tables_reply_as_lists_do(rt: HostRuntime) {
     for rows in ROWS {
-        Desks::new(&rt, rt.alloc())?.talk(&rt, rows)?;
+        Desks::new(&rt, rt.alloc()).talk(&rt, rows);
     }
-    Ok(())
 }
 
 // A file of 998 entities under one identifier, the last of which a person holds.
-fn one_class(alloc: Global) -> Result<String, Fail> {
-    let mut ask = String::from_str(
-        alloc,
-        "alder lodge f1 2024-02-01 P p p1; R r r1 e997<-p1 V100",
-    )?;
+fn one_class(rt: &impl Abort, alloc: Global) -> String {
+    let mut ask = String::new(alloc);
+    write!(
+        ask,
+        "alder lodge f1 2024-02-01 P p p1; R r r1 e997<-p1 V100"
+    )
+    .expect(rt, "memory");
     for i in 0..998u32 {
-        ask.push_str(format!(in alloc; "; E s{i} e{i} #X/1")?.as_str())?;
+        write!(ask, "; E s{i} e{i} #X/1").expect(rt, "memory");
     }
-    Ok(ask)
+    ask
 }
 
 #[test]
-fn a_class_of_a_thousand_entities_is_one_entity(rt: HostRuntime) -> Result<(), Fail> {
-    let mut desks = Desks::new(&rt, rt.alloc())?;
-    desks.ask(&rt, one_class(rt.alloc())?.as_str())?;
-    desks.ask(&rt, "birch chains alder c1 e0")?;
-    let told = told(rt.alloc(), &mut desks.tables, "birch chains alder c1 e0")?;
-    assert!(rt; told.as_str().contains("p1"), "{told}");
-    Ok(())
+fn a_class_of_a_thousand_entities_is_one_entity(rt: HostRuntime) {
+    let mut desks = Desks::new(&rt, rt.alloc());
+    desks.ask(&rt, one_class(&rt, rt.alloc()).as_str());
+    let ask = "birch chains alder c1 e0";
+    desks.ask(&rt, ask);
+    let told = told(&rt, rt.alloc(), &mut desks.tables, ask);
+    names(&rt, ask, told.as_str(), "p1", true);
 }
 
-fn count(conn: &mut Connection<MemStore>, text: &str) -> Result<usize, Fail> {
-    Ok(conn.query_all(text, &[])?.len())
+fn count(rt: &impl Abort, conn: &mut Connection<MemStore>, text: &str) -> usize {
+    conn.query_all(text, &[]).expect(rt, "rows").len()
 }
 
-// How many rows of interests and of identifiers are of withdrawn filings, in all.
-fn left_over(conn: &mut Connection<MemStore>) -> Result<usize, Fail> {
-    let interests = count(
-        conn,
-        "SELECT item FROM interest WHERE EXISTS (SELECT 1 FROM filing WHERE filing.agent = interest.agent AND filing.number = interest.filing AND filing.withdrawn = 1)",
-    )?;
-    let identifiers = count(
-        conn,
-        "SELECT item FROM identifier WHERE EXISTS (SELECT 1 FROM filing WHERE filing.agent = identifier.agent AND filing.number = identifier.filing AND filing.withdrawn = 1)",
-    )?;
-    Ok(interests.wrapping_add(identifiers))
-}
+const INTERESTS_LEFT: &str =
+    "SELECT item FROM interest WHERE EXISTS (SELECT 1 FROM filing WHERE filing.agent = interest.agent AND filing.number = interest.filing AND filing.withdrawn = 1)";
+
+const IDENTIFIERS_LEFT: &str =
+    "SELECT item FROM identifier WHERE EXISTS (SELECT 1 FROM filing WHERE filing.agent = identifier.agent AND filing.number = identifier.filing AND filing.withdrawn = 1)";
+
+const JOINED_AND_WITHDRAWN: [(&str, &str); 2] = [(sight::JOINING, ""), ("alder withdraw g1", "")];
 
 #[test]
-fn a_withdrawn_filing_leaves_no_rows(rt: HostRuntime) -> Result<(), Fail> {
-    let joined = [(sight::JOINING, ""), ("alder withdraw g1", "")];
+fn a_withdrawn_filing_leaves_no_rows(rt: HostRuntime) {
     for rows in [
         withdrawing::DRAFTS_ARE_WITHDRAWN_FROM_THE_LAST_ON.as_slice(),
-        joined.as_slice(),
+        JOINED_AND_WITHDRAWN.as_slice(),
     ] {
-        let mut desks = Desks::new(&rt, rt.alloc())?;
-        desks.talk(&rt, rows)?;
+        let mut desks = Desks::new(&rt, rt.alloc());
+        desks.talk(&rt, rows);
         let mut conn = desks.tables.into_connection();
-        assert!(rt; count(&mut conn, "SELECT number FROM filing WHERE withdrawn = 1")? > 0);
-        assert_eq!(rt; left_over(&mut conn)?, 0);
+        let withdrawn = count(
+            &rt,
+            &mut conn,
+            "SELECT number FROM filing WHERE withdrawn = 1",
+        );
+        assert!(rt; withdrawn > 0);
+        counts(&rt, "interests", count(&rt, &mut conn, INTERESTS_LEFT), 0);
+        counts(
+            &rt,
+            "identifiers",
+            count(&rt, &mut conn, IDENTIFIERS_LEFT),
+            0,
+        );
     }
-    Ok(())
+}
+
+#[test]
+fn a_due_day_stands_as_its_number(rt: HostRuntime) {
+    let mut desks = Desks::new(&rt, rt.alloc());
+    desks.ask(&rt, "alder lodge f1 2024-02-01 FIRST");
+    let mut conn = desks.tables.into_connection();
+    let rows = count(&rt, &mut conn, "SELECT due FROM filing WHERE due = 19754");
+    counts(&rt, "filings due", rows, 1);
+}
+
+// The entity of a lodging is its own, so each is accepted.
+fn lodging_of(rt: &impl Abort, alloc: Global, number: u32) -> String {
+    let ask = format!(in alloc; "alder lodge k{number} 2024-02-01 E s{number} e{number}");
+    ask.expect(rt, "memory")
+}
+
+// What the lodging of this number is told.
+fn lodged(rt: &impl Abort, alloc: Global, keep: &mut SqlKeep<MemStore>, number: u32) -> String {
+    let ask = lodging_of(rt, alloc, number);
+    told(rt, alloc, keep, ask.as_str())
+}
+
+#[test]
+fn an_agent_has_999_filings_in_order_of_their_numbers(rt: HostRuntime) {
+    let alloc = rt.alloc();
+    let mut keep = new_keep(&rt, alloc);
+    asking(&rt, alloc, &mut keep, &AGENTS);
+    for number in 1..1000 {
+        let told = lodged(&rt, alloc, &mut keep, number);
+        begins(&rt, "lodged", told.as_str(), "Lodged");
+    }
+    let told = lodged(&rt, alloc, &mut keep, 1000);
+    same(&rt, "the 1000th", told.as_str(), "Refused(FilingsFull)");
+    numbered(
+        &rt,
+        &keep
+            .filings(&agent(&rt, alloc, "alder"))
+            .expect(&rt, "lines"),
+    );
+}
+
+// The lines are numbered from 1 to 999.
+fn numbered(rt: &impl Abort, lines: &[FilingLine]) {
+    let mut last = 0u32;
+    for line in lines {
+        assert!(rt; line.number == last.wrapping_add(1));
+        last = line.number;
+    }
+    assert!(rt; last == 999);
 }
