@@ -8,24 +8,23 @@ use bor_wire_read::Counted;
 use bor_wire_rows::{Drip, Gate};
 use std::alloc::Global;
 use std::process::Abort;
-use std::test::Fail;
 
 const LODGING: &str = "alder lodge f1 2024-02-01 E s1 e1";
 
 // A register with alder.
-fn keep(rt: &(impl Abort + Alloc<A = Global>)) -> Result<ListKeep, Fail> {
+fn keep(rt: &(impl Abort + Alloc<A = Global>)) -> ListKeep {
     let alloc = rt.alloc();
-    let mut keep = new_keep(alloc)?;
-    let enrolment = input(alloc, "registrar enrol alder alder-token-000001")?;
+    let mut keep = new_keep(rt, alloc);
+    let enrolment = input(rt, alloc, "registrar enrol alder alder-token-000001");
     let (outcome, _) = exchanged(alloc, &mut keep, &enrolment, 100);
     assert!(rt; outcome == Outcome::Replied(201));
-    Ok(keep)
+    keep
 }
 
 // The bytes of alder's filings.
-fn filings(alloc: Global, keep: &mut ListKeep) -> Result<Vec<u8>, Fail> {
-    let (_, out) = exchanged(alloc, keep, &input(alloc, "alder filings")?, 100);
-    Ok(out)
+fn filings(rt: &impl Abort, alloc: Global, keep: &mut ListKeep) -> Vec<u8> {
+    let (_, out) = exchanged(alloc, keep, &input(rt, alloc, "alder filings"), 100);
+    out
 }
 
 // Whether a reader that fails behind these bytes is told as the one fault, and nothing is written.
@@ -43,17 +42,16 @@ fn is_read_failed(alloc: Global, keep: &mut ListKeep, bytes: &[u8]) -> bool {
 }
 
 #[test]
-fn a_reader_that_fails_changes_nothing(rt: HostRuntime) -> Result<(), Fail> {
+fn a_reader_that_fails_changes_nothing(rt: HostRuntime) {
     let alloc = rt.alloc();
-    let mut keep = keep(&rt)?;
-    let lodging = input(alloc, LODGING)?;
-    let before = filings(alloc, &mut keep)?;
+    let mut keep = keep(&rt);
+    let lodging = input(&rt, alloc, LODGING);
+    let before = filings(&rt, alloc, &mut keep);
     for length in 0..lodging.len() {
         let is_told = is_read_failed(alloc, &mut keep, &lodging[..length]);
         assert!(rt; is_told, "{length}");
     }
-    assert!(rt; filings(alloc, &mut keep)?.as_slice() == before.as_slice());
-    Ok(())
+    assert!(rt; filings(&rt, alloc, &mut keep).as_slice() == before.as_slice());
 }
 
 // Whether an input of these bytes is refused as cut short.
@@ -63,17 +61,16 @@ fn is_cut_short(alloc: Global, keep: &mut ListKeep, bytes: &[u8]) -> bool {
 }
 
 #[test]
-fn an_input_that_ends_too_soon_is_refused(rt: HostRuntime) -> Result<(), Fail> {
+fn an_input_that_ends_too_soon_is_refused(rt: HostRuntime) {
     let alloc = rt.alloc();
-    let mut keep = keep(&rt)?;
-    let lodging = input(alloc, LODGING)?;
-    let before = filings(alloc, &mut keep)?;
+    let mut keep = keep(&rt);
+    let lodging = input(&rt, alloc, LODGING);
+    let before = filings(&rt, alloc, &mut keep);
     for length in 0..lodging.len() {
         let is_refused = is_cut_short(alloc, &mut keep, &lodging[..length]);
         assert!(rt; is_refused, "{length}");
     }
-    assert!(rt; filings(alloc, &mut keep)?.as_slice() == before.as_slice());
-    Ok(())
+    assert!(rt; filings(&rt, alloc, &mut keep).as_slice() == before.as_slice());
 }
 
 // What a writer with so much room took of the reply to an input, and how the exchange ended.
@@ -100,11 +97,11 @@ fn written(
 
 // The first lodging makes its change, though nothing of the reply is taken.
 #[test]
-fn a_writer_that_fails_has_a_front_of_the_reply(rt: HostRuntime) -> Result<(), Fail> {
+fn a_writer_that_fails_has_a_front_of_the_reply(rt: HostRuntime) {
     let alloc = rt.alloc();
-    let lodging = input(alloc, LODGING)?;
+    let lodging = input(&rt, alloc, LODGING);
     for fails in [false, true] {
-        let mut keep = keep(&rt)?;
+        let mut keep = keep(&rt);
         let (outcome, taken) = written(alloc, &mut keep, &lodging, 0, fails);
         assert!(rt; outcome == Outcome::WriteFailed(201) && taken.is_empty());
         let (_, reply) = exchanged(alloc, &mut keep, &lodging, 40);
@@ -113,19 +110,18 @@ fn a_writer_that_fails_has_a_front_of_the_reply(rt: HostRuntime) -> Result<(), F
             assert!(rt; outcome == Outcome::WriteFailed(200), "{room}");
             assert!(rt; taken.as_slice() == &reply[..room], "{room}");
         }
-        assert!(rt; filings(alloc, &mut keep)?.ends_with(b"\"state\":\"published\"}]"));
+        assert!(rt; filings(&rt, alloc, &mut keep).ends_with(b"\"state\":\"published\"}]"));
     }
-    Ok(())
 }
 
 // Each call of the keep fails in turn, until the lodging is done.
 #[test]
-fn a_keep_that_fails_is_told_as_unavailable(rt: HostRuntime) -> Result<(), Fail> {
+fn a_keep_that_fails_is_told_as_unavailable(rt: HostRuntime) {
     let alloc = rt.alloc();
-    let lodging = input(alloc, LODGING)?;
+    let lodging = input(&rt, alloc, LODGING);
     for fault in [StoreFault::Memory, StoreFault::Store, StoreFault::Damaged] {
-        let mut keep = FailingKeep::new(keep(&rt)?, fault);
-        let before = filings(alloc, &mut keep.keep)?;
+        let mut keep = FailingKeep::new(keep(&rt), fault);
+        let before = filings(&rt, alloc, &mut keep.keep);
         let mut calls = 0;
         for left in 0..20 {
             keep.left = left;
@@ -137,11 +133,10 @@ fn a_keep_that_fails_is_told_as_unavailable(rt: HostRuntime) -> Result<(), Fail>
             assert!(rt; outcome == Outcome::Replied(503), "{left}");
             assert!(rt; out.as_slice() == UNAVAILABLE, "{left}");
             assert!(rt;
-                filings(alloc, &mut keep.keep)?.as_slice() == before.as_slice(),
+                filings(&rt, alloc, &mut keep.keep).as_slice() == before.as_slice(),
                 "{left}"
             );
         }
         assert!(rt; calls > 3);
     }
-    Ok(())
 }

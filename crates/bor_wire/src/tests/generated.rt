@@ -5,7 +5,6 @@ use crate::{Outcome, Reply, replay};
 use bor_machine::ListKeep;
 use bor_wire_rows::inputs_by_rule;
 use std::alloc::Global;
-use std::test::Fail;
 
 // Whether the exchange of an input has this reply, and no status from 500 on.
 fn is_alike(alloc: Global, keep: &mut ListKeep, input: &[u8], reply: &Reply) -> bool {
@@ -16,15 +15,14 @@ fn is_alike(alloc: Global, keep: &mut ListKeep, input: &[u8], reply: &Reply) -> 
 
 // No reply is 503, and a run and exchanges give the same.
 #[test]
-fn a_long_run_is_answered_alike_in_one_and_by_exchanges(rt: HostRuntime) -> Result<(), Fail> {
+fn a_long_run_is_answered_alike_in_one_and_by_exchanges(rt: HostRuntime) {
     let alloc = rt.alloc();
-    let inputs = inputs_by_rule(alloc)?;
-    let mut keep = new_keep(alloc)?;
-    let replies = replay(alloc, &mut keep, &inputs)?;
+    let inputs = inputs_by_rule(alloc).expect(&rt, "memory");
+    let mut keep = new_keep(&rt, alloc);
+    let replies = replay(alloc, &mut keep, &inputs).expect(&rt, "memory");
     assert_eq!(rt; replies.len(), 842);
-    let mut keep = new_keep(alloc)?;
+    let mut keep = new_keep(&rt, alloc);
     for (i, (input, reply)) in inputs.iter().zip(replies.iter()).enumerate() {
         assert!(rt; is_alike(alloc, &mut keep, input, reply), "{i}");
     }
-    Ok(())
 }

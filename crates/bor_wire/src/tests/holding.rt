@@ -8,18 +8,23 @@ use bor_wire_read::Counted;
 use bor_wire_rows::{Drip, Talk, request};
 use std::alloc::Global;
 use std::process::Abort;
-use std::test::Fail;
 
 /// A new register on 2024-02-01, with no agents.
-pub(crate) fn new_keep(alloc: Global) -> Result<ListKeep, Fail> {
-    let text = token_of(alloc, "registrar")?;
-    let registrar = Token::read(alloc, text.as_str())?.ok_or("no token")?;
-    Ok(ListKeep::new(alloc, registrar, Day::read("2024-02-01").ok_or("no day")?))
+pub(crate) fn new_keep(rt: &impl Abort, alloc: Global) -> ListKeep {
+    let text = token_of(alloc, "registrar").expect(rt, "memory");
+    let registrar = Token::read(alloc, text.as_str())
+        .expect(rt, "memory")
+        .expect(rt, "no token");
+    ListKeep::new(
+        alloc,
+        registrar,
+        Day::read("2024-02-01").expect(rt, "no day"),
+    )
 }
 
 /// The request for an ask in words.
-pub(crate) fn input(alloc: Global, ask: &str) -> Result<Vec<u8>, Fail> {
-    Ok(request(alloc, Ask::read(ask).ok_or("no ask")?)?)
+pub(crate) fn input(rt: &impl Abort, alloc: Global, ask: &str) -> Vec<u8> {
+    request(alloc, Ask::read(ask).expect(rt, "no ask")).expect(rt, "memory")
 }
 
 /// What the exchange of an input, read in pieces of this size, wrote and ended as.
@@ -39,9 +44,9 @@ pub(crate) fn exchanged<K: Keep>(
     (outcome, out)
 }
 
-fn holds_in_one_run(rt: &impl Abort, alloc: Global, talk: &Talk) -> Result<(), Fail> {
-    let mut keep = new_keep(alloc)?;
-    let replies = replay(alloc, &mut keep, talk.inputs())?;
+fn holds_in_one_run(rt: &impl Abort, alloc: Global, talk: &Talk) {
+    let mut keep = new_keep(rt, alloc);
+    let replies = replay(alloc, &mut keep, talk.inputs()).expect(rt, "memory");
     assert_eq!(rt; replies.len(), talk.replies().len());
     for (i, (reply, (_, wanted))) in replies.iter().zip(talk.replies().iter()).enumerate() {
         match reply {
@@ -49,16 +54,10 @@ fn holds_in_one_run(rt: &impl Abort, alloc: Global, talk: &Talk) -> Result<(), F
             Reply::Unavailable => panic!(rt; "unavailable: {i}"),
         }
     }
-    Ok(())
 }
 
-fn holds_by_exchanges(
-    rt: &impl Abort,
-    alloc: Global,
-    talk: &Talk,
-    size: usize,
-) -> Result<(), Fail> {
-    let mut keep = new_keep(alloc)?;
+fn holds_by_exchanges(rt: &impl Abort, alloc: Global, talk: &Talk, size: usize) {
+    let mut keep = new_keep(rt, alloc);
     for (i, (input, (status, wanted))) in talk
         .inputs()
         .iter()
@@ -69,20 +68,19 @@ fn holds_by_exchanges(
         assert!(rt; outcome == Outcome::Replied(*status), "{i}");
         assert!(rt; out.as_slice() == wanted.as_slice(), "{i}");
     }
-    Ok(())
 }
 
 /// Each input has its reply: in one run, and by an exchange for each that is read whole and one that
 /// is read byte by byte.
-pub(crate) fn hold(rt: &impl Abort, alloc: Global, talk: &Talk) -> Result<(), Fail> {
-    holds_in_one_run(rt, alloc, talk)?;
-    holds_by_exchanges(rt, alloc, talk, 2_000_000)?;
-    holds_by_exchanges(rt, alloc, talk, 1)
+pub(crate) fn hold(rt: &impl Abort, alloc: Global, talk: &Talk) {
+    holds_in_one_run(rt, alloc, talk);
+    holds_by_exchanges(rt, alloc, talk, 2_000_000);
+    holds_by_exchanges(rt, alloc, talk, 1);
 }
 
 /// Rows of a new register have their replies.
-pub(crate) fn rows_hold(rt: &impl Abort, alloc: Global, rows: &[(&str, &str)]) -> Result<(), Fail> {
-    let mut talk = Talk::new(alloc)?;
-    talk.ask_all(rows)?;
-    hold(rt, alloc, &talk)
+pub(crate) fn rows_hold(rt: &impl Abort, alloc: Global, rows: &[(&str, &str)]) {
+    let mut talk = Talk::new(alloc).expect(rt, "memory");
+    talk.ask_all(rows).expect(rt, "memory");
+    hold(rt, alloc, &talk);
 }

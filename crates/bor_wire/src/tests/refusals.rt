@@ -2,7 +2,6 @@
 
 use crate::tests::holding::hold;
 use bor_wire_rows::Talk;
-use std::test::Fail;
 
 // Inputs with the status, the line of its own and the body of their replies.
 const INPUTS: &[(&[u8], u16, &str, &str)] = &[
@@ -101,51 +100,56 @@ const INPUTS: &[(&[u8], u16, &str, &str)] = &[
 ];
 
 #[test]
-fn bytes_that_are_no_request_are_refused(rt: HostRuntime) -> Result<(), Fail> {
+fn bytes_that_are_no_request_are_refused(rt: HostRuntime) {
     let alloc = rt.alloc();
-    let mut talk = Talk::new(alloc)?;
+    let mut talk = Talk::new(alloc).expect(&rt, "memory");
     for (input, status, line, body) in INPUTS {
-        talk.send(input, *status, line, body)?;
+        talk.send(input, *status, line, body).expect(&rt, "memory");
     }
-    hold(&rt, alloc, &talk)
+    hold(&rt, alloc, &talk);
 }
 
 #[test]
-fn a_head_is_refused_at_its_limits(rt: HostRuntime) -> Result<(), Fail> {
+fn a_head_is_refused_at_its_limits(rt: HostRuntime) {
     let alloc = rt.alloc();
-    let mut talk = Talk::new(alloc)?;
-    let mut long = Vec::from_slice(alloc, b"GET /filings HTTP/1.1\r\nX: ")?;
-    long.resize(16_384, b'x')?;
-    talk.send(&long, 431, "", r#"{"refusal":"HeadTooLarge"}"#)?;
+    let mut talk = Talk::new(alloc).expect(&rt, "memory");
+    let mut long = Vec::from_slice(alloc, b"GET /filings HTTP/1.1\r\nX: ").expect(&rt, "memory");
+    long.resize(16_384, b'x').expect(&rt, "memory");
+    talk.send(&long, 431, "", r#"{"refusal":"HeadTooLarge"}"#)
+        .expect(&rt, "memory");
     long.truncate(16_383);
-    talk.send(&long, 400, "", r#"{"refusal":"CutShort"}"#)?;
-    hold(&rt, alloc, &talk)
+    talk.send(&long, 400, "", r#"{"refusal":"CutShort"}"#)
+        .expect(&rt, "memory");
+    hold(&rt, alloc, &talk);
 }
 
 #[test]
-fn a_head_of_too_many_lines_is_refused(rt: HostRuntime) -> Result<(), Fail> {
+fn a_head_of_too_many_lines_is_refused(rt: HostRuntime) {
     let alloc = rt.alloc();
-    let mut talk = Talk::new(alloc)?;
-    let mut fields = Vec::from_slice(alloc, b"GET /filings HTTP/1.1\n")?;
+    let mut talk = Talk::new(alloc).expect(&rt, "memory");
+    let mut fields = Vec::from_slice(alloc, b"GET /filings HTTP/1.1\n").expect(&rt, "memory");
     for _ in 0..65 {
-        fields.extend_from_slice(b"X:\n")?;
+        fields.extend_from_slice(b"X:\n").expect(&rt, "memory");
     }
-    fields.push(b'\n')?;
-    talk.send(&fields, 431, "", r#"{"refusal":"HeadTooLarge"}"#)?;
-    hold(&rt, alloc, &talk)
+    fields.push(b'\n').expect(&rt, "memory");
+    talk.send(&fields, 431, "", r#"{"refusal":"HeadTooLarge"}"#)
+        .expect(&rt, "memory");
+    hold(&rt, alloc, &talk);
 }
 
 #[test]
-fn a_body_has_1048576_bytes(rt: HostRuntime) -> Result<(), Fail> {
+fn a_body_has_1048576_bytes(rt: HostRuntime) {
     let alloc = rt.alloc();
-    let mut talk = Talk::new(alloc)?;
+    let mut talk = Talk::new(alloc).expect(&rt, "memory");
     let mut input = Vec::from_slice(
         alloc,
         b"PUT /filings/f1?due=2024-02-01 HTTP/1.1\r\nAuthorization: Bearer alder-token-000001\r\nContent-Length: 1048576\r\n\r\n[",
-    )?;
+    )
+    .expect(&rt, "memory");
     let length = input.len();
-    input.resize(length + 1_048_574, b' ')?;
-    input.push(b']')?;
-    talk.send(&input, 422, "", r#"{"refusal":"NoStatements"}"#)?;
-    hold(&rt, alloc, &talk)
+    input.resize(length + 1_048_574, b' ').expect(&rt, "memory");
+    input.push(b']').expect(&rt, "memory");
+    talk.send(&input, 422, "", r#"{"refusal":"NoStatements"}"#)
+        .expect(&rt, "memory");
+    hold(&rt, alloc, &talk);
 }

@@ -2,17 +2,15 @@
 
 use bor_wire_read::Path;
 use bor_wire_routes::{Paths, Route, allow_of, route_at};
-use std::test::Fail;
 
 // The example of the routes' own first page.
 #[test]
-fn a_filing_is_put_or_deleted(rt: HostRuntime) -> Result<(), Fail> {
-    let paths = Paths::new(rt.alloc())?;
+fn a_filing_is_put_or_deleted(rt: HostRuntime) {
+    let paths = Paths::new(rt.alloc()).expect(&rt, "memory");
     assert_eq!(rt; paths.find("/filings/f1"), Some(Path::Filing));
     assert_eq!(rt; route_at(Path::Filing, b"PUT"), Some(Route::Lodge));
     assert_eq!(rt; route_at(Path::Filing, b"GET"), None);
     assert_eq!(rt; allow_of(Path::Filing), "DELETE, PUT");
-    Ok(())
 }
 
 // Methods and paths, with the route and all methods of the path.
@@ -41,20 +39,19 @@ fn is_route(paths: &Paths, method: &str, text: &str, route: Route, allow: &str) 
 }
 
 #[test]
-fn each_route_is_found_and_its_method_is_allowed(rt: HostRuntime) -> Result<(), Fail> {
-    let paths = Paths::new(rt.alloc())?;
+fn each_route_is_found_and_its_method_is_allowed(rt: HostRuntime) {
+    let paths = Paths::new(rt.alloc()).expect(&rt, "memory");
     for (method, text, route, allow) in ROUTES {
         assert!(rt;
             is_route(&paths, method, text, route, allow),
             "{method} {text}"
         );
     }
-    Ok(())
 }
 
 #[test]
-fn other_texts_are_no_paths(rt: HostRuntime) -> Result<(), Fail> {
-    let paths = Paths::new(rt.alloc())?;
+fn other_texts_are_no_paths(rt: HostRuntime) {
+    let paths = Paths::new(rt.alloc()).expect(&rt, "memory");
     for text in [
         "",
         "/",
@@ -69,5 +66,4 @@ fn other_texts_are_no_paths(rt: HostRuntime) -> Result<(), Fail> {
     ] {
         assert_eq!(rt; paths.find(text), None, "{text}");
     }
-    Ok(())
 }

@@ -3,10 +3,10 @@
 use crate::tests::spelling::{ALDER, refusal, request_of, spelled};
 use crate::{Name, Path, Refusal};
 use std::alloc::Global;
-use std::test::Fail;
+use std::process::Abort;
 
 #[test]
-fn requests_are_refused(rt: HostRuntime) -> Result<(), Fail> {
+fn requests_are_refused(rt: HostRuntime) {
     for (line, fields, why) in [
         ("GET /nothing", "", Refusal::NoPath),
         ("GET /filings/", "", Refusal::NoPath),
@@ -34,14 +34,13 @@ fn requests_are_refused(rt: HostRuntime) -> Result<(), Fail> {
         ),
         ("GET /filings", "Content-Length: 0\r\n", Refusal::BadLength),
     ] {
-        let input = request_of(rt.alloc(), line, fields, "")?;
+        let input = request_of(&rt, rt.alloc(), line, fields, "");
         assert_eq!(rt; refusal(rt.alloc(), input.as_bytes()), Some(why), "{line}");
     }
-    Ok(())
 }
 
 #[test]
-fn inputs_are_refused(rt: HostRuntime) -> Result<(), Fail> {
+fn inputs_are_refused(rt: HostRuntime) {
     for (input, why) in [
         ("", Refusal::CutShort),
         (
@@ -70,13 +69,12 @@ fn inputs_are_refused(rt: HostRuntime) -> Result<(), Fail> {
     ] {
         assert_eq!(rt; refusal(rt.alloc(), input.as_bytes()), Some(why), "{input}");
     }
-    Ok(())
 }
 
 #[test]
-fn a_head_ends_within_16384_bytes(rt: HostRuntime) -> Result<(), Fail> {
+fn a_head_ends_within_16384_bytes(rt: HostRuntime) {
     let alloc = rt.alloc();
-    let long = "a".repeat(alloc, 16_384)?;
+    let long = "a".repeat(alloc, 16_384).expect(&rt, "memory");
     assert_eq!(rt;
         refusal(alloc, long.as_bytes()),
         Some(Refusal::HeadTooLarge)
@@ -85,39 +83,39 @@ fn a_head_ends_within_16384_bytes(rt: HostRuntime) -> Result<(), Fail> {
         refusal(alloc, &long.as_bytes()[..16_383]),
         Some(Refusal::CutShort)
     );
-    Ok(())
 }
 
 #[test]
-fn a_head_has_at_most_66_line_feeds(rt: HostRuntime) -> Result<(), Fail> {
+fn a_head_has_at_most_66_line_feeds(rt: HostRuntime) {
     let alloc = rt.alloc();
     let mut input = String::new(alloc);
-    input.push_str("GET /filings HTTP/1.1\n")?;
-    input.push_str(ALDER)?;
+    input
+        .push_str("GET /filings HTTP/1.1\n")
+        .expect(&rt, "memory");
+    input.push_str(ALDER).expect(&rt, "memory");
     for _ in 0..63 {
-        input.push_str("A: b\n")?;
+        input.push_str("A: b\n").expect(&rt, "memory");
     }
-    input.push_str("\n")?;
+    input.push_str("\n").expect(&rt, "memory");
     assert!(rt; spelled(alloc, input.as_bytes()).is_ok());
-    let more = format!(in alloc; "\n{}", input.as_str())?;
+    let more = format!(in alloc; "\n{}", input.as_str()).expect(&rt, "memory");
     assert_eq!(rt;
         refusal(alloc, more.as_bytes()),
         Some(Refusal::HeadTooLarge)
     );
-    Ok(())
 }
 
 // The first name that is bad in alder's request with this body, if that is why it is refused.
-fn bad_name(alloc: Global, line: &str, body: &str) -> Result<Option<Name>, Fail> {
-    let input = request_of(alloc, line, ALDER, body)?;
+fn bad_name(rt: &impl Abort, alloc: Global, line: &str, body: &str) -> Option<Name> {
+    let input = request_of(rt, alloc, line, ALDER, body);
     match refusal(alloc, input.as_bytes()) {
-        Some(Refusal::BadQuery(name)) => Ok(Some(name)),
-        _ => Ok(None),
+        Some(Refusal::BadQuery(name)) => Some(name),
+        _ => None,
     }
 }
 
 #[test]
-fn the_first_name_that_is_bad_is_told(rt: HostRuntime) -> Result<(), Fail> {
+fn the_first_name_that_is_bad_is_told(rt: HostRuntime) {
     for (line, name) in [
         ("PUT /filings/a+b?due=x", Name::Key),
         ("DELETE /filings/a,b", Name::Key),
@@ -141,13 +139,12 @@ fn the_first_name_that_is_bad_is_told(rt: HostRuntime) -> Result<(), Fail> {
         ("POST /day", Name::Date),
         ("POST /day?date=2024-02-01&date=2024-02-01", Name::Date),
     ] {
-        assert_eq!(rt; bad_name(rt.alloc(), line, "")?, Some(name), "{line}");
+        assert_eq!(rt; bad_name(&rt, rt.alloc(), line, ""), Some(name), "{line}");
     }
-    Ok(())
 }
 
 #[test]
-fn a_new_agent_has_a_name_and_the_body_as_its_token(rt: HostRuntime) -> Result<(), Fail> {
+fn a_new_agent_has_a_name_and_the_body_as_its_token(rt: HostRuntime) {
     for (line, body, name) in [
         ("POST /agents?name=Cedar", "short", Name::Name),
         ("POST /agents?name=cedar", "", Name::Token),
@@ -167,30 +164,32 @@ fn a_new_agent_has_a_name_and_the_body_as_its_token(rt: HostRuntime) -> Result<(
             Name::Token,
         ),
     ] {
-        assert_eq!(rt; bad_name(rt.alloc(), line, body)?, Some(name), "{line}");
+        assert_eq!(rt; bad_name(&rt, rt.alloc(), line, body), Some(name), "{line}");
     }
-    Ok(())
 }
 
 // Why a reading of the filings with these fields is refused.
-fn refusal_of_fields(alloc: Global, fields: &str) -> Result<Option<Refusal>, Fail> {
-    let input = request_of(alloc, "GET /filings", fields, "")?;
-    Ok(refusal(alloc, input.as_bytes()))
+fn refusal_of_fields(rt: &impl Abort, alloc: Global, fields: &str) -> Option<Refusal> {
+    let input = request_of(rt, alloc, "GET /filings", fields, "");
+    refusal(alloc, input.as_bytes())
 }
 
 #[test]
-fn a_token_stands_in_the_one_authorization_field(rt: HostRuntime) -> Result<(), Fail> {
+fn a_token_stands_in_the_one_authorization_field(rt: HostRuntime) {
     for fields in [
         "Authorization: Bearer alder-token-000001\r\n",
         "AUTHORIZATION:bEARER   alder-token-000001  \r\n",
     ] {
-        assert_eq!(rt; refusal_of_fields(rt.alloc(), fields)?, None, "{fields}");
+        assert_eq!(rt;
+            refusal_of_fields(&rt, rt.alloc(), fields),
+            None,
+            "{fields}"
+        );
     }
-    Ok(())
 }
 
 #[test]
-fn a_token_that_stands_elsewhere_is_none(rt: HostRuntime) -> Result<(), Fail> {
+fn a_token_that_stands_elsewhere_is_none(rt: HostRuntime) {
     for fields in [
         "Authorization: Bearer\talder-token-000001\r\n",
         "Authorization: Beareralder-token-000001\r\n",
@@ -203,8 +202,7 @@ fn a_token_that_stands_elsewhere_is_none(rt: HostRuntime) -> Result<(), Fail> {
         "Proxy-Authorization: Bearer alder-token-000001\r\n",
         "Authorization: Bearer alder-token-000001\r\nauthorization: Bearer alder-token-000001\r\n",
     ] {
-        let why = refusal_of_fields(rt.alloc(), fields)?;
+        let why = refusal_of_fields(&rt, rt.alloc(), fields);
         assert_eq!(rt; why, Some(Refusal::NoToken), "{fields}");
     }
-    Ok(())
 }
