@@ -30,8 +30,8 @@ fn identifier(alloc: Global, item: &Value) -> Result<Option<Identifier>, AllocEr
         return Ok(None);
     };
     Ok(Some(Identifier {
-        scheme: FreeText::new(String::from_str(alloc, scheme)?),
-        id: FreeText::new(String::from_str(alloc, id)?),
+        scheme: FreeText::new(alloc, String::from_str(alloc, scheme)?)?,
+        id: FreeText::new(alloc, String::from_str(alloc, id)?)?,
     }))
 }
 

@@ -43,7 +43,7 @@ pub(crate) fn free_text_at(
     ensures { IfOk result (λ text. text ≡ text_at name.now (view object.now)) }
 {
     match text_at(object, name) {
-        Some(text) => Ok(Some(FreeText::new(String::from_str(alloc, text)?))),
+        Some(text) => Ok(Some(FreeText::new(alloc, String::from_str(alloc, text)?)?)),
         None => Ok(None),
     }
 }

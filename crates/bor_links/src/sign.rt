@@ -46,5 +46,5 @@ impl Sign {
 fn text_of(alloc: Global, text: &str) -> Result<FreeText, AllocError>
     ensures { IfOk result (λ copied. copied ≡ text.now) }
 {
-    Ok(FreeText::new(String::from_str(alloc, text)?))
+    FreeText::new(alloc, String::from_str(alloc, text)?)
 }

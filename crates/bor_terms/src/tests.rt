@@ -22,7 +22,7 @@ fn is_kept<F: Form>(alloc: Global, length: usize) -> Result<bool, Fail> {
         return Ok(false);
     };
     let copied = read.copy(alloc)?;
-    Ok(copied == read && copied.as_str() == text.as_str() && read.into_string() == text)
+    Ok(copied == read && copied.as_str() == text.as_str() && read.into_string()? == text)
 }
 
 #[test]

@@ -10,6 +10,7 @@ use std::alloc::{AllocError, Global};
 use std::cmp::Ordering;
 use std::fmt;
 use std::marker::{Model, PhantomData};
+use std::rc::Rc;
 
 /// A form that texts may have.
 pub trait Form {
@@ -26,10 +27,11 @@ pub trait Form {
         ensures { result.now ≡ shown text.now };
 }
 
-/// A text of the form `F`, byte for byte. Texts are compared and ordered by their bytes.
+/// A text of the form `F`, byte for byte. Texts are compared and ordered by their bytes. Copies of a text
+/// share its bytes.
 #[derive(Drop)]
 pub struct Text<F: Form> {
-    text: String,
+    text: Rc<String>,
     form: PhantomData<F>,
 }
 
@@ -38,9 +40,9 @@ impl<F: Form> Model for Text<F> {
 
     ghost Value = { List ℕ };
 
-    ghost view = { λ a. string_bytes a.text };
+    ghost view = { λ a. string_bytes a.text.value };
 
-    ghost invariant = { λ a. F.is_form (string_bytes a.text) ≡ true };
+    ghost invariant = { λ a. F.is_form (string_bytes a.text.value) ≡ true };
 }
 
 impl<F: Form> Text<F> {
@@ -60,21 +62,18 @@ impl<F: Form> Text<F> {
         if !F::fits(text) {
             return Ok(None);
         }
-        Ok(Some(Text {
-            text: String::from_str(alloc, text)?,
-            form: PhantomData,
-        }))
+        Ok(Some(Text::new(alloc, String::from_str(alloc, text)?)?))
     }
 
-    /// The text of a `String` that has the form, which takes no memory.
-    pub fn new(text: String) -> Text<F>
+    /// The text of a `String` that has the form. Memory is asked for to count its copies alone.
+    pub fn new(alloc: Global, text: String) -> Result<Text<F>, AllocError>
         requires { F.is_form (string_bytes text) ≡ true }
-        ensures { result ≡ string_bytes text }
+        ensures { IfOk result (λ made. made ≡ string_bytes text) }
     {
-        Text {
-            text,
+        Ok(Text {
+            text: Rc::new(alloc, text)?,
             form: PhantomData,
-        }
+        })
     }
 
     /// The text itself, which has its form.
@@ -85,19 +84,20 @@ impl<F: Form> Text<F> {
         self.text.as_str()
     }
 
-    /// The text as a `String`, which takes no memory.
-    pub fn into_string(self) -> String
-        ensures { string_bytes result ≡ self }
+    /// The text as a `String`. Memory is asked for only where there are copies that share it.
+    pub fn into_string(self) -> Result<String, AllocError>
+        ensures { IfOk result (λ text. string_bytes text ≡ self) }
     {
-        self.text
+        Rc::unwrap_or_clone(self.text)
     }
 
-    /// Another text that is the same.
-    pub fn copy(&self, alloc: Global) -> Result<Text<F>, AllocError>
+    /// Another text that is the same. It shares the bytes of this one and takes no memory; the allocator is
+    /// there as for all that is copied.
+    pub fn copy(&self, _alloc: Global) -> Result<Text<F>, AllocError>
         ensures { IfOk result (λ copied. copied ≡ self.now) }
     {
         Ok(Text {
-            text: String::from_str(alloc, self.text.as_str())?,
+            text: self.text.clone()?,
             form: PhantomData,
         })
     }

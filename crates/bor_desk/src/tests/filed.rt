@@ -14,7 +14,8 @@ use std::alloc::Global;
 use std::process::Abort;
 
 fn text(rt: &impl Abort, alloc: Global, text: &str) -> FreeText {
-    FreeText::new(String::from_str(alloc, text).expect(rt, "memory"))
+    let text = String::from_str(alloc, text).expect(rt, "memory");
+    FreeText::new(alloc, text).expect(rt, "memory")
 }
 
 fn identifier(rt: &impl Abort, alloc: Global, scheme: &str, id: &str) -> Identifier {

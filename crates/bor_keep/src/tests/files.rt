@@ -286,10 +286,15 @@ fn the_longest_list_of_identifiers_is_read_and_copied(rt: HostRuntime) {
     assert_eq!(rt; told, (100, true));
 }
 
+fn text(rt: &impl Abort, alloc: Global, text: &str) -> FreeText {
+    let text = String::from_str(alloc, text).expect(rt, "memory");
+    FreeText::new(alloc, text).expect(rt, "memory")
+}
+
 fn identifier(rt: &impl Abort, alloc: Global, scheme: &str, id: &str) -> Identifier {
     Identifier {
-        scheme: FreeText::new(String::from_str(alloc, scheme).expect(rt, "memory")),
-        id: FreeText::new(String::from_str(alloc, id).expect(rt, "memory")),
+        scheme: text(rt, alloc, scheme),
+        id: text(rt, alloc, id),
     }
 }
 
