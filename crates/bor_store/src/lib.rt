@@ -1,6 +1,6 @@
 //! A register in the tables of SQLite.
 //!
-//! [`SqlKeep`] keeps a register as `bor_register` says of each keep, over a connection to a store in
+//! [`SqlKeep`] keeps a register as `bor_keep` says of each keep, over a connection to a store in
 //! memory or in a file. What it shows is what the last commit left (`bor_store_sql`): a change that is
 //! answered `Ok` is in the file, and a fault leaves the file as it was.
 #![tactic(auto)]

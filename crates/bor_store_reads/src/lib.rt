@@ -1,7 +1,7 @@
 //! What a register in tables answers to each question of a keep, over a connection.
 //!
 //! Each read asks by key for the rows that it needs. Where the connection shows a register
-//! (`bor_store_sql`), the answer is what the trait `Keep` of `bor_register` says of that register,
+//! (`bor_store_sql`), the answer is what the trait `Keep` of `bor_keep` says of that register,
 //! or memory or the store failed: [`ReadError::Damaged`] is never answered of such tables
 //! (`specs/Answering`).
 #![tactic(auto)]
