@@ -13,6 +13,7 @@ ghost use Rattle.bor_store.specs.declared.open_fault.OpenFault.TheVariants as fa
 
 use crate::open_fault::OpenFault;
 use crate::sql_keep::SqlKeep;
+use bor_store_keys::Lookup;
 use sqlite::{Alter, Connection, Error, ErrorCode, File, FileStore, Row};
 use sqlite_schema::schema::{Schema, Table};
 use std::alloc::Global;
@@ -178,7 +179,7 @@ impl<S: Alter + Drop> SqlKeep<S> {
         examine(&mut conn)?;
         Ok(SqlKeep {
             alloc,
-            conn,
+            conn: Lookup::new(conn),
             faults: 0,
         })
     }
@@ -193,7 +194,7 @@ impl<S: Alter + Drop> SqlKeep<S> {
             conn,
             faults: _,
         } = self;
-        conn
+        conn.into_connection()
     }
 }
 

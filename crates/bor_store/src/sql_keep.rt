@@ -23,7 +23,7 @@ use bor_keep::{Keep, StoreFault};
 use bor_links::{Link, Node, NodeInfo};
 use bor_records::{Last, Row};
 use bor_register::{Caller, Filing, FilingLine, Outward};
-use bor_store_keys::{read_aliases, read_links_into, read_node, read_same};
+use bor_store_keys::{Lookup, read_aliases, read_links_into, read_node, read_same};
 use bor_store_reads::{
     ReadError, filing_count, has_agent, has_file, has_statement, has_successor, read_day,
     read_filing, read_filings, read_last, read_line, read_published, read_rows_of, read_visible,
@@ -31,14 +31,14 @@ use bor_store_reads::{
 };
 use bor_store_sql::{add_agent, set_day, withdraw_filing};
 use bor_terms::{AgentName, Day, Ident, LodgeKey, Token};
-use sqlite::{Alter, Connection, Error};
+use sqlite::{Alter, Error};
 use std::alloc::Global;
 
 /// A register in the tables of a connection. No transaction is open between its calls.
 #[derive(Drop)]
 pub struct SqlKeep<S: Alter + Drop> {
     pub(crate) alloc: Global,
-    pub(crate) conn: Connection<S>,
+    pub(crate) conn: Lookup<S>,
     pub(crate) faults: u64,
     ghost settled: { conn.in_transaction ≡ false },
 }
@@ -94,7 +94,7 @@ impl<S: Alter + Drop> Keep for SqlKeep<S> {
             caller ≡ caller_of token.now r) }
         ensures undamaged { let keep = ⟦<SqlKeep<S> as Keep>⟧ in Promised keep.shows keep.is_clean self.old self.new (λ r. IfErr result TellsNoDamage) }
     {
-        let answer = read_who(&mut self.conn, self.alloc, token);
+        let answer = read_who(self.conn.connection(), self.alloc, token);
         self.told(answer)
     }
 
@@ -103,7 +103,7 @@ impl<S: Alter + Drop> Keep for SqlKeep<S> {
             has ≡ is_enrolled agent.now r.members) }
         ensures undamaged { let keep = ⟦<SqlKeep<S> as Keep>⟧ in Promised keep.shows keep.is_clean self.old self.new (λ r. IfErr result TellsNoDamage) }
     {
-        let answer = has_agent(&mut self.conn, agent);
+        let answer = has_agent(self.conn.connection(), agent);
         self.told(answer)
     }
 
@@ -112,7 +112,7 @@ impl<S: Alter + Drop> Keep for SqlKeep<S> {
             day ≡ r.day) }
         ensures undamaged { let keep = ⟦<SqlKeep<S> as Keep>⟧ in Promised keep.shows keep.is_clean self.old self.new (λ r. IfErr result TellsNoDamage) }
     {
-        let answer = read_day(&mut self.conn, self.alloc);
+        let answer = read_day(self.conn.connection(), self.alloc);
         self.told(answer)
     }
 
@@ -121,7 +121,7 @@ impl<S: Alter + Drop> Keep for SqlKeep<S> {
             filing ≡ option_map filing_shown (filing_keyed key.now (filings_of agent.now r.members))) }
         ensures undamaged { let keep = ⟦<SqlKeep<S> as Keep>⟧ in Promised keep.shows keep.is_clean self.old self.new (λ r. IfErr result TellsNoDamage) }
     {
-        let answer = read_filing(&mut self.conn, self.alloc, agent, key);
+        let answer = read_filing(self.conn.connection(), self.alloc, agent, key);
         self.told(answer)
     }
 
@@ -130,7 +130,7 @@ impl<S: Alter + Drop> Keep for SqlKeep<S> {
             line ≡ option_map (line_of r.day) (filing_keyed key.now (filings_of agent.now r.members))) }
         ensures undamaged { let keep = ⟦<SqlKeep<S> as Keep>⟧ in Promised keep.shows keep.is_clean self.old self.new (λ r. IfErr result TellsNoDamage) }
     {
-        let answer = read_line(&mut self.conn, self.alloc, agent, key);
+        let answer = read_line(self.conn.connection(), self.alloc, agent, key);
         self.told(answer)
     }
 
@@ -144,7 +144,7 @@ impl<S: Alter + Drop> Keep for SqlKeep<S> {
             has ≡ has_bytes bytes.now (filing_keyed key.now (filings_of agent.now r.members))) }
         ensures undamaged { let keep = ⟦<SqlKeep<S> as Keep>⟧ in Promised keep.shows keep.is_clean self.old self.new (λ r. IfErr result TellsNoDamage) }
     {
-        let answer = has_file(&mut self.conn, agent, key, bytes);
+        let answer = has_file(self.conn.connection(), agent, key, bytes);
         self.told(answer)
     }
 
@@ -153,7 +153,7 @@ impl<S: Alter + Drop> Keep for SqlKeep<S> {
             count ≡ length (filings_of agent.now r.members)) }
         ensures undamaged { let keep = ⟦<SqlKeep<S> as Keep>⟧ in Promised keep.shows keep.is_clean self.old self.new (λ r. IfErr result TellsNoDamage) }
     {
-        let answer = filing_count(&mut self.conn, self.alloc, agent);
+        let answer = filing_count(self.conn.connection(), self.alloc, agent);
         self.told(answer)
     }
 
@@ -162,7 +162,7 @@ impl<S: Alter + Drop> Keep for SqlKeep<S> {
             lines.items ≡ map (line_of r.day) (filings_of agent.now r.members)) }
         ensures undamaged { let keep = ⟦<SqlKeep<S> as Keep>⟧ in Promised keep.shows keep.is_clean self.old self.new (λ r. IfErr result TellsNoDamage) }
     {
-        let answer = read_filings(&mut self.conn, self.alloc, agent);
+        let answer = read_filings(self.conn.connection(), self.alloc, agent);
         self.told(answer)
     }
 
@@ -176,7 +176,7 @@ impl<S: Alter + Drop> Keep for SqlKeep<S> {
             last ≡ last_of declaration.now rec.now (live_of (filings_of agent.now r.members))) }
         ensures undamaged { let keep = ⟦<SqlKeep<S> as Keep>⟧ in Promised keep.shows keep.is_clean self.old self.new (λ r. IfErr result TellsNoDamage) }
     {
-        let answer = read_last(&mut self.conn, self.alloc, agent, declaration, rec);
+        let answer = read_last(self.conn.connection(), self.alloc, agent, declaration, rec);
         self.told(answer)
     }
 
@@ -185,7 +185,7 @@ impl<S: Alter + Drop> Keep for SqlKeep<S> {
             has ≡ has_id id.now (live_of (filings_of agent.now r.members))) }
         ensures undamaged { let keep = ⟦<SqlKeep<S> as Keep>⟧ in Promised keep.shows keep.is_clean self.old self.new (λ r. IfErr result TellsNoDamage) }
     {
-        let answer = has_statement(&mut self.conn, agent, id);
+        let answer = has_statement(self.conn.connection(), agent, id);
         self.told(answer)
     }
 
@@ -194,7 +194,7 @@ impl<S: Alter + Drop> Keep for SqlKeep<S> {
             has ≡ has_successor number (filings_of agent.now r.members)) }
         ensures undamaged { let keep = ⟦<SqlKeep<S> as Keep>⟧ in Promised keep.shows keep.is_clean self.old self.new (λ r. IfErr result TellsNoDamage) }
     {
-        let answer = has_successor(&mut self.conn, self.alloc, agent, number);
+        let answer = has_successor(self.conn.connection(), self.alloc, agent, number);
         self.told(answer)
     }
 
@@ -208,7 +208,13 @@ impl<S: Alter + Drop> Keep for SqlKeep<S> {
             rows.items ≡ rows_of viewer.now r.day agent.now declaration.now (filings_of agent.now r.members)) }
         ensures undamaged { let keep = ⟦<SqlKeep<S> as Keep>⟧ in Promised keep.shows keep.is_clean self.old self.new (λ r. IfErr result TellsNoDamage) }
     {
-        let answer = read_rows_of(&mut self.conn, self.alloc, viewer, agent, declaration);
+        let answer = read_rows_of(
+            self.conn.connection(),
+            self.alloc,
+            viewer,
+            agent,
+            declaration,
+        );
         self.told(answer)
     }
 
@@ -217,7 +223,7 @@ impl<S: Alter + Drop> Keep for SqlKeep<S> {
             rows.items ≡ visible viewer.now r.day r.members) }
         ensures undamaged { let keep = ⟦<SqlKeep<S> as Keep>⟧ in Promised keep.shows keep.is_clean self.old self.new (λ r. IfErr result TellsNoDamage) }
     {
-        let answer = read_visible(&mut self.conn, self.alloc, viewer);
+        let answer = read_visible(self.conn.connection(), self.alloc, viewer);
         self.told(answer)
     }
 
@@ -277,7 +283,7 @@ impl<S: Alter + Drop> Keep for SqlKeep<S> {
             outwards.items ≡ published r.day r.members) }
         ensures undamaged { let keep = ⟦<SqlKeep<S> as Keep>⟧ in Promised keep.shows keep.is_clean self.old self.new (λ r. IfErr result TellsNoDamage) }
     {
-        let answer = read_published(&mut self.conn, self.alloc);
+        let answer = read_published(self.conn.connection(), self.alloc);
         self.told(answer)
     }
 
@@ -307,7 +313,7 @@ impl<S: Alter + Drop> Keep for SqlKeep<S> {
         ensures undamaged { let keep = ⟦<SqlKeep<S> as Keep>⟧ in Promised keep.shows keep.is_clean self.old self.new (λ r. IfErr result TellsNoDamage) }
     {
         let made = add_next_filing(
-            &mut self.conn,
+            self.conn.connection(),
             self.alloc,
             agent,
             key,
@@ -325,7 +331,7 @@ impl<S: Alter + Drop> Keep for SqlKeep<S> {
         }) }
         ensures undamaged { let keep = ⟦<SqlKeep<S> as Keep>⟧ in Promised keep.shows keep.is_clean self.old self.new (λ r. IfErr result TellsNoDamage) }
     {
-        let made = withdraw_filing(&mut self.conn, agent.as_str(), number);
+        let made = withdraw_filing(self.conn.connection(), agent.as_str(), number);
         self.made(made)
     }
 
@@ -334,7 +340,7 @@ impl<S: Alter + Drop> Keep for SqlKeep<S> {
             record r { day = day }) }
         ensures undamaged { let keep = ⟦<SqlKeep<S> as Keep>⟧ in Promised keep.shows keep.is_clean self.old self.new (λ r. IfErr result TellsNoDamage) }
     {
-        let made = set_day(&mut self.conn, day);
+        let made = set_day(self.conn.connection(), day);
         self.made(made)
     }
 
@@ -347,7 +353,7 @@ impl<S: Alter + Drop> Keep for SqlKeep<S> {
         }) }
         ensures undamaged { let keep = ⟦<SqlKeep<S> as Keep>⟧ in Promised keep.shows keep.is_clean self.old self.new (λ r. IfErr result TellsNoDamage) }
     {
-        let made = add_agent(&mut self.conn, agent, token);
+        let made = add_agent(self.conn.connection(), agent, token);
         self.made(made)
     }
 }

@@ -1,5 +1,5 @@
 -- Nodes, links and aliases of some rows, read record by record.
-use Rattle.std.proofs.Common.{◌≡◌, ◌+◌, ◌<◌, ◌≤◌, ◌&&◌, ℕ, ℤ, Bool, true, false, cond, Option, Some, None, option_map, option_and_then, List, [], take, length, get_or, Contains, sym, refl, ap, ◌∙◌, subst, inl, inr}
+use Rattle.std.proofs.Common.{◌≡◌, ◌+◌, ◌<◌, ◌≤◌, ◌&&◌, ℕ, ℤ, Bool, true, false, cond, Option, Some, None, option_and_then, List, [], take, length, get_or, Contains, sym, refl, ap, ◌∙◌, subst, inl, inr}
 use Rattle.std.specs.List.{filter_map, IsDistinct}
 use Rattle.bor_terms.specs.Texts.{is_same}
 use Rattle.bor_terms.proofs.Texts.{is_same-of}
@@ -15,31 +15,17 @@ use Rattle.bor_links.specs.Nodes.{same_node}
 use Rattle.bor_links.specs.Orders.{node_equiv}
 use Rattle.bor_links.specs.Series.{series_of, open_at}
 use Rattle.bor_links.specs.Shown.{Shown, info_in, is_like}
-use Rattle.bor_links.specs.Rows.{is_entity_info, is_some_info, beside, link_between, link_with, link_in, node_in, node_with, info_stated, nodes_of, shown_of}
+use Rattle.bor_links.specs.Rows.{is_entity_info, is_some_info, beside, link_between, link_with, link_in, nodes_of, shown_of}
 use Rattle.bor_links.specs.Answers.{AreSame, AreLinksInto, only_into}
 use Rattle.bor_links.specs.Stakes.{is_stake, is_holding}
 use Rattle.bor_links.specs.ByKey.{node_at, IsMade, CoverLinks}
 use Rattle.bor_links.specs.Growth.{Grown}
-use Rattle.bor_links.proofs.ByKey.{listed_by_key, links_by_candidates}
+use Rattle.bor_links.proofs.ByKey.{links_by_candidates}
 use Rattle.bor_links.proofs.Found.{none, Contains-filter_map, Contains-from_filter_map}
 use Rattle.bor_links.proofs.Growth.{grown_none, grown_like, grown_more, Contains-take_more, Contains-take_front, Contains-take_last}
 use Rattle.bor_links.proofs.Reached.{AreReached, reached_end}
 use Rattle.bor_links.proofs.SameNode.{same_node_is}
 use Rattle.bor_store_keys.specs.Candidates.{names, is_into, link_into, link_at, IsAlike, IsAlikeIn}
-
--- ---- what is known of a node
-
-info_with : (n : Node) (d : Details) → option_map (λ x. x.info) (node_with n d) ≡ info_stated d
-info_with n (details.Entity kind name identifiers) = refl
-info_with n (details.Person kind name) = refl
-info_with n (details.Relationship subject party interests) = refl
-
-pub info_by_key : (day : ℤ) (rows : List Row) (n : Node) → info_in (nodes_of day rows) n ≡ option_and_then (λ r. info_stated r.statement.details) (open_at day n rows)
-info_by_key day rows n = ap (λ (o : Option OpenNode). option_map (λ x. x.info) o) (listed_by_key day n rows) ∙ at (open_at day n rows)
-  where
-    at : (o : Option Row) → option_map (λ x. x.info) (option_and_then node_in o) ≡ option_and_then (λ r. info_stated r.statement.details) o
-    at None = refl
-    at (Some r) = info_with (series_of r) r.statement.details
 
 -- ---- links
 

@@ -1,3 +1,4 @@
+pub mod Holding
 pub mod ByRecord
 pub mod SeriesSeen
 pub mod OpenAt

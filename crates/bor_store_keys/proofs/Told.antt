@@ -1,15 +1,10 @@
--- What an open record is told as.
-use Rattle.std.proofs.Common.{◌≡◌, [], map, append-nil, Option, Some, None, option_map, option_and_then, refl, sym, ap, ap₂, ◌∙◌}
+-- The row that an open record shows.
+use Rattle.std.proofs.Common.{◌≡◌, map, append-nil, Option, Some, None, option_map, refl, sym, ap, ap₂, ◌∙◌}
 use Rattle.std.specs.List.{flat_map}
-use Rattle.bods_read.specs.declared.details.Details.{Details}
-use Rattle.bods_read.specs.declared.details.Details.TheVariants as details
 use Rattle.bor_records.specs.declared.row.Row.{Row}
 use Rattle.bor_links.specs.declared.node.Node.{Node}
-use Rattle.bor_links.specs.Rows.{info_stated}
 use Rattle.bor_links.specs.Series.{open_at}
-use Rattle.bor_links.specs.Shown.{info_of}
 use Rattle.bor_register.specs.Register.{Register}
-use Rattle.bor_store_keys.proofs.ByRecord.{info_by_key}
 use Rattle.bor_store_rows.specs.declared.rows.Placed.{Placed}
 use Rattle.bor_store_rows.specs.declared.rows.StatementRow.{StatementRow}
 use Rattle.bor_store_rows.specs.declared.rows.InterestRow.{InterestRow}
@@ -21,7 +16,7 @@ use Rattle.bor_store_rows.proofs.Joins.{back}
 use Rattle.bor_store_reads.proofs.Declared.{IsAlone}
 use Rattle.bor_store_keys.specs.declared.view.View.{View}
 use Rattle.bor_store_keys.specs.Latest.{bare_row, listed_row}
-use Rattle.bor_store_keys.specs.Viewed.{rows_seen, seen}
+use Rattle.bor_store_keys.specs.Viewed.{rows_seen}
 use Rattle.bor_store_keys.proofs.SeriesSeen.{Stands}
 use Rattle.bor_store_keys.proofs.OpenAt.{opened_stands}
 
@@ -31,15 +26,6 @@ listed_placed r p alone =
     ap₂ (λ is ds. row_placed (with_lists (bare p) (map (λ (x : InterestRow). x.interest) is) (map (λ (x : IdentifierRow). x.identifier) ds)))
     (ap (flat_map interest_rows) alone ∙ append-nil (interest_rows p)) (ap (flat_map identifier_rows) alone ∙ append-nil (identifier_rows p))
     ∙ ap row_placed (back p)
-
--- lists are not asked for what a chain asks
-info_bare : (p : Placed) → info_stated (with_lists (bare p) [] []).statement.details ≡ info_stated p.statement.details
-info_bare p = go p.statement.details
-  where
-    go : (d : Details) → info_stated (with_lists (bare (record p { statement = record p.statement { details = d } })) [] []).statement.details ≡ info_stated d
-    go (details.Entity kind name identifiers) = refl
-    go (details.Person kind name) = refl
-    go (details.Relationship subject party interests) = refl
 
 some_row : (x y : StatementRow) → Some x ≡ Some y → x ≡ y
 some_row x y h = cc
@@ -53,13 +39,6 @@ module _ (view : View) (n : Node) (r : Register) (stored : IsStored r) where
   found_row None row e = let no : Some row ≡ None = e in absurd cc
   found_row (Some full) row e = (full, refl, some_row row (bare_row full) e)
 
-  pub none_found : None ≡ option_map bare_row now → None ≡ now
-  none_found e = go now e
-    where
-      go : (o : Option Row) → None ≡ option_map bare_row o → None ≡ o
-      go None e = refl
-      go (Some full) e = let no : None ≡ Some (bare_row full) = e in absurd cc
-
   module _ (row : StatementRow) (is : Some row ≡ option_map bare_row now) where
     found_placed : (p : Placed) × (row ≡ bare p) × (now ≡ Some (row_placed p)) × IsAlone (placed r.members) p
     found_placed =
@@ -70,11 +49,3 @@ module _ (view : View) (n : Node) (r : Register) (stored : IsStored r) where
     -- with its lists it is what is open
     pub row_found : Some (listed_row r.members row) ≡ now
     row_found = let f = found_placed in ap (λ x. Some (listed_row r.members x)) f.1 ∙ ap Some (listed_placed r f.0 f.3) ∙ sym f.2
-
-    pub info_found : info_stated (with_lists row [] []).statement.details ≡ info_of (seen view r) n
-    info_found =
-        let f = found_placed in
-        ap (λ x. info_stated (with_lists x [] []).statement.details) f.1 ∙ info_bare f.0 ∙ sym (info_by_key view.day (rows_seen view r) n ∙ ap (option_and_then (λ (x : Row). info_stated x.statement.details)) f.2)
-
-  pub info_missing : None ≡ option_map bare_row now → None ≡ info_of (seen view r) n
-  info_missing e = sym (info_by_key view.day (rows_seen view r) n ∙ ap (option_and_then (λ (x : Row). info_stated x.statement.details)) (sym (none_found e)))

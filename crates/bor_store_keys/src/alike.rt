@@ -15,59 +15,60 @@ ghost use Rattle.bor_store_reads.specs.Answering.{Answers};
 ghost use Rattle.bor_store_keys.specs.Alike.{Expands, Follows};
 ghost use Rattle.bor_store_keys.specs.Viewed.{rows_seen, seen};
 
+use crate::lookup::Lookup;
 use crate::nodes::node_in;
-use crate::opened::open_row;
 use crate::records::records_with;
-use crate::view::{View, view_of};
+use crate::view::View;
+use crate::views::view_of;
 use bods_read::Identifier;
-use bor_links::{Class, Node, OpenNode, Sign, is_alias_stated};
+use bor_links::{Class, Node, OpenNode, Sign};
 use bor_store_reads::ReadError;
 use bor_terms::{AgentName, Day};
-use sqlite::{Alter, Connection};
+use sqlite::Alter;
 use std::alloc::Global;
 use std::collections::BTreeSet;
 
 // Whether a record is open and alike.
-fn is_alike<S: Alter>(
-    conn: &mut Connection<S>,
+fn is_alike<S: Alter + Drop>(
+    lookup: &mut Lookup<S>,
     alloc: Global,
     view: &View,
     one: &OpenNode,
     candidate: &Node,
 ) -> Result<bool, ReadError>
-    requires { conn.old.in_transaction ≡ false }
-    ensures mode { conn.new.in_transaction ≡ false }
-    ensures began { IsClean (state S.Store conn.new) → IsClean (state S.Store conn.old) }
-    ensures kept { IsClean (state S.Store conn.new) → (state S.Store conn.new).committed ≡ (state S.Store conn.old).committed }
-    ensures answer { Answers (state S.Store conn.old) (state S.Store conn.new) result (λ r alike.
+    requires { lookup.old.in_transaction ≡ false }
+    ensures mode { lookup.new.in_transaction ≡ false }
+    ensures began { IsClean (state S.Store lookup.new) → IsClean (state S.Store lookup.old) }
+    ensures kept { IsClean (state S.Store lookup.new) → (state S.Store lookup.new).committed ≡ (state S.Store lookup.old).committed }
+    ensures answer { Answers (state S.Store lookup.old) (state S.Store lookup.new) result (λ r alike.
         alike ≡ is_like one.now (node_at view.now.day candidate.now (rows_seen view.now r))) }
 {
-    match open_row(conn, alloc, view, candidate)? {
-        Some(row) => Ok(is_alias_stated(one, &row.agent, &row.statement)),
+    match node_in(lookup, alloc, view, candidate)? {
+        Some(other) => Ok(one.is_alias(&other)),
         None => Ok(false),
     }
 }
 
 // Adds a candidate, where it is alike. One that is there isn't looked at again.
-fn add_if_alike<S: Alter>(
-    conn: &mut Connection<S>,
+fn add_if_alike<S: Alter + Drop>(
+    lookup: &mut Lookup<S>,
     alloc: Global,
     view: &View,
     class: &mut Class,
     one: &OpenNode,
     candidate: &Node,
 ) -> Result<(), ReadError>
-    requires { conn.old.in_transaction ≡ false }
-    ensures mode { conn.new.in_transaction ≡ false }
-    ensures began { IsClean (state S.Store conn.new) → IsClean (state S.Store conn.old) }
-    ensures kept { IsClean (state S.Store conn.new) → (state S.Store conn.new).committed ≡ (state S.Store conn.old).committed }
-    ensures answer { Answers (state S.Store conn.old) (state S.Store conn.new) result (λ r _.
+    requires { lookup.old.in_transaction ≡ false }
+    ensures mode { lookup.new.in_transaction ≡ false }
+    ensures began { IsClean (state S.Store lookup.new) → IsClean (state S.Store lookup.old) }
+    ensures kept { IsClean (state S.Store lookup.new) → (state S.Store lookup.new).committed ≡ (state S.Store lookup.old).committed }
+    ensures answer { Answers (state S.Store lookup.old) (state S.Store lookup.new) result (λ r _.
         Grown (IsAlike view.now.day (rows_seen view.now r) one.now candidate.now) class.old class.new) }
 {
     if class.has(candidate) {
         return Ok(());
     }
-    if !is_alike(conn, alloc, view, one, candidate)? {
+    if !is_alike(lookup, alloc, view, one, candidate)? {
         return Ok(());
     }
     class.add(candidate.copy(alloc)?)?;
@@ -75,30 +76,30 @@ fn add_if_alike<S: Alter>(
 }
 
 // Adds those of the candidates that are alike.
-fn add_alike<S: Alter>(
-    conn: &mut Connection<S>,
+fn add_alike<S: Alter + Drop>(
+    lookup: &mut Lookup<S>,
     alloc: Global,
     view: &View,
     class: &mut Class,
     one: &OpenNode,
     candidates: &[Node],
 ) -> Result<(), ReadError>
-    requires { conn.old.in_transaction ≡ false }
-    ensures mode { conn.new.in_transaction ≡ false }
-    ensures began { IsClean (state S.Store conn.new) → IsClean (state S.Store conn.old) }
-    ensures kept { IsClean (state S.Store conn.new) → (state S.Store conn.new).committed ≡ (state S.Store conn.old).committed }
-    ensures answer { Answers (state S.Store conn.old) (state S.Store conn.new) result (λ r _.
+    requires { lookup.old.in_transaction ≡ false }
+    ensures mode { lookup.new.in_transaction ≡ false }
+    ensures began { IsClean (state S.Store lookup.new) → IsClean (state S.Store lookup.old) }
+    ensures kept { IsClean (state S.Store lookup.new) → (state S.Store lookup.new).committed ≡ (state S.Store lookup.old).committed }
+    ensures answer { Answers (state S.Store lookup.old) (state S.Store lookup.new) result (λ r _.
         Grown (IsAlikeIn view.now.day (rows_seen view.now r) one.now candidates.now) class.old class.new) }
 {
     for candidate in candidates {
-        add_if_alike(conn, alloc, view, class, one, candidate)?;
+        add_if_alike(lookup, alloc, view, class, one, candidate)?;
     }
     Ok(())
 }
 
 // Adds the aliases of an entity that have a sign, unless it has been looked up.
-fn add_signed<S: Alter>(
-    conn: &mut Connection<S>,
+fn add_signed<S: Alter + Drop>(
+    lookup: &mut Lookup<S>,
     alloc: Global,
     view: &View,
     class: &mut Class,
@@ -106,25 +107,25 @@ fn add_signed<S: Alter>(
     one: &OpenNode,
     sign: Sign,
 ) -> Result<(), ReadError>
-    requires { conn.old.in_transaction ≡ false }
-    ensures mode { conn.new.in_transaction ≡ false }
-    ensures began { IsClean (state S.Store conn.new) → IsClean (state S.Store conn.old) }
-    ensures kept { IsClean (state S.Store conn.new) → (state S.Store conn.new).committed ≡ (state S.Store conn.old).committed }
-    ensures answer { Answers (state S.Store conn.old) (state S.Store conn.new) result (λ r _.
+    requires { lookup.old.in_transaction ≡ false }
+    ensures mode { lookup.new.in_transaction ≡ false }
+    ensures began { IsClean (state S.Store lookup.new) → IsClean (state S.Store lookup.old) }
+    ensures kept { IsClean (state S.Store lookup.new) → (state S.Store lookup.new).committed ≡ (state S.Store lookup.old).committed }
+    ensures answer { Answers (state S.Store lookup.old) (state S.Store lookup.new) result (λ r _.
         Expands view.now.day (rows_seen view.now r) one.now (sign ∷ []) class.old class.new (λ k. contains sign_cmp looked.old k) (λ k. contains sign_cmp looked.new k)) }
 {
     if looked.contains(&sign) {
         return Ok(());
     }
-    let candidates = records_with(conn, alloc, &sign)?;
-    add_alike(conn, alloc, view, class, one, &candidates)?;
+    let candidates = records_with(lookup, alloc, &sign)?;
+    add_alike(lookup, alloc, view, class, one, &candidates)?;
     looked.insert(sign)?;
     Ok(())
 }
 
 // The same for each identifier.
-fn add_identified<S: Alter>(
-    conn: &mut Connection<S>,
+fn add_identified<S: Alter + Drop>(
+    lookup: &mut Lookup<S>,
     alloc: Global,
     view: &View,
     class: &mut Class,
@@ -132,40 +133,40 @@ fn add_identified<S: Alter>(
     one: &OpenNode,
     identifiers: &[Identifier],
 ) -> Result<(), ReadError>
-    requires { conn.old.in_transaction ≡ false }
-    ensures mode { conn.new.in_transaction ≡ false }
-    ensures began { IsClean (state S.Store conn.new) → IsClean (state S.Store conn.old) }
-    ensures kept { IsClean (state S.Store conn.new) → (state S.Store conn.new).committed ≡ (state S.Store conn.old).committed }
-    ensures answer { Answers (state S.Store conn.old) (state S.Store conn.new) result (λ r _.
+    requires { lookup.old.in_transaction ≡ false }
+    ensures mode { lookup.new.in_transaction ≡ false }
+    ensures began { IsClean (state S.Store lookup.new) → IsClean (state S.Store lookup.old) }
+    ensures kept { IsClean (state S.Store lookup.new) → (state S.Store lookup.new).committed ≡ (state S.Store lookup.old).committed }
+    ensures answer { Answers (state S.Store lookup.old) (state S.Store lookup.new) result (λ r _.
         Expands view.now.day (rows_seen view.now r) one.now (map by_identifier identifiers.now) class.old class.new (λ k. contains sign_cmp looked.old k) (λ k. contains sign_cmp looked.new k)) }
 {
     for identifier in identifiers {
         let sign = Sign::of_identifier(alloc, identifier)?;
-        add_signed(conn, alloc, view, class, looked, one, sign)?;
+        add_signed(lookup, alloc, view, class, looked, one, sign)?;
     }
     Ok(())
 }
 
 // The same for each sign of the entity.
-fn add_signs<S: Alter>(
-    conn: &mut Connection<S>,
+fn add_signs<S: Alter + Drop>(
+    lookup: &mut Lookup<S>,
     alloc: Global,
     view: &View,
     class: &mut Class,
     looked: &mut BTreeSet<Sign>,
     one: &OpenNode,
 ) -> Result<(), ReadError>
-    requires { conn.old.in_transaction ≡ false }
-    ensures mode { conn.new.in_transaction ≡ false }
-    ensures began { IsClean (state S.Store conn.new) → IsClean (state S.Store conn.old) }
-    ensures kept { IsClean (state S.Store conn.new) → (state S.Store conn.new).committed ≡ (state S.Store conn.old).committed }
-    ensures answer { Answers (state S.Store conn.old) (state S.Store conn.new) result (λ r _.
+    requires { lookup.old.in_transaction ≡ false }
+    ensures mode { lookup.new.in_transaction ≡ false }
+    ensures began { IsClean (state S.Store lookup.new) → IsClean (state S.Store lookup.old) }
+    ensures kept { IsClean (state S.Store lookup.new) → (state S.Store lookup.new).committed ≡ (state S.Store lookup.old).committed }
+    ensures answer { Answers (state S.Store lookup.old) (state S.Store lookup.new) result (λ r _.
         Expands view.now.day (rows_seen view.now r) one.now (signs one.now) class.old class.new (λ k. contains sign_cmp looked.old k) (λ k. contains sign_cmp looked.new k)) }
 {
     let sign = Sign::of_node(alloc, &one.node)?;
-    add_signed(conn, alloc, view, class, looked, one, sign)?;
+    add_signed(lookup, alloc, view, class, looked, one, sign)?;
     add_identified(
-        conn,
+        lookup,
         alloc,
         view,
         class,
@@ -176,62 +177,62 @@ fn add_signs<S: Alter>(
 }
 
 // Adds the aliases of a node by those of its signs that haven't been looked up.
-fn add_aliases<S: Alter>(
-    conn: &mut Connection<S>,
+fn add_aliases<S: Alter + Drop>(
+    lookup: &mut Lookup<S>,
     alloc: Global,
     view: &View,
     class: &mut Class,
     looked: &mut BTreeSet<Sign>,
     node: &Node,
 ) -> Result<(), ReadError>
-    requires { conn.old.in_transaction ≡ false }
-    ensures mode { conn.new.in_transaction ≡ false }
-    ensures began { IsClean (state S.Store conn.new) → IsClean (state S.Store conn.old) }
-    ensures kept { IsClean (state S.Store conn.new) → (state S.Store conn.new).committed ≡ (state S.Store conn.old).committed }
-    ensures answer { Answers (state S.Store conn.old) (state S.Store conn.new) result (λ r _.
+    requires { lookup.old.in_transaction ≡ false }
+    ensures mode { lookup.new.in_transaction ≡ false }
+    ensures began { IsClean (state S.Store lookup.new) → IsClean (state S.Store lookup.old) }
+    ensures kept { IsClean (state S.Store lookup.new) → (state S.Store lookup.new).committed ≡ (state S.Store lookup.old).committed }
+    ensures answer { Answers (state S.Store lookup.old) (state S.Store lookup.new) result (λ r _.
         Follows (seen view.now r) node.now class.old class.new (λ k. contains sign_cmp looked.old k) (λ k. contains sign_cmp looked.new k)) }
 {
-    let Some(one) = node_in(conn, alloc, view, node)? else {
+    let Some(one) = node_in(lookup, alloc, view, node)? else {
         return Ok(());
     };
     if !one.info.is_entity() {
         return Ok(());
     }
-    add_signs(conn, alloc, view, class, looked, &one)
+    add_signs(lookup, alloc, view, class, looked, &one)
 }
 
 // The nodes one alias away from a node, each once.
-fn aliases_in<S: Alter>(
-    conn: &mut Connection<S>,
+fn aliases_in<S: Alter + Drop>(
+    lookup: &mut Lookup<S>,
     alloc: Global,
     view: &View,
     node: &Node,
 ) -> Result<Vec<Node>, ReadError>
-    requires { conn.old.in_transaction ≡ false }
-    ensures mode { conn.new.in_transaction ≡ false }
-    ensures began { IsClean (state S.Store conn.new) → IsClean (state S.Store conn.old) }
-    ensures kept { IsClean (state S.Store conn.new) → (state S.Store conn.new).committed ≡ (state S.Store conn.old).committed }
-    ensures answer { Answers (state S.Store conn.old) (state S.Store conn.new) result (λ r nodes.
+    requires { lookup.old.in_transaction ≡ false }
+    ensures mode { lookup.new.in_transaction ≡ false }
+    ensures began { IsClean (state S.Store lookup.new) → IsClean (state S.Store lookup.old) }
+    ensures kept { IsClean (state S.Store lookup.new) → (state S.Store lookup.new).committed ≡ (state S.Store lookup.old).committed }
+    ensures answer { Answers (state S.Store lookup.old) (state S.Store lookup.new) result (λ r nodes.
         AreAliases (seen view.now r) node.now nodes.items) }
 {
     let mut class = Class::new(alloc);
     let mut looked = BTreeSet::new(alloc);
-    add_aliases(conn, alloc, view, &mut class, &mut looked, node)?;
+    add_aliases(lookup, alloc, view, &mut class, &mut looked, node)?;
     Ok(class.into_nodes())
 }
 
 // All nodes that stand for one entity with a node, each once. Each sign of them is looked up once.
-fn same_in<S: Alter>(
-    conn: &mut Connection<S>,
+fn same_in<S: Alter + Drop>(
+    lookup: &mut Lookup<S>,
     alloc: Global,
     view: &View,
     node: &Node,
 ) -> Result<Vec<Node>, ReadError>
-    requires { conn.old.in_transaction ≡ false }
-    ensures mode { conn.new.in_transaction ≡ false }
-    ensures began { IsClean (state S.Store conn.new) → IsClean (state S.Store conn.old) }
-    ensures kept { IsClean (state S.Store conn.new) → (state S.Store conn.new).committed ≡ (state S.Store conn.old).committed }
-    ensures answer { Answers (state S.Store conn.old) (state S.Store conn.new) result (λ r nodes.
+    requires { lookup.old.in_transaction ≡ false }
+    ensures mode { lookup.new.in_transaction ≡ false }
+    ensures began { IsClean (state S.Store lookup.new) → IsClean (state S.Store lookup.old) }
+    ensures kept { IsClean (state S.Store lookup.new) → (state S.Store lookup.new).committed ≡ (state S.Store lookup.old).committed }
+    ensures answer { Answers (state S.Store lookup.old) (state S.Store lookup.new) result (λ r nodes.
         AreSame (seen view.now r) node.now nodes.items) }
 {
     let mut class = Class::new(alloc);
@@ -240,48 +241,48 @@ fn same_in<S: Alter>(
     let mut next = 0;
     while next < class.len() {
         let one = class.copy_at(next)?;
-        add_aliases(conn, alloc, view, &mut class, &mut looked, &one)?;
+        add_aliases(lookup, alloc, view, &mut class, &mut looked, &one)?;
         next += 1;
     }
     Ok(class.into_nodes())
 }
 
 /// The nodes one alias away from a node on a day, of what the viewer sees, each once and in any order.
-pub fn read_aliases<S: Alter>(
-    conn: &mut Connection<S>,
+pub fn read_aliases<S: Alter + Drop>(
+    lookup: &mut Lookup<S>,
     alloc: Global,
     viewer: &AgentName,
     day: Day,
     node: &Node,
 ) -> Result<Vec<Node>, ReadError>
-    requires { conn.old.in_transaction ≡ false }
-    ensures mode { conn.new.in_transaction ≡ false }
-    ensures began { IsClean (state S.Store conn.new) → IsClean (state S.Store conn.old) }
-    ensures kept { IsClean (state S.Store conn.new) → (state S.Store conn.new).committed ≡ (state S.Store conn.old).committed }
-    ensures answer { Answers (state S.Store conn.old) (state S.Store conn.new) result (λ r nodes.
+    requires { lookup.old.in_transaction ≡ false }
+    ensures mode { lookup.new.in_transaction ≡ false }
+    ensures began { IsClean (state S.Store lookup.new) → IsClean (state S.Store lookup.old) }
+    ensures kept { IsClean (state S.Store lookup.new) → (state S.Store lookup.new).committed ≡ (state S.Store lookup.old).committed }
+    ensures answer { Answers (state S.Store lookup.old) (state S.Store lookup.new) result (λ r nodes.
         AreAliases (seen_at viewer.now day r) node.now nodes.items) }
 {
-    let view = view_of(conn, alloc, viewer, day)?;
-    aliases_in(conn, alloc, &view, node)
+    let view = view_of(lookup, alloc, viewer, day)?;
+    aliases_in(lookup, alloc, &view, node)
 }
 
 /// All nodes that stand for one entity with a node on a day, of what the viewer sees, by finitely many aliases,
 /// each once and in any order; the node is one of them, whether or not it is open. An identifier that they
 /// share is looked up once.
-pub fn read_same<S: Alter>(
-    conn: &mut Connection<S>,
+pub fn read_same<S: Alter + Drop>(
+    lookup: &mut Lookup<S>,
     alloc: Global,
     viewer: &AgentName,
     day: Day,
     node: &Node,
 ) -> Result<Vec<Node>, ReadError>
-    requires { conn.old.in_transaction ≡ false }
-    ensures mode { conn.new.in_transaction ≡ false }
-    ensures began { IsClean (state S.Store conn.new) → IsClean (state S.Store conn.old) }
-    ensures kept { IsClean (state S.Store conn.new) → (state S.Store conn.new).committed ≡ (state S.Store conn.old).committed }
-    ensures answer { Answers (state S.Store conn.old) (state S.Store conn.new) result (λ r nodes.
+    requires { lookup.old.in_transaction ≡ false }
+    ensures mode { lookup.new.in_transaction ≡ false }
+    ensures began { IsClean (state S.Store lookup.new) → IsClean (state S.Store lookup.old) }
+    ensures kept { IsClean (state S.Store lookup.new) → (state S.Store lookup.new).committed ≡ (state S.Store lookup.old).committed }
+    ensures answer { Answers (state S.Store lookup.old) (state S.Store lookup.new) result (λ r nodes.
         AreSame (seen_at viewer.now day r) node.now nodes.items) }
 {
-    let view = view_of(conn, alloc, viewer, day)?;
-    same_in(conn, alloc, &view, node)
+    let view = view_of(lookup, alloc, viewer, day)?;
+    same_in(lookup, alloc, &view, node)
 }

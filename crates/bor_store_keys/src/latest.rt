@@ -10,53 +10,55 @@ ghost use Rattle.bor_store_reads.specs.Answering.{Answers};
 ghost use Rattle.bor_store_keys.specs.Latest.{bare_row, is_told, unless_closed};
 ghost use Rattle.bor_store_keys.specs.Viewed.{rows_seen};
 
+use crate::lookup::Lookup;
 use crate::view::View;
+use crate::views::is_filing_seen;
 use bods_read::Status;
 use bor_links::Node;
-use bor_store_reads::{ReadError, is_number_seen, read_series};
+use bor_store_reads::ReadError;
 use bor_store_rows::StatementRow;
 use bor_terms::AgentName;
-use sqlite::{Alter, Connection};
+use sqlite::Alter;
 use std::alloc::Global;
 
 // Whether the agent's statement is dated at or before the day, and seen by the viewer.
-fn is_told<S: Alter>(
-    conn: &mut Connection<S>,
+fn is_told<S: Alter + Drop>(
+    lookup: &mut Lookup<S>,
     alloc: Global,
     view: &View,
     agent: &AgentName,
     row: &StatementRow,
 ) -> Result<bool, ReadError>
-    requires { conn.old.in_transaction ≡ false }
-    ensures mode { conn.new.in_transaction ≡ false }
-    ensures began { IsClean (state S.Store conn.new) → IsClean (state S.Store conn.old) }
-    ensures kept { IsClean (state S.Store conn.new) → (state S.Store conn.new).committed ≡ (state S.Store conn.old).committed }
-    ensures answer { Answers (state S.Store conn.old) (state S.Store conn.new) result (λ r told.
+    requires { lookup.old.in_transaction ≡ false }
+    ensures mode { lookup.new.in_transaction ≡ false }
+    ensures began { IsClean (state S.Store lookup.new) → IsClean (state S.Store lookup.old) }
+    ensures kept { IsClean (state S.Store lookup.new) → (state S.Store lookup.new).committed ≡ (state S.Store lookup.old).committed }
+    ensures answer { Answers (state S.Store lookup.old) (state S.Store lookup.new) result (λ r told.
         told ≡ is_told view.now agent.now (filings_of agent.now r.members) row.now) }
 {
     if view.day < row.day {
         return Ok(false);
     }
-    is_number_seen(conn, alloc, &view.viewer, agent, view.today, row.at.filing)
+    is_filing_seen(lookup, alloc, view, agent, row.at.filing)
 }
 
 // The last of the agent's statements of which that holds.
-fn last_told<S: Alter>(
-    conn: &mut Connection<S>,
+fn last_told<S: Alter + Drop>(
+    lookup: &mut Lookup<S>,
     alloc: Global,
     view: &View,
     agent: &AgentName,
     mut rows: Vec<StatementRow>,
 ) -> Result<Option<StatementRow>, ReadError>
-    requires { conn.old.in_transaction ≡ false }
-    ensures mode { conn.new.in_transaction ≡ false }
-    ensures began { IsClean (state S.Store conn.new) → IsClean (state S.Store conn.old) }
-    ensures kept { IsClean (state S.Store conn.new) → (state S.Store conn.new).committed ≡ (state S.Store conn.old).committed }
-    ensures answer { Answers (state S.Store conn.old) (state S.Store conn.new) result (λ r last.
+    requires { lookup.old.in_transaction ≡ false }
+    ensures mode { lookup.new.in_transaction ≡ false }
+    ensures began { IsClean (state S.Store lookup.new) → IsClean (state S.Store lookup.old) }
+    ensures kept { IsClean (state S.Store lookup.new) → (state S.Store lookup.new).committed ≡ (state S.Store lookup.old).committed }
+    ensures answer { Answers (state S.Store lookup.old) (state S.Store lookup.new) result (λ r last.
         last ≡ last_or None (filter (is_told view.now agent.now (filings_of agent.now r.members)) rows.items)) }
 {
     while let Some(row) = rows.pop() {
-        if is_told(conn, alloc, view, agent, &row)? {
+        if is_told(lookup, alloc, view, agent, &row)? {
             return Ok(Some(row));
         }
     }
@@ -74,21 +76,21 @@ fn unless_closed(row: StatementRow) -> Option<StatementRow>
 }
 
 /// The row of the statement that a record shows: the latest one, where it isn't closed.
-pub(crate) fn open_statement<S: Alter>(
-    conn: &mut Connection<S>,
+pub(crate) fn open_statement<S: Alter + Drop>(
+    lookup: &mut Lookup<S>,
     alloc: Global,
     view: &View,
     node: &Node,
 ) -> Result<Option<StatementRow>, ReadError>
-    requires { conn.old.in_transaction ≡ false }
-    ensures mode { conn.new.in_transaction ≡ false }
-    ensures began { IsClean (state S.Store conn.new) → IsClean (state S.Store conn.old) }
-    ensures kept { IsClean (state S.Store conn.new) → (state S.Store conn.new).committed ≡ (state S.Store conn.old).committed }
-    ensures answer { Answers (state S.Store conn.old) (state S.Store conn.new) result (λ r row.
+    requires { lookup.old.in_transaction ≡ false }
+    ensures mode { lookup.new.in_transaction ≡ false }
+    ensures began { IsClean (state S.Store lookup.new) → IsClean (state S.Store lookup.old) }
+    ensures kept { IsClean (state S.Store lookup.new) → (state S.Store lookup.new).committed ≡ (state S.Store lookup.old).committed }
+    ensures answer { Answers (state S.Store lookup.old) (state S.Store lookup.new) result (λ r row.
         row ≡ option_map bare_row (open_at view.now.day node.now (rows_seen view.now r))) }
 {
-    let rows = read_series(conn, alloc, &node.agent, &node.declaration, &node.rec)?;
-    match last_told(conn, alloc, view, &node.agent, rows)? {
+    let rows = lookup.series(alloc, node)?;
+    match last_told(lookup, alloc, view, &node.agent, rows)? {
         Some(row) => Ok(unless_closed(row)),
         None => Ok(None),
     }

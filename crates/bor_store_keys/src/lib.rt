@@ -8,14 +8,18 @@
 #![tactic(auto)]
 
 mod alike;
+mod found;
 mod latest;
 mod links;
 mod list;
+mod lookup;
 mod nodes;
 mod opened;
 mod records;
 mod view;
+mod views;
 
 pub use alike::{read_aliases, read_same};
 pub use links::read_links_into;
+pub use lookup::Lookup;
 pub use nodes::read_node;

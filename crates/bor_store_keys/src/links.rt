@@ -13,21 +13,23 @@ ghost use Rattle.bor_store_reads.specs.Answering.{Answers};
 ghost use Rattle.bor_store_keys.specs.Viewed.{rows_seen, seen};
 
 use crate::list::push_some;
+use crate::lookup::Lookup;
 use crate::nodes::{is_entity, is_node};
 use crate::opened::open_row;
 use crate::records::records_into;
-use crate::view::{View, view_of};
+use crate::view::View;
+use crate::views::view_of;
 use bods_read::{Details, Interest};
 use bor_links::{Link, Node, holding_of, record_of, stake_of};
 use bor_records::Row;
 use bor_store_reads::ReadError;
 use bor_terms::{AgentName, Day};
-use sqlite::{Alter, Connection};
+use sqlite::Alter;
 use std::alloc::Global;
 
 // The link between two records into an open entity: where that is the subject, and the party is open.
-fn link_between<S: Alter>(
-    conn: &mut Connection<S>,
+fn link_between<S: Alter + Drop>(
+    lookup: &mut Lookup<S>,
     alloc: Global,
     view: &View,
     node: &Node,
@@ -35,18 +37,18 @@ fn link_between<S: Alter>(
     subject: Node,
     interests: &[Interest],
 ) -> Result<Option<Link>, ReadError>
-    requires { conn.old.in_transaction ≡ false }
-    ensures mode { conn.new.in_transaction ≡ false }
-    ensures began { IsClean (state S.Store conn.new) → IsClean (state S.Store conn.old) }
-    ensures kept { IsClean (state S.Store conn.new) → (state S.Store conn.new).committed ≡ (state S.Store conn.old).committed }
-    ensures answer { Answers (state S.Store conn.old) (state S.Store conn.new) result (λ r link.
+    requires { lookup.old.in_transaction ≡ false }
+    ensures mode { lookup.new.in_transaction ≡ false }
+    ensures began { IsClean (state S.Store lookup.new) → IsClean (state S.Store lookup.old) }
+    ensures kept { IsClean (state S.Store lookup.new) → (state S.Store lookup.new).committed ≡ (state S.Store lookup.old).committed }
+    ensures answer { Answers (state S.Store lookup.old) (state S.Store lookup.new) result (λ r link.
         is_entity_info (info_of (seen view.now r) node.now) ≡ true
         → link ≡ only_into node.now (link_between (nodes_of view.now.day (rows_seen view.now r)) party subject interests.now)) }
 {
     if subject != *node {
         return Ok(None);
     }
-    if !is_node(conn, alloc, view, &party)? {
+    if !is_node(lookup, alloc, view, &party)? {
         return Ok(None);
     }
     Ok(Some(Link {
@@ -58,18 +60,18 @@ fn link_between<S: Alter>(
 }
 
 // The link into an open entity that a row makes, the latest of its record.
-fn link_into<S: Alter>(
-    conn: &mut Connection<S>,
+fn link_into<S: Alter + Drop>(
+    lookup: &mut Lookup<S>,
     alloc: Global,
     view: &View,
     node: &Node,
     row: &Row,
 ) -> Result<Option<Link>, ReadError>
-    requires { conn.old.in_transaction ≡ false }
-    ensures mode { conn.new.in_transaction ≡ false }
-    ensures began { IsClean (state S.Store conn.new) → IsClean (state S.Store conn.old) }
-    ensures kept { IsClean (state S.Store conn.new) → (state S.Store conn.new).committed ≡ (state S.Store conn.old).committed }
-    ensures answer { Answers (state S.Store conn.old) (state S.Store conn.new) result (λ r link.
+    requires { lookup.old.in_transaction ≡ false }
+    ensures mode { lookup.new.in_transaction ≡ false }
+    ensures began { IsClean (state S.Store lookup.new) → IsClean (state S.Store lookup.old) }
+    ensures kept { IsClean (state S.Store lookup.new) → (state S.Store lookup.new).committed ≡ (state S.Store lookup.old).committed }
+    ensures answer { Answers (state S.Store lookup.old) (state S.Store lookup.new) result (λ r link.
         is_entity_info (info_of (seen view.now r) node.now) ≡ true
         → link ≡ link_into view.now.day (rows_seen view.now r) node.now row.now) }
 {
@@ -82,7 +84,7 @@ fn link_into<S: Alter>(
             let subject = record_of(alloc, row, subject)?;
             let party = record_of(alloc, row, party)?;
             link_between(
-                conn,
+                lookup,
                 alloc,
                 view,
                 node,
@@ -96,88 +98,88 @@ fn link_into<S: Alter>(
 }
 
 // The link into an open entity that a record makes.
-fn link_at<S: Alter>(
-    conn: &mut Connection<S>,
+fn link_at<S: Alter + Drop>(
+    lookup: &mut Lookup<S>,
     alloc: Global,
     view: &View,
     node: &Node,
     rec: &Node,
 ) -> Result<Option<Link>, ReadError>
-    requires { conn.old.in_transaction ≡ false }
-    ensures mode { conn.new.in_transaction ≡ false }
-    ensures began { IsClean (state S.Store conn.new) → IsClean (state S.Store conn.old) }
-    ensures kept { IsClean (state S.Store conn.new) → (state S.Store conn.new).committed ≡ (state S.Store conn.old).committed }
-    ensures answer { Answers (state S.Store conn.old) (state S.Store conn.new) result (λ r link.
+    requires { lookup.old.in_transaction ≡ false }
+    ensures mode { lookup.new.in_transaction ≡ false }
+    ensures began { IsClean (state S.Store lookup.new) → IsClean (state S.Store lookup.old) }
+    ensures kept { IsClean (state S.Store lookup.new) → (state S.Store lookup.new).committed ≡ (state S.Store lookup.old).committed }
+    ensures answer { Answers (state S.Store lookup.old) (state S.Store lookup.new) result (λ r link.
         is_entity_info (info_of (seen view.now r) node.now) ≡ true
         → link ≡ link_at view.now.day (rows_seen view.now r) node.now rec.now) }
 {
-    match open_row(conn, alloc, view, rec)? {
-        Some(row) => link_into(conn, alloc, view, node, &row),
+    match open_row(lookup, alloc, view, rec)? {
+        Some(row) => link_into(lookup, alloc, view, node, &row),
         None => Ok(None),
     }
 }
 
 // The links into an open entity that these records make.
-fn links_of<S: Alter>(
-    conn: &mut Connection<S>,
+fn links_of<S: Alter + Drop>(
+    lookup: &mut Lookup<S>,
     alloc: Global,
     view: &View,
     node: &Node,
     records: &[Node],
 ) -> Result<Vec<Link>, ReadError>
-    requires { conn.old.in_transaction ≡ false }
-    ensures mode { conn.new.in_transaction ≡ false }
-    ensures began { IsClean (state S.Store conn.new) → IsClean (state S.Store conn.old) }
-    ensures kept { IsClean (state S.Store conn.new) → (state S.Store conn.new).committed ≡ (state S.Store conn.old).committed }
-    ensures answer { Answers (state S.Store conn.old) (state S.Store conn.new) result (λ r links.
+    requires { lookup.old.in_transaction ≡ false }
+    ensures mode { lookup.new.in_transaction ≡ false }
+    ensures began { IsClean (state S.Store lookup.new) → IsClean (state S.Store lookup.old) }
+    ensures kept { IsClean (state S.Store lookup.new) → (state S.Store lookup.new).committed ≡ (state S.Store lookup.old).committed }
+    ensures answer { Answers (state S.Store lookup.old) (state S.Store lookup.new) result (λ r links.
         is_entity_info (info_of (seen view.now r) node.now) ≡ true
         → links.items ≡ filter_map (link_at view.now.day (rows_seen view.now r) node.now) records.now) }
 {
     let mut links = Vec::new(alloc);
     for one in records {
-        let link = link_at(conn, alloc, view, node, one)?;
+        let link = link_at(lookup, alloc, view, node, one)?;
         push_some(&mut links, link)?;
     }
     Ok(links)
 }
 
 // The links into a node.
-fn links_into<S: Alter>(
-    conn: &mut Connection<S>,
+fn links_into<S: Alter + Drop>(
+    lookup: &mut Lookup<S>,
     alloc: Global,
     view: &View,
     node: &Node,
 ) -> Result<Vec<Link>, ReadError>
-    requires { conn.old.in_transaction ≡ false }
-    ensures mode { conn.new.in_transaction ≡ false }
-    ensures began { IsClean (state S.Store conn.new) → IsClean (state S.Store conn.old) }
-    ensures kept { IsClean (state S.Store conn.new) → (state S.Store conn.new).committed ≡ (state S.Store conn.old).committed }
-    ensures answer { Answers (state S.Store conn.old) (state S.Store conn.new) result (λ r links.
+    requires { lookup.old.in_transaction ≡ false }
+    ensures mode { lookup.new.in_transaction ≡ false }
+    ensures began { IsClean (state S.Store lookup.new) → IsClean (state S.Store lookup.old) }
+    ensures kept { IsClean (state S.Store lookup.new) → (state S.Store lookup.new).committed ≡ (state S.Store lookup.old).committed }
+    ensures answer { Answers (state S.Store lookup.old) (state S.Store lookup.new) result (λ r links.
         AreLinksInto (seen view.now r) node.now links.items) }
 {
-    if !is_entity(conn, alloc, view, node)? {
+    if !is_entity(lookup, alloc, view, node)? {
         return Ok(Vec::new(alloc));
     }
-    let records = records_into(conn, alloc, node)?;
-    links_of(conn, alloc, view, node, &records)
+    let records = records_into(lookup, alloc, node)?;
+    links_of(lookup, alloc, view, node, &records)
 }
 
 /// The links into a node on a day, of what the viewer sees: of each open relationship with this subject whose
 /// two ends are open, each once and in any order.
-pub fn read_links_into<S: Alter>(
-    conn: &mut Connection<S>,
+pub fn read_links_into<S: Alter + Drop>(
+    lookup: &mut Lookup<S>,
     alloc: Global,
     viewer: &AgentName,
     day: Day,
     node: &Node,
 ) -> Result<Vec<Link>, ReadError>
-    requires { conn.old.in_transaction ≡ false }
-    ensures mode { conn.new.in_transaction ≡ false }
-    ensures began { IsClean (state S.Store conn.new) → IsClean (state S.Store conn.old) }
-    ensures kept { IsClean (state S.Store conn.new) → (state S.Store conn.new).committed ≡ (state S.Store conn.old).committed }
-    ensures answer { Answers (state S.Store conn.old) (state S.Store conn.new) result (λ r links.
+    requires { lookup.old.in_transaction ≡ false }
+    ensures mode { lookup.new.in_transaction ≡ false }
+    ensures began { IsClean (state S.Store lookup.new) → IsClean (state S.Store lookup.old) }
+    ensures kept { IsClean (state S.Store lookup.new) → (state S.Store lookup.new).committed ≡ (state S.Store lookup.old).committed }
+    ensures answer { Answers (state S.Store lookup.old) (state S.Store lookup.new) result (λ r links.
         AreLinksInto (seen_at viewer.now day r) node.now links.items) }
 {
-    let view = view_of(conn, alloc, viewer, day)?;
-    links_into(conn, alloc, &view, node)
+    let view = view_of(lookup, alloc, viewer, day)?;
+    links_into(lookup, alloc, &view, node)
 }

@@ -1,133 +1,149 @@
 //! A record as a node.
 
-ghost use Rattle.std.specs.Prelude.{◌≡◌, false, IfOk, []};
+ghost use Rattle.std.specs.Prelude.{◌≡◌, false, IfOk, option_and_then};
 ghost use Rattle.sqlite.specs.Held.{state};
 ghost use Rattle.bor_links.specs.ByKey.{node_at};
-ghost use Rattle.bor_links.specs.Rows.{info_stated, is_entity_info, is_some_info};
+ghost use Rattle.bor_links.specs.Rows.{is_entity_info, is_some_info, node_in};
 ghost use Rattle.bor_links.specs.Shown.{info_of};
 ghost use Rattle.bor_register.specs.Seen.{seen_at};
-ghost use Rattle.bor_store_rows.specs.Placed.{with_lists};
 ghost use Rattle.bor_store_sql.specs.Shown.{IsClean};
 ghost use Rattle.bor_store_reads.specs.Answering.{Answers};
 ghost use Rattle.bor_store_keys.specs.Viewed.{rows_seen, seen};
 
-use crate::latest::open_statement;
+use crate::lookup::Lookup;
 use crate::opened::open_row;
-use crate::view::{View, view_of};
-use bor_links::{Node, NodeInfo, OpenNode, info_stated, node_of};
+use crate::view::View;
+use crate::views::view_of;
+use bor_links::{Node, NodeInfo, OpenNode, node_of};
+use bor_records::Row;
 use bor_store_reads::ReadError;
-use bor_store_rows::StatementRow;
 use bor_terms::{AgentName, Day};
-use sqlite::{Alter, Connection};
+use sqlite::Alter;
 use std::alloc::{AllocError, Global};
 
-// What is known of the node that a statement makes; for that its lists aren't asked.
-fn info_without_lists(alloc: Global, row: StatementRow) -> Result<Option<NodeInfo>, AllocError>
-    ensures { IfOk result (λ info. info ≡ info_stated (with_lists row [] []).statement.details) }
-{
-    let bare = row.with(Vec::new(alloc), Vec::new(alloc));
-    info_stated(alloc, &bare.statement.details)
-}
-
 // What a chain asks of a node.
-fn info_in<S: Alter>(
-    conn: &mut Connection<S>,
+fn info_in<S: Alter + Drop>(
+    lookup: &mut Lookup<S>,
     alloc: Global,
     view: &View,
     node: &Node,
 ) -> Result<Option<NodeInfo>, ReadError>
-    requires { conn.old.in_transaction ≡ false }
-    ensures mode { conn.new.in_transaction ≡ false }
-    ensures began { IsClean (state S.Store conn.new) → IsClean (state S.Store conn.old) }
-    ensures kept { IsClean (state S.Store conn.new) → (state S.Store conn.new).committed ≡ (state S.Store conn.old).committed }
-    ensures answer { Answers (state S.Store conn.old) (state S.Store conn.new) result (λ r info.
+    requires { lookup.old.in_transaction ≡ false }
+    ensures mode { lookup.new.in_transaction ≡ false }
+    ensures began { IsClean (state S.Store lookup.new) → IsClean (state S.Store lookup.old) }
+    ensures kept { IsClean (state S.Store lookup.new) → (state S.Store lookup.new).committed ≡ (state S.Store lookup.old).committed }
+    ensures answer { Answers (state S.Store lookup.old) (state S.Store lookup.new) result (λ r info.
         info ≡ info_of (seen view.now r) node.now) }
 {
-    match open_statement(conn, alloc, view, node)? {
-        Some(row) => {
-            let info = info_without_lists(alloc, row)?;
-            Ok(info)
-        }
+    match node_in(lookup, alloc, view, node)? {
+        Some(one) => Ok(Some(one.info)),
         None => Ok(None),
     }
 }
 
 /// Whether the record is an open entity.
-pub(crate) fn is_entity<S: Alter>(
-    conn: &mut Connection<S>,
+pub(crate) fn is_entity<S: Alter + Drop>(
+    lookup: &mut Lookup<S>,
     alloc: Global,
     view: &View,
     node: &Node,
 ) -> Result<bool, ReadError>
-    requires { conn.old.in_transaction ≡ false }
-    ensures mode { conn.new.in_transaction ≡ false }
-    ensures began { IsClean (state S.Store conn.new) → IsClean (state S.Store conn.old) }
-    ensures kept { IsClean (state S.Store conn.new) → (state S.Store conn.new).committed ≡ (state S.Store conn.old).committed }
-    ensures answer { Answers (state S.Store conn.old) (state S.Store conn.new) result (λ r is.
+    requires { lookup.old.in_transaction ≡ false }
+    ensures mode { lookup.new.in_transaction ≡ false }
+    ensures began { IsClean (state S.Store lookup.new) → IsClean (state S.Store lookup.old) }
+    ensures kept { IsClean (state S.Store lookup.new) → (state S.Store lookup.new).committed ≡ (state S.Store lookup.old).committed }
+    ensures answer { Answers (state S.Store lookup.old) (state S.Store lookup.new) result (λ r is.
         is ≡ is_entity_info (info_of (seen view.now r) node.now)) }
 {
-    match info_in(conn, alloc, view, node)? {
+    match info_in(lookup, alloc, view, node)? {
         Some(info) => Ok(info.is_entity()),
         None => Ok(false),
     }
 }
 
 /// Whether the record is an open entity or person.
-pub(crate) fn is_node<S: Alter>(
-    conn: &mut Connection<S>,
+pub(crate) fn is_node<S: Alter + Drop>(
+    lookup: &mut Lookup<S>,
     alloc: Global,
     view: &View,
     node: &Node,
 ) -> Result<bool, ReadError>
-    requires { conn.old.in_transaction ≡ false }
-    ensures mode { conn.new.in_transaction ≡ false }
-    ensures began { IsClean (state S.Store conn.new) → IsClean (state S.Store conn.old) }
-    ensures kept { IsClean (state S.Store conn.new) → (state S.Store conn.new).committed ≡ (state S.Store conn.old).committed }
-    ensures answer { Answers (state S.Store conn.old) (state S.Store conn.new) result (λ r is.
+    requires { lookup.old.in_transaction ≡ false }
+    ensures mode { lookup.new.in_transaction ≡ false }
+    ensures began { IsClean (state S.Store lookup.new) → IsClean (state S.Store lookup.old) }
+    ensures kept { IsClean (state S.Store lookup.new) → (state S.Store lookup.new).committed ≡ (state S.Store lookup.old).committed }
+    ensures answer { Answers (state S.Store lookup.old) (state S.Store lookup.new) result (λ r is.
         is ≡ is_some_info (info_of (seen view.now r) node.now)) }
 {
-    Ok(info_in(conn, alloc, view, node)?.is_some())
+    Ok(info_in(lookup, alloc, view, node)?.is_some())
 }
 
-/// A node with its identifiers.
-pub(crate) fn node_in<S: Alter>(
-    conn: &mut Connection<S>,
+// The node that a row makes.
+fn node_made(alloc: Global, row: &Option<Row>) -> Result<Option<OpenNode>, AllocError>
+    ensures { IfOk result (λ one. one ≡ option_and_then node_in row.now) }
+{
+    match row {
+        Some(row) => node_of(alloc, row),
+        None => Ok(None),
+    }
+}
+
+// A node with its identifiers, as the tables have it.
+fn node_read<S: Alter + Drop>(
+    lookup: &mut Lookup<S>,
     alloc: Global,
     view: &View,
     node: &Node,
 ) -> Result<Option<OpenNode>, ReadError>
-    requires { conn.old.in_transaction ≡ false }
-    ensures mode { conn.new.in_transaction ≡ false }
-    ensures began { IsClean (state S.Store conn.new) → IsClean (state S.Store conn.old) }
-    ensures kept { IsClean (state S.Store conn.new) → (state S.Store conn.new).committed ≡ (state S.Store conn.old).committed }
-    ensures answer { Answers (state S.Store conn.old) (state S.Store conn.new) result (λ r one.
+    requires { lookup.old.in_transaction ≡ false }
+    ensures mode { lookup.new.in_transaction ≡ false }
+    ensures began { IsClean (state S.Store lookup.new) → IsClean (state S.Store lookup.old) }
+    ensures kept { IsClean (state S.Store lookup.new) → (state S.Store lookup.new).committed ≡ (state S.Store lookup.old).committed }
+    ensures answer { Answers (state S.Store lookup.old) (state S.Store lookup.new) result (λ r one.
         one ≡ node_at view.now.day node.now (rows_seen view.now r)) }
 {
-    match open_row(conn, alloc, view, node)? {
-        Some(row) => {
-            let one = node_of(alloc, &row)?;
-            Ok(one)
-        }
-        None => Ok(None),
+    let row = open_row(lookup, alloc, view, node)?;
+    let one = node_made(alloc, &row)?;
+    lookup.note_row(view, node.copy(alloc)?, row);
+    Ok(one)
+}
+
+/// A node with its identifiers, which is read of the tables once.
+pub(crate) fn node_in<S: Alter + Drop>(
+    lookup: &mut Lookup<S>,
+    alloc: Global,
+    view: &View,
+    node: &Node,
+) -> Result<Option<OpenNode>, ReadError>
+    requires { lookup.old.in_transaction ≡ false }
+    ensures mode { lookup.new.in_transaction ≡ false }
+    ensures began { IsClean (state S.Store lookup.new) → IsClean (state S.Store lookup.old) }
+    ensures kept { IsClean (state S.Store lookup.new) → (state S.Store lookup.new).committed ≡ (state S.Store lookup.old).committed }
+    ensures answer { Answers (state S.Store lookup.old) (state S.Store lookup.new) result (λ r one.
+        one ≡ node_at view.now.day node.now (rows_seen view.now r)) }
+{
+    match lookup.node(alloc, view, node)? {
+        Some(one) => Ok(one),
+        None => node_read(lookup, alloc, view, node),
     }
 }
 
 /// What a chain asks of a node on a day, of what the viewer sees; `None` where no open record of an entity
 /// or a person is there.
-pub fn read_node<S: Alter>(
-    conn: &mut Connection<S>,
+pub fn read_node<S: Alter + Drop>(
+    lookup: &mut Lookup<S>,
     alloc: Global,
     viewer: &AgentName,
     day: Day,
     node: &Node,
 ) -> Result<Option<NodeInfo>, ReadError>
-    requires { conn.old.in_transaction ≡ false }
-    ensures mode { conn.new.in_transaction ≡ false }
-    ensures began { IsClean (state S.Store conn.new) → IsClean (state S.Store conn.old) }
-    ensures kept { IsClean (state S.Store conn.new) → (state S.Store conn.new).committed ≡ (state S.Store conn.old).committed }
-    ensures answer { Answers (state S.Store conn.old) (state S.Store conn.new) result (λ r info.
+    requires { lookup.old.in_transaction ≡ false }
+    ensures mode { lookup.new.in_transaction ≡ false }
+    ensures began { IsClean (state S.Store lookup.new) → IsClean (state S.Store lookup.old) }
+    ensures kept { IsClean (state S.Store lookup.new) → (state S.Store lookup.new).committed ≡ (state S.Store lookup.old).committed }
+    ensures answer { Answers (state S.Store lookup.old) (state S.Store lookup.new) result (λ r info.
         info ≡ info_of (seen_at viewer.now day r) node.now) }
 {
-    let view = view_of(conn, alloc, viewer, day)?;
-    info_in(conn, alloc, &view, node)
+    let view = view_of(lookup, alloc, viewer, day)?;
+    info_in(lookup, alloc, &view, node)
 }

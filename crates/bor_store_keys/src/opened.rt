@@ -10,92 +10,93 @@ ghost use Rattle.bor_store_keys.specs.Latest.{listed_row};
 ghost use Rattle.bor_store_keys.specs.Viewed.{rows_seen};
 
 use crate::latest::open_statement;
+use crate::lookup::Lookup;
 use crate::view::View;
 use bods_read::{Identifier, Interest};
 use bor_links::Node;
 use bor_records::Row;
-use bor_store_reads::{ReadError, identifiers_of_one, interests_of_one};
+use bor_store_reads::ReadError;
 use bor_store_rows::{At, Part, StatementRow};
-use sqlite::{Alter, Connection};
+use sqlite::Alter;
 use std::alloc::Global;
 
 // The interests of the statement at this place.
-fn interests<S: Alter>(
-    conn: &mut Connection<S>,
+fn interests<S: Alter + Drop>(
+    lookup: &mut Lookup<S>,
     alloc: Global,
     at: &At,
 ) -> Result<Vec<Interest>, ReadError>
-    requires { conn.old.in_transaction ≡ false }
-    ensures mode { conn.new.in_transaction ≡ false }
-    ensures began { IsClean (state S.Store conn.new) → IsClean (state S.Store conn.old) }
-    ensures kept { IsClean (state S.Store conn.new) → (state S.Store conn.new).committed ≡ (state S.Store conn.old).committed }
-    ensures answer { Answers (state S.Store conn.old) (state S.Store conn.new) result (λ r interests.
+    requires { lookup.old.in_transaction ≡ false }
+    ensures mode { lookup.new.in_transaction ≡ false }
+    ensures began { IsClean (state S.Store lookup.new) → IsClean (state S.Store lookup.old) }
+    ensures kept { IsClean (state S.Store lookup.new) → (state S.Store lookup.new).committed ≡ (state S.Store lookup.old).committed }
+    ensures answer { Answers (state S.Store lookup.old) (state S.Store lookup.new) result (λ r interests.
         interests.items ≡ map (λ row. row.interest) (interests_at at.now r.members)) }
 {
-    let rows = interests_of_one(conn, alloc, at)?;
+    let rows = lookup.interests(alloc, at)?;
     Ok(rows.into_iter().map(|row| row.interest).collect(alloc)?)
 }
 
 // The identifiers of the statement at this place.
-fn identifiers<S: Alter>(
-    conn: &mut Connection<S>,
+fn identifiers<S: Alter + Drop>(
+    lookup: &mut Lookup<S>,
     alloc: Global,
     at: &At,
 ) -> Result<Vec<Identifier>, ReadError>
-    requires { conn.old.in_transaction ≡ false }
-    ensures mode { conn.new.in_transaction ≡ false }
-    ensures began { IsClean (state S.Store conn.new) → IsClean (state S.Store conn.old) }
-    ensures kept { IsClean (state S.Store conn.new) → (state S.Store conn.new).committed ≡ (state S.Store conn.old).committed }
-    ensures answer { Answers (state S.Store conn.old) (state S.Store conn.new) result (λ r identifiers.
+    requires { lookup.old.in_transaction ≡ false }
+    ensures mode { lookup.new.in_transaction ≡ false }
+    ensures began { IsClean (state S.Store lookup.new) → IsClean (state S.Store lookup.old) }
+    ensures kept { IsClean (state S.Store lookup.new) → (state S.Store lookup.new).committed ≡ (state S.Store lookup.old).committed }
+    ensures answer { Answers (state S.Store lookup.old) (state S.Store lookup.new) result (λ r identifiers.
         identifiers.items ≡ map (λ row. row.identifier) (identifiers_at at.now r.members)) }
 {
-    let rows = identifiers_of_one(conn, alloc, at)?;
+    let rows = lookup.identifiers(alloc, at)?;
     Ok(rows.into_iter().map(|row| row.identifier).collect(alloc)?)
 }
 
 // The row of a statement with its lists: an entity's identifiers, or a relationship's interests.
-fn with_lists<S: Alter>(
-    conn: &mut Connection<S>,
+fn with_lists<S: Alter + Drop>(
+    lookup: &mut Lookup<S>,
     alloc: Global,
     row: StatementRow,
 ) -> Result<Row, ReadError>
-    requires { conn.old.in_transaction ≡ false }
-    ensures mode { conn.new.in_transaction ≡ false }
-    ensures began { IsClean (state S.Store conn.new) → IsClean (state S.Store conn.old) }
-    ensures kept { IsClean (state S.Store conn.new) → (state S.Store conn.new).committed ≡ (state S.Store conn.old).committed }
-    ensures answer { Answers (state S.Store conn.old) (state S.Store conn.new) result (λ r listed.
+    requires { lookup.old.in_transaction ≡ false }
+    ensures mode { lookup.new.in_transaction ≡ false }
+    ensures began { IsClean (state S.Store lookup.new) → IsClean (state S.Store lookup.old) }
+    ensures kept { IsClean (state S.Store lookup.new) → (state S.Store lookup.new).committed ≡ (state S.Store lookup.old).committed }
+    ensures answer { Answers (state S.Store lookup.old) (state S.Store lookup.new) result (λ r listed.
         listed ≡ listed_row r.members row) }
 {
     match &row.part {
         Part::Entity { .. } => {
-            let identifiers = identifiers(conn, alloc, &row.at)?;
+            let identifiers = identifiers(lookup, alloc, &row.at)?;
             Ok(row.with(Vec::new(alloc), identifiers).into_row())
         }
         Part::Person { .. } => Ok(row.with(Vec::new(alloc), Vec::new(alloc)).into_row()),
         Part::Relationship { .. } => {
-            let interests = interests(conn, alloc, &row.at)?;
+            let interests = interests(lookup, alloc, &row.at)?;
             Ok(row.with(interests, Vec::new(alloc)).into_row())
         }
     }
 }
 
 /// The row that a record shows: its latest statement, where that isn't closed.
-pub(crate) fn open_row<S: Alter>(
-    conn: &mut Connection<S>,
+pub(crate) fn open_row<S: Alter + Drop>(
+    lookup: &mut Lookup<S>,
     alloc: Global,
     view: &View,
     node: &Node,
 ) -> Result<Option<Row>, ReadError>
-    requires { conn.old.in_transaction ≡ false }
-    ensures mode { conn.new.in_transaction ≡ false }
-    ensures began { IsClean (state S.Store conn.new) → IsClean (state S.Store conn.old) }
-    ensures kept { IsClean (state S.Store conn.new) → (state S.Store conn.new).committed ≡ (state S.Store conn.old).committed }
-    ensures answer { Answers (state S.Store conn.old) (state S.Store conn.new) result (λ r row.
+    requires { lookup.old.in_transaction ≡ false }
+    ensures mode { lookup.new.in_transaction ≡ false }
+    ensures began { IsClean (state S.Store lookup.new) → IsClean (state S.Store lookup.old) }
+    ensures kept { IsClean (state S.Store lookup.new) → (state S.Store lookup.new).committed ≡ (state S.Store lookup.old).committed }
+    ensures answer { Answers (state S.Store lookup.old) (state S.Store lookup.new) result (λ r row.
         row ≡ open_at view.now.day node.now (rows_seen view.now r)) }
 {
-    match open_statement(conn, alloc, view, node)? {
+    match open_statement(lookup, alloc, view, node)? {
         Some(row) => {
-            let listed = with_lists(conn, alloc, row)?;
+            let listed = with_lists(lookup, alloc, row)?;
             Ok(Some(listed))
         }
         None => Ok(None),

@@ -11,10 +11,11 @@ ghost use Rattle.bor_store_keys.specs.Recorded.{CoverRecords, record_at};
 ghost use Rattle.bor_store_keys.specs.Signed.{record_standing, with_identifier, with_sign};
 
 use crate::list::push_some;
+use crate::lookup::Lookup;
 use bor_links::{Node, Sign, once};
-use bor_store_reads::{ReadError, read_identified, read_place, read_record, read_subject};
+use bor_store_reads::ReadError;
 use bor_store_rows::{At, IdentifierRow, StatementRow};
-use sqlite::{Alter, Connection};
+use sqlite::Alter;
 use std::alloc::{AllocError, Global};
 
 // The record that a statement is of.
@@ -36,117 +37,117 @@ fn records_at(alloc: Global, rows: Vec<StatementRow>) -> Result<Vec<Node>, Alloc
 }
 
 /// The records of the statements that name this record as their subject, each once.
-pub(crate) fn records_into<S: Alter>(
-    conn: &mut Connection<S>,
+pub(crate) fn records_into<S: Alter + Drop>(
+    lookup: &mut Lookup<S>,
     alloc: Global,
     node: &Node,
 ) -> Result<Vec<Node>, ReadError>
-    requires { conn.old.in_transaction ≡ false }
-    ensures mode { conn.new.in_transaction ≡ false }
-    ensures began { IsClean (state S.Store conn.new) → IsClean (state S.Store conn.old) }
-    ensures kept { IsClean (state S.Store conn.new) → (state S.Store conn.new).committed ≡ (state S.Store conn.old).committed }
-    ensures answer { Answers (state S.Store conn.old) (state S.Store conn.new) result (λ r records.
+    requires { lookup.old.in_transaction ≡ false }
+    ensures mode { lookup.new.in_transaction ≡ false }
+    ensures began { IsClean (state S.Store lookup.new) → IsClean (state S.Store lookup.old) }
+    ensures kept { IsClean (state S.Store lookup.new) → (state S.Store lookup.new).committed ≡ (state S.Store lookup.old).committed }
+    ensures answer { Answers (state S.Store lookup.old) (state S.Store lookup.new) result (λ r records.
         CoverRecords (with_subject node.now.declaration node.now.rec (placed_of node.now.agent r)) records.items) }
 {
-    let rows = read_subject(conn, alloc, &node.agent, &node.declaration, &node.rec)?;
+    let rows = lookup.naming(alloc, node)?;
     let records = records_at(alloc, rows)?;
     Ok(once(records)?)
 }
 
 // The record of the statement at this place.
-fn record_standing<S: Alter>(
-    conn: &mut Connection<S>,
+fn record_standing<S: Alter + Drop>(
+    lookup: &mut Lookup<S>,
     alloc: Global,
     at: &At,
 ) -> Result<Option<Node>, ReadError>
-    requires { conn.old.in_transaction ≡ false }
-    ensures mode { conn.new.in_transaction ≡ false }
-    ensures began { IsClean (state S.Store conn.new) → IsClean (state S.Store conn.old) }
-    ensures kept { IsClean (state S.Store conn.new) → (state S.Store conn.new).committed ≡ (state S.Store conn.old).committed }
-    ensures answer { Answers (state S.Store conn.old) (state S.Store conn.new) result (λ r one.
+    requires { lookup.old.in_transaction ≡ false }
+    ensures mode { lookup.new.in_transaction ≡ false }
+    ensures began { IsClean (state S.Store lookup.new) → IsClean (state S.Store lookup.old) }
+    ensures kept { IsClean (state S.Store lookup.new) → (state S.Store lookup.new).committed ≡ (state S.Store lookup.old).committed }
+    ensures answer { Answers (state S.Store lookup.old) (state S.Store lookup.new) result (λ r one.
         one ≡ record_standing r.members at.now) }
 {
-    match read_place(conn, alloc, at)? {
+    match lookup.standing(alloc, at)? {
         Some(row) => Ok(Some(record_at(row))),
         None => Ok(None),
     }
 }
 
 // The records of the statements that have these identifiers.
-fn records_standing<S: Alter>(
-    conn: &mut Connection<S>,
+fn records_standing<S: Alter + Drop>(
+    lookup: &mut Lookup<S>,
     alloc: Global,
     rows: &[IdentifierRow],
 ) -> Result<Vec<Node>, ReadError>
-    requires { conn.old.in_transaction ≡ false }
-    ensures mode { conn.new.in_transaction ≡ false }
-    ensures began { IsClean (state S.Store conn.new) → IsClean (state S.Store conn.old) }
-    ensures kept { IsClean (state S.Store conn.new) → (state S.Store conn.new).committed ≡ (state S.Store conn.old).committed }
-    ensures answer { Answers (state S.Store conn.old) (state S.Store conn.new) result (λ r records.
+    requires { lookup.old.in_transaction ≡ false }
+    ensures mode { lookup.new.in_transaction ≡ false }
+    ensures began { IsClean (state S.Store lookup.new) → IsClean (state S.Store lookup.old) }
+    ensures kept { IsClean (state S.Store lookup.new) → (state S.Store lookup.new).committed ≡ (state S.Store lookup.old).committed }
+    ensures answer { Answers (state S.Store lookup.old) (state S.Store lookup.new) result (λ r records.
         records.items ≡ filter_map (λ row. record_standing r.members row.at) rows.now) }
 {
     let mut records = Vec::new(alloc);
     for row in rows {
-        let one = record_standing(conn, alloc, &row.at)?;
+        let one = record_standing(lookup, alloc, &row.at)?;
         push_some(&mut records, one)?;
     }
     Ok(records)
 }
 
 // The records of the statements that have this identifier of the scheme, each once.
-fn records_identified<S: Alter>(
-    conn: &mut Connection<S>,
+fn records_identified<S: Alter + Drop>(
+    lookup: &mut Lookup<S>,
     alloc: Global,
     scheme: &str,
     id: &str,
 ) -> Result<Vec<Node>, ReadError>
-    requires { conn.old.in_transaction ≡ false }
-    ensures mode { conn.new.in_transaction ≡ false }
-    ensures began { IsClean (state S.Store conn.new) → IsClean (state S.Store conn.old) }
-    ensures kept { IsClean (state S.Store conn.new) → (state S.Store conn.new).committed ≡ (state S.Store conn.old).committed }
-    ensures answer { Answers (state S.Store conn.old) (state S.Store conn.new) result (λ r records.
+    requires { lookup.old.in_transaction ≡ false }
+    ensures mode { lookup.new.in_transaction ≡ false }
+    ensures began { IsClean (state S.Store lookup.new) → IsClean (state S.Store lookup.old) }
+    ensures kept { IsClean (state S.Store lookup.new) → (state S.Store lookup.new).committed ≡ (state S.Store lookup.old).committed }
+    ensures answer { Answers (state S.Store lookup.old) (state S.Store lookup.new) result (λ r records.
         CoverRecords (with_identifier scheme.now id.now (placed r.members)) records.items) }
 {
-    let rows = read_identified(conn, alloc, scheme, id)?;
-    let records = records_standing(conn, alloc, &rows)?;
+    let rows = lookup.identified(alloc, scheme, id)?;
+    let records = records_standing(lookup, alloc, &rows)?;
     Ok(once(records)?)
 }
 
 // The records of the agent with this identifier, of whatever declaration, each once.
-fn records_named<S: Alter>(
-    conn: &mut Connection<S>,
+fn records_named<S: Alter + Drop>(
+    lookup: &mut Lookup<S>,
     alloc: Global,
     agent: &str,
     rec: &str,
 ) -> Result<Vec<Node>, ReadError>
-    requires { conn.old.in_transaction ≡ false }
-    ensures mode { conn.new.in_transaction ≡ false }
-    ensures began { IsClean (state S.Store conn.new) → IsClean (state S.Store conn.old) }
-    ensures kept { IsClean (state S.Store conn.new) → (state S.Store conn.new).committed ≡ (state S.Store conn.old).committed }
-    ensures answer { Answers (state S.Store conn.old) (state S.Store conn.new) result (λ r records.
+    requires { lookup.old.in_transaction ≡ false }
+    ensures mode { lookup.new.in_transaction ≡ false }
+    ensures began { IsClean (state S.Store lookup.new) → IsClean (state S.Store lookup.old) }
+    ensures kept { IsClean (state S.Store lookup.new) → (state S.Store lookup.new).committed ≡ (state S.Store lookup.old).committed }
+    ensures answer { Answers (state S.Store lookup.old) (state S.Store lookup.new) result (λ r records.
         CoverRecords (in_record rec.now (placed_of agent.now r)) records.items) }
 {
-    let rows = read_record(conn, alloc, agent, rec)?;
+    let rows = lookup.recorded(alloc, agent, rec)?;
     let records = records_at(alloc, rows)?;
     Ok(once(records)?)
 }
 
 /// The records whose statements have a sign, each once.
-pub(crate) fn records_with<S: Alter>(
-    conn: &mut Connection<S>,
+pub(crate) fn records_with<S: Alter + Drop>(
+    lookup: &mut Lookup<S>,
     alloc: Global,
     sign: &Sign,
 ) -> Result<Vec<Node>, ReadError>
-    requires { conn.old.in_transaction ≡ false }
-    ensures mode { conn.new.in_transaction ≡ false }
-    ensures began { IsClean (state S.Store conn.new) → IsClean (state S.Store conn.old) }
-    ensures kept { IsClean (state S.Store conn.new) → (state S.Store conn.new).committed ≡ (state S.Store conn.old).committed }
-    ensures answer { Answers (state S.Store conn.old) (state S.Store conn.new) result (λ r records.
+    requires { lookup.old.in_transaction ≡ false }
+    ensures mode { lookup.new.in_transaction ≡ false }
+    ensures began { IsClean (state S.Store lookup.new) → IsClean (state S.Store lookup.old) }
+    ensures kept { IsClean (state S.Store lookup.new) → (state S.Store lookup.new).committed ≡ (state S.Store lookup.old).committed }
+    ensures answer { Answers (state S.Store lookup.old) (state S.Store lookup.new) result (λ r records.
         CoverRecords (with_sign sign.now r) records.items) }
 {
     if sign.of_record {
-        records_named(conn, alloc, sign.group.as_str(), sign.name.as_str())
+        records_named(lookup, alloc, sign.group.as_str(), sign.name.as_str())
     } else {
-        records_identified(conn, alloc, sign.group.as_str(), sign.name.as_str())
+        records_identified(lookup, alloc, sign.group.as_str(), sign.name.as_str())
     }
 }

@@ -1,14 +1,9 @@
 //! Who sees what, and on which day.
 
-ghost use Rattle.std.specs.Prelude.{◌≡◌, false};
-ghost use Rattle.sqlite.specs.Held.{state};
-ghost use Rattle.bor_store_sql.specs.Shown.{IsClean};
-ghost use Rattle.bor_store_reads.specs.Answering.{Answers};
+ghost use Rattle.std.specs.Prelude.{◌≡◌, true, IfOk};
 
-use bor_store_reads::{ReadError, read_day};
 use bor_terms::{AgentName, Day};
-use sqlite::{Alter, Connection};
-use std::alloc::Global;
+use std::alloc::{AllocError, Global};
 
 /// What a viewer sees of the register on the register's day, as it is told on a day.
 #[derive(Drop)]
@@ -20,21 +15,29 @@ pub(crate) struct View {
     pub(crate) day: Day,
 }
 
-/// The viewer's view of the register on its day.
-pub(crate) fn view_of<S: Alter>(
-    conn: &mut Connection<S>,
-    alloc: Global,
-    viewer: &AgentName,
-    day: Day,
-) -> Result<View, ReadError>
-    requires { conn.old.in_transaction ≡ false }
-    ensures mode { conn.new.in_transaction ≡ false }
-    ensures began { IsClean (state S.Store conn.new) → IsClean (state S.Store conn.old) }
-    ensures kept { IsClean (state S.Store conn.new) → (state S.Store conn.new).committed ≡ (state S.Store conn.old).committed }
-    ensures answer { Answers (state S.Store conn.old) (state S.Store conn.new) result (λ r view.
-        view ≡ record { viewer = viewer.now; today = r.day; day = day }) }
-{
-    let today = read_day(conn, alloc)?;
-    let viewer = viewer.copy(alloc)?;
-    Ok(View { viewer, today, day })
+impl View {
+    /// Whether it is this viewer's, on this day.
+    pub(crate) fn is_of(&self, viewer: &AgentName, day: Day) -> bool
+        ensures { result ≡ true → (self.now.viewer ≡ viewer.now) × (self.now.day ≡ day) }
+    {
+        self.day == day && self.viewer == *viewer
+    }
+
+    /// Whether it is this view.
+    pub(crate) fn is(&self, view: &View) -> bool
+        ensures { result ≡ true → self.now ≡ view.now }
+    {
+        self.today == view.today && self.day == view.day && self.viewer == view.viewer
+    }
+
+    /// Another copy of the view.
+    pub(crate) fn copy(&self, alloc: Global) -> Result<View, AllocError>
+        ensures { IfOk result (λ copied. copied ≡ self.now) }
+    {
+        Ok(View {
+            viewer: self.viewer.copy(alloc)?,
+            today: self.today,
+            day: self.day,
+        })
+    }
 }

@@ -10,8 +10,8 @@ use Rattle.bor_store_keys.proofs.alike.add_alike.Given as goal
 -- those of the candidates so far are added, and what is shown is as it was
 abbrev pub invariant-loop-candidate : goal.invariant-loop-candidate
 invariant-loop-candidate g l = record {
-  mode : l.conn.in_transaction ≡ false;
-  began : IsClean (state g.S.Store l.conn) → IsClean (state g.S.Store l.fn.conn);
-  kept : IsClean (state g.S.Store l.conn) → (state g.S.Store l.conn).committed ≡ (state g.S.Store l.fn.conn).committed;
-  grown : IsClean (state g.S.Store l.conn) → (r : Register) → ShowsIn r (state g.S.Store l.fn.conn) → Grown (IsAlikeIn l.view.day (rows_seen l.view r) l.one (take l.candidate-index l.candidates)) l.initial.class l.class;
+  mode : l.lookup.in_transaction ≡ false;
+  began : IsClean (state g.S.Store l.lookup) → IsClean (state g.S.Store l.fn.lookup);
+  kept : IsClean (state g.S.Store l.lookup) → (state g.S.Store l.lookup).committed ≡ (state g.S.Store l.fn.lookup).committed;
+  grown : IsClean (state g.S.Store l.lookup) → (r : Register) → ShowsIn r (state g.S.Store l.fn.lookup) → Grown (IsAlikeIn l.view.day (rows_seen l.view r) l.one (take l.candidate-index l.candidates)) l.initial.class l.class;
 }

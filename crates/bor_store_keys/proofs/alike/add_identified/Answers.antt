@@ -25,7 +25,7 @@ loop-identifier-preserved g c = record {
   kept = λ clean. c.add_signed.ensures.kept clean ∙ c.loop-identifier.invariant.kept (c.add_signed.ensures.began clean);
   expands = λ clean r shows.
       (let began = c.add_signed.ensures.began clean in
-      let shown = still_shows r (state g.S.Store c.args.conn.now) (state g.S.Store c.loop-identifier.conn) (c.loop-identifier.invariant.kept began) shows in
+      let shown = still_shows r (state g.S.Store c.args.lookup.now) (state g.S.Store c.loop-identifier.lookup) (c.loop-identifier.invariant.kept began) shows in
       expands_identifier c.args.view.now.day (rows_seen c.args.view.now r) c.args.one.now c.args.identifiers.now c.loop-identifier.identifier-index c.identifier-item.result c.in_ok-sign.sign c.args.class.now c.loop-identifier.class c.add_signed.new.class
       (λ k. contains sign_cmp c.args.looked.now k) (λ k. contains sign_cmp c.loop-identifier.looked k) (λ k. contains sign_cmp c.add_signed.new.looked k) (omega arith)
       (c.in_ok-sign.ensures ∙ ap (λ (i : Identifier). by_identifier i) c.identifier-item.is) (c.loop-identifier.invariant.expands began r shows) (c.in_ok-add_signed.ensures.answer clean r shown));

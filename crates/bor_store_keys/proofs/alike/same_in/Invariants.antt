@@ -11,10 +11,10 @@ use Rattle.bor_store_keys.proofs.alike.same_in.Given as goal
 -- the signs of the nodes before `next` are looked up, and all that have them are there; what is shown is as it was
 abbrev pub invariant-loop-next : goal.invariant-loop-next
 invariant-loop-next g l = record {
-  mode : l.conn.in_transaction ≡ false;
-  began : IsClean (state g.S.Store l.conn) → IsClean (state g.S.Store l.fn.conn);
-  kept : IsClean (state g.S.Store l.conn) → (state g.S.Store l.conn).committed ≡ (state g.S.Store l.fn.conn).committed;
-  gathered : IsClean (state g.S.Store l.conn) → (r : Register) → ShowsIn r (state g.S.Store l.fn.conn) → AreGathered (seen l.view r) l.node l.next l.class (λ k. contains sign_cmp l.looked k);
+  mode : l.lookup.in_transaction ≡ false;
+  began : IsClean (state g.S.Store l.lookup) → IsClean (state g.S.Store l.fn.lookup);
+  kept : IsClean (state g.S.Store l.lookup) → (state g.S.Store l.lookup).committed ≡ (state g.S.Store l.fn.lookup).committed;
+  gathered : IsClean (state g.S.Store l.lookup) → (r : Register) → ShowsIn r (state g.S.Store l.fn.lookup) → AreGathered (seen l.view r) l.node l.next l.class (λ k. contains sign_cmp l.looked k);
 }
 
 -- a list in memory has fewer than 2 ^ 64 elements

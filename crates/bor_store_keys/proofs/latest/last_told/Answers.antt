@@ -9,7 +9,7 @@ use Rattle.bor_store_keys.proofs.latest.last_told.Goals as goal
 pub returns-then-branch-clause-answer : goal.returns-then-branch-clause-answer
 returns-then-branch-clause-answer g c clean r shows =
     let began = c.is_told.ensures.began clean in
-    let shown = still_shows r (state g.S.Store c.args.conn.now) (state g.S.Store c.loop-row.conn) (c.loop-row.invariant.kept began) shows in
+    let shown = still_shows r (state g.S.Store c.args.lookup.now) (state g.S.Store c.loop-row.lookup) (c.loop-row.invariant.kept began) shows in
     last_passes (is_told c.args.view.now c.args.agent.now (filings_of c.args.agent.now r.members)) c.loop-row.rows.items c.pop.new.self.items c.in-Some.row c.in-Some.ensures.items (sym (c.in_ok-is_told.ensures.answer clean r shown) ∙ c.if-branch.true)
     ∙ sym (c.loop-row.invariant.left began r shows)
 
@@ -20,7 +20,7 @@ loop-row-preserved-else-branch g c = record {
   kept = λ clean. c.is_told.ensures.kept clean ∙ c.loop-row.invariant.kept (c.is_told.ensures.began clean);
   left = λ clean r shows.
       (let began = c.is_told.ensures.began clean in
-      let shown = still_shows r (state g.S.Store c.args.conn.now) (state g.S.Store c.loop-row.conn) (c.loop-row.invariant.kept began) shows in
+      let shown = still_shows r (state g.S.Store c.args.lookup.now) (state g.S.Store c.loop-row.lookup) (c.loop-row.invariant.kept began) shows in
       c.loop-row.invariant.left began r shows
       ∙ last_before (is_told c.args.view.now c.args.agent.now (filings_of c.args.agent.now r.members)) c.loop-row.rows.items c.pop.new.self.items c.in-Some.row c.in-Some.ensures.items (sym (c.in_ok-is_told.ensures.answer clean r shown) ∙ c.if-branch.false));
 }
@@ -32,7 +32,7 @@ loop-row-preserved-else-branch-2 g c = record {
   kept = λ clean. c.is_told.ensures.kept clean ∙ c.loop-row.invariant.kept (c.is_told.ensures.began clean);
   left = λ clean r shows.
       (let began = c.is_told.ensures.began clean in
-      let shown = still_shows r (state g.S.Store c.args.conn.now) (state g.S.Store c.loop-row.conn) (c.loop-row.invariant.kept began) shows in
+      let shown = still_shows r (state g.S.Store c.args.lookup.now) (state g.S.Store c.loop-row.lookup) (c.loop-row.invariant.kept began) shows in
       c.loop-row.invariant.left began r shows
       ∙ last_before (is_told c.args.view.now c.args.agent.now (filings_of c.args.agent.now r.members)) c.loop-row.rows.items c.pop.new.self.items c.in-Some.row c.in-Some.ensures.items (sym (c.in_ok-is_told.ensures.answer clean r shown) ∙ c.if-branch.false));
 }
@@ -44,7 +44,7 @@ loop-row-preserved-else-branch-3 g c = record {
   kept = λ clean. c.is_told.ensures.kept clean ∙ c.loop-row.invariant.kept (c.is_told.ensures.began clean);
   left = λ clean r shows.
       (let began = c.is_told.ensures.began clean in
-      let shown = still_shows r (state g.S.Store c.args.conn.now) (state g.S.Store c.loop-row.conn) (c.loop-row.invariant.kept began) shows in
+      let shown = still_shows r (state g.S.Store c.args.lookup.now) (state g.S.Store c.loop-row.lookup) (c.loop-row.invariant.kept began) shows in
       c.loop-row.invariant.left began r shows
       ∙ last_before (is_told c.args.view.now c.args.agent.now (filings_of c.args.agent.now r.members)) c.loop-row.rows.items c.pop.new.self.items c.in-Some.row c.in-Some.ensures.items (sym (c.in_ok-is_told.ensures.answer clean r shown) ∙ c.if-branch.false));
 }
@@ -56,7 +56,7 @@ loop-row-preserved-else-branch-4 g c = record {
   kept = λ clean. c.is_told.ensures.kept clean ∙ c.loop-row.invariant.kept (c.is_told.ensures.began clean);
   left = λ clean r shows.
       (let began = c.is_told.ensures.began clean in
-      let shown = still_shows r (state g.S.Store c.args.conn.now) (state g.S.Store c.loop-row.conn) (c.loop-row.invariant.kept began) shows in
+      let shown = still_shows r (state g.S.Store c.args.lookup.now) (state g.S.Store c.loop-row.lookup) (c.loop-row.invariant.kept began) shows in
       c.loop-row.invariant.left began r shows
       ∙ last_before (is_told c.args.view.now c.args.agent.now (filings_of c.args.agent.now r.members)) c.loop-row.rows.items c.pop.new.self.items c.in-Some.row c.in-Some.ensures.items (sym (c.in_ok-is_told.ensures.answer clean r shown) ∙ c.if-branch.false));
 }
@@ -68,7 +68,7 @@ loop-row-preserved-else-branch-5 g c = record {
   kept = λ clean. c.is_told.ensures.kept clean ∙ c.loop-row.invariant.kept (c.is_told.ensures.began clean);
   left = λ clean r shows.
       (let began = c.is_told.ensures.began clean in
-      let shown = still_shows r (state g.S.Store c.args.conn.now) (state g.S.Store c.loop-row.conn) (c.loop-row.invariant.kept began) shows in
+      let shown = still_shows r (state g.S.Store c.args.lookup.now) (state g.S.Store c.loop-row.lookup) (c.loop-row.invariant.kept began) shows in
       c.loop-row.invariant.left began r shows
       ∙ last_before (is_told c.args.view.now c.args.agent.now (filings_of c.args.agent.now r.members)) c.loop-row.rows.items c.pop.new.self.items c.in-Some.row c.in-Some.ensures.items (sym (c.in_ok-is_told.ensures.answer clean r shown) ∙ c.if-branch.false));
 }
@@ -80,7 +80,7 @@ loop-row-preserved g c = record {
   kept = λ clean. c.is_told.ensures.kept clean ∙ c.loop-row.invariant.kept (c.is_told.ensures.began clean);
   left = λ clean r shows.
       (let began = c.is_told.ensures.began clean in
-      let shown = still_shows r (state g.S.Store c.args.conn.now) (state g.S.Store c.loop-row.conn) (c.loop-row.invariant.kept began) shows in
+      let shown = still_shows r (state g.S.Store c.args.lookup.now) (state g.S.Store c.loop-row.lookup) (c.loop-row.invariant.kept began) shows in
       c.loop-row.invariant.left began r shows
       ∙ last_before (is_told c.args.view.now c.args.agent.now (filings_of c.args.agent.now r.members)) c.loop-row.rows.items c.pop.new.self.items c.in-Some.row c.in-Some.ensures.items (sym (c.in_ok-is_told.ensures.answer clean r shown) ∙ c.if-branch.false));
 }

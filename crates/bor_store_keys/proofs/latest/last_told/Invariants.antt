@@ -10,10 +10,10 @@ use Rattle.bor_store_keys.proofs.latest.last_told.Given as goal
 -- the last one is among those that are left, and what is shown is as it was
 abbrev pub invariant-loop-row : goal.invariant-loop-row
 invariant-loop-row g l = record {
-  mode : l.conn.in_transaction ≡ false;
-  began : IsClean (state g.S.Store l.conn) → IsClean (state g.S.Store l.fn.conn);
-  kept : IsClean (state g.S.Store l.conn) → (state g.S.Store l.conn).committed ≡ (state g.S.Store l.fn.conn).committed;
-  left : IsClean (state g.S.Store l.conn) → (r : Register) → ShowsIn r (state g.S.Store l.fn.conn)
+  mode : l.lookup.in_transaction ≡ false;
+  began : IsClean (state g.S.Store l.lookup) → IsClean (state g.S.Store l.fn.lookup);
+  kept : IsClean (state g.S.Store l.lookup) → (state g.S.Store l.lookup).committed ≡ (state g.S.Store l.fn.lookup).committed;
+  left : IsClean (state g.S.Store l.lookup) → (r : Register) → ShowsIn r (state g.S.Store l.fn.lookup)
       → last_or None (filter (is_told l.view l.agent (filings_of l.agent r.members)) l.fn.rows.items)
       ≡ last_or None (filter (is_told l.view l.agent (filings_of l.agent r.members)) l.rows.items);
 }

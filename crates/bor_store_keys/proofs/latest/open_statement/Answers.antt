@@ -13,7 +13,7 @@ returns-in-Some-clause-answer g c clean r shows =
     let view = c.args.view.now in
     let n = c.args.node.now in
     let began = c.last_told.ensures.began clean in
-    let shown = still_shows r (state g.S.Store c.args.conn.now) (state g.S.Store c.read_series.new.conn) (c.read_series.ensures.kept began) shows in
+    let shown = still_shows r (state g.S.Store c.args.lookup.now) (state g.S.Store c.series.new.self) (c.series.ensures.kept began) shows in
     c.unless_closed.ensures
     ∙ ap (option_and_then unless_closed) (sym c.in-Some.is ∙ c.in_ok-row.ensures.answer clean r shown
     ∙ ap (λ l. last_or None (filter (is_told view n.agent (filings_of n.agent r.members)) l)) (c.in_ok-rows.ensures.answer began r shows))
@@ -24,7 +24,7 @@ returns-in-None-clause-answer g c clean r shows =
     let view = c.args.view.now in
     let n = c.args.node.now in
     let began = c.last_told.ensures.began clean in
-    let shown = still_shows r (state g.S.Store c.args.conn.now) (state g.S.Store c.read_series.new.conn) (c.read_series.ensures.kept began) shows in
+    let shown = still_shows r (state g.S.Store c.args.lookup.now) (state g.S.Store c.series.new.self) (c.series.ensures.kept began) shows in
     ap (option_and_then unless_closed) (sym c.in-None.is ∙ c.in_ok-row.ensures.answer clean r shown
     ∙ ap (λ l. last_or None (filter (is_told view n.agent (filings_of n.agent r.members)) l)) (c.in_ok-rows.ensures.answer began r shows))
     ∙ opened view n r shows.stored

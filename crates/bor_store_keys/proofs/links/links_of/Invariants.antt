@@ -12,9 +12,9 @@ use Rattle.bor_store_keys.proofs.links.links_of.Given as goal
 -- the links so far and those of what is left are all, and what is shown is as it was
 abbrev pub invariant-loop-one : goal.invariant-loop-one
 invariant-loop-one g l = record {
-  mode : l.conn.in_transaction ≡ false;
-  began : IsClean (state g.S.Store l.conn) → IsClean (state g.S.Store l.fn.conn);
-  kept : IsClean (state g.S.Store l.conn) → (state g.S.Store l.conn).committed ≡ (state g.S.Store l.fn.conn).committed;
-  found : IsClean (state g.S.Store l.conn) → (r : Register) → ShowsIn r (state g.S.Store l.fn.conn) → is_entity_info (info_of (seen l.view r) l.node) ≡ true
+  mode : l.lookup.in_transaction ≡ false;
+  began : IsClean (state g.S.Store l.lookup) → IsClean (state g.S.Store l.fn.lookup);
+  kept : IsClean (state g.S.Store l.lookup) → (state g.S.Store l.lookup).committed ≡ (state g.S.Store l.fn.lookup).committed;
+  found : IsClean (state g.S.Store l.lookup) → (r : Register) → ShowsIn r (state g.S.Store l.fn.lookup) → is_entity_info (info_of (seen l.view r) l.node) ≡ true
       → l.links.items ++ filter_map (link_at l.view.day (rows_seen l.view r) l.node) (drop l.one-index l.records) ≡ filter_map (link_at l.view.day (rows_seen l.view r) l.node) l.records;
 }

@@ -15,7 +15,7 @@ loop-row-preserved g c = record {
   kept = λ clean. c.record_standing.ensures.kept clean ∙ c.loop-row.invariant.kept (c.record_standing.ensures.began clean);
   found = λ clean r shows.
       (let began = c.record_standing.ensures.began clean in
-      let shown = still_shows r (state g.S.Store c.args.conn.now) (state g.S.Store c.loop-row.conn) (c.loop-row.invariant.kept began) shows in
+      let shown = still_shows r (state g.S.Store c.args.lookup.now) (state g.S.Store c.loop-row.lookup) (c.loop-row.invariant.kept began) shows in
       let standing : IdentifierRow → Option Node = λ (row : IdentifierRow). record_standing r.members row.at in
       one_more standing c.args.rows.now c.loop-row.row-index c.row-item.result c.in_ok-one.one c.loop-row.records.items c.push_some.new.items.items (filter_map standing c.args.rows.now) (omega arith) c.row-item.is
       (c.in_ok-one.ensures.answer clean r shown) c.in_ok-push_some.ensures (c.loop-row.invariant.found began r shows));

@@ -11,15 +11,19 @@ pub returns-clause-changes : goal.returns-clause-changes
 returns-clause-changes g c =
     let made = c.add_next_filing-made.ensures in
     let told = c.told.ensures in
+    let same = c.connection.ensures.value in
+    let began : IsClean (state g.S.Store c.told.new.self.conn) → IsClean (state g.S.Store c.args.self.now.conn) = λ clean. subst (λ k. IsClean (state g.S.Store k)) same (made.began (subst (λ k. IsClean (state g.S.Store k)) told.conn clean)) in
     record {
-      began = λ clean. made.began (subst (λ k. IsClean (state g.S.Store k)) told.conn clean);
+      began = began;
       counts = counted_told c.add_next_filing-made.result c.told.result c.args.self.now.faults c.told.new.self.faults told.told told.counts;
       told = any_fault c.told.result;
       changed = λ r shows clean.
+          (let ended = subst (λ k. IsClean (state g.S.Store k)) told.conn clean in
+          let shown = subst (λ k. ShowsIn r (state g.S.Store k)) (sym same) shows in
           subst (λ k. ShowsIn (left_by c.told.result (added c.args.agent.now c.args.key.now c.args.due c.args.bytes.now c.args.statements.now r) r) (state g.S.Store k)) (sym told.conn)
           (left_shown c.add_next_filing-made.result c.told.result (length (filings_of c.args.agent.now r.members)) r
           (added c.args.agent.now c.args.key.now c.args.due c.args.bytes.now c.args.statements.now r)
-          (state g.S.Store c.args.self.now.conn) (state g.S.Store c.add_next_filing-made.new.conn) told.told
-          (made.made (subst (λ k. IsClean (state g.S.Store k)) told.conn clean) r shows (c.requires.enrolled r shows (made.began (subst (λ k. IsClean (state g.S.Store k)) told.conn clean))) (c.requires.room r shows (made.began (subst (λ k. IsClean (state g.S.Store k)) told.conn clean))))
-          (made.kept (subst (λ k. IsClean (state g.S.Store k)) told.conn clean)) shows);
+          (state g.S.Store c.connection.result.now) (state g.S.Store c.add_next_filing-made.new.conn) told.told
+          (made.made ended r shown (c.requires.enrolled r shows (began clean)) (c.requires.room r shows (began clean)))
+          (made.kept ended) shown));
     }

@@ -1,0 +1,16 @@
+use Rattle.std.proofs.Common.{◌≡◌}
+use Rattle.std.specs.BTreeMap.{get}
+use Rattle.bor_links.specs.Nodes.{node_cmp}
+use Rattle.bor_links.specs.Series.{open_at}
+use Rattle.bor_links.proofs.Exact.{exact_node}
+use Rattle.bor_store_keys.specs.Viewed.{rows_seen}
+use Rattle.bor_store_keys.proofs.Holding.{one_more}
+use Rattle.bor_store_keys.proofs.found.Found.with_row.Goals as goal
+
+pub returns-in-Ok : goal.returns-in-Ok
+returns-in-Ok c = λ r of is. record {
+  today = of.today;
+  filings = of.filings;
+  rows = one_more node_cmp exact_node (λ n row. row ≡ open_at c.args.self.view.day n (rows_seen c.args.self.view r))
+      (get node_cmp c.args.self.rows) (get node_cmp c.insert.new.self) c.args.node c.args.row c.in-Ok.ensures.updates.0 is of.rows;
+}

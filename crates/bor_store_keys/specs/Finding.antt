@@ -1,0 +1,35 @@
+-- What has been found over a connection, for a viewer and a day.
+use Rattle.std.specs.Prelude.{◌≡◌, Bool, Option, Some, None}
+use Rattle.std.specs.BTreeMap.{get}
+use Rattle.std.specs.Ordering.{nat_cmp, ordering_then}
+use Rattle.std.specs.declared.cmp.Ordering.{Ordering}
+use Rattle.sqlite.specs.State.{State}
+use Rattle.bor_records.specs.declared.row.Row.{Row}
+use Rattle.bor_links.specs.declared.node.Node.{Node}
+use Rattle.bor_links.specs.Nodes.{node_cmp, text_cmp}
+use Rattle.bor_links.specs.Series.{open_at}
+use Rattle.bor_register.specs.Register.{Register, filings_of}
+use Rattle.bor_store_sql.specs.Shown.{IsClean, ShowsIn}
+use Rattle.bor_store_reads.specs.Asking.{is_number_seen}
+use Rattle.bor_store_keys.specs.declared.found.FilingKey.{FilingKey}
+use Rattle.bor_store_keys.specs.declared.found.Found.{Found}
+use Rattle.bor_store_keys.specs.Viewed.{rows_seen}
+
+-- by number, then agent
+abbrev pub filing_cmp : FilingKey → FilingKey → Ordering
+filing_cmp a b = ordering_then (nat_cmp a.number b.number) (text_cmp a.agent b.agent)
+
+-- what was found is what is told of the register
+pub record AreOf (r : Register) (f : Found) : Type 0 where
+  pub today : f.view.today ≡ r.day
+  pub filings : (k : FilingKey) (seen : Bool) → get filing_cmp f.filings k ≡ Some seen → seen ≡ is_number_seen f.view.viewer f.view.today k.agent (filings_of k.agent r.members) k.number
+  pub rows : (n : Node) (row : Option Row) → get node_cmp f.rows n ≡ Some row → row ≡ open_at f.view.day n (rows_seen f.view r)
+
+-- where the connection is clean, this holds of each register that it shows
+abbrev pub Holds : State → (Register → Type 0) → Type 0
+Holds s P = IsClean s → (r : Register) → ShowsIn r s → P r
+
+-- what was found, if anything, is so of the register that the connection shows
+abbrev pub AreFound : State → Option Found → Type 0
+AreFound s None = Unit {0}
+AreFound s (Some f) = Holds s (λ r. AreOf r f)

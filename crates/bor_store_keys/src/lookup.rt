@@ -1,0 +1,320 @@
+//! A connection, with what was found over it for a viewer and a day.
+
+ghost use Rattle.std.specs.Prelude.{◌≡◌, false, map, option_map, slice_get, Option, Some, IfOk, IfSome};
+ghost use Rattle.sqlite.specs.Held.{state};
+ghost use Rattle.bor_links.specs.declared.node.OpenNode.{OpenNode};
+ghost use Rattle.bor_links.specs.ByKey.{node_at};
+ghost use Rattle.bor_links.specs.Series.{open_at};
+ghost use Rattle.bor_register.specs.Register.{Register, filings_of};
+ghost use Rattle.bor_store_rows.specs.Placed.{bare};
+ghost use Rattle.bor_store_sql.specs.Shown.{IsClean, ShowsIn};
+ghost use Rattle.bor_store_sql.specs.Selected.{identified_by, identifiers_at, in_record, in_series, interests_at, placed_of, standing_at, with_subject};
+ghost use Rattle.bor_store_reads.specs.Answering.{Answers};
+ghost use Rattle.bor_store_reads.specs.Asking.{is_number_seen};
+ghost use Rattle.bor_store_keys.specs.Finding.{Holds};
+ghost use Rattle.bor_store_keys.specs.Viewed.{rows_seen};
+
+use crate::found::{FilingKey, Found};
+use crate::view::View;
+use bor_links::{Node, OpenNode};
+use bor_records::Row;
+use bor_store_reads::{
+    ReadError, identifiers_of_one, interests_of_one, is_number_seen, read_day, read_identified,
+    read_place, read_record, read_series, read_subject,
+};
+use bor_store_rows::{At, IdentifierRow, InterestRow, StatementRow};
+use bor_terms::{AgentName, Day};
+use sqlite::{Alter, Connection};
+use std::alloc::{AllocError, Global};
+use std::marker::Model;
+
+/// A connection to a register's tables, with what a report was last told over it: of one viewer and day
+/// the filings that are seen and the rows that records show. So a report reads each of them once. It is
+/// forgotten where the connection is used for anything else.
+#[derive(Drop)]
+pub struct Lookup<S: Alter + Drop> {
+    conn: Connection<S>,
+    found: Option<Found>,
+}
+
+impl<S: Alter + Drop> Model for Lookup<S> {
+    ghost use Rattle.sqlite.specs.Held.{Held, held_code};
+
+    ghost Value = { Held S };
+
+    ghost coded = { held_code S.code };
+
+    ghost use Rattle.sqlite.specs.Held.{state};
+    ghost use Rattle.bor_store_keys.specs.Finding.{AreFound};
+
+    ghost view = { λ l. l.conn };
+
+    // What was found is of the register that the connection shows.
+    ghost invariant = { λ l. AreFound (state S.Store l.conn) l.found };
+}
+
+impl<S: Alter + Drop> Lookup<S> {
+    ghost use Rattle.std.specs.Borrow.{Lends, sem};
+    ghost use Rattle.sqlite.specs.contracts.connection.Connection as held;
+    ghost use Rattle.bor_store_keys.specs.contracts.lookup.Lookup.{the_row};
+
+    /// A connection over which nothing has been found.
+    pub fn new(conn: Connection<S>) -> Lookup<S>
+        ensures { result ≡ conn }
+    {
+        Lookup { conn, found: None }
+    }
+
+    /// The connection, for whatever is asked of it. What was found is forgotten.
+    pub fn connection(&mut self) -> &mut Connection<S>
+        ensures* writes_back { sem 𝓛 (Lends (the_row S.row S.Store) (held.the_row S.row S.Store) self.entry result (λ w. w)) }
+        ensures value { result.now ≡ self.old }
+    {
+        self.found = None;
+        &mut self.conn
+    }
+
+    /// The connection.
+    pub fn into_connection(self) -> Connection<S>
+        ensures { result ≡ self }
+    {
+        self.conn
+    }
+}
+
+// What is read of the tables leaves what has been found.
+#[tactic(auto, using(crate::proofs::Holding::still_found))]
+impl<S: Alter + Drop> Lookup<S> {
+    /// The register's day, as it is read.
+    pub(crate) fn read_today(&mut self, alloc: Global) -> Result<Day, ReadError>
+        requires { self.old.in_transaction ≡ false }
+        ensures mode { self.new.in_transaction ≡ false }
+        ensures began { IsClean (state S.Store self.new) → IsClean (state S.Store self.old) }
+        ensures kept { IsClean (state S.Store self.new) → (state S.Store self.new).committed ≡ (state S.Store self.old).committed }
+        ensures answer { Answers (state S.Store self.old) (state S.Store self.new) result (λ r day. day ≡ r.day) }
+    {
+        read_day(&mut self.conn, alloc)
+    }
+
+    /// Whether the viewer sees the agent's filing with this number.
+    pub(crate) fn filing_seen(
+        &mut self,
+        alloc: Global,
+        view: &View,
+        agent: &AgentName,
+        number: u32,
+    ) -> Result<bool, ReadError>
+        requires { self.old.in_transaction ≡ false }
+        ensures mode { self.new.in_transaction ≡ false }
+        ensures began { IsClean (state S.Store self.new) → IsClean (state S.Store self.old) }
+        ensures kept { IsClean (state S.Store self.new) → (state S.Store self.new).committed ≡ (state S.Store self.old).committed }
+        ensures answer { Answers (state S.Store self.old) (state S.Store self.new) result (λ r seen.
+            seen ≡ is_number_seen view.now.viewer view.now.today agent.now (filings_of agent.now r.members) number) }
+    {
+        is_number_seen(
+            &mut self.conn,
+            alloc,
+            &view.viewer,
+            agent,
+            view.today,
+            number,
+        )
+    }
+
+    /// The rows of a record's live statements, by filing and place.
+    pub(crate) fn series(
+        &mut self,
+        alloc: Global,
+        node: &Node,
+    ) -> Result<Vec<StatementRow>, ReadError>
+        requires { self.old.in_transaction ≡ false }
+        ensures mode { self.new.in_transaction ≡ false }
+        ensures began { IsClean (state S.Store self.new) → IsClean (state S.Store self.old) }
+        ensures kept { IsClean (state S.Store self.new) → (state S.Store self.new).committed ≡ (state S.Store self.old).committed }
+        ensures answer { Answers (state S.Store self.old) (state S.Store self.new) result (λ r rows.
+            rows.items ≡ map bare (in_series node.now.declaration node.now.rec (placed_of node.now.agent r))) }
+    {
+        read_series(
+            &mut self.conn,
+            alloc,
+            &node.agent,
+            &node.declaration,
+            &node.rec,
+        )
+    }
+
+    /// The rows of the live statements that name this record as their subject, by filing and place.
+    pub(crate) fn naming(
+        &mut self,
+        alloc: Global,
+        node: &Node,
+    ) -> Result<Vec<StatementRow>, ReadError>
+        requires { self.old.in_transaction ≡ false }
+        ensures mode { self.new.in_transaction ≡ false }
+        ensures began { IsClean (state S.Store self.new) → IsClean (state S.Store self.old) }
+        ensures kept { IsClean (state S.Store self.new) → (state S.Store self.new).committed ≡ (state S.Store self.old).committed }
+        ensures answer { Answers (state S.Store self.old) (state S.Store self.new) result (λ r rows.
+            rows.items ≡ map bare (with_subject node.now.declaration node.now.rec (placed_of node.now.agent r))) }
+    {
+        read_subject(
+            &mut self.conn,
+            alloc,
+            &node.agent,
+            &node.declaration,
+            &node.rec,
+        )
+    }
+
+    /// The rows of the live statements of the agent's records with this identifier, of whatever declaration.
+    pub(crate) fn recorded(
+        &mut self,
+        alloc: Global,
+        agent: &str,
+        rec: &str,
+    ) -> Result<Vec<StatementRow>, ReadError>
+        requires { self.old.in_transaction ≡ false }
+        ensures mode { self.new.in_transaction ≡ false }
+        ensures began { IsClean (state S.Store self.new) → IsClean (state S.Store self.old) }
+        ensures kept { IsClean (state S.Store self.new) → (state S.Store self.new).committed ≡ (state S.Store self.old).committed }
+        ensures answer { Answers (state S.Store self.old) (state S.Store self.new) result (λ r rows.
+            rows.items ≡ map bare (in_record rec.now (placed_of agent.now r))) }
+    {
+        read_record(&mut self.conn, alloc, agent, rec)
+    }
+
+    /// The rows of the identifiers of all live statements that are these.
+    pub(crate) fn identified(
+        &mut self,
+        alloc: Global,
+        scheme: &str,
+        id: &str,
+    ) -> Result<Vec<IdentifierRow>, ReadError>
+        requires { self.old.in_transaction ≡ false }
+        ensures mode { self.new.in_transaction ≡ false }
+        ensures began { IsClean (state S.Store self.new) → IsClean (state S.Store self.old) }
+        ensures kept { IsClean (state S.Store self.new) → (state S.Store self.new).committed ≡ (state S.Store self.old).committed }
+        ensures answer { Answers (state S.Store self.old) (state S.Store self.new) result (λ r rows.
+            rows.items ≡ identified_by scheme.now id.now r.members) }
+    {
+        read_identified(&mut self.conn, alloc, scheme, id)
+    }
+
+    /// The row of the live statement at a place.
+    pub(crate) fn standing(
+        &mut self,
+        alloc: Global,
+        at: &At,
+    ) -> Result<Option<StatementRow>, ReadError>
+        requires { self.old.in_transaction ≡ false }
+        ensures mode { self.new.in_transaction ≡ false }
+        ensures began { IsClean (state S.Store self.new) → IsClean (state S.Store self.old) }
+        ensures kept { IsClean (state S.Store self.new) → (state S.Store self.new).committed ≡ (state S.Store self.old).committed }
+        ensures answer { Answers (state S.Store self.old) (state S.Store self.new) result (λ r row.
+            row ≡ option_map bare (slice_get (standing_at at.now r.members) 0)) }
+    {
+        read_place(&mut self.conn, alloc, at)
+    }
+
+    /// The interests of the statement at a place.
+    pub(crate) fn interests(
+        &mut self,
+        alloc: Global,
+        at: &At,
+    ) -> Result<Vec<InterestRow>, ReadError>
+        requires { self.old.in_transaction ≡ false }
+        ensures mode { self.new.in_transaction ≡ false }
+        ensures began { IsClean (state S.Store self.new) → IsClean (state S.Store self.old) }
+        ensures kept { IsClean (state S.Store self.new) → (state S.Store self.new).committed ≡ (state S.Store self.old).committed }
+        ensures answer { Answers (state S.Store self.old) (state S.Store self.new) result (λ r rows.
+            rows.items ≡ interests_at at.now r.members) }
+    {
+        interests_of_one(&mut self.conn, alloc, at)
+    }
+
+    /// The identifiers of the statement at a place.
+    pub(crate) fn identifiers(
+        &mut self,
+        alloc: Global,
+        at: &At,
+    ) -> Result<Vec<IdentifierRow>, ReadError>
+        requires { self.old.in_transaction ≡ false }
+        ensures mode { self.new.in_transaction ≡ false }
+        ensures began { IsClean (state S.Store self.new) → IsClean (state S.Store self.old) }
+        ensures kept { IsClean (state S.Store self.new) → (state S.Store self.new).committed ≡ (state S.Store self.old).committed }
+        ensures answer { Answers (state S.Store self.old) (state S.Store self.new) result (λ r rows.
+            rows.items ≡ identifiers_at at.now r.members) }
+    {
+        identifiers_of_one(&mut self.conn, alloc, at)
+    }
+}
+
+// What has been found.
+impl<S: Alter + Drop> Lookup<S> {
+    /// The register's day, where something was found for this viewer on this day.
+    pub(crate) fn today(&self, viewer: &AgentName, day: Day) -> Option<Day>
+        ensures { IfSome result (λ today. Holds (state S.Store self.now) (λ r. today ≡ r.day)) }
+    {
+        match &self.found {
+            Some(found) if found.view.is_of(viewer, day) => Some(found.view.today),
+            _ => None,
+        }
+    }
+
+    /// From here on what is found is for this view.
+    pub(crate) fn begin(&mut self, alloc: Global, view: View)
+        requires { Holds (state S.Store self.old) (λ r. view.today ≡ r.day) }
+        ensures { self.new ≡ self.old }
+    {
+        self.found = Some(Found::new(alloc, view));
+    }
+
+    /// Whether the viewer sees the filing, where that was found.
+    pub(crate) fn is_seen(&self, view: &View, key: &FilingKey) -> Option<bool>
+        ensures { IfSome result (λ seen. Holds (state S.Store self.now) (λ r.
+            seen ≡ is_number_seen view.now.viewer view.now.today key.now.agent (filings_of key.now.agent r.members) key.now.number)) }
+    {
+        match &self.found {
+            Some(found) if found.view.is(view) => found.filing(key),
+            _ => None,
+        }
+    }
+
+    /// Notes whether the viewer sees the filing.
+    pub(crate) fn note_filing(&mut self, view: &View, key: FilingKey, seen: bool)
+        requires { Holds (state S.Store self.old) (λ r.
+            seen ≡ is_number_seen view.now.viewer view.now.today key.agent (filings_of key.agent r.members) key.number) }
+        ensures { self.new ≡ self.old }
+    {
+        match self.found.take() {
+            Some(found) if found.view.is(view) => self.found = found.with_filing(key, seen),
+            other => self.found = other,
+        }
+    }
+
+    /// The node that a record makes, where that was found.
+    pub(crate) fn node(
+        &self,
+        alloc: Global,
+        view: &View,
+        node: &Node,
+    ) -> Result<Option<Option<OpenNode>>, AllocError>
+        ensures { IfOk result (λ found. (one : Option OpenNode) → found ≡ Some one → Holds (state S.Store self.now) (λ r.
+            one ≡ node_at view.now.day node.now (rows_seen view.now r))) }
+    {
+        match &self.found {
+            Some(found) if found.view.is(view) => found.node(alloc, node),
+            _ => Ok(None),
+        }
+    }
+
+    /// Notes the row that a record shows.
+    pub(crate) fn note_row(&mut self, view: &View, node: Node, row: Option<Row>)
+        requires { Holds (state S.Store self.old) (λ r. row ≡ open_at view.now.day node (rows_seen view.now r)) }
+        ensures { self.new ≡ self.old }
+    {
+        match self.found.take() {
+            Some(found) if found.view.is(view) => self.found = found.with_row(node, row),
+            other => self.found = other,
+        }
+    }
+}
