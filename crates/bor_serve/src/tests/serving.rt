@@ -1,14 +1,14 @@
 //! Clients without sockets: what each has time for, and what the server ends as.
 
 use crate::tests::clients::{Broken, Client, Queue, Ticking};
-use crate::tests::requests::{FILINGS, LISTED, NOTHING_LISTED, first_lodging, new_keep, published};
+use crate::tests::requests::{
+    FILINGS, LISTED, NOTHING_LISTED, first_lodging, new_keep, published, too_large,
+};
 use crate::{Limits, serve_on, serve_within};
 use bor_failing::FailingKeep;
 use bor_machine::StoreFault;
 use bor_wire::UNAVAILABLE;
-use std::alloc::Global;
 use std::process::Abort;
-use std::test::Fail;
 use std::time::{Clock, Duration};
 
 // What a client has of its reply.
@@ -28,10 +28,10 @@ fn ends_with(client: &Client<'_>, wanted: &[u8]) -> bool {
 }
 
 #[test]
-fn a_request_has_ten_seconds(rt: HostRuntime) -> Result<(), Fail> {
+fn a_request_has_ten_seconds(rt: HostRuntime) {
     let alloc = rt.alloc();
-    let mut keep = new_keep(alloc)?;
-    let request = first_lodging(alloc)?;
+    let mut keep = new_keep(&rt, alloc);
+    let request = first_lodging(&rt, alloc);
     let part = request.len().div_ceil(11);
     // Each read begins a second after the one before it: the first ten begin in time, and no more.
     let slow = Client::new(alloc, request.as_slice(), part);
@@ -45,16 +45,15 @@ fn a_request_has_ten_seconds(rt: HostRuntime) -> Result<(), Fail> {
     );
     assert!(rt; has(&slow, b"") && slow.sent.get() == part.saturating_mul(10));
     assert!(rt; ends_with(&asking, NOTHING_LISTED));
-    assert!(rt; has(&in_time, published(alloc)?.as_slice()));
-    Ok(())
+    assert!(rt; has(&in_time, published(&rt, alloc).as_slice()));
 }
 
 #[test]
-fn a_reply_has_ten_seconds(rt: HostRuntime) -> Result<(), Fail> {
+fn a_reply_has_ten_seconds(rt: HostRuntime) {
     let alloc = rt.alloc();
-    let mut keep = new_keep(alloc)?;
-    let request = first_lodging(alloc)?;
-    let reply = published(alloc)?;
+    let mut keep = new_keep(&rt, alloc);
+    let request = first_lodging(&rt, alloc);
+    let reply = published(&rt, alloc);
     let part = reply.len().div_ceil(11);
     let mut slow = Client::new(alloc, request.as_slice(), request.len());
     slow.takes = part;
@@ -65,17 +64,18 @@ fn a_reply_has_ten_seconds(rt: HostRuntime) -> Result<(), Fail> {
         serve_on(&(Ticking::new(1000), alloc), &mut keep, &queue, 2),
         3
     );
-    let front = reply.get(..part.saturating_mul(10)).ok_or("a short reply")?;
+    let front = reply
+        .get(..part.saturating_mul(10))
+        .expect(&rt, "a reply of more bytes");
     assert!(rt; has(&slow, front) && slow.ended.get().is_none());
     assert!(rt; ends_with(&asking, LISTED));
-    Ok(())
 }
 
 // What each read and the write may wait for: what is left of ten seconds, and of one after the reply.
 #[test]
-fn a_call_waits_for_what_is_left(rt: HostRuntime) -> Result<(), Fail> {
+fn a_call_waits_for_what_is_left(rt: HostRuntime) {
     let alloc = rt.alloc();
-    let mut keep = new_keep(alloc)?;
+    let mut keep = new_keep(&rt, alloc);
     let client = Client::new(alloc, FILINGS, FILINGS.len().div_ceil(3));
     let clients = [Some(&client)];
     let queue = Queue::new(&clients);
@@ -83,17 +83,16 @@ fn a_call_waits_for_what_is_left(rt: HostRuntime) -> Result<(), Fail> {
         serve_on(&(Ticking::new(100), alloc), &mut keep, &queue, 1),
         0
     );
-    let waits = client.waits.try_borrow().map_err(|_| "in use")?;
+    let waits = client.waits.try_borrow().expect(&rt, "no other use");
     let wanted = [10_000, 9_900, 9_800, 10_000, 1_000].map(Duration::from_millis);
     assert!(rt; waits.as_slice() == wanted.as_slice());
-    Ok(())
 }
 
 // The same where a request, its reply and the rest have limits of their own.
 #[test]
-fn a_call_waits_for_what_is_left_of_its_own_limit(rt: HostRuntime) -> Result<(), Fail> {
+fn a_call_waits_for_what_is_left_of_its_own_limit(rt: HostRuntime) {
     let alloc = rt.alloc();
-    let mut keep = new_keep(alloc)?;
+    let mut keep = new_keep(&rt, alloc);
     let client = Client::new(alloc, FILINGS, FILINGS.len().div_ceil(2));
     let clients = [Some(&client)];
     let queue = Queue::new(&clients);
@@ -106,17 +105,16 @@ fn a_call_waits_for_what_is_left_of_its_own_limit(rt: HostRuntime) -> Result<(),
         serve_within(&(Ticking::new(100), alloc), &mut keep, &queue, 1, limits),
         0
     );
-    let waits = client.waits.try_borrow().map_err(|_| "in use")?;
+    let waits = client.waits.try_borrow().expect(&rt, "no other use");
     let wanted = [700, 600, 500, 300].map(Duration::from_millis);
     assert!(rt; waits.as_slice() == wanted.as_slice());
-    Ok(())
 }
 
 #[test]
-fn an_accept_that_fails_is_one_of_the_connections(rt: HostRuntime) -> Result<(), Fail> {
+fn an_accept_that_fails_is_one_of_the_connections(rt: HostRuntime) {
     let alloc = rt.alloc();
-    let mut keep = new_keep(alloc)?;
-    let request = first_lodging(alloc)?;
+    let mut keep = new_keep(&rt, alloc);
+    let request = first_lodging(&rt, alloc);
     let client = Client::new(alloc, request.as_slice(), 100);
     let clients = [None, Some(&client)];
     let queue = Queue::new(&clients);
@@ -124,28 +122,26 @@ fn an_accept_that_fails_is_one_of_the_connections(rt: HostRuntime) -> Result<(),
         serve_on(&(Ticking::new(1), alloc), &mut keep, &queue, 2),
         3
     );
-    assert!(rt; has(&client, published(alloc)?.as_slice()));
+    assert!(rt; has(&client, published(&rt, alloc).as_slice()));
     assert_eq!(rt; queue.accepted.get(), 2);
-    Ok(())
 }
 
 #[test]
-fn no_connection_is_accepted_beyond_the_last(rt: HostRuntime) -> Result<(), Fail> {
+fn no_connection_is_accepted_beyond_the_last(rt: HostRuntime) {
     let alloc = rt.alloc();
-    let mut keep = new_keep(alloc)?;
+    let mut keep = new_keep(&rt, alloc);
     let queue = Queue::new(&[]);
     assert_eq!(rt;
         serve_on(&(Ticking::new(1), alloc), &mut keep, &queue, 0),
         0
     );
     assert_eq!(rt; queue.accepted.get(), 0);
-    Ok(())
 }
 
 #[test]
-fn a_refusal_is_no_failure(rt: HostRuntime) -> Result<(), Fail> {
+fn a_refusal_is_no_failure(rt: HostRuntime) {
     let alloc = rt.alloc();
-    let mut keep = new_keep(alloc)?;
+    let mut keep = new_keep(&rt, alloc);
     let nobody = Client::new(alloc, b"GET /filings HTTP/1.1\r\n\r\n", 7);
     let short = Client::new(alloc, b"GET /fil", 7);
     let clients = [Some(&nobody), Some(&short)];
@@ -156,13 +152,12 @@ fn a_refusal_is_no_failure(rt: HostRuntime) -> Result<(), Fail> {
     );
     assert!(rt; ends_with(&nobody, b"{\"refusal\":\"NoToken\"}"));
     assert!(rt; ends_with(&short, b"{\"refusal\":\"CutShort\"}"));
-    Ok(())
 }
 
 #[test]
-fn a_store_that_fails_is_told_and_raises_the_status(rt: HostRuntime) -> Result<(), Fail> {
+fn a_store_that_fails_is_told_and_raises_the_status(rt: HostRuntime) {
     let alloc = rt.alloc();
-    let mut keep = FailingKeep::new(new_keep(alloc)?, StoreFault::Store);
+    let mut keep = FailingKeep::new(new_keep(&rt, alloc), StoreFault::Store);
     let client = Client::new(alloc, FILINGS, 100);
     let clients = [Some(&client)];
     let queue = Queue::new(&clients);
@@ -171,34 +166,24 @@ fn a_store_that_fails_is_told_and_raises_the_status(rt: HostRuntime) -> Result<(
         3
     );
     assert!(rt; has(&client, UNAVAILABLE));
-    Ok(())
 }
 
 #[test]
-fn a_clock_that_fails_lets_nothing_be_read(rt: HostRuntime) -> Result<(), Fail> {
+fn a_clock_that_fails_lets_nothing_be_read(rt: HostRuntime) {
     let alloc = rt.alloc();
-    let mut keep = new_keep(alloc)?;
+    let mut keep = new_keep(&rt, alloc);
     let client = Client::new(alloc, FILINGS, 100);
     let clients = [Some(&client)];
     let queue = Queue::new(&clients);
     assert_eq!(rt; serve_on(&(Broken, alloc), &mut keep, &queue, 1), 3);
     assert!(rt; has(&client, b"") && client.sent.get() == 0);
-    Ok(())
 }
 
-// A request of so many bytes, whose body is too large by its length.
-fn too_large(alloc: Global, size: usize) -> Result<Vec<u8>, Fail> {
-    let head = b"PUT /filings/f1?due=2024-02-01 HTTP/1.1\r\nContent-Length: 90000000\r\n\r\n";
-    let mut request = Vec::from_slice(alloc, head)?;
-    request.resize(size, b' ')?;
-    Ok(request)
-}
-
-// How much of it is read before its refusal, and how much then.
-fn read_of(rt: &(impl Abort + AllocGlobal), size: usize) -> Result<(usize, usize), Fail> {
+// How much is read of a request that is too large before its refusal, and how much then.
+fn read_of(rt: &(impl Abort + AllocGlobal), size: usize) -> (usize, usize) {
     let alloc = rt.alloc();
-    let mut keep = new_keep(alloc)?;
-    let request = too_large(alloc, size)?;
+    let mut keep = new_keep(rt, alloc);
+    let request = too_large(rt, alloc, size);
     let client = Client::new(alloc, request.as_slice(), usize::MAX);
     let clients = [Some(&client)];
     let queue = Queue::new(&clients);
@@ -208,26 +193,25 @@ fn read_of(rt: &(impl Abort + AllocGlobal), size: usize) -> Result<(usize, usize
     );
     assert!(rt; ends_with(&client, b"{\"refusal\":\"BodyTooLarge\"}"));
     assert!(rt; !client.unwaited.get());
-    let before = client.ended.get().ok_or("not ended")?;
-    Ok((before, client.sent.get().saturating_sub(before)))
+    let before = client.ended.get().expect(rt, "an end");
+    (before, client.sent.get().saturating_sub(before))
 }
 
 #[test]
-fn what_is_still_sent_after_a_refusal_is_read(rt: HostRuntime) -> Result<(), Fail> {
-    let (before, after) = read_of(&rt, 3_000_000)?;
+fn what_is_still_sent_after_a_refusal_is_read(rt: HostRuntime) {
+    let (before, after) = read_of(&rt, 3_000_000);
     assert!(rt; before < 20_000);
     assert_eq!(rt; before.saturating_add(after), 3_000_000);
-    let (_, after) = read_of(&rt, 20_000_000)?;
+    let (_, after) = read_of(&rt, 20_000_000);
     assert_eq!(rt; after, 16_777_216);
-    Ok(())
 }
 
 #[test]
-fn after_a_whole_request_what_is_there_is_read(rt: HostRuntime) -> Result<(), Fail> {
+fn after_a_whole_request_what_is_there_is_read(rt: HostRuntime) {
     let alloc = rt.alloc();
-    let mut keep = new_keep(alloc)?;
-    let mut request = first_lodging(alloc)?;
-    request.extend_from_slice(b"\r\n")?;
+    let mut keep = new_keep(&rt, alloc);
+    let mut request = first_lodging(&rt, alloc);
+    request.extend_from_slice(b"\r\n").expect(&rt, "memory");
     let client = Client::new(alloc, request.as_slice(), 200);
     let clients = [Some(&client)];
     let queue = Queue::new(&clients);
@@ -236,5 +220,4 @@ fn after_a_whole_request_what_is_there_is_read(rt: HostRuntime) -> Result<(), Fa
         0
     );
     assert!(rt; client.unwaited.get() && client.sent.get() == request.len());
-    Ok(())
 }
