@@ -2,7 +2,7 @@
 use Rattle.std.proofs.Common.{◌≡◌, ◌∙◌, Bool, true, false, cond, Option, Some, None, IfSome, Result, Ok, Err, IfOk, ℕ, List, sym, ap, refl, subst}
 use Rattle.std.specs.declared.cmp.Ordering.{Ordering}
 use Rattle.std.specs.declared.cmp.Ordering.TheVariants.{Less, Equal, Greater}
-use Rattle.std.specs.Ordering.{is_eq, nat_cmp}
+use Rattle.std.specs.Ordering.{is_eq, nat_cmp, ordering_then}
 use Rattle.std.proofs.lemmas.Map.Lookups.{CmpEqualImpliesEq, exact_bytes, exact_pairs, exact_unsigned}
 use Rattle.sqlite.specs.State.{State}
 use Rattle.bor_links.specs.Nodes.{text_cmp}
@@ -10,7 +10,8 @@ use Rattle.bor_store_sql.specs.Shown.{IsClean}
 use Rattle.bor_store_reads.proofs.Found.{still_shows}
 use Rattle.bor_store_keys.specs.declared.found.FilingKey.{FilingKey}
 use Rattle.bor_store_keys.specs.declared.found.Found.{Found}
-use Rattle.bor_store_keys.specs.Finding.{AreOf, AreFound, Holds, filing_cmp}
+use Rattle.bor_store_keys.specs.declared.found.PlaceKey.{PlaceKey}
+use Rattle.bor_store_keys.specs.Finding.{AreOf, AreFound, Holds, filing_cmp, place_cmp}
 
 -- a read leaves it
 pub still_found : (found : Option Found) (old new : State) → (IsClean new → IsClean old) → (IsClean new → new.committed ≡ old.committed) → AreFound old found → AreFound new found
@@ -49,9 +50,14 @@ one_more {K} {X} cmp exact P was now key value puts is before q x h = at (is_eq 
     at true e k = let same : key ≡ q = exact key q (is_equal (cmp key q) e) in rw (← same, ← some_one value x k) is
     at false e k = before q x k
 
--- ---- keys of filings
+-- ---- keys of filings and of places
 
 pub exact_filing : CmpEqualImpliesEq filing_cmp
 exact_filing a b h =
     ap (λ (p : ℕ × List ℕ). let k : FilingKey = record { number = p.0; agent = p.1 } in k)
     (exact_pairs nat_cmp text_cmp exact_unsigned exact_bytes (a.number, a.agent) (b.number, b.agent) h)
+
+pub exact_place : CmpEqualImpliesEq place_cmp
+exact_place a b h =
+    ap (λ (p : ℕ × (ℕ × List ℕ)). let k : PlaceKey = record { filing = p.0; place = p.1.0; agent = p.1.1 } in k)
+    (exact_pairs nat_cmp (λ (x y : ℕ × List ℕ). ordering_then (nat_cmp x.0 y.0) (text_cmp x.1 y.1)) exact_unsigned (exact_pairs nat_cmp text_cmp exact_unsigned exact_bytes) (a.filing, (a.place, a.agent)) (b.filing, (b.place, b.agent)) h)

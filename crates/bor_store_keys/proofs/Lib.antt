@@ -2,6 +2,7 @@ pub mod Holding
 pub mod ByRecord
 pub mod SeriesSeen
 pub mod OpenAt
+pub mod Placing
 pub mod Told
 pub mod Answered
 pub mod Recording

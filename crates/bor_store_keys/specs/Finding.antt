@@ -1,6 +1,6 @@
 -- What has been found over a connection, for a viewer and a day.
 use Rattle.std.specs.Prelude.{◌≡◌, Bool, Option, Some, None}
-use Rattle.std.specs.BTreeMap.{get}
+use Rattle.std.specs.BTreeMap.{BTreeMap, get}
 use Rattle.std.specs.Ordering.{nat_cmp, ordering_then}
 use Rattle.std.specs.declared.cmp.Ordering.{Ordering}
 use Rattle.sqlite.specs.State.{State}
@@ -13,17 +13,28 @@ use Rattle.bor_store_sql.specs.Shown.{IsClean, ShowsIn}
 use Rattle.bor_store_reads.specs.Asking.{is_number_seen}
 use Rattle.bor_store_keys.specs.declared.found.FilingKey.{FilingKey}
 use Rattle.bor_store_keys.specs.declared.found.Found.{Found}
+use Rattle.bor_store_keys.specs.declared.found.PlaceKey.{PlaceKey}
+use Rattle.bor_store_keys.specs.Signed.{record_standing}
 use Rattle.bor_store_keys.specs.Viewed.{rows_seen}
 
 -- by number, then agent
 abbrev pub filing_cmp : FilingKey → FilingKey → Ordering
 filing_cmp a b = ordering_then (nat_cmp a.number b.number) (text_cmp a.agent b.agent)
 
+-- by filing, place and agent
+abbrev pub place_cmp : PlaceKey → PlaceKey → Ordering
+place_cmp a b = ordering_then (nat_cmp a.filing b.filing) (ordering_then (nat_cmp a.place b.place) (text_cmp a.agent b.agent))
+
+-- of each of the records the live statement at the place is one
+abbrev pub ArePlaces : Register → BTreeMap PlaceKey Node → Type 0
+ArePlaces r places = (k : PlaceKey) (n : Node) → get place_cmp places k ≡ Some n → record_standing r.members (record { agent = k.agent; filing = k.filing; place = k.place }) ≡ Some n
+
 -- what was found is what is told of the register
 pub record AreOf (r : Register) (f : Found) : Type 0 where
   pub today : f.view.today ≡ r.day
   pub filings : (k : FilingKey) (seen : Bool) → get filing_cmp f.filings k ≡ Some seen → seen ≡ is_number_seen f.view.viewer f.view.today k.agent (filings_of k.agent r.members) k.number
   pub rows : (n : Node) (row : Option Row) → get node_cmp f.rows n ≡ Some row → row ≡ open_at f.view.day n (rows_seen f.view r)
+  pub places : ArePlaces r f.places
 
 -- where the connection is clean, this holds of each register that it shows
 abbrev pub Holds : State → (Register → Type 0) → Type 0

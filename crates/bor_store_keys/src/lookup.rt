@@ -2,6 +2,7 @@
 
 ghost use Rattle.std.specs.Prelude.{◌≡◌, false, map, option_map, slice_get, Option, Some, IfOk, IfSome};
 ghost use Rattle.sqlite.specs.Held.{state};
+ghost use Rattle.bor_links.specs.declared.node.Node.{Node};
 ghost use Rattle.bor_links.specs.declared.node.OpenNode.{OpenNode};
 ghost use Rattle.bor_links.specs.ByKey.{node_at};
 ghost use Rattle.bor_links.specs.Series.{open_at};
@@ -12,6 +13,7 @@ ghost use Rattle.bor_store_sql.specs.Selected.{identified_by, identifiers_at, in
 ghost use Rattle.bor_store_reads.specs.Answering.{Answers};
 ghost use Rattle.bor_store_reads.specs.Asking.{is_number_seen};
 ghost use Rattle.bor_store_keys.specs.Finding.{Holds};
+ghost use Rattle.bor_store_keys.specs.Signed.{record_standing};
 ghost use Rattle.bor_store_keys.specs.Viewed.{rows_seen};
 
 use crate::found::{FilingKey, Found};
@@ -29,8 +31,8 @@ use std::alloc::{AllocError, Global};
 use std::marker::Model;
 
 /// A connection to a register's tables, with what a report was last told over it: of one viewer and day
-/// the filings that are seen and the rows that records show. So a report reads each of them once. It is
-/// forgotten where the connection is used for anything else.
+/// the filings that are seen and what nodes show, with where it stands. So a report reads each of them once.
+/// It is forgotten where the connection is used for anything else.
 #[derive(Drop)]
 pub struct Lookup<S: Alter + Drop> {
     conn: Connection<S>,
@@ -307,13 +309,24 @@ impl<S: Alter + Drop> Lookup<S> {
         }
     }
 
+    /// The record of the statement at a place, where that was found.
+    pub(crate) fn placed(&self, alloc: Global, at: &At) -> Result<Option<Node>, AllocError>
+        ensures { IfOk result (λ found. (n : Node) → found ≡ Some n → Holds (state S.Store self.now) (λ r.
+            record_standing r.members at.now ≡ Some n)) }
+    {
+        match &self.found {
+            Some(found) => found.placed(alloc, at),
+            None => Ok(None),
+        }
+    }
+
     /// Notes the row that a record shows.
-    pub(crate) fn note_row(&mut self, view: &View, node: Node, row: Option<Row>)
+    pub(crate) fn note_row(&mut self, alloc: Global, view: &View, node: Node, row: Option<Row>)
         requires { Holds (state S.Store self.old) (λ r. row ≡ open_at view.now.day node (rows_seen view.now r)) }
         ensures { self.new ≡ self.old }
     {
         match self.found.take() {
-            Some(found) if found.view.is(view) => self.found = found.with_row(node, row),
+            Some(found) if found.view.is(view) => self.found = found.with_row(alloc, node, row),
             other => self.found = other,
         }
     }

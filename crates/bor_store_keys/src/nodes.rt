@@ -104,7 +104,7 @@ fn node_read<S: Alter + Drop>(
 {
     let row = open_row(lookup, alloc, view, node)?;
     let one = node_made(alloc, &row)?;
-    lookup.note_row(view, node.copy(alloc)?, row);
+    lookup.note_row(alloc, view, node.copy(alloc)?, row);
     Ok(one)
 }
 

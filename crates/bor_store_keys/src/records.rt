@@ -54,8 +54,8 @@ pub(crate) fn records_into<S: Alter + Drop>(
     Ok(once(records)?)
 }
 
-// The record of the statement at this place.
-fn record_standing<S: Alter + Drop>(
+// The record of the statement at this place, as the tables have it.
+fn record_read<S: Alter + Drop>(
     lookup: &mut Lookup<S>,
     alloc: Global,
     at: &At,
@@ -70,6 +70,25 @@ fn record_standing<S: Alter + Drop>(
     match lookup.standing(alloc, at)? {
         Some(row) => Ok(Some(record_at(row))),
         None => Ok(None),
+    }
+}
+
+// The record of the statement at this place, which is read of the tables where it wasn't found yet.
+fn record_standing<S: Alter + Drop>(
+    lookup: &mut Lookup<S>,
+    alloc: Global,
+    at: &At,
+) -> Result<Option<Node>, ReadError>
+    requires { lookup.old.in_transaction ≡ false }
+    ensures mode { lookup.new.in_transaction ≡ false }
+    ensures began { IsClean (state S.Store lookup.new) → IsClean (state S.Store lookup.old) }
+    ensures kept { IsClean (state S.Store lookup.new) → (state S.Store lookup.new).committed ≡ (state S.Store lookup.old).committed }
+    ensures answer { Answers (state S.Store lookup.old) (state S.Store lookup.new) result (λ r one.
+        one ≡ record_standing r.members at.now) }
+{
+    match lookup.placed(alloc, at)? {
+        Some(node) => Ok(Some(node)),
+        None => record_read(lookup, alloc, at),
     }
 }
 

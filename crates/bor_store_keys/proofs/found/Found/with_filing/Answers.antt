@@ -12,4 +12,5 @@ returns-in-Ok c = λ r of is. record {
   filings = one_more filing_cmp exact_filing (λ k seen. seen ≡ is_number_seen c.args.self.view.viewer c.args.self.view.today k.agent (filings_of k.agent r.members) k.number)
       (get filing_cmp c.args.self.filings) (get filing_cmp c.insert.new.self) c.args.key c.args.seen c.in-Ok.ensures.updates.0 is of.filings;
   rows = of.rows;
+  places = of.places;
 }

@@ -1,5 +1,5 @@
 use Rattle.std.proofs.Common.{Some, sym, subst}
-use Rattle.sqlite.specs.Held.{Held, state}
+use Rattle.sqlite.specs.Held.{state}
 use Rattle.bor_store_keys.specs.Finding.{AreFound}
 use Rattle.bor_store_keys.proofs.lookup.Lookup.begin.Goals as goal
 
