@@ -1,8 +1,9 @@
 -- What is told of the rows that a query finds.
-use Rattle.std.proofs.Common.{◌≡◌, arith, List, [], ◌∷◌, map, length, Bool, true, false, not, cond, Vec, Result, Ok, Err, IfOk, MatchResult, refl, sym, subst, slice_get}
+use Rattle.std.proofs.Common.{◌≡◌, arith, ℕ, zero, suc, nat_le, List, [], ◌∷◌, map, take, drop, length, Bool, true, false, not, cond, Vec, Result, Ok, Err, IfOk, MatchResult, refl, sym, ap, subst, ◌∙◌, slice_get}
 use Rattle.std.specs.Prelude.{All, ◌==◌, ◌||◌, unwrap_or}
 use Rattle.std.specs.List.{filter, list_any}
 use Rattle.std.specs.declared.alloc.Global.{Global}
+use Rattle.std.proofs.lemmas.Bool.Decides.{nat_tests}
 use Rattle.sqlite.specs.Order.{Row}
 use Rattle.sqlite.specs.State.{State}
 use Rattle.sqlite.specs.declared.error.Error.{Error}
@@ -39,6 +40,22 @@ not_none x xs = grind arith
 pub any_left : {X Y : Type 0} (f : X → Y) (p : X → Bool) (xs : List X) → not (length (map f (filter p xs)) == 0) ≡ list_any p xs
 any_left f p [] = refl
 any_left f p (x ∷ xs) = elim (p x) as (λ b. not (length (map f (cond b (x ∷ filter p xs) (filter p xs))) == 0) ≡ (b || list_any p xs)) [ true ↦ not_none (f x) (map f (filter p xs)) | false ↦ any_left f p xs ]
+
+-- one is found after so many where there are more
+le_both : (m n : ℕ) → nat_le m n ≡ nat_le (suc m) (suc n)
+le_both m n = grind (arith, nat_tests)
+
+none_below : (m : ℕ) → true ≡ not (nat_le (suc m) 0)
+none_below m = grind (arith, nat_tests)
+
+all_above : (n : ℕ) → false ≡ not (nat_le 0 n)
+all_above n = grind (arith, nat_tests)
+
+pub any_after : {X Y : Type 0} (f : X → Y) (n : ℕ) (xs : List X) → not (length (map f (take 1 (drop n xs))) == 0) ≡ not (nat_le (length xs) n)
+any_after f zero [] = refl
+any_after f zero (x ∷ xs) = not_none (f x) [] ∙ none_below (length xs)
+any_after f (suc n) [] = all_above (suc n)
+any_after f (suc n) (x ∷ xs) = any_after f n xs ∙ ap not (le_both (length xs) n)
 
 -- ---- what is shown
 

@@ -1,5 +1,6 @@
 -- What a SELECT over one table answers.
-use Rattle.std.proofs.Common.{◌≡◌, ℕ, ◌^◌, Bool, true, false, ℤ, List, [], ◌∷◌, map, filter, take, flat_map, nat_le, Some, refl, ap, subst, ◌∙◌, bytes_eq, if◌then◌else◌, IsPermutation, IsSorted}
+use Rattle.std.proofs.Common.{◌≡◌, ℕ, ◌^◌, Bool, true, false, ℤ, List, [], ◌∷◌, map, filter, take, drop, flat_map, nat_le, Some, refl, ap, subst, ◌∙◌, bytes_eq, if◌then◌else◌, IsPermutation, IsSorted}
+use Rattle.std.specs.Prelude.{unwrap_or}
 use Rattle.std.specs.List.{list_all}
 use Rattle.std.specs.Ordering.{is_eq, int_cmp}
 use Rattle.std.proofs.lemmas.Map.Text.{is_eq-slice_cmp}
@@ -12,10 +13,10 @@ use Rattle.sqlite.specs.declared.types.Value.TheVariants.{Int, Text}
 use Rattle.sqlite.specs.Order.{Row, value_cmp}
 use Rattle.sqlite.specs.Tree.{Trees}
 use Rattle.sqlite.specs.Ops.{binary, from_truth, is_true}
-use Rattle.sqlite.specs.Term.{Term, Env, holds}
-use Rattle.sqlite.specs.Query.{Query, IsAnswer, output, output_cmp, Output}
+use Rattle.sqlite.specs.Term.{Term, Env, col, eval, holds}
+use Rattle.sqlite.specs.Query.{Query, IsAnswer, as_count, output, output_cmp, Output}
 use Rattle.sqlite.specs.Program.{overlay}
-use Rattle.bor_store_texts.specs.Queries.{table_query, first_query}
+use Rattle.bor_store_texts.specs.Queries.{table_query, first_query, later_query}
 
 truth_back : (b : Bool) → is_true (from_truth (Some b)) ≡ b
 truth_back true = refl
@@ -63,6 +64,18 @@ module _ (t : ℕ) (tests : List Term) (params : Row) where
         let staged : a.staged ≡ map env (filter keeps (db t)) = a.grouped ∙ rw low (met (db t)) in
         let kept = a.distinct ∙ ap (map (output first)) staged in
         (a.ordered, subst (λ k. IsPermutation k a.ordered) kept a.same, a.sorted, a.shown)
+
+  module _ (project : List Term) (parameter : ℕ) where
+    abbrev later : Query
+    later = later_query t tests project parameter
+
+    -- one row alone of one that shows all, after so many
+    pub answered_later : nat_le (2 ^ 31) t ≡ false → (count : ℕ) → as_count (eval (col 0 parameter) (params ∷ [])) ≡ Some count → (db : Trees) (rows : List Row) → IsAnswer later (overlay db []) params rows
+        → (ordered : List Output) × IsPermutation (map (output later) (map env (filter keeps (db t)))) ordered × (rows ≡ take 1 (drop count (map (λ o. o.1) ordered)))
+    answered_later low count counted db rows a =
+        let staged : a.staged ≡ map env (filter keeps (db t)) = a.grouped ∙ rw low (met (db t)) in
+        let kept = a.distinct ∙ ap (map (output later)) staged in
+        (a.ordered, subst (λ k. IsPermutation k a.ordered) kept a.same, a.shown ∙ ap (λ o. take 1 (drop (unwrap_or o 0) (map (λ (o : Output). o.1) a.ordered))) counted)
 
 -- an equality of integers
 pub int_test : (m n : ℤ) → is_true (binary (Compare Eq Binary) (Int m) (Int n)) ≡ is_eq (int_cmp m n)

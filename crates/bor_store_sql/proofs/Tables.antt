@@ -1,5 +1,5 @@
 -- What a table keeps after a change, and what a query over it answers.
-use Rattle.std.proofs.Common.{◌≡◌, ℕ, ℤ, pos, ◌^◌, ◌≤◌, Bool, true, false, not, cond, nat_le, List, [], ◌∷◌, ◌++◌, map, filter, take, length, ◌+◌, refl, sym, ap, subst, subst₂, ◌∙◌, arith, IsPermutation, IsSorted, Less}
+use Rattle.std.proofs.Common.{◌≡◌, ℕ, ℤ, pos, ◌^◌, ◌≤◌, Bool, true, false, not, cond, nat_le, Some, List, [], ◌∷◌, ◌++◌, map, filter, take, drop, length, ◌+◌, refl, sym, ap, subst, subst₂, ◌∙◌, arith, IsPermutation, IsSorted, Less}
 use Rattle.std.proofs.lemmas.List.{length-map}
 use Rattle.std.proofs.lemmas.List.Sorted.{IsPermutation-map, IsPermutation-trans, IsPermutation-sym, IsPermutation-append_left, length_permutation}
 use Rattle.sqlite_keyed.proofs.SortLemmas.{sorted_unique}
@@ -13,16 +13,16 @@ use Rattle.sqlite.specs.Edit.{next_rowid, without_all, id_in}
 use Rattle.sqlite_rules.specs.Edit.{put_all}
 use Rattle.sqlite_rules.specs.Calls.{ids_of}
 use Rattle.sqlite_trees.specs.Tree.{rowid}
-use Rattle.sqlite.specs.Term.{Term, col}
-use Rattle.sqlite.specs.Query.{Query, Output, output, output_cmp, IsAnswer}
+use Rattle.sqlite.specs.Term.{Term, col, eval}
+use Rattle.sqlite.specs.Query.{Query, Output, as_count, output, output_cmp, IsAnswer}
 use Rattle.sqlite.specs.Program.{overlay}
 use Rattle.sqlite.proofs.Callers.{one_permutation}
-use Rattle.bor_store_texts.specs.Queries.{table_query, first_query}
+use Rattle.bor_store_texts.specs.Queries.{table_query, first_query, later_query}
 use Rattle.bor_store_sql.specs.Kept.{AreRows, Keeps}
 use Rattle.bor_store_sql.proofs.Rowids.{put_last, picked}
 use Rattle.bor_store_sql.proofs.Taken.{ids_in, taken_out, any_order}
 use Rattle.bor_store_sql.proofs.PutBack.{put_back}
-use Rattle.bor_store_sql.proofs.Selects.{env, keeps, answered, answered_first}
+use Rattle.bor_store_sql.proofs.Selects.{env, keeps, answered, answered_first, answered_later}
 
 -- ---- changes
 
@@ -81,6 +81,23 @@ module _ (t : ℕ) (low : nat_le (2 ^ 31) t ≡ false) (tests : List Term) (para
         let back : IsPermutation (map shown (filter q xs)) (map shown (filter q k.stored)) =
         IsPermutation-sym _ _ (IsPermutation-map shown _ _ (IsPermutation-filter q k.stored xs k.same)) in
         (it.0, IsPermutation-trans _ _ _ back (subst (λ l. IsPermutation l it.0) outs it.1), it.2, it.3)
+
+module _ (t : ℕ) (low : nat_le (2 ^ 31) t ≡ false) (tests : List Term) (params : Row) (q : Row → Bool) (same_test : (id : ℕ) (x : Row) → keeps t tests params (Int (pos id) ∷ x) ≡ q x)
+    (project : List Term) (parameter : ℕ) where
+  abbrev later_asked : Query
+  later_asked = later_query t tests project parameter
+
+  module _ (shown : Row → Output) (same_out : (id : ℕ) (x : Row) → output later_asked (env t tests params (Int (pos id) ∷ x)) ≡ shown x) where
+    -- a later row comes from those that pass, in some order
+    pub come_later : (count : ℕ) → as_count (eval (col 0 parameter) (params ∷ [])) ≡ Some count → (db : Trees) (xs rows : List Row) → Keeps xs (db t) → IsAnswer later_asked (overlay db []) params rows
+        → (ordered : List Output) × IsPermutation (map shown (filter q xs)) ordered × (rows ≡ take 1 (drop count (map (λ (o : Output). o.1) ordered)))
+    come_later count counted db xs rows k a =
+        let it = answered_later t tests params project parameter low count counted db rows a in
+        let outs : map (output later_asked) (map (env t tests params) (filter (keeps t tests params) (db t))) ≡ map shown (filter q k.stored) =
+        map-map (output later_asked) (env t tests params) _ ∙ picked (keeps t tests params) q same_test _ shown same_out 1 k.stored (db t) k.under in
+        let back : IsPermutation (map shown (filter q xs)) (map shown (filter q k.stored)) =
+        IsPermutation-sym _ _ (IsPermutation-map shown _ _ (IsPermutation-filter q k.stored xs k.same)) in
+        (it.0, IsPermutation-trans _ _ _ back (subst (λ l. IsPermutation l it.0) outs it.1), it.2)
 
 -- ---- a deletion and an update, by what their queries answer
 
