@@ -17,16 +17,10 @@ use crate::view::View;
 use bor_links::{Node, OpenNode, node_of};
 use bor_records::Row;
 use bor_store_rows::At;
+use bor_store_wholes::{FilingKey, Wholes};
 use bor_terms::AgentName;
 use std::alloc::{AllocError, Global};
 use std::collections::BTreeMap;
-
-/// A filing, by its number and its agent.
-#[derive(Drop, PartialEq, Eq, PartialOrd, Ord)]
-pub(crate) struct FilingKey {
-    pub(crate) number: u32,
-    pub(crate) agent: AgentName,
-}
 
 /// Where a statement stands, by its filing, its place there and its agent.
 #[derive(Drop, PartialEq, Eq, PartialOrd, Ord)]
@@ -36,14 +30,15 @@ pub(crate) struct PlaceKey {
     pub(crate) agent: AgentName,
 }
 
-/// For a view, whether the viewer sees a filing and which row a record shows, where that was told; and of
-/// these rows the records, by where they stand.
+/// For a view, whether the viewer sees a filing and which row a record shows, where that was told; of these
+/// rows the records, by where they stand; and what was read whole.
 #[derive(Drop)]
 pub(crate) struct Found {
     pub(crate) view: View,
     pub(crate) filings: BTreeMap<FilingKey, bool>,
     pub(crate) rows: BTreeMap<Node, Option<Row>>,
     pub(crate) places: BTreeMap<PlaceKey, Node>,
+    pub(crate) wholes: Wholes,
 }
 
 impl Found {
@@ -56,6 +51,7 @@ impl Found {
             filings: BTreeMap::new(alloc),
             rows: BTreeMap::new(alloc),
             places: BTreeMap::new(alloc),
+            wholes: Wholes::new(alloc),
         }
     }
 
@@ -80,6 +76,7 @@ impl Found {
             mut filings,
             rows,
             places,
+            wholes,
         } = self;
         match filings.insert(key, seen) {
             Ok(_) => Some(Found {
@@ -87,6 +84,7 @@ impl Found {
                 filings,
                 rows,
                 places,
+                wholes,
             }),
             Err(_) => None,
         }
@@ -118,6 +116,7 @@ impl Found {
             filings,
             mut rows,
             mut places,
+            wholes,
         } = self;
         match put_place(alloc, &mut places, &node, &row) {
             Ok(()) => {}
@@ -129,6 +128,7 @@ impl Found {
                 filings,
                 rows,
                 places,
+                wholes,
             }),
             Err(_) => None,
         }

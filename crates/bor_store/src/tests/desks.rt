@@ -116,6 +116,42 @@ fn a_class_of_a_thousand_entities_is_one_entity(rt: HostRuntime) {
     names(&rt, ask, told.as_str(), "p1", true);
 }
 
+// A file of 200 entities with an identifier each: each holds the one before, and a person the last.
+fn a_ladder(rt: &impl Abort, alloc: Global) -> String {
+    let mut ask = String::new(alloc);
+    write!(
+        ask,
+        "alder lodge f1 2024-02-01 P p p1; R r r e199<-p1 V100; E s e199 #X/199"
+    )
+    .expect(rt, "memory");
+    for i in 0..199u32 {
+        let next = i.wrapping_add(1);
+        write!(ask, "; E s{i} e{i} #X/{i}; R t{i} r{i} e{i}<-e{next} V100").expect(rt, "memory");
+    }
+    ask
+}
+
+// The draft that breaks the ladder is its agent's alone.
+const CLIMBS: [(&str, bool); 2] = [
+    ("birch chains alder c1 e0", true),
+    ("alder chains alder c1 e0", false),
+];
+
+#[test]
+fn a_long_ladder_is_climbed(rt: HostRuntime) {
+    let mut desks = Desks::new(&rt, rt.alloc());
+    desks.ask(&rt, a_ladder(&rt, rt.alloc()).as_str());
+    desks.ask(
+        &rt,
+        "alder lodge f2 2024-03-01 R u r150 e150<-e151 V100 +closed",
+    );
+    for (ask, climbs) in CLIMBS {
+        desks.ask(&rt, ask);
+        let told = told(&rt, rt.alloc(), &mut desks.tables, ask);
+        names(&rt, ask, told.as_str(), "p1", climbs);
+    }
+}
+
 fn count(rt: &impl Abort, conn: &mut Connection<MemStore>, text: &str) -> usize {
     conn.query_all(text, &[]).expect(rt, "rows").len()
 }
