@@ -1,14 +1,17 @@
 -- What was found stays so while what is shown stays.
-use Rattle.std.proofs.Common.{◌≡◌, Option, Some, None, IfSome, Result, Ok, Err, IfOk, ℕ, List, sym, ap, subst}
-use Rattle.std.specs.Ordering.{nat_cmp, ordering_then}
+use Rattle.std.proofs.Common.{◌≡◌, ◌∙◌, Bool, true, false, cond, Option, Some, None, IfSome, Result, Ok, Err, IfOk, ℕ, List, sym, ap, refl, subst}
+use Rattle.std.specs.declared.cmp.Ordering.{Ordering}
+use Rattle.std.specs.declared.cmp.Ordering.TheVariants.{Less, Equal, Greater}
+use Rattle.std.specs.Ordering.{is_eq, nat_cmp, ordering_then}
 use Rattle.std.proofs.lemmas.Map.Lookups.{CmpEqualImpliesEq, exact_bytes, exact_pairs, exact_unsigned}
 use Rattle.sqlite.specs.State.{State}
 use Rattle.bor_links.specs.Nodes.{text_cmp}
 use Rattle.bor_store_sql.specs.Shown.{IsClean}
 use Rattle.bor_store_reads.proofs.Found.{still_shows}
+use Rattle.bor_store_keys.specs.declared.found.FilingKey.{FilingKey}
 use Rattle.bor_store_keys.specs.declared.found.Found.{Found}
 use Rattle.bor_store_keys.specs.declared.found.PlaceKey.{PlaceKey}
-use Rattle.bor_store_keys.specs.Finding.{AreOf, AreFound, Holds, place_cmp}
+use Rattle.bor_store_keys.specs.Finding.{AreOf, AreFound, Holds, filing_cmp, place_cmp}
 
 -- a read leaves it
 pub still_found : (found : Option Found) (old new : State) → (IsClean new → IsClean old) → (IsClean new → new.committed ≡ old.committed) → AreFound old found → AreFound new found
@@ -28,7 +31,31 @@ pub told_in_words : {X E : Type 0} (result : Result X E) (P Q : X → Type 0) �
 told_in_words (Ok x) P Q h p = h x p
 told_in_words (Err e) P Q h p = tt
 
--- ---- keys of places
+-- ---- a map with one more key
+
+is_equal : (o : Ordering) → is_eq o ≡ true → o ≡ Equal
+is_equal Less h = absurd (cc)
+is_equal Equal h = refl
+is_equal Greater h = absurd (cc)
+
+pub some_one : {X : Type 0} (x y : X) → Some x ≡ Some y → x ≡ y
+some_one x y h = cc
+
+-- what holds of each value holds with one more
+pub one_more : {K X : Type 0} (cmp : K → K → Ordering) → CmpEqualImpliesEq cmp → (P : K → X → Type 0) (was now : K → Option X) (key : K) (value : X)
+    → ((q : K) → now q ≡ cond (is_eq (cmp key q)) (Some value) (was q)) → P key value → ((q : K) (x : X) → was q ≡ Some x → P q x) → (q : K) (x : X) → now q ≡ Some x → P q x
+one_more {K} {X} cmp exact P was now key value puts is before q x h = at (is_eq (cmp key q)) refl (sym (puts q) ∙ h)
+  where
+    at : (b : Bool) → is_eq (cmp key q) ≡ b → cond b (Some value) (was q) ≡ Some x → P q x
+    at true e k = let same : key ≡ q = exact key q (is_equal (cmp key q) e) in rw (← same, ← some_one value x k) is
+    at false e k = before q x k
+
+-- ---- keys of filings and of places
+
+pub exact_filing : CmpEqualImpliesEq filing_cmp
+exact_filing a b h =
+    ap (λ (p : ℕ × List ℕ). let k : FilingKey = record { number = p.0; agent = p.1 } in k)
+    (exact_pairs nat_cmp text_cmp exact_unsigned exact_bytes (a.number, a.agent) (b.number, b.agent) h)
 
 pub exact_place : CmpEqualImpliesEq place_cmp
 exact_place a b h =

@@ -4,6 +4,7 @@ pub mod SeriesSeen
 pub mod OpenAt
 pub mod Placing
 pub mod Told
+pub mod Infos
 pub mod Answered
 pub mod Recording
 pub mod Linking

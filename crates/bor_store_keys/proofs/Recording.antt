@@ -17,8 +17,7 @@ use Rattle.bor_store_rows.specs.declared.rows.StatementRow.{StatementRow}
 use Rattle.bor_store_rows.specs.Placed.{bare}
 use Rattle.bor_store_rows.specs.Stored.{IsStored}
 use Rattle.bor_store_sql.specs.Selected.{names_subject, placed_of, with_subject}
-use Rattle.bor_store_wholes.specs.Wholes.{record_at}
-use Rattle.bor_store_keys.specs.Recorded.{CoverRecords, record_of}
+use Rattle.bor_store_keys.specs.Recorded.{CoverRecords, record_at, record_of}
 use Rattle.bor_store_keys.proofs.SeriesSeen.{Stands, stands}
 
 module _ (r : Register) (row : Row) where

@@ -1,5 +1,5 @@
 -- What has been found over a connection, for a viewer and a day.
-use Rattle.std.specs.Prelude.{◌≡◌, Bool, Option, Some, None}
+use Rattle.std.specs.Prelude.{◌≡◌, Bool, Option, Some, None, IfSome}
 use Rattle.std.specs.BTreeMap.{BTreeMap, get}
 use Rattle.std.specs.Ordering.{nat_cmp, ordering_then}
 use Rattle.std.specs.declared.cmp.Ordering.{Ordering}
@@ -11,12 +11,15 @@ use Rattle.bor_links.specs.Series.{open_at}
 use Rattle.bor_register.specs.Register.{Register, filings_of}
 use Rattle.bor_store_sql.specs.Shown.{IsClean, ShowsIn}
 use Rattle.bor_store_reads.specs.Asking.{is_number_seen}
-use Rattle.bor_store_wholes.specs.declared.keys.FilingKey.{FilingKey}
+use Rattle.bor_store_keys.specs.declared.found.FilingKey.{FilingKey}
 use Rattle.bor_store_keys.specs.declared.found.Found.{Found}
 use Rattle.bor_store_keys.specs.declared.found.PlaceKey.{PlaceKey}
 use Rattle.bor_store_keys.specs.Signed.{record_standing}
-use Rattle.bor_store_wholes.specs.Register.{AreWholes, filing_cmp}
-use Rattle.bor_store_keys.specs.Viewed.{rows_seen}
+use Rattle.bor_store_keys.specs.Viewed.{rows_seen, seen}
+
+-- by number, then agent
+abbrev pub filing_cmp : FilingKey → FilingKey → Ordering
+filing_cmp a b = ordering_then (nat_cmp a.number b.number) (text_cmp a.agent b.agent)
 
 -- by filing, place and agent
 abbrev pub place_cmp : PlaceKey → PlaceKey → Ordering
@@ -32,7 +35,7 @@ pub record AreOf (r : Register) (f : Found) : Type 0 where
   pub filings : (k : FilingKey) (seen : Bool) → get filing_cmp f.filings k ≡ Some seen → seen ≡ is_number_seen f.view.viewer f.view.today k.agent (filings_of k.agent r.members) k.number
   pub rows : (n : Node) (row : Option Row) → get node_cmp f.rows n ≡ Some row → row ≡ open_at f.view.day n (rows_seen f.view r)
   pub places : ArePlaces r f.places
-  pub wholes : AreWholes r f.wholes
+  pub lists : IfSome f.lists (λ l. l.shown ≡ seen f.view r)
 
 -- where the connection is clean, this holds of each register that it shows
 abbrev pub Holds : State → (Register → Type 0) → Type 0

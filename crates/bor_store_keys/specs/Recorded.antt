@@ -3,10 +3,15 @@ use Rattle.std.specs.Prelude.{List, Contains}
 use Rattle.bor_links.specs.declared.node.Node.{Node}
 use Rattle.bor_links.specs.Series.{stated}
 use Rattle.bor_store_rows.specs.declared.rows.Placed.{Placed}
+use Rattle.bor_store_rows.specs.declared.rows.StatementRow.{StatementRow}
 
 -- the record that a statement is of
 abbrev pub record_of : Placed → Node
 record_of p = stated p.at.agent p.statement
+
+-- the same, by the statement's row
+abbrev pub record_at : StatementRow → Node
+record_at row = record { agent = row.at.agent; declaration = row.declaration; rec = row.rec }
 
 -- among the nodes are the records of all these statements
 abbrev pub CoverRecords : List Placed → List Node → Type 0

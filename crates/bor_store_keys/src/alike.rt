@@ -15,6 +15,7 @@ ghost use Rattle.bor_store_reads.specs.Answering.{Answers};
 ghost use Rattle.bor_store_keys.specs.Alike.{Expands, Follows};
 ghost use Rattle.bor_store_keys.specs.Viewed.{rows_seen, seen};
 
+use crate::listed::{aliases_listed, same_listed};
 use crate::lookup::Lookup;
 use crate::nodes::node_in;
 use crate::records::records_with;
@@ -247,6 +248,27 @@ fn same_in<S: Alter + Drop>(
     Ok(class.into_nodes())
 }
 
+// The nodes one alias away from a node, of the lists where all was read.
+fn aliases_told<S: Alter + Drop>(
+    lookup: &mut Lookup<S>,
+    alloc: Global,
+    view: &View,
+    node: &Node,
+) -> Result<Vec<Node>, ReadError>
+    requires { lookup.old.in_transaction ≡ false }
+    ensures mode { lookup.new.in_transaction ≡ false }
+    ensures began { IsClean (state S.Store lookup.new) → IsClean (state S.Store lookup.old) }
+    ensures kept { IsClean (state S.Store lookup.new) → (state S.Store lookup.new).committed ≡ (state S.Store lookup.old).committed }
+    ensures answer { Answers (state S.Store lookup.old) (state S.Store lookup.new) result (λ r nodes.
+        AreAliases (seen view.now r) node.now nodes.items) }
+{
+    lookup.list_where_many(alloc, view)?;
+    match lookup.take_lists(view) {
+        Some(lists) => aliases_listed(lookup, view, lists, node),
+        None => aliases_in(lookup, alloc, view, node),
+    }
+}
+
 /// The nodes one alias away from a node on a day, of what the viewer sees, each once and in any order.
 pub fn read_aliases<S: Alter + Drop>(
     lookup: &mut Lookup<S>,
@@ -263,7 +285,28 @@ pub fn read_aliases<S: Alter + Drop>(
         AreAliases (seen_at viewer.now day r) node.now nodes.items) }
 {
     let view = view_of(lookup, alloc, viewer, day)?;
-    aliases_in(lookup, alloc, &view, node)
+    aliases_told(lookup, alloc, &view, node)
+}
+
+// All nodes that stand for one entity with a node, of the lists where all was read.
+fn same_told<S: Alter + Drop>(
+    lookup: &mut Lookup<S>,
+    alloc: Global,
+    view: &View,
+    node: &Node,
+) -> Result<Vec<Node>, ReadError>
+    requires { lookup.old.in_transaction ≡ false }
+    ensures mode { lookup.new.in_transaction ≡ false }
+    ensures began { IsClean (state S.Store lookup.new) → IsClean (state S.Store lookup.old) }
+    ensures kept { IsClean (state S.Store lookup.new) → (state S.Store lookup.new).committed ≡ (state S.Store lookup.old).committed }
+    ensures answer { Answers (state S.Store lookup.old) (state S.Store lookup.new) result (λ r nodes.
+        AreSame (seen view.now r) node.now nodes.items) }
+{
+    lookup.list_where_many(alloc, view)?;
+    match lookup.take_lists(view) {
+        Some(lists) => same_listed(lookup, view, lists, node),
+        None => same_in(lookup, alloc, view, node),
+    }
 }
 
 /// All nodes that stand for one entity with a node on a day, of what the viewer sees, by finitely many aliases,
@@ -284,5 +327,5 @@ pub fn read_same<S: Alter + Drop>(
         AreSame (seen_at viewer.now day r) node.now nodes.items) }
 {
     let view = view_of(lookup, alloc, viewer, day)?;
-    same_in(lookup, alloc, &view, node)
+    same_told(lookup, alloc, &view, node)
 }

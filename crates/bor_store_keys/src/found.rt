@@ -1,9 +1,11 @@
 //! What a report was last told, for one viewer and day.
 
-ghost use Rattle.std.specs.Prelude.{◌≡◌, Option, Some, IfOk, IfSome, OnOk};
+ghost use Rattle.std.specs.Prelude.{◌≡◌, Option, None, Some, IfOk, IfSome, OnOk};
+ghost use Rattle.bor_links.specs.declared.node.NodeInfo.{NodeInfo};
 ghost use Rattle.bor_links.specs.declared.node.OpenNode.{OpenNode};
 ghost use Rattle.bor_links.specs.ByKey.{node_at};
 ghost use Rattle.bor_links.specs.Series.{open_at};
+ghost use Rattle.bor_links.specs.Shown.{info_of};
 ghost use Rattle.bor_register.specs.Register.{Register, filings_of};
 ghost use Rattle.bor_store_reads.specs.Asking.{is_number_seen};
 ghost use Rattle.bor_store_rows.specs.Stored.{IsStored};
@@ -11,16 +13,23 @@ ghost use Rattle.bor_links.specs.declared.node.Node.{Node};
 ghost use Rattle.bor_store_keys.specs.declared.view.View.{View};
 ghost use Rattle.bor_store_keys.specs.Finding.{AreOf, ArePlaces};
 ghost use Rattle.bor_store_keys.specs.Signed.{record_standing};
-ghost use Rattle.bor_store_keys.specs.Viewed.{rows_seen};
+ghost use Rattle.bor_store_keys.specs.Viewed.{rows_seen, seen};
 
 use crate::view::View;
-use bor_links::{Node, OpenNode, node_of};
+use bor_chains::ListSource;
+use bor_links::{Node, NodeInfo, OpenNode, info_stated, node_of};
 use bor_records::Row;
 use bor_store_rows::At;
-use bor_store_wholes::{FilingKey, Wholes};
 use bor_terms::AgentName;
 use std::alloc::{AllocError, Global};
 use std::collections::BTreeMap;
+
+/// A filing, by its number and its agent.
+#[derive(Drop, PartialEq, Eq, PartialOrd, Ord)]
+pub(crate) struct FilingKey {
+    pub(crate) number: u32,
+    pub(crate) agent: AgentName,
+}
 
 /// Where a statement stands, by its filing, its place there and its agent.
 #[derive(Drop, PartialEq, Eq, PartialOrd, Ord)]
@@ -30,29 +39,71 @@ pub(crate) struct PlaceKey {
     pub(crate) agent: AgentName,
 }
 
-/// For a view, whether the viewer sees a filing and which row a record shows, where that was told; of these
-/// rows the records, by where they stand; and what was read whole.
+/// So many records are read one by one before it is asked whether all are.
+const MANY: usize = 128;
+
+/// All are read where there are at most so many statements for each record that was read.
+const SHARE: usize = 16;
+
+/// For a view, whether the viewer sees a filing and which row a record shows, where that was told; of
+/// these rows the records, by where they stand; and all that the viewer sees as lists, where it was read.
 #[derive(Drop)]
 pub(crate) struct Found {
     pub(crate) view: View,
     pub(crate) filings: BTreeMap<FilingKey, bool>,
     pub(crate) rows: BTreeMap<Node, Option<Row>>,
     pub(crate) places: BTreeMap<PlaceKey, Node>,
-    pub(crate) wholes: Wholes,
+    pub(crate) lists: Option<ListSource>,
+    /// With so many rows it is asked whether all are read.
+    pub(crate) many: usize,
 }
 
 impl Found {
     /// Nothing was told yet.
     pub(crate) fn new(alloc: Global, view: View) -> Found
-        ensures { (r : Register) → view.today ≡ r.day → AreOf r result }
+        ensures view { result.view ≡ view }
+        ensures nothing { (r : Register) → view.today ≡ r.day → AreOf r result }
     {
         Found {
             view,
             filings: BTreeMap::new(alloc),
             rows: BTreeMap::new(alloc),
             places: BTreeMap::new(alloc),
-            wholes: Wholes::new(alloc),
+            lists: None,
+            many: MANY,
         }
+    }
+
+    /// All that the viewer sees was told.
+    pub(crate) fn listed(alloc: Global, view: View, lists: ListSource) -> Found
+        ensures { (r : Register) → view.today ≡ r.day → lists.shown ≡ seen view r → AreOf r result }
+    {
+        let mut found = Found::new(alloc, view);
+        found.lists = Some(lists);
+        found
+    }
+
+    /// How many statements a register has at most of which all are read now. It is told where many records
+    /// were read since it was last told.
+    pub(crate) fn most(&mut self) -> Option<u32>
+        ensures view { self.new.view ≡ self.old.view }
+        ensures same { (r : Register) → AreOf r self.old → AreOf r self.new }
+    {
+        let read = self.rows.len();
+        if read < self.many {
+            return None;
+        }
+        self.many = read.saturating_mul(2);
+        u32::try_from(read.saturating_mul(SHARE)).ok()
+    }
+
+    /// The lists, which are taken out so that they can be asked.
+    pub(crate) fn take_lists(&mut self) -> Option<ListSource>
+        ensures view { self.new.view ≡ self.old.view }
+        ensures same { (r : Register) → AreOf r self.old → AreOf r self.new }
+        ensures lists { result ≡ self.old.lists }
+    {
+        self.lists.take()
     }
 
     /// Whether the viewer sees the filing.
@@ -76,7 +127,8 @@ impl Found {
             mut filings,
             rows,
             places,
-            wholes,
+            lists,
+            many,
         } = self;
         match filings.insert(key, seen) {
             Ok(_) => Some(Found {
@@ -84,9 +136,27 @@ impl Found {
                 filings,
                 rows,
                 places,
-                wholes,
+                lists,
+                many,
             }),
             Err(_) => None,
+        }
+    }
+
+    /// What a chain asks of the node that a record makes.
+    #[tactic(auto, using(crate::proofs::Infos::info_closed))]
+    pub(crate) fn info(
+        &self,
+        alloc: Global,
+        node: &Node,
+    ) -> Result<Option<Option<NodeInfo>>, AllocError>
+        ensures { IfOk result (λ found. (r : Register) (info : Option NodeInfo) → AreOf r self.now → found ≡ Some info
+            → info ≡ info_of (seen self.now.view r) node.now) }
+    {
+        match self.rows.get(node) {
+            Some(Some(row)) => Ok(Some(info_stated(alloc, &row.statement.details)?)),
+            Some(None) => Ok(Some(None)),
+            None => Ok(None),
         }
     }
 
@@ -116,7 +186,8 @@ impl Found {
             filings,
             mut rows,
             mut places,
-            wholes,
+            lists,
+            many,
         } = self;
         match put_place(alloc, &mut places, &node, &row) {
             Ok(()) => {}
@@ -128,7 +199,8 @@ impl Found {
                 filings,
                 rows,
                 places,
-                wholes,
+                lists,
+                many,
             }),
             Err(_) => None,
         }

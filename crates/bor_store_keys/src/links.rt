@@ -13,6 +13,7 @@ ghost use Rattle.bor_store_reads.specs.Answering.{Answers};
 ghost use Rattle.bor_store_keys.specs.Viewed.{rows_seen, seen};
 
 use crate::list::push_some;
+use crate::listed::links_listed;
 use crate::lookup::Lookup;
 use crate::nodes::{is_entity, is_node};
 use crate::opened::open_row;
@@ -164,6 +165,27 @@ fn links_into<S: Alter + Drop>(
     links_of(lookup, alloc, view, node, &records)
 }
 
+// The links into a node, of the lists where all was read.
+fn links_told<S: Alter + Drop>(
+    lookup: &mut Lookup<S>,
+    alloc: Global,
+    view: &View,
+    node: &Node,
+) -> Result<Vec<Link>, ReadError>
+    requires { lookup.old.in_transaction ≡ false }
+    ensures mode { lookup.new.in_transaction ≡ false }
+    ensures began { IsClean (state S.Store lookup.new) → IsClean (state S.Store lookup.old) }
+    ensures kept { IsClean (state S.Store lookup.new) → (state S.Store lookup.new).committed ≡ (state S.Store lookup.old).committed }
+    ensures answer { Answers (state S.Store lookup.old) (state S.Store lookup.new) result (λ r links.
+        AreLinksInto (seen view.now r) node.now links.items) }
+{
+    lookup.list_where_many(alloc, view)?;
+    match lookup.take_lists(view) {
+        Some(lists) => links_listed(lookup, view, lists, node),
+        None => links_into(lookup, alloc, view, node),
+    }
+}
+
 /// The links into a node on a day, of what the viewer sees: of each open relationship with this subject whose
 /// two ends are open, each once and in any order.
 pub fn read_links_into<S: Alter + Drop>(
@@ -181,5 +203,5 @@ pub fn read_links_into<S: Alter + Drop>(
         AreLinksInto (seen_at viewer.now day r) node.now links.items) }
 {
     let view = view_of(lookup, alloc, viewer, day)?;
-    links_into(lookup, alloc, &view, node)
+    links_told(lookup, alloc, &view, node)
 }

@@ -1,52 +1,43 @@
 //! A connection, with what was found over it for a viewer and a day.
 
-ghost use Rattle.std.specs.Prelude.{◌≡◌, false, map, option_map, slice_get, Option, Some, IfOk, IfSome, Vec};
-ghost use Rattle.std.specs.List.{flat_map};
-ghost use Rattle.std.specs.declared.alloc.Global.{Global};
+ghost use Rattle.std.specs.Prelude.{◌≡◌, false, length, map, nat_le, not, option_map, slice_get, Option, Some, IfOk, IfSome};
 ghost use Rattle.sqlite.specs.Held.{state};
 ghost use Rattle.bor_links.specs.declared.node.Node.{Node};
+ghost use Rattle.bor_links.specs.declared.node.NodeInfo.{NodeInfo};
 ghost use Rattle.bor_links.specs.declared.node.OpenNode.{OpenNode};
 ghost use Rattle.bor_links.specs.ByKey.{node_at};
 ghost use Rattle.bor_links.specs.Series.{open_at};
-ghost use Rattle.bor_register.specs.Register.{filings_of};
-ghost use Rattle.bods_read.specs.declared.details.Identifier.{Identifier};
-ghost use Rattle.bods_read.specs.declared.interest.Interest.{Interest};
-ghost use Rattle.bor_store_rows.specs.declared.rows.StatementRow.{StatementRow};
-ghost use Rattle.bor_store_rows.specs.Placed.{bare, identifier_rows, interest_rows};
-ghost use Rattle.bor_store_sql.specs.Shown.{IsClean};
-ghost use Rattle.bor_store_sql.specs.Selected.{identified_by, identifiers_at, in_declaration, in_filing, in_record, in_series, interests_at, placed_of, standing_at, with_subject};
+ghost use Rattle.bor_links.specs.Shown.{info_of};
+ghost use Rattle.bor_register.specs.Register.{Register, filings_of};
+ghost use Rattle.bor_register.specs.Rows.{visible};
+ghost use Rattle.bor_store_rows.specs.Placed.{bare, placed};
+ghost use Rattle.bor_store_sql.specs.Shown.{IsClean, ShowsIn};
+ghost use Rattle.bor_store_sql.specs.Selected.{identified_by, identifiers_at, in_record, in_series, interests_at, placed_of, standing_at, with_subject};
 ghost use Rattle.bor_store_reads.specs.Answering.{Answers};
-ghost use Rattle.bor_store_reads.specs.Asking.{is_number_seen, up_to};
-ghost use Rattle.bor_store_wholes.specs.Wholes.{IsWhole, record_at};
+ghost use Rattle.bor_store_reads.specs.Asking.{is_number_seen};
 ghost use Rattle.bor_store_keys.specs.Finding.{Holds};
 ghost use Rattle.bor_store_keys.specs.Signed.{record_standing};
-ghost use Rattle.bor_store_keys.specs.Viewed.{rows_seen};
-ghost use Rattle.bor_store_wholes.specs.Register.{ListsOf};
+ghost use Rattle.bor_store_keys.specs.Viewed.{rows_seen, seen};
 
-use crate::found::Found;
-use crate::records::records_at;
+use crate::found::{FilingKey, Found};
 use crate::view::View;
-use bods_read::{Identifier, Interest};
-use bor_links::{Node, OpenNode};
+use bor_chains::ListSource;
+use bor_links::{Node, NodeInfo, OpenNode};
 use bor_records::Row;
 use bor_store_reads::{
-    ReadError, identifiers_of_one, interests_of_one, is_number_seen, read_day, read_declaration,
-    read_identified, read_identifiers, read_interests, read_place, read_record, read_series,
-    read_subject,
+    ReadError, has_more, identifiers_of_one, interests_of_one, is_number_seen, read_day,
+    read_identified, read_place, read_record, read_series, read_subject, read_visible,
 };
 use bor_store_rows::{At, IdentifierRow, InterestRow, StatementRow};
-use bor_store_wholes::{
-    DeclarationKey, FilingKey, FilingLists, WholeDeclaration, WholeIdentifiers, WholeInterests,
-};
-use bor_terms::{AgentName, Day, Ident};
+use bor_terms::{AgentName, Day};
 use sqlite::{Alter, Connection};
 use std::alloc::{AllocError, Global};
 use std::marker::Model;
 
 /// A connection to a register's tables, with what a report was last told over it: of one viewer and day
 /// the filings that are seen and what nodes show, with where it stands. So a report reads each of them once.
-/// Where it reads much of a declaration, it reads the rest at once. All is forgotten where the connection is
-/// used for anything else.
+/// Where a report has met much of the register, the rest is read at once, and the report asks lists in
+/// memory. What was told is forgotten where the connection is used for anything else.
 #[derive(Drop)]
 pub struct Lookup<S: Alter + Drop> {
     conn: Connection<S>,
@@ -137,8 +128,12 @@ impl<S: Alter + Drop> Lookup<S> {
         )
     }
 
-    // The rows of a record's live statements, by filing and place.
-    fn series_read(&mut self, alloc: Global, node: &Node) -> Result<Vec<StatementRow>, ReadError>
+    /// The rows of a record's live statements, by filing and place.
+    pub(crate) fn series(
+        &mut self,
+        alloc: Global,
+        node: &Node,
+    ) -> Result<Vec<StatementRow>, ReadError>
         requires { self.old.in_transaction ≡ false }
         ensures mode { self.new.in_transaction ≡ false }
         ensures began { IsClean (state S.Store self.new) → IsClean (state S.Store self.old) }
@@ -155,8 +150,12 @@ impl<S: Alter + Drop> Lookup<S> {
         )
     }
 
-    // The rows of the live statements that name this record as their subject, by filing and place.
-    fn naming_read(&mut self, alloc: Global, node: &Node) -> Result<Vec<StatementRow>, ReadError>
+    /// The rows of the live statements that name this record as their subject, by filing and place.
+    pub(crate) fn naming(
+        &mut self,
+        alloc: Global,
+        node: &Node,
+    ) -> Result<Vec<StatementRow>, ReadError>
         requires { self.old.in_transaction ≡ false }
         ensures mode { self.new.in_transaction ≡ false }
         ensures began { IsClean (state S.Store self.new) → IsClean (state S.Store self.old) }
@@ -223,8 +222,12 @@ impl<S: Alter + Drop> Lookup<S> {
         read_place(&mut self.conn, alloc, at)
     }
 
-    // The interests of the statement at a place.
-    fn interests_read(&mut self, alloc: Global, at: &At) -> Result<Vec<InterestRow>, ReadError>
+    /// The interests of the statement at a place.
+    pub(crate) fn interests(
+        &mut self,
+        alloc: Global,
+        at: &At,
+    ) -> Result<Vec<InterestRow>, ReadError>
         requires { self.old.in_transaction ≡ false }
         ensures mode { self.new.in_transaction ≡ false }
         ensures began { IsClean (state S.Store self.new) → IsClean (state S.Store self.old) }
@@ -235,8 +238,12 @@ impl<S: Alter + Drop> Lookup<S> {
         interests_of_one(&mut self.conn, alloc, at)
     }
 
-    // The identifiers of the statement at a place.
-    fn identifiers_read(&mut self, alloc: Global, at: &At) -> Result<Vec<IdentifierRow>, ReadError>
+    /// The identifiers of the statement at a place.
+    pub(crate) fn identifiers(
+        &mut self,
+        alloc: Global,
+        at: &At,
+    ) -> Result<Vec<IdentifierRow>, ReadError>
         requires { self.old.in_transaction ≡ false }
         ensures mode { self.new.in_transaction ≡ false }
         ensures began { IsClean (state S.Store self.new) → IsClean (state S.Store self.old) }
@@ -247,54 +254,28 @@ impl<S: Alter + Drop> Lookup<S> {
         identifiers_of_one(&mut self.conn, alloc, at)
     }
 
-    // The rows of a declaration's live statements, where there are at most so many.
-    fn declaration_read(
-        &mut self,
-        alloc: Global,
-        agent: &AgentName,
-        declaration: &Ident,
-        most: u32,
-    ) -> Result<Option<Vec<StatementRow>>, ReadError>
+    // Whether there are more live statements than so many.
+    fn has_more(&mut self, most: u32) -> Result<bool, ReadError>
         requires { self.old.in_transaction ≡ false }
         ensures mode { self.new.in_transaction ≡ false }
         ensures began { IsClean (state S.Store self.new) → IsClean (state S.Store self.old) }
         ensures kept { IsClean (state S.Store self.new) → (state S.Store self.new).committed ≡ (state S.Store self.old).committed }
-        ensures answer { Answers (state S.Store self.old) (state S.Store self.new) result (λ r rows.
-            option_map (λ v. v.items) rows ≡ up_to most (map bare (in_declaration declaration.now (placed_of agent.now r)))) }
+        ensures answer { Answers (state S.Store self.old) (state S.Store self.new) result (λ r more.
+            more ≡ not (nat_le (length (placed r.members)) most)) }
     {
-        read_declaration(&mut self.conn, alloc, agent, declaration, most)
+        has_more(&mut self.conn, most)
     }
 
-    // The interests of a filing's live statements.
-    fn filing_interests_read(
-        &mut self,
-        alloc: Global,
-        key: &FilingKey,
-    ) -> Result<Vec<InterestRow>, ReadError>
+    // All rows that the viewer sees on the register's day.
+    fn visible(&mut self, alloc: Global, viewer: &AgentName) -> Result<Vec<Row>, ReadError>
         requires { self.old.in_transaction ≡ false }
         ensures mode { self.new.in_transaction ≡ false }
         ensures began { IsClean (state S.Store self.new) → IsClean (state S.Store self.old) }
         ensures kept { IsClean (state S.Store self.new) → (state S.Store self.new).committed ≡ (state S.Store self.old).committed }
         ensures answer { Answers (state S.Store self.old) (state S.Store self.new) result (λ r rows.
-            rows.items ≡ flat_map interest_rows (in_filing key.now.number (placed_of key.now.agent r))) }
+            rows.items ≡ visible viewer.now r.day r.members) }
     {
-        read_interests(&mut self.conn, alloc, &key.agent, key.number)
-    }
-
-    // The identifiers of a filing's live statements.
-    fn filing_identifiers_read(
-        &mut self,
-        alloc: Global,
-        key: &FilingKey,
-    ) -> Result<Vec<IdentifierRow>, ReadError>
-        requires { self.old.in_transaction ≡ false }
-        ensures mode { self.new.in_transaction ≡ false }
-        ensures began { IsClean (state S.Store self.new) → IsClean (state S.Store self.old) }
-        ensures kept { IsClean (state S.Store self.new) → (state S.Store self.new).committed ≡ (state S.Store self.old).committed }
-        ensures answer { Answers (state S.Store self.old) (state S.Store self.new) result (λ r rows.
-            rows.items ≡ flat_map identifier_rows (in_filing key.now.number (placed_of key.now.agent r))) }
-    {
-        read_identifiers(&mut self.conn, alloc, &key.agent, key.number)
+        read_visible(&mut self.conn, alloc, viewer)
     }
 }
 
@@ -341,6 +322,22 @@ impl<S: Alter + Drop> Lookup<S> {
         }
     }
 
+    /// What a chain asks of the node that a record makes, where that was found.
+    pub(crate) fn info(
+        &self,
+        alloc: Global,
+        view: &View,
+        node: &Node,
+    ) -> Result<Option<Option<NodeInfo>>, AllocError>
+        ensures { IfOk result (λ found. (info : Option NodeInfo) → found ≡ Some info → Holds (state S.Store self.now) (λ r.
+            info ≡ info_of (seen view.now r) node.now)) }
+    {
+        match &self.found {
+            Some(found) if found.view.is(view) => found.info(alloc, node),
+            _ => Ok(None),
+        }
+    }
+
     /// The node that a record makes, where that was found.
     pub(crate) fn node(
         &self,
@@ -379,286 +376,106 @@ impl<S: Alter + Drop> Lookup<S> {
         }
     }
 
-    // The rows of a record's live statements, where its declaration was read whole.
-    fn whole_series(
-        &self,
-        alloc: Global,
-        node: &Node,
-    ) -> Result<Option<Vec<StatementRow>>, AllocError>
-        ensures { IfOk result (λ found. (rows : Vec StatementRow Global) → found ≡ Some rows → Holds (state S.Store self.now) (λ r.
-            rows.items ≡ map bare (in_series node.now.declaration node.now.rec (placed_of node.now.agent r)))) }
+    // How many statements a register has at most of which all are read now.
+    fn most(&mut self, view: &View) -> Option<u32>
+        ensures kept { self.new ≡ self.old }
+        ensures today { IfSome result (λ _. Holds (state S.Store self.old) (λ r. view.now.today ≡ r.day)) }
     {
-        match &self.found {
-            Some(found) => found.wholes.series(alloc, node),
-            None => Ok(None),
+        match self.found.take() {
+            Some(mut found) if found.view.is(view) => {
+                let most = found.most();
+                self.found = Some(found);
+                most
+            }
+            other => {
+                self.found = other;
+                None
+            }
         }
     }
 
-    // The records of the live statements that name this record as their subject, where its declaration was
-    // read whole.
-    fn whole_naming(&self, alloc: Global, node: &Node) -> Result<Option<Vec<Node>>, AllocError>
-        ensures { IfOk result (λ found. (nodes : Vec Node Global) → found ≡ Some nodes → Holds (state S.Store self.now) (λ r.
-            nodes.items ≡ map record_at (map bare (with_subject node.now.declaration node.now.rec (placed_of node.now.agent r))))) }
-    {
-        match &self.found {
-            Some(found) => found.wholes.naming(alloc, node),
-            None => Ok(None),
-        }
-    }
-
-    // The interests of the statement at a place, where its filing's were read.
-    fn whole_interests(&self, alloc: Global, at: &At) -> Result<Option<Vec<Interest>>, AllocError>
-        ensures { IfOk result (λ found. (interests : Vec Interest Global) → found ≡ Some interests → Holds (state S.Store self.now) (λ r.
-            interests.items ≡ map (λ row. row.interest) (interests_at at.now r.members))) }
-    {
-        match &self.found {
-            Some(found) => found.wholes.interests(alloc, at),
-            None => Ok(None),
-        }
-    }
-
-    // The identifiers of the statement at a place, where its filing's were read.
-    fn whole_identifiers(
-        &self,
-        alloc: Global,
-        at: &At,
-    ) -> Result<Option<Vec<Identifier>>, AllocError>
-        ensures { IfOk result (λ found. (identifiers : Vec Identifier Global) → found ≡ Some identifiers → Holds (state S.Store self.now) (λ r.
-            identifiers.items ≡ map (λ row. row.identifier) (identifiers_at at.now r.members))) }
-    {
-        match &self.found {
-            Some(found) => found.wholes.identifiers(alloc, at),
-            None => Ok(None),
-        }
-    }
-
-    // Counts a statement of a declaration that is read alone, and tells how many statements the declaration
-    // may have, where it is to be read whole.
-    fn count_declaration(
-        &mut self,
-        alloc: Global,
-        agent: &AgentName,
-        declaration: &Ident,
-    ) -> Result<Option<u32>, AllocError>
+    // Notes all rows that the viewer sees, as lists; nothing where memory is wanting.
+    fn note_rows(&mut self, alloc: Global, view: &View, rows: &[Row])
+        requires today { Holds (state S.Store self.old) (λ r. view.now.today ≡ r.day) }
+        requires rows { Holds (state S.Store self.old) (λ r. rows.now ≡ rows_seen view.now r) }
         ensures { self.new ≡ self.old }
     {
-        let key = DeclarationKey::new(alloc, agent, declaration)?;
-        match self.found.take() {
-            Some(mut found) => {
-                let most = found.wholes.ask_declaration(key)?;
-                self.found = Some(found);
-                Ok(most)
+        if let Ok(view) = view.copy(alloc) {
+            if let Ok(lists) = ListSource::from_rows(alloc, rows, view.day) {
+                self.found = Some(Found::listed(alloc, view, lists));
             }
-            None => Ok(None),
         }
     }
 
-    // Counts a statement of a filing whose list is read alone, and tells whether the filing's are to be read.
-    fn count_filing(&mut self, key: FilingKey) -> Result<bool, AllocError>
+    /// What the viewer sees as lists, where all was read. They are taken out, so that they can be asked.
+    pub(crate) fn take_lists(&mut self, view: &View) -> Option<ListSource>
+        ensures kept { self.new ≡ self.old }
+        ensures lists { IfSome result (λ lists. Holds (state S.Store self.old) (λ r. lists.shown ≡ seen view.now r)) }
+    {
+        match self.found.take() {
+            Some(mut found) if found.view.is(view) => {
+                let lists = found.take_lists();
+                self.found = Some(found);
+                lists
+            }
+            other => {
+                self.found = other;
+                None
+            }
+        }
+    }
+
+    /// Puts them back.
+    pub(crate) fn put_lists(&mut self, view: &View, lists: ListSource)
+        requires { Holds (state S.Store self.old) (λ r. lists.shown ≡ seen view.now r) }
         ensures { self.new ≡ self.old }
     {
         match self.found.take() {
-            Some(mut found) => {
-                let often = found.wholes.ask_filing(key)?;
+            Some(mut found) if found.view.is(view) => {
+                found.lists = Some(lists);
                 self.found = Some(found);
-                Ok(often)
             }
-            None => Ok(false),
-        }
-    }
-
-    // Notes a declaration that was read whole.
-    fn note_declaration(
-        &mut self,
-        key: DeclarationKey,
-        whole: WholeDeclaration,
-    ) -> Result<(), AllocError>
-        requires { Holds (state S.Store self.old) (λ r. IsWhole (map bare (in_declaration key.declaration (placed_of key.agent r))) whole) }
-        ensures { self.new ≡ self.old }
-    {
-        match self.found.take() {
-            Some(mut found) => {
-                found.wholes.put_declaration(key, whole)?;
-                self.found = Some(found);
-                Ok(())
-            }
-            None => Ok(()),
-        }
-    }
-
-    // Notes the lists of a filing's statements.
-    fn note_lists(&mut self, key: FilingKey, lists: FilingLists) -> Result<(), AllocError>
-        requires { Holds (state S.Store self.old) (λ r. ListsOf r key lists) }
-        ensures { self.new ≡ self.old }
-    {
-        match self.found.take() {
-            Some(mut found) => {
-                found.wholes.put_filing(key, lists)?;
-                self.found = Some(found);
-                Ok(())
-            }
-            None => Ok(()),
+            other => self.found = other,
         }
     }
 }
 
-// What is found, or read of the tables.
+// What is read at once.
 impl<S: Alter + Drop> Lookup<S> {
-    // Reads a declaration whole, where it has at most so many statements.
-    fn learn_declaration(
-        &mut self,
-        alloc: Global,
-        agent: &AgentName,
-        declaration: &Ident,
-        most: u32,
-    ) -> Result<(), ReadError>
-        requires { self.old.in_transaction ≡ false }
+    // Reads and notes all rows that the viewer sees. Where memory is wanting for them, nothing is noted.
+    fn list(&mut self, alloc: Global, view: &View) -> Result<(), ReadError>
+        requires mode { self.old.in_transaction ≡ false }
+        requires today { Holds (state S.Store self.old) (λ r. view.now.today ≡ r.day) }
         ensures mode { self.new.in_transaction ≡ false }
         ensures began { IsClean (state S.Store self.new) → IsClean (state S.Store self.old) }
         ensures kept { IsClean (state S.Store self.new) → (state S.Store self.new).committed ≡ (state S.Store self.old).committed }
-        ensures answer { Answers (state S.Store self.old) (state S.Store self.new) result (λ r _. Unit) }
+        ensures answer { Answers (state S.Store self.old) (state S.Store self.new) result (λ r _. Unit {0}) }
     {
-        match self.declaration_read(alloc, agent, declaration, most)? {
-            Some(rows) => {
-                let key = DeclarationKey::new(alloc, agent, declaration)?;
-                self.note_declaration(key, WholeDeclaration::new(alloc, rows)?)?;
+        match self.visible(alloc, &view.viewer) {
+            Ok(rows) => {
+                self.note_rows(alloc, view, &rows);
                 Ok(())
             }
-            None => Ok(()),
+            Err(ReadError::Memory) => Ok(()),
+            Err(error) => Err(error),
         }
     }
 
-    // Counts a statement of a declaration that is read alone, and reads the declaration whole where many were.
-    fn ask_declaration(
-        &mut self,
-        alloc: Global,
-        agent: &AgentName,
-        declaration: &Ident,
-    ) -> Result<(), ReadError>
+    /// Where many records were read one by one, and the register isn't much larger, reads and notes all
+    /// that the viewer sees.
+    pub(crate) fn list_where_many(&mut self, alloc: Global, view: &View) -> Result<(), ReadError>
         requires { self.old.in_transaction ≡ false }
         ensures mode { self.new.in_transaction ≡ false }
         ensures began { IsClean (state S.Store self.new) → IsClean (state S.Store self.old) }
         ensures kept { IsClean (state S.Store self.new) → (state S.Store self.new).committed ≡ (state S.Store self.old).committed }
-        ensures answer { Answers (state S.Store self.old) (state S.Store self.new) result (λ r _. Unit) }
+        ensures answer { Answers (state S.Store self.old) (state S.Store self.new) result (λ r _. Unit {0}) }
     {
-        match self.count_declaration(alloc, agent, declaration)? {
-            Some(most) => self.learn_declaration(alloc, agent, declaration, most),
-            None => Ok(()),
-        }
-    }
-
-    // Reads the lists of a filing's statements.
-    fn learn_lists(&mut self, alloc: Global, key: FilingKey) -> Result<(), ReadError>
-        requires { self.old.in_transaction ≡ false }
-        ensures mode { self.new.in_transaction ≡ false }
-        ensures began { IsClean (state S.Store self.new) → IsClean (state S.Store self.old) }
-        ensures kept { IsClean (state S.Store self.new) → (state S.Store self.new).committed ≡ (state S.Store self.old).committed }
-        ensures answer { Answers (state S.Store self.old) (state S.Store self.new) result (λ r _. Unit) }
-    {
-        let interests = self.filing_interests_read(alloc, &key)?;
-        let identifiers = self.filing_identifiers_read(alloc, &key)?;
-        let lists = FilingLists {
-            interests: WholeInterests::new(alloc, interests)?,
-            identifiers: WholeIdentifiers::new(alloc, identifiers)?,
+        let Some(most) = self.most(view) else {
+            return Ok(());
         };
-        self.note_lists(key, lists)?;
-        Ok(())
-    }
-
-    // Counts a statement of a filing whose list is read alone, and reads those of the filing where many were.
-    fn ask_lists(&mut self, alloc: Global, at: &At) -> Result<(), ReadError>
-        requires { self.old.in_transaction ≡ false }
-        ensures mode { self.new.in_transaction ≡ false }
-        ensures began { IsClean (state S.Store self.new) → IsClean (state S.Store self.old) }
-        ensures kept { IsClean (state S.Store self.new) → (state S.Store self.new).committed ≡ (state S.Store self.old).committed }
-        ensures answer { Answers (state S.Store self.old) (state S.Store self.new) result (λ r _. Unit) }
-    {
-        if self.count_filing(FilingKey::of(alloc, at)?)? {
-            self.learn_lists(alloc, FilingKey::of(alloc, at)?)
-        } else {
-            Ok(())
+        if self.has_more(most)? {
+            return Ok(());
         }
-    }
-
-    /// The rows of a record's live statements, by filing and place.
-    pub(crate) fn series(
-        &mut self,
-        alloc: Global,
-        node: &Node,
-    ) -> Result<Vec<StatementRow>, ReadError>
-        requires { self.old.in_transaction ≡ false }
-        ensures mode { self.new.in_transaction ≡ false }
-        ensures began { IsClean (state S.Store self.new) → IsClean (state S.Store self.old) }
-        ensures kept { IsClean (state S.Store self.new) → (state S.Store self.new).committed ≡ (state S.Store self.old).committed }
-        ensures answer { Answers (state S.Store self.old) (state S.Store self.new) result (λ r rows.
-            rows.items ≡ map bare (in_series node.now.declaration node.now.rec (placed_of node.now.agent r))) }
-    {
-        match self.whole_series(alloc, node)? {
-            Some(rows) => Ok(rows),
-            None => {
-                self.ask_declaration(alloc, &node.agent, &node.declaration)?;
-                self.series_read(alloc, node)
-            }
-        }
-    }
-
-    /// The records of the live statements that name this record as their subject, by filing and place.
-    pub(crate) fn naming(&mut self, alloc: Global, node: &Node) -> Result<Vec<Node>, ReadError>
-        requires { self.old.in_transaction ≡ false }
-        ensures mode { self.new.in_transaction ≡ false }
-        ensures began { IsClean (state S.Store self.new) → IsClean (state S.Store self.old) }
-        ensures kept { IsClean (state S.Store self.new) → (state S.Store self.new).committed ≡ (state S.Store self.old).committed }
-        ensures answer { Answers (state S.Store self.old) (state S.Store self.new) result (λ r nodes.
-            nodes.items ≡ map record_at (map bare (with_subject node.now.declaration node.now.rec (placed_of node.now.agent r)))) }
-    {
-        match self.whole_naming(alloc, node)? {
-            Some(nodes) => Ok(nodes),
-            None => {
-                let rows = self.naming_read(alloc, node)?;
-                Ok(records_at(alloc, rows)?)
-            }
-        }
-    }
-
-    /// The interests of the statement at a place.
-    pub(crate) fn interests(&mut self, alloc: Global, at: &At) -> Result<Vec<Interest>, ReadError>
-        requires { self.old.in_transaction ≡ false }
-        ensures mode { self.new.in_transaction ≡ false }
-        ensures began { IsClean (state S.Store self.new) → IsClean (state S.Store self.old) }
-        ensures kept { IsClean (state S.Store self.new) → (state S.Store self.new).committed ≡ (state S.Store self.old).committed }
-        ensures answer { Answers (state S.Store self.old) (state S.Store self.new) result (λ r interests.
-            interests.items ≡ map (λ row. row.interest) (interests_at at.now r.members)) }
-    {
-        match self.whole_interests(alloc, at)? {
-            Some(interests) => Ok(interests),
-            None => {
-                self.ask_lists(alloc, at)?;
-                let rows = self.interests_read(alloc, at)?;
-                Ok(rows.into_iter().map(|row| row.interest).collect(alloc)?)
-            }
-        }
-    }
-
-    /// The identifiers of the statement at a place.
-    pub(crate) fn identifiers(
-        &mut self,
-        alloc: Global,
-        at: &At,
-    ) -> Result<Vec<Identifier>, ReadError>
-        requires { self.old.in_transaction ≡ false }
-        ensures mode { self.new.in_transaction ≡ false }
-        ensures began { IsClean (state S.Store self.new) → IsClean (state S.Store self.old) }
-        ensures kept { IsClean (state S.Store self.new) → (state S.Store self.new).committed ≡ (state S.Store self.old).committed }
-        ensures answer { Answers (state S.Store self.old) (state S.Store self.new) result (λ r identifiers.
-            identifiers.items ≡ map (λ row. row.identifier) (identifiers_at at.now r.members)) }
-    {
-        match self.whole_identifiers(alloc, at)? {
-            Some(identifiers) => Ok(identifiers),
-            None => {
-                self.ask_lists(alloc, at)?;
-                let rows = self.identifiers_read(alloc, at)?;
-                Ok(rows.into_iter().map(|row| row.identifier).collect(alloc)?)
-            }
-        }
+        self.list(alloc, view)
     }
 }

@@ -10,6 +10,7 @@ ghost use Rattle.bor_store_sql.specs.Shown.{IsClean};
 ghost use Rattle.bor_store_reads.specs.Answering.{Answers};
 ghost use Rattle.bor_store_keys.specs.Viewed.{rows_seen, seen};
 
+use crate::listed::node_listed;
 use crate::lookup::Lookup;
 use crate::opened::open_row;
 use crate::view::View;
@@ -20,63 +21,6 @@ use bor_store_reads::ReadError;
 use bor_terms::{AgentName, Day};
 use sqlite::Alter;
 use std::alloc::{AllocError, Global};
-
-// What a chain asks of a node.
-fn info_in<S: Alter + Drop>(
-    lookup: &mut Lookup<S>,
-    alloc: Global,
-    view: &View,
-    node: &Node,
-) -> Result<Option<NodeInfo>, ReadError>
-    requires { lookup.old.in_transaction ≡ false }
-    ensures mode { lookup.new.in_transaction ≡ false }
-    ensures began { IsClean (state S.Store lookup.new) → IsClean (state S.Store lookup.old) }
-    ensures kept { IsClean (state S.Store lookup.new) → (state S.Store lookup.new).committed ≡ (state S.Store lookup.old).committed }
-    ensures answer { Answers (state S.Store lookup.old) (state S.Store lookup.new) result (λ r info.
-        info ≡ info_of (seen view.now r) node.now) }
-{
-    match node_in(lookup, alloc, view, node)? {
-        Some(one) => Ok(Some(one.info)),
-        None => Ok(None),
-    }
-}
-
-/// Whether the record is an open entity.
-pub(crate) fn is_entity<S: Alter + Drop>(
-    lookup: &mut Lookup<S>,
-    alloc: Global,
-    view: &View,
-    node: &Node,
-) -> Result<bool, ReadError>
-    requires { lookup.old.in_transaction ≡ false }
-    ensures mode { lookup.new.in_transaction ≡ false }
-    ensures began { IsClean (state S.Store lookup.new) → IsClean (state S.Store lookup.old) }
-    ensures kept { IsClean (state S.Store lookup.new) → (state S.Store lookup.new).committed ≡ (state S.Store lookup.old).committed }
-    ensures answer { Answers (state S.Store lookup.old) (state S.Store lookup.new) result (λ r is.
-        is ≡ is_entity_info (info_of (seen view.now r) node.now)) }
-{
-    match info_in(lookup, alloc, view, node)? {
-        Some(info) => Ok(info.is_entity()),
-        None => Ok(false),
-    }
-}
-
-/// Whether the record is an open entity or person.
-pub(crate) fn is_node<S: Alter + Drop>(
-    lookup: &mut Lookup<S>,
-    alloc: Global,
-    view: &View,
-    node: &Node,
-) -> Result<bool, ReadError>
-    requires { lookup.old.in_transaction ≡ false }
-    ensures mode { lookup.new.in_transaction ≡ false }
-    ensures began { IsClean (state S.Store lookup.new) → IsClean (state S.Store lookup.old) }
-    ensures kept { IsClean (state S.Store lookup.new) → (state S.Store lookup.new).committed ≡ (state S.Store lookup.old).committed }
-    ensures answer { Answers (state S.Store lookup.old) (state S.Store lookup.new) result (λ r is.
-        is ≡ is_some_info (info_of (seen view.now r) node.now)) }
-{
-    Ok(info_in(lookup, alloc, view, node)?.is_some())
-}
 
 // The node that a row makes.
 fn node_made(alloc: Global, row: &Option<Row>) -> Result<Option<OpenNode>, AllocError>
@@ -128,6 +72,104 @@ pub(crate) fn node_in<S: Alter + Drop>(
     }
 }
 
+// What a chain asks of a node, as the tables have it.
+fn info_read<S: Alter + Drop>(
+    lookup: &mut Lookup<S>,
+    alloc: Global,
+    view: &View,
+    node: &Node,
+) -> Result<Option<NodeInfo>, ReadError>
+    requires { lookup.old.in_transaction ≡ false }
+    ensures mode { lookup.new.in_transaction ≡ false }
+    ensures began { IsClean (state S.Store lookup.new) → IsClean (state S.Store lookup.old) }
+    ensures kept { IsClean (state S.Store lookup.new) → (state S.Store lookup.new).committed ≡ (state S.Store lookup.old).committed }
+    ensures answer { Answers (state S.Store lookup.old) (state S.Store lookup.new) result (λ r info.
+        info ≡ info_of (seen view.now r) node.now) }
+{
+    match node_read(lookup, alloc, view, node)? {
+        Some(one) => Ok(Some(one.info)),
+        None => Ok(None),
+    }
+}
+
+// What a chain asks of a node, which is read of the tables once.
+fn info_in<S: Alter + Drop>(
+    lookup: &mut Lookup<S>,
+    alloc: Global,
+    view: &View,
+    node: &Node,
+) -> Result<Option<NodeInfo>, ReadError>
+    requires { lookup.old.in_transaction ≡ false }
+    ensures mode { lookup.new.in_transaction ≡ false }
+    ensures began { IsClean (state S.Store lookup.new) → IsClean (state S.Store lookup.old) }
+    ensures kept { IsClean (state S.Store lookup.new) → (state S.Store lookup.new).committed ≡ (state S.Store lookup.old).committed }
+    ensures answer { Answers (state S.Store lookup.old) (state S.Store lookup.new) result (λ r info.
+        info ≡ info_of (seen view.now r) node.now) }
+{
+    match lookup.info(alloc, view, node)? {
+        Some(info) => Ok(info),
+        None => info_read(lookup, alloc, view, node),
+    }
+}
+
+/// Whether the record is an open entity.
+pub(crate) fn is_entity<S: Alter + Drop>(
+    lookup: &mut Lookup<S>,
+    alloc: Global,
+    view: &View,
+    node: &Node,
+) -> Result<bool, ReadError>
+    requires { lookup.old.in_transaction ≡ false }
+    ensures mode { lookup.new.in_transaction ≡ false }
+    ensures began { IsClean (state S.Store lookup.new) → IsClean (state S.Store lookup.old) }
+    ensures kept { IsClean (state S.Store lookup.new) → (state S.Store lookup.new).committed ≡ (state S.Store lookup.old).committed }
+    ensures answer { Answers (state S.Store lookup.old) (state S.Store lookup.new) result (λ r is.
+        is ≡ is_entity_info (info_of (seen view.now r) node.now)) }
+{
+    match info_in(lookup, alloc, view, node)? {
+        Some(info) => Ok(info.is_entity()),
+        None => Ok(false),
+    }
+}
+
+/// Whether the record is an open entity or person.
+pub(crate) fn is_node<S: Alter + Drop>(
+    lookup: &mut Lookup<S>,
+    alloc: Global,
+    view: &View,
+    node: &Node,
+) -> Result<bool, ReadError>
+    requires { lookup.old.in_transaction ≡ false }
+    ensures mode { lookup.new.in_transaction ≡ false }
+    ensures began { IsClean (state S.Store lookup.new) → IsClean (state S.Store lookup.old) }
+    ensures kept { IsClean (state S.Store lookup.new) → (state S.Store lookup.new).committed ≡ (state S.Store lookup.old).committed }
+    ensures answer { Answers (state S.Store lookup.old) (state S.Store lookup.new) result (λ r is.
+        is ≡ is_some_info (info_of (seen view.now r) node.now)) }
+{
+    Ok(info_in(lookup, alloc, view, node)?.is_some())
+}
+
+// What a chain asks of a node, of the lists where all was read.
+fn info_told<S: Alter + Drop>(
+    lookup: &mut Lookup<S>,
+    alloc: Global,
+    view: &View,
+    node: &Node,
+) -> Result<Option<NodeInfo>, ReadError>
+    requires { lookup.old.in_transaction ≡ false }
+    ensures mode { lookup.new.in_transaction ≡ false }
+    ensures began { IsClean (state S.Store lookup.new) → IsClean (state S.Store lookup.old) }
+    ensures kept { IsClean (state S.Store lookup.new) → (state S.Store lookup.new).committed ≡ (state S.Store lookup.old).committed }
+    ensures answer { Answers (state S.Store lookup.old) (state S.Store lookup.new) result (λ r info.
+        info ≡ info_of (seen view.now r) node.now) }
+{
+    lookup.list_where_many(alloc, view)?;
+    match lookup.take_lists(view) {
+        Some(lists) => node_listed(lookup, view, lists, node),
+        None => info_in(lookup, alloc, view, node),
+    }
+}
+
 /// What a chain asks of a node on a day, of what the viewer sees; `None` where no open record of an entity
 /// or a person is there.
 pub fn read_node<S: Alter + Drop>(
@@ -145,5 +187,5 @@ pub fn read_node<S: Alter + Drop>(
         info ≡ info_of (seen_at viewer.now day r) node.now) }
 {
     let view = view_of(lookup, alloc, viewer, day)?;
-    info_in(lookup, alloc, &view, node)
+    info_told(lookup, alloc, &view, node)
 }

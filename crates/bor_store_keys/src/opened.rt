@@ -12,12 +12,47 @@ ghost use Rattle.bor_store_keys.specs.Viewed.{rows_seen};
 use crate::latest::open_statement;
 use crate::lookup::Lookup;
 use crate::view::View;
+use bods_read::{Identifier, Interest};
 use bor_links::Node;
 use bor_records::Row;
 use bor_store_reads::ReadError;
-use bor_store_rows::{Part, StatementRow};
+use bor_store_rows::{At, Part, StatementRow};
 use sqlite::Alter;
 use std::alloc::Global;
+
+// The interests of the statement at this place.
+fn interests<S: Alter + Drop>(
+    lookup: &mut Lookup<S>,
+    alloc: Global,
+    at: &At,
+) -> Result<Vec<Interest>, ReadError>
+    requires { lookup.old.in_transaction ≡ false }
+    ensures mode { lookup.new.in_transaction ≡ false }
+    ensures began { IsClean (state S.Store lookup.new) → IsClean (state S.Store lookup.old) }
+    ensures kept { IsClean (state S.Store lookup.new) → (state S.Store lookup.new).committed ≡ (state S.Store lookup.old).committed }
+    ensures answer { Answers (state S.Store lookup.old) (state S.Store lookup.new) result (λ r interests.
+        interests.items ≡ map (λ row. row.interest) (interests_at at.now r.members)) }
+{
+    let rows = lookup.interests(alloc, at)?;
+    Ok(rows.into_iter().map(|row| row.interest).collect(alloc)?)
+}
+
+// The identifiers of the statement at this place.
+fn identifiers<S: Alter + Drop>(
+    lookup: &mut Lookup<S>,
+    alloc: Global,
+    at: &At,
+) -> Result<Vec<Identifier>, ReadError>
+    requires { lookup.old.in_transaction ≡ false }
+    ensures mode { lookup.new.in_transaction ≡ false }
+    ensures began { IsClean (state S.Store lookup.new) → IsClean (state S.Store lookup.old) }
+    ensures kept { IsClean (state S.Store lookup.new) → (state S.Store lookup.new).committed ≡ (state S.Store lookup.old).committed }
+    ensures answer { Answers (state S.Store lookup.old) (state S.Store lookup.new) result (λ r identifiers.
+        identifiers.items ≡ map (λ row. row.identifier) (identifiers_at at.now r.members)) }
+{
+    let rows = lookup.identifiers(alloc, at)?;
+    Ok(rows.into_iter().map(|row| row.identifier).collect(alloc)?)
+}
 
 // The row of a statement with its lists: an entity's identifiers, or a relationship's interests.
 fn with_lists<S: Alter + Drop>(
@@ -34,12 +69,12 @@ fn with_lists<S: Alter + Drop>(
 {
     match &row.part {
         Part::Entity { .. } => {
-            let identifiers = lookup.identifiers(alloc, &row.at)?;
+            let identifiers = identifiers(lookup, alloc, &row.at)?;
             Ok(row.with(Vec::new(alloc), identifiers).into_row())
         }
         Part::Person { .. } => Ok(row.with(Vec::new(alloc), Vec::new(alloc)).into_row()),
         Part::Relationship { .. } => {
-            let interests = lookup.interests(alloc, &row.at)?;
+            let interests = interests(lookup, alloc, &row.at)?;
             Ok(row.with(interests, Vec::new(alloc)).into_row())
         }
     }

@@ -7,8 +7,7 @@ ghost use Rattle.bor_store_rows.specs.Placed.{placed};
 ghost use Rattle.bor_store_sql.specs.Selected.{in_record, placed_of, with_subject};
 ghost use Rattle.bor_store_sql.specs.Shown.{IsClean};
 ghost use Rattle.bor_store_reads.specs.Answering.{Answers};
-ghost use Rattle.bor_store_wholes.specs.Wholes.{record_at};
-ghost use Rattle.bor_store_keys.specs.Recorded.{CoverRecords};
+ghost use Rattle.bor_store_keys.specs.Recorded.{CoverRecords, record_at};
 ghost use Rattle.bor_store_keys.specs.Signed.{record_standing, with_identifier, with_sign};
 
 use crate::list::push_some;
@@ -30,8 +29,8 @@ fn record_at(row: StatementRow) -> Node
     }
 }
 
-/// The records that these statements are of.
-pub(crate) fn records_at(alloc: Global, rows: Vec<StatementRow>) -> Result<Vec<Node>, AllocError>
+// The records that these statements are of.
+fn records_at(alloc: Global, rows: Vec<StatementRow>) -> Result<Vec<Node>, AllocError>
     ensures { IfOk result (λ nodes. nodes.items ≡ map record_at rows.items) }
 {
     rows.into_iter().map(|row| record_at(row)).collect(alloc)
@@ -50,7 +49,8 @@ pub(crate) fn records_into<S: Alter + Drop>(
     ensures answer { Answers (state S.Store lookup.old) (state S.Store lookup.new) result (λ r records.
         CoverRecords (with_subject node.now.declaration node.now.rec (placed_of node.now.agent r)) records.items) }
 {
-    let records = lookup.naming(alloc, node)?;
+    let rows = lookup.naming(alloc, node)?;
+    let records = records_at(alloc, rows)?;
     Ok(once(records)?)
 }
 

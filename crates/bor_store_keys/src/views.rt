@@ -7,10 +7,10 @@ ghost use Rattle.bor_store_sql.specs.Shown.{IsClean};
 ghost use Rattle.bor_store_reads.specs.Answering.{Answers};
 ghost use Rattle.bor_store_reads.specs.Asking.{is_number_seen};
 
+use crate::found::FilingKey;
 use crate::lookup::Lookup;
 use crate::view::View;
 use bor_store_reads::ReadError;
-use bor_store_wholes::FilingKey;
 use bor_terms::{AgentName, Day};
 use sqlite::Alter;
 use std::alloc::Global;

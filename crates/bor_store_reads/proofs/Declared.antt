@@ -1,9 +1,8 @@
 -- The statements of a declaration with their lists, and which of them a viewer sees.
-use Rattle.std.proofs.Common.{◌≡◌, ℕ, ℤ, ◌+◌, ◌<◌, List, [], ◌∷◌, ◌++◌, map, length, nat_le, not, true≢false, append-nil, append_assoc, Bool, true, false, cond, Option, Some, None, option_map, refl, sym, ap, ap₂, ◌∙◌, slice_get, arith}
+use Rattle.std.proofs.Common.{◌≡◌, ℕ, ℤ, ◌+◌, ◌<◌, List, [], ◌∷◌, ◌++◌, map, append-nil, append_assoc, Bool, true, false, cond, Option, Some, None, option_map, refl, sym, ap, ap₂, ◌∙◌, slice_get, arith}
 use Rattle.std.specs.Prelude.{All, ◌==◌, ◌&&◌, ◌||◌, filter, if◌then◌else◌}
 use Rattle.std.specs.List.{AllByRecursion, flat_map, list_any}
 use Rattle.std.proofs.lemmas.Bool.Decides.{nat_tests}
-use Rattle.std.proofs.lemmas.List.{length-map}
 use Rattle.std.proofs.lemmas.List.Elements.{All-nil, All-cons, All-head, All-tail}
 use Rattle.std.proofs.lemmas.List.Folds.{flat_map-map}
 use Rattle.std.proofs.lemmas.Option.{none-some, same_Some}
@@ -26,7 +25,7 @@ use Rattle.bor_store_rows.specs.Seen.{is_line_visible, row_placed}
 use Rattle.bor_store_rows.specs.Stored.{AreNumbered, IsStored}
 use Rattle.bor_store_rows.proofs.Apart.{all_apart}
 use Rattle.bor_store_sql.specs.Selected.{in_declaration, numbered, placed_of}
-use Rattle.bor_store_reads.specs.Asking.{is_number_seen, part_identifiers, part_interests, up_to}
+use Rattle.bor_store_reads.specs.Asking.{is_number_seen, part_identifiers, part_interests}
 use Rattle.bor_store_reads.proofs.Lists.{all_left}
 use Rattle.bor_store_reads.proofs.FoundStatements.{own_placed}
 
@@ -167,23 +166,3 @@ next_seen s out more true p left rest total whole steps seen pushed =
 next_seen s out more false p left rest total whole steps seen pushed =
     let after : map row_placed (filter s (p ∷ rest)) ≡ map row_placed (filter s rest) = rw seen refl in
     ap (λ l. l ++ map row_placed (filter s rest)) (pushed ∙ append-nil out) ∙ ap (λ l. out ++ l) (sym (ap (λ l. map row_placed (filter s l)) steps ∙ after)) ∙ whole
-
--- ---- at most so many
-
-no_item : {X : Type 0} (b : Bool) (x : X) → true ≡ not b → None ≡ (if b then Some x else None)
-no_item true x e = absurd (true≢false e)
-no_item false x e = refl
-
-one_item : {X : Type 0} (b : Bool) (x y : X) → false ≡ not b → y ≡ x → Some y ≡ (if b then Some x else None)
-one_item true x y e same = ap Some same
-one_item false x y e same = absurd (true≢false (sym e))
-
--- a map leaves how many there are
-up_to-map : {X Y : Type 0} (f : X → Y) (n : ℕ) (xs : List X) → up_to n (map f xs) ≡ (if nat_le (length xs) n then Some (map f xs) else None)
-up_to-map f n xs = ap (λ l. if nat_le l n then Some (map f xs) else None) (length-map xs f)
-
-pub none_up_to : {X Y : Type 0} (f : X → Y) (n : ℕ) (xs : List X) → true ≡ not (nat_le (length xs) n) → None ≡ up_to n (map f xs)
-none_up_to f n xs more = no_item (nat_le (length xs) n) (map f xs) more ∙ sym (up_to-map f n xs)
-
-pub all_up_to : {X Y : Type 0} (f : X → Y) (n : ℕ) (xs : List X) (ys : List Y) → false ≡ not (nat_le (length xs) n) → ys ≡ map f xs → Some ys ≡ up_to n (map f xs)
-all_up_to f n xs ys more same = one_item (nat_le (length xs) n) (map f xs) ys more same ∙ sym (up_to-map f n xs)

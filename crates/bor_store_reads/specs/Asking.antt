@@ -1,5 +1,5 @@
 -- What is asked for the statements of a declaration, row by row.
-use Rattle.std.specs.Prelude.{◌≡◌, ℕ, ℤ, Bool, if◌then◌else◌, List, [], length, Option, Some, None, nat_le, ◌==◌, ◌&&◌}
+use Rattle.std.specs.Prelude.{◌≡◌, ℕ, ℤ, Bool, List, [], ◌==◌, ◌&&◌}
 use Rattle.std.specs.List.{list_any}
 use Rattle.bor_register.specs.Rows.{is_visible}
 use Rattle.bor_register.specs.declared.filing.AcceptedFiling.{AcceptedFiling}
@@ -25,10 +25,6 @@ abbrev pub part_identifiers : Part → At → List Member → List IdentifierRow
 part_identifiers (part.Entity kind name) at ms = identifiers_at at ms
 part_identifiers (part.Person kind name) at ms = []
 part_identifiers (part.Relationship subject party) at ms = []
-
--- the list where it has at most so many items, else none
-abbrev pub up_to : {X : Type 0} → ℕ → List X → Option (List X)
-up_to n xs = if nat_le (length xs) n then Some xs else None
 
 -- ---- filings
 

@@ -1,6 +1,6 @@
-//! The rows of one declaration: its statements, where there are not too many, and what a viewer sees.
+//! The rows of one declaration that a viewer sees.
 
-ghost use Rattle.std.specs.Prelude.{◌≡◌, ◌++◌, ◌∷◌, [], if◌then◌else◌, false, filter, length, map, nat_le, not, option_map, MatchResult};
+ghost use Rattle.std.specs.Prelude.{◌≡◌, ◌++◌, ◌∷◌, [], if◌then◌else◌, false, filter, map, MatchResult};
 ghost use Rattle.std.specs.List.{flat_map};
 ghost use Rattle.sqlite.specs.Held.{state};
 ghost use Rattle.bor_register.specs.Register.{filings_of};
@@ -10,18 +10,15 @@ ghost use Rattle.bor_store_rows.specs.Seen.{is_seen, row_placed};
 ghost use Rattle.bor_store_sql.specs.Shown.{IsClean};
 ghost use Rattle.bor_store_sql.specs.Selected.{identifiers_at, in_declaration, interests_at, placed_of};
 ghost use Rattle.bor_store_reads.specs.Answering.{Answers, IsNoDamage};
-ghost use Rattle.bor_store_reads.specs.Asking.{part_identifiers, part_interests, up_to};
+ghost use Rattle.bor_store_reads.specs.Asking.{part_identifiers, part_interests};
 
 use crate::fault::ReadError;
 use crate::known::{Known, known_of};
 use crate::register::read_day;
-use crate::values::{all, any};
+use crate::values::all;
 use bor_records::Row;
 use bor_store_rows::{At, IdentifierRow, InterestRow, Part, Placed, StatementRow, joined};
-use bor_store_sql::{
-    identifiers_of_statement, interests_of_statement, more_of_declaration,
-    statements_of_declaration,
-};
+use bor_store_sql::{identifiers_of_statement, interests_of_statement, statements_of_declaration};
 use bor_terms::{AgentName, Day, Ident};
 use sqlite::{Alter, Connection};
 use std::alloc::Global;
@@ -44,47 +41,6 @@ fn statements<S: Alter>(
         alloc,
         statements_of_declaration(conn, agent.as_str(), declaration.as_str()),
     )
-}
-
-/// Whether the declaration has more than so many live statements.
-fn has_more<S: Alter>(
-    conn: &mut Connection<S>,
-    agent: &AgentName,
-    declaration: &Ident,
-    most: u32,
-) -> Result<bool, ReadError>
-    requires { conn.old.in_transaction ≡ false }
-    ensures mode { conn.new.in_transaction ≡ false }
-    ensures began { IsClean (state S.Store conn.new) → IsClean (state S.Store conn.old) }
-    ensures kept { IsClean (state S.Store conn.new) → (state S.Store conn.new).committed ≡ (state S.Store conn.old).committed }
-    ensures answer { Answers (state S.Store conn.old) (state S.Store conn.new) result (λ r more.
-        more ≡ not (nat_le (length (in_declaration declaration.now (placed_of agent.now r))) most)) }
-{
-    any(more_of_declaration(conn, agent.as_str(), declaration.as_str(), most))
-}
-
-/// The rows of the declaration's live statements, by filing and place, where there are at most so many;
-/// `None` where there are more, and then none of them is read.
-pub fn read_declaration<S: Alter>(
-    conn: &mut Connection<S>,
-    alloc: Global,
-    agent: &AgentName,
-    declaration: &Ident,
-    most: u32,
-) -> Result<Option<Vec<StatementRow>>, ReadError>
-    requires { conn.old.in_transaction ≡ false }
-    ensures mode { conn.new.in_transaction ≡ false }
-    ensures began { IsClean (state S.Store conn.new) → IsClean (state S.Store conn.old) }
-    ensures kept { IsClean (state S.Store conn.new) → (state S.Store conn.new).committed ≡ (state S.Store conn.old).committed }
-    ensures answer { Answers (state S.Store conn.old) (state S.Store conn.new) result (λ r rows.
-        option_map (λ v. v.items) rows ≡ up_to most (map bare (in_declaration declaration.now (placed_of agent.now r)))) }
-{
-    let more = has_more(conn, agent, declaration, most)?;
-    if more {
-        return Ok(None);
-    }
-    let rows = statements(conn, alloc, agent, declaration)?;
-    Ok(Some(rows))
 }
 
 /// The interests of the statement at this place.

@@ -20,15 +20,13 @@ mod values;
 mod views;
 
 pub use agents::{has_agent, read_who};
-pub use declarations::{identifiers_of_one, interests_of_one, read_declaration, read_rows_of};
+pub use declarations::{identifiers_of_one, interests_of_one, read_rows_of};
 pub use fault::ReadError;
 pub use filings::{filing_count, has_file, read_filing, read_filings, read_line};
 pub use known::is_number_seen;
-pub use records::{
-    read_identified, read_identifiers, read_interests, read_place, read_record, read_series,
-    read_subject,
-};
+pub use records::{read_identified, read_place, read_record, read_series, read_subject};
 pub use register::read_day;
 pub use statements::{has_statement, read_last};
 pub use successors::has_successor;
+pub use tables::has_more;
 pub use views::{read_published, read_visible};

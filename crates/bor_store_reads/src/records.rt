@@ -1,20 +1,18 @@
-//! The statements of records, by series, by record, by subject and by identifier, and what those of
-//! a filing have in lists.
+//! The statements of records, by series, by record, by subject and by identifier.
 
 ghost use Rattle.std.specs.Prelude.{◌≡◌, false, map, option_map, slice_get};
-ghost use Rattle.std.specs.List.{flat_map};
 ghost use Rattle.sqlite.specs.Held.{state};
-ghost use Rattle.bor_store_rows.specs.Placed.{bare, identifier_rows, interest_rows};
+ghost use Rattle.bor_store_rows.specs.Placed.{bare};
 ghost use Rattle.bor_store_sql.specs.Shown.{IsClean};
-ghost use Rattle.bor_store_sql.specs.Selected.{identified_by, in_filing, in_record, in_series, placed_of, standing_at, with_subject};
+ghost use Rattle.bor_store_sql.specs.Selected.{identified_by, in_record, in_series, placed_of, standing_at, with_subject};
 ghost use Rattle.bor_store_reads.specs.Answering.{Answers};
 
 use crate::fault::ReadError;
 use crate::values::{all, first};
-use bor_store_rows::{At, IdentifierRow, InterestRow, StatementRow};
+use bor_store_rows::{At, IdentifierRow, StatementRow};
 use bor_store_sql::{
-    identifiers_by_id, identifiers_of_filing, interests_of_filing, statement_by_place,
-    statements_of_record, statements_of_series, statements_of_subject,
+    identifiers_by_id, statement_by_place, statements_of_record, statements_of_series,
+    statements_of_subject,
 };
 use bor_terms::{AgentName, Ident};
 use sqlite::{Alter, Connection};
@@ -116,40 +114,4 @@ pub fn read_identified<S: Alter>(
         rows.items ≡ identified_by scheme.now id.now r.members) }
 {
     all(alloc, identifiers_by_id(conn, scheme, id))
-}
-
-/// The rows of the interests of the live statements of the agent's filing with this number, by place and
-/// item.
-pub fn read_interests<S: Alter>(
-    conn: &mut Connection<S>,
-    alloc: Global,
-    agent: &AgentName,
-    number: u32,
-) -> Result<Vec<InterestRow>, ReadError>
-    requires { conn.old.in_transaction ≡ false }
-    ensures mode { conn.new.in_transaction ≡ false }
-    ensures began { IsClean (state S.Store conn.new) → IsClean (state S.Store conn.old) }
-    ensures kept { IsClean (state S.Store conn.new) → (state S.Store conn.new).committed ≡ (state S.Store conn.old).committed }
-    ensures answer { Answers (state S.Store conn.old) (state S.Store conn.new) result (λ r rows.
-        rows.items ≡ flat_map interest_rows (in_filing number (placed_of agent.now r))) }
-{
-    all(alloc, interests_of_filing(conn, agent.as_str(), number))
-}
-
-/// The rows of the identifiers of the live statements of the agent's filing with this number, by place and
-/// item.
-pub fn read_identifiers<S: Alter>(
-    conn: &mut Connection<S>,
-    alloc: Global,
-    agent: &AgentName,
-    number: u32,
-) -> Result<Vec<IdentifierRow>, ReadError>
-    requires { conn.old.in_transaction ≡ false }
-    ensures mode { conn.new.in_transaction ≡ false }
-    ensures began { IsClean (state S.Store conn.new) → IsClean (state S.Store conn.old) }
-    ensures kept { IsClean (state S.Store conn.new) → (state S.Store conn.new).committed ≡ (state S.Store conn.old).committed }
-    ensures answer { Answers (state S.Store conn.old) (state S.Store conn.new) result (λ r rows.
-        rows.items ≡ flat_map identifier_rows (in_filing number (placed_of agent.now r))) }
-{
-    all(alloc, identifiers_of_filing(conn, agent.as_str(), number))
 }

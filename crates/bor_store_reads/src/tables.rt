@@ -1,6 +1,7 @@
-//! Whole tables, and the members of the register that they are.
+//! Whole tables, whether there are more statements than a number, and the members of the register that
+//! the tables are.
 
-ghost use Rattle.std.specs.Prelude.{◌≡◌, false, map};
+ghost use Rattle.std.specs.Prelude.{◌≡◌, false, length, map, nat_le, not};
 ghost use Rattle.std.specs.List.{flat_map};
 ghost use Rattle.sqlite.specs.Held.{state};
 ghost use Rattle.bor_store_rows.specs.Placed.{agent_row, bare, filing_lines, identifier_rows, interest_rows, placed, without_files};
@@ -8,12 +9,14 @@ ghost use Rattle.bor_store_sql.specs.Shown.{IsClean};
 ghost use Rattle.bor_store_reads.specs.Answering.{Answers};
 
 use crate::fault::ReadError;
-use crate::values::all;
+use crate::values::{all, any};
 use bor_register::Member;
 use bor_store_rows::{
     AgentRow, FilingRow, IdentifierRow, InterestRow, Placed, StatementRow, joined, members_of,
 };
-use bor_store_sql::{all_agents, all_filings, all_identifiers, all_interests, all_statements};
+use bor_store_sql::{
+    all_agents, all_filings, all_identifiers, all_interests, all_statements, more_statements,
+};
 use sqlite::{Alter, Connection};
 use std::alloc::Global;
 
@@ -104,6 +107,18 @@ fn placed<S: Alter>(conn: &mut Connection<S>, alloc: Global) -> Result<Vec<Place
         interests.as_slice(),
         identifiers.as_slice(),
     )?)
+}
+
+/// Whether there are more live statements than so many.
+pub fn has_more<S: Alter>(conn: &mut Connection<S>, most: u32) -> Result<bool, ReadError>
+    requires { conn.old.in_transaction ≡ false }
+    ensures mode { conn.new.in_transaction ≡ false }
+    ensures began { IsClean (state S.Store conn.new) → IsClean (state S.Store conn.old) }
+    ensures kept { IsClean (state S.Store conn.new) → (state S.Store conn.new).committed ≡ (state S.Store conn.old).committed }
+    ensures answer { Answers (state S.Store conn.old) (state S.Store conn.new) result (λ r more.
+        more ≡ not (nat_le (length (placed r.members)) most)) }
+{
+    any(more_statements(conn, most))
 }
 
 /// The members of the register, each filing without its file.

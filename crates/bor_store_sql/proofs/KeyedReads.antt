@@ -1,6 +1,5 @@
 -- Each query by key finds what it is said to find.
-use Rattle.std.proofs.Common.{ℕ, pos, List, [], ◌∷◌, Vec, Result, map, take, drop, refl}
-use Rattle.std.specs.List.{flat_map}
+use Rattle.std.proofs.Common.{ℕ, pos, List, [], ◌∷◌, Vec, Result, map, refl}
 use Rattle.std.specs.declared.alloc.Global.{Global}
 use Rattle.sqlite.specs.declared.error.Error.{Error}
 use Rattle.sqlite.specs.declared.types.Value.TheVariants.{Int, Text, Blob}
@@ -9,13 +8,13 @@ use Rattle.sqlite.specs.State.{State}
 use Rattle.bor_terms.specs.Texts.{is_same}
 use Rattle.bor_register.specs.Register.{filings_of}
 use Rattle.bor_register.specs.Publication.{filing_shown}
-use Rattle.bor_store_texts.specs.Queries.{agent_by_name_text, agent_by_token_text, filing_by_key_text, line_by_key_text, line_by_number_text, same_bytes_text, filings_of_agent_text, last_filing_text, last_of_series_text, statement_by_id_text, statements_of_filing_text, statements_of_declaration_text, interests_of_statement_text, identifiers_of_statement_text, interests_of_filing_text, identifiers_of_filing_text, more_of_declaration_text, statements_of_series_text, statements_of_record_text, statements_of_subject_text, statement_by_place_text, identifiers_by_id_text}
-use Rattle.bor_store_rows.specs.Placed.{bare, filing_row, interest_rows, identifier_rows}
+use Rattle.bor_store_texts.specs.Queries.{agent_by_name_text, agent_by_token_text, filing_by_key_text, line_by_key_text, line_by_number_text, same_bytes_text, filings_of_agent_text, last_filing_text, last_of_series_text, statement_by_id_text, statements_of_filing_text, statements_of_declaration_text, interests_of_statement_text, identifiers_of_statement_text, statements_of_series_text, statements_of_record_text, statements_of_subject_text, statement_by_place_text, identifiers_by_id_text}
+use Rattle.bor_store_rows.specs.Placed.{bare, filing_row}
 use Rattle.bor_store_rows.specs.Encoding.{truth, agent_columns, line_columns, shown_columns, statement_columns, interest_columns, identifier_columns}
 use Rattle.bor_store_sql.specs.Selected.{named, with_token, keyed, numbered, last, placed_of, in_filing, in_declaration, in_series, identified, interests_at, identifiers_at, place_columns, in_record, with_subject, standing_at, identified_by}
 use Rattle.bor_store_sql.specs.Found.{Asked, Finds}
 use Rattle.bor_store_sql.proofs.Finding.{finds}
-use Rattle.bor_store_sql.proofs.Selecting.{agent_by_name_found, agent_by_token_found, filing_by_key_found, line_by_key_found, line_by_number_found, same_bytes_found, filings_of_agent_found, last_filing_found, last_of_series_found, statement_by_id_found, statements_of_filing_found, statements_of_declaration_found, interests_of_statement_found, identifiers_of_statement_found, interests_of_filing_found, identifiers_of_filing_found, more_of_declaration_found, statements_of_series_found, statements_of_record_found, statements_of_subject_found, statement_by_place_found, identifiers_by_id_found}
+use Rattle.bor_store_sql.proofs.Selecting.{agent_by_name_found, agent_by_token_found, filing_by_key_found, line_by_key_found, line_by_number_found, same_bytes_found, filings_of_agent_found, last_filing_found, last_of_series_found, statement_by_id_found, statements_of_filing_found, statements_of_declaration_found, interests_of_statement_found, identifiers_of_statement_found, statements_of_series_found, statements_of_record_found, statements_of_subject_found, statement_by_place_found, identifiers_by_id_found}
 
 pub agent_by_name_finds : (name : List ℕ) (old new : State) (result : Result (Vec Row Global) Error) → Asked agent_by_name_text (Text name ∷ []) old new result → Finds old new result (λ r. map agent_columns (named name r.members))
 agent_by_name_finds name old new result asked = finds agent_by_name_text (Text name ∷ []) (Text name ∷ []) (λ r. map agent_columns (named name r.members)) old new result asked refl (λ r rows shows h. agent_by_name_found r old new shows rows name h)
@@ -58,15 +57,6 @@ interests_of_statement_finds agent number place old new result asked = finds int
 
 pub identifiers_of_statement_finds : (agent : List ℕ) (number : ℕ) (place : ℕ) (old new : State) (result : Result (Vec Row Global) Error) → Asked identifiers_of_statement_text (Text agent ∷ Int (pos number) ∷ Int (pos place) ∷ []) old new result → Finds old new result (λ r. map identifier_columns (identifiers_at (record { agent = agent; filing = number; place = place }) r.members))
 identifiers_of_statement_finds agent number place old new result asked = finds identifiers_of_statement_text (Text agent ∷ Int (pos number) ∷ Int (pos place) ∷ []) (Text agent ∷ Int (pos number) ∷ Int (pos place) ∷ []) (λ r. map identifier_columns (identifiers_at (record { agent = agent; filing = number; place = place }) r.members)) old new result asked refl (λ r rows shows h. identifiers_of_statement_found r old new shows rows (record { agent = agent; filing = number; place = place }) h)
-
-pub interests_of_filing_finds : (agent : List ℕ) (number : ℕ) (old new : State) (result : Result (Vec Row Global) Error) → Asked interests_of_filing_text (Text agent ∷ Int (pos number) ∷ []) old new result → Finds old new result (λ r. map interest_columns (flat_map interest_rows (in_filing number (placed_of agent r))))
-interests_of_filing_finds agent number old new result asked = finds interests_of_filing_text (Text agent ∷ Int (pos number) ∷ []) (Text agent ∷ Int (pos number) ∷ []) (λ r. map interest_columns (flat_map interest_rows (in_filing number (placed_of agent r)))) old new result asked refl (λ r rows shows h. interests_of_filing_found r old new shows rows agent number h)
-
-pub identifiers_of_filing_finds : (agent : List ℕ) (number : ℕ) (old new : State) (result : Result (Vec Row Global) Error) → Asked identifiers_of_filing_text (Text agent ∷ Int (pos number) ∷ []) old new result → Finds old new result (λ r. map identifier_columns (flat_map identifier_rows (in_filing number (placed_of agent r))))
-identifiers_of_filing_finds agent number old new result asked = finds identifiers_of_filing_text (Text agent ∷ Int (pos number) ∷ []) (Text agent ∷ Int (pos number) ∷ []) (λ r. map identifier_columns (flat_map identifier_rows (in_filing number (placed_of agent r)))) old new result asked refl (λ r rows shows h. identifiers_of_filing_found r old new shows rows agent number h)
-
-pub more_of_declaration_finds : (agent : List ℕ) (declaration : List ℕ) (count : ℕ) (old new : State) (result : Result (Vec Row Global) Error) → Asked more_of_declaration_text (Text agent ∷ Text declaration ∷ Int (pos count) ∷ []) old new result → Finds old new result (λ r. map (λ p. Text p.statement.declaration ∷ []) (take 1 (drop count (in_declaration declaration (placed_of agent r)))))
-more_of_declaration_finds agent declaration count old new result asked = finds more_of_declaration_text (Text agent ∷ Text declaration ∷ Int (pos count) ∷ []) (Text agent ∷ Text declaration ∷ Int (pos count) ∷ []) (λ r. map (λ p. Text p.statement.declaration ∷ []) (take 1 (drop count (in_declaration declaration (placed_of agent r))))) old new result asked refl (λ r rows shows h. more_of_declaration_found r old new shows rows agent declaration count h)
 
 pub statements_of_series_finds : (agent : List ℕ) (declaration : List ℕ) (rec : List ℕ) (old new : State) (result : Result (Vec Row Global) Error) → Asked statements_of_series_text (Text agent ∷ Text declaration ∷ Text rec ∷ []) old new result → Finds old new result (λ r. map (λ p. statement_columns (bare p)) (in_series declaration rec (placed_of agent r)))
 statements_of_series_finds agent declaration rec old new result asked = finds statements_of_series_text (Text agent ∷ Text declaration ∷ Text rec ∷ []) (Text agent ∷ Text declaration ∷ Text rec ∷ []) (λ r. map (λ p. statement_columns (bare p)) (in_series declaration rec (placed_of agent r))) old new result asked refl (λ r rows shows h. statements_of_series_found r old new shows rows agent declaration rec h)

@@ -15,7 +15,7 @@ use Rattle.sqlite_schema.specs.declared.command.Returning.{Returning}
 use Rattle.sqlite_resolve.specs.Lowering.{and_then}
 use Rattle.sqlite_resolve.specs.Scope.{Name}
 use Rattle.sqlite.specs.Given.{Returns}
-use Rattle.bor_store_texts.specs.Queries.{all_register_text, all_agents_text, all_filings_text, all_statements_text, all_interests_text, all_identifiers_text, agent_by_name_text, agent_by_token_text, filing_by_key_text, line_by_key_text, line_by_number_text, same_bytes_text, filings_of_agent_text, last_filing_text, last_of_series_text, statement_by_id_text, statements_of_filing_text, statements_of_declaration_text, interests_of_statement_text, identifiers_of_statement_text, interests_of_filing_text, identifiers_of_filing_text, more_of_declaration_text, statements_of_series_text, statements_of_record_text, statements_of_subject_text, statement_by_place_text, identifiers_by_id_text}
+use Rattle.bor_store_texts.specs.Queries.{all_register_text, all_agents_text, all_filings_text, all_statements_text, all_interests_text, all_identifiers_text, more_statements_text, agent_by_name_text, agent_by_token_text, filing_by_key_text, line_by_key_text, line_by_number_text, same_bytes_text, filings_of_agent_text, last_filing_text, last_of_series_text, statement_by_id_text, statements_of_filing_text, statements_of_declaration_text, interests_of_statement_text, identifiers_of_statement_text, statements_of_series_text, statements_of_record_text, statements_of_subject_text, statement_by_place_text, identifiers_by_id_text}
 use Rattle.bor_store_sql.specs.Found.{IsQuery}
 
 -- what comes of a command, where nothing is returned
@@ -134,6 +134,13 @@ all_identifiers_reads = refl
 pub all_identifiers_asks : IsQuery all_identifiers_text
 all_identifiers_asks schema = understood_never schema all_identifiers_text all_identifiers_reads
 
+more_statements_reads : reads_first (first more_statements_text) ≡ true
+unfolding everything
+more_statements_reads = refl
+
+pub more_statements_asks : IsQuery more_statements_text
+more_statements_asks schema = understood_never schema more_statements_text more_statements_reads
+
 agent_by_name_reads : reads_first (first agent_by_name_text) ≡ true
 unfolding everything
 agent_by_name_reads = refl
@@ -231,27 +238,6 @@ identifiers_of_statement_reads = refl
 
 pub identifiers_of_statement_asks : IsQuery identifiers_of_statement_text
 identifiers_of_statement_asks schema = understood_never schema identifiers_of_statement_text identifiers_of_statement_reads
-
-interests_of_filing_reads : reads_first (first interests_of_filing_text) ≡ true
-unfolding everything
-interests_of_filing_reads = refl
-
-pub interests_of_filing_asks : IsQuery interests_of_filing_text
-interests_of_filing_asks schema = understood_never schema interests_of_filing_text interests_of_filing_reads
-
-identifiers_of_filing_reads : reads_first (first identifiers_of_filing_text) ≡ true
-unfolding everything
-identifiers_of_filing_reads = refl
-
-pub identifiers_of_filing_asks : IsQuery identifiers_of_filing_text
-identifiers_of_filing_asks schema = understood_never schema identifiers_of_filing_text identifiers_of_filing_reads
-
-more_of_declaration_reads : reads_first (first more_of_declaration_text) ≡ true
-unfolding everything
-more_of_declaration_reads = refl
-
-pub more_of_declaration_asks : IsQuery more_of_declaration_text
-more_of_declaration_asks schema = understood_never schema more_of_declaration_text more_of_declaration_reads
 
 statements_of_series_reads : reads_first (first statements_of_series_text) ≡ true
 unfolding everything

@@ -1,5 +1,5 @@
 -- What each query gives of a register that is shown.
-use Rattle.std.proofs.Common.{◌≡◌, ℕ, pos, ◌+◌, ◌<◌, Bool, true, false, cond, ◌&&◌, ◌==◌, List, [], ◌∷◌, ◌++◌, map, filter, take, drop, reverse, Some, None, refl, sym, ap, ap₂, subst, ◌∙◌, arith}
+use Rattle.std.proofs.Common.{◌≡◌, ℕ, pos, ◌+◌, ◌<◌, Bool, true, false, ◌&&◌, ◌==◌, List, [], ◌∷◌, ◌++◌, map, filter, take, drop, reverse, Some, None, refl, sym, ap, ap₂, subst, ◌∙◌, arith}
 use Rattle.std.specs.List.{AllByRecursion, flat_map}
 use Rattle.std.specs.Ordering.{is_eq, int_cmp}
 use Rattle.std.specs.Str.{bytes_eq}
@@ -20,7 +20,6 @@ use Rattle.sqlite_sql.specs.declared.ops.CompareOp.TheVariants.{Eq}
 use Rattle.sqlite_value.proofs.OrderLemmas.{value_cmp-Blob}
 use Rattle.sqlite_keyed.proofs.ListLemmas.{map-map, filter-map, ascending-filter, filter_all, filter_none}
 use Rattle.bor_terms.specs.Texts.{is_same}
-use Rattle.bor_terms.proofs.Texts.{same_is}
 use Rattle.bods_read.specs.declared.details.Details.{Details}
 use Rattle.bods_read.specs.declared.details.Details.TheVariants as details
 use Rattle.bods_read.specs.declared.details.Identifier.{Identifier}
@@ -29,8 +28,8 @@ use Rattle.bor_register.specs.declared.filing.AcceptedFiling.{AcceptedFiling}
 use Rattle.bor_register.specs.declared.member.Member.{Member}
 use Rattle.bor_register.specs.Register.{Register, IsOrdered, filings_of}
 use Rattle.bor_register.specs.Publication.{filing_shown}
-use Rattle.bor_store_texts.specs.Queries.{falling, all_register_text, all_register_query, all_agents_text, all_agents_query, all_filings_text, all_filings_query, all_statements_text, all_statements_query, all_interests_text, all_interests_query, all_identifiers_text, all_identifiers_query, agent_by_name_text, agent_by_name_query, agent_by_token_text, agent_by_token_query, filing_by_key_text, filing_by_key_query, line_by_key_text, line_by_key_query, line_by_number_text, line_by_number_query, same_bytes_text, same_bytes_query, filings_of_agent_text, filings_of_agent_query, last_filing_text, last_filing_query, last_of_series_text, last_of_series_query, statement_by_id_text, statement_by_id_query, statements_of_filing_text, statements_of_filing_query, statements_of_declaration_text, statements_of_declaration_query, interests_of_statement_text, interests_of_statement_query, identifiers_of_statement_text, identifiers_of_statement_query, interests_of_filing_text, interests_of_filing_query, identifiers_of_filing_text, identifiers_of_filing_query, more_of_declaration_text, more_of_declaration_query, statements_of_series_text, statements_of_series_query, statements_of_record_text, statements_of_record_query, statements_of_subject_text, statements_of_subject_query, statement_by_place_text, statement_by_place_query, identifiers_by_id_text, identifiers_by_id_query}
-use Rattle.bor_store_texts.proofs.QueryMeanings.{all_register_is, all_agents_is, all_filings_is, all_statements_is, all_interests_is, all_identifiers_is, agent_by_name_is, agent_by_token_is, filing_by_key_is, line_by_key_is, line_by_number_is, same_bytes_is, filings_of_agent_is, last_filing_is, last_of_series_is, statement_by_id_is, statements_of_filing_is, statements_of_declaration_is, interests_of_statement_is, identifiers_of_statement_is, interests_of_filing_is, identifiers_of_filing_is, more_of_declaration_is, statements_of_series_is, statements_of_record_is, statements_of_subject_is, statement_by_place_is, identifiers_by_id_is}
+use Rattle.bor_store_texts.specs.Queries.{falling, all_register_text, all_register_query, all_agents_text, all_agents_query, all_filings_text, all_filings_query, all_statements_text, all_statements_query, all_interests_text, all_interests_query, all_identifiers_text, all_identifiers_query, more_statements_text, more_statements_query, agent_by_name_text, agent_by_name_query, agent_by_token_text, agent_by_token_query, filing_by_key_text, filing_by_key_query, line_by_key_text, line_by_key_query, line_by_number_text, line_by_number_query, same_bytes_text, same_bytes_query, filings_of_agent_text, filings_of_agent_query, last_filing_text, last_filing_query, last_of_series_text, last_of_series_query, statement_by_id_text, statement_by_id_query, statements_of_filing_text, statements_of_filing_query, statements_of_declaration_text, statements_of_declaration_query, interests_of_statement_text, interests_of_statement_query, identifiers_of_statement_text, identifiers_of_statement_query, statements_of_series_text, statements_of_series_query, statements_of_record_text, statements_of_record_query, statements_of_subject_text, statements_of_subject_query, statement_by_place_text, statement_by_place_query, identifiers_by_id_text, identifiers_by_id_query}
+use Rattle.bor_store_texts.proofs.QueryMeanings.{all_register_is, all_agents_is, all_filings_is, all_statements_is, all_interests_is, all_identifiers_is, more_statements_is, agent_by_name_is, agent_by_token_is, filing_by_key_is, line_by_key_is, line_by_number_is, same_bytes_is, filings_of_agent_is, last_filing_is, last_of_series_is, statement_by_id_is, statements_of_filing_is, statements_of_declaration_is, interests_of_statement_is, identifiers_of_statement_is, statements_of_series_is, statements_of_record_is, statements_of_subject_is, statement_by_place_is, identifiers_by_id_is}
 use Rattle.bor_store_rows.specs.declared.places.At.{At}
 use Rattle.bor_store_rows.specs.declared.rows.Placed.{Placed}
 use Rattle.bor_store_rows.specs.declared.rows.InterestRow.{InterestRow}
@@ -92,7 +91,7 @@ module _ (agent : List ℕ) (ms : List Member) (names : IsOrdered ms) where
   own_placed : filter (λ (p : Placed). is_same p.at.agent agent) (placed ms) ≡ placed_by agent (filings_of agent ms)
   own_placed = own_alone placed_by placed refl (λ m rest. refl) (λ (p : Placed). p.at.agent) owned_by (λ name. refl) agent ms names
 
-  pub own_statements : (q : Placed → Bool) → filter (λ (p : Placed). is_same p.at.agent agent && q p) (placed ms) ≡ filter q (placed_by agent (filings_of agent ms))
+  own_statements : (q : Placed → Bool) → filter (λ (p : Placed). is_same p.at.agent agent && q p) (placed ms) ≡ filter q (placed_by agent (filings_of agent ms))
   own_statements q = filter_both (λ (p : Placed). is_same p.at.agent agent) q (placed ms) ∙ ap (filter q) own_placed
 
 lines_of : (name : List ℕ) (fs : List AcceptedFiling) → map (λ (o : Owned). line_columns (filing_row o.agent o.filing)) (map (owned_filing name) fs) ≡ map line_columns (map (filing_row name) fs)
@@ -112,7 +111,7 @@ module _ {X : Type 0} (at_of : X → At) (t : At → Bool) (rows : Placed → Li
   passed at b e [] h = tt
   passed at b e (x ∷ xs) h = (ap t h.0 ∙ e, passed at b e xs h.1)
 
-  pub rows_at : (ps : List Placed) → filter (λ x. t (at_of x)) (flat_map rows ps) ≡ flat_map rows (filter (λ (p : Placed). t p.at) ps)
+  rows_at : (ps : List Placed) → filter (λ x. t (at_of x)) (flat_map rows ps) ≡ flat_map rows (filter (λ (p : Placed). t p.at) ps)
   rows_at [] = refl
   rows_at (p ∷ ps) = filter-append (λ x. t (at_of x)) (rows p) (flat_map rows ps) ∙ go (t p.at) refl (rows_at ps)
     where
@@ -121,25 +120,20 @@ module _ {X : Type 0} (at_of : X → At) (t : At → Bool) (rows : Placed → Li
       go true e more = rw e (ap₂ (λ x y. x ++ y) (filter_all (λ x. t (at_of x)) (rows p) (passed p.at true e (rows p) (own p))) more)
       go false e more = rw e (ap₂ (λ x y. x ++ y) (filter_none (λ x. t (at_of x)) (rows p) (passed p.at false e (rows p) (own p))) more)
 
-pub interests_stand : (at : At) (n : ℕ) (is : List Interest) → AllByRecursion (λ (i : InterestRow). i.at ≡ at) (interests_from at n is)
+interests_stand : (at : At) (n : ℕ) (is : List Interest) → AllByRecursion (λ (i : InterestRow). i.at ≡ at) (interests_from at n is)
 interests_stand at n [] = tt
 interests_stand at n (i ∷ is) = (refl, interests_stand at (n + 1) is)
 
-pub identifiers_stand : (at : At) (n : ℕ) (is : List Identifier) → AllByRecursion (λ (i : IdentifierRow). i.at ≡ at) (identifiers_from at n is)
+identifiers_stand : (at : At) (n : ℕ) (is : List Identifier) → AllByRecursion (λ (i : IdentifierRow). i.at ≡ at) (identifiers_from at n is)
 identifiers_stand at n [] = tt
 identifiers_stand at n (i ∷ is) = (refl, identifiers_stand at (n + 1) is)
 
--- ---- those of a declaration
+-- ---- whether there are more
 
--- each shows it
-declared : (declaration : List ℕ) (ps : List Placed) → AllByRecursion (λ (p : Placed). Text p.statement.declaration ∷ [] ≡ Text declaration ∷ []) (in_declaration declaration ps)
-declared declaration [] = tt
-declared declaration (p ∷ ps) = go (is_same p.statement.declaration declaration) refl (declared declaration ps)
-  where
-    go : (b : Bool) → is_same p.statement.declaration declaration ≡ b → AllByRecursion (λ (q : Placed). Text q.statement.declaration ∷ [] ≡ Text declaration ∷ []) (in_declaration declaration ps)
-        → AllByRecursion (λ (q : Placed). Text q.statement.declaration ∷ [] ≡ Text declaration ∷ []) (cond b (p ∷ in_declaration declaration ps) (in_declaration declaration ps))
-    go true e more = (ap (λ d. Text d ∷ []) (same_is p.statement.declaration declaration e), more)
-    go false e more = more
+-- each shows a one
+all_one : (ps : List Placed) → AllByRecursion (λ (p : Placed). Int (pos 1) ∷ [] ≡ Int (pos 1) ∷ []) ps
+all_one [] = tt
+all_one (p ∷ ps) = (refl, all_one ps)
 
 -- ---- the last one
 
@@ -201,6 +195,14 @@ module _ (r : Register) (old new : State) (shows : ShowsIn r old) (rows : List R
   all_identifiers_found h =
       from_identifiers r old new shows rows all_identifiers_text [] _ all_identifiers_query.filter all_identifiers_query.project h (λ i. true) (λ i. refl) all_identifiers_is (λ id x. refl) (λ id x. refl) (λ i. refl)
       ∙ ap (map identifier_columns) (all_pass (flat_map identifier_rows (placed r.members)))
+
+  pub more_statements_found : (count : ℕ) → Shows more_statements_text (Int (pos count) ∷ []) old new rows → rows ≡ map (λ p. Int (pos 1) ∷ []) (take 1 (drop count (placed r.members)))
+  more_statements_found count h =
+      let out : Placed → Row = λ p. Int (pos 1) ∷ [] in
+      picked_later 8 refl more_statements_query.filter (Int (pos count) ∷ []) more_statements_query.project [] (λ id x. refl) (λ p. statement_columns (bare p)) out (λ p. true) (λ p. refl) (placed r.members) old.now.trees
+      (map (λ p. statement_columns (bare p)) (placed r.members)) rows refl (has_now r old new shows h.0).statements 0 count refl (λ id x. refl) (λ p. refl)
+      (answers r old new shows h.0 more_statements_text (Int (pos count) ∷ []) more_statements_query _ more_statements_is rows h.1) (Int (pos 1) ∷ []) (all_one (filter (λ p. true) (placed r.members)))
+      ∙ ap (λ l. map out (take 1 (drop count l))) (all_pass (placed r.members))
 
   pub agent_by_name_found : (name : List ℕ) → Shows agent_by_name_text (Text name ∷ []) old new rows → rows ≡ map agent_columns (named name r.members)
   agent_by_name_found name h =
@@ -285,34 +287,6 @@ module _ (r : Register) (old new : State) (shows : ShowsIn r old) (rows : List R
       (λ p. is_same p.at.agent agent && is_same p.statement.declaration declaration)
       (λ p. ap₂ (λ x y. x && y) (text_test p.at.agent agent) (and-true _ ∙ text_test p.statement.declaration declaration)) statements_of_declaration_is (λ id x. refl) (λ id x. refl) (λ p. statement_shown (bare p))
       ∙ ap (map (λ p. statement_columns (bare p))) (own_statements agent r.members shows.stored.ordered (λ p. is_same p.statement.declaration declaration))
-
-  pub interests_of_filing_found : (agent : List ℕ) (number : ℕ) → Shows interests_of_filing_text (Text agent ∷ Int (pos number) ∷ []) old new rows → rows ≡ map interest_columns (flat_map interest_rows (in_filing number (placed_of agent r)))
-  interests_of_filing_found agent number h =
-      from_interests r old new shows rows interests_of_filing_text (Text agent ∷ Int (pos number) ∷ []) _ interests_of_filing_query.filter interests_of_filing_query.project h (λ i. is_same i.at.agent agent && i.at.filing == number)
-      (λ i. ap₂ (λ x y. x && y) (text_test i.at.agent agent) (and-true _ ∙ int_test (pos i.at.filing) (pos number) ∙ number_test i.at.filing number)) interests_of_filing_is (λ id x. refl) (λ id x. refl) interest_shown
-      ∙ ap (map interest_columns)
-      (rows_at (λ (i : InterestRow). i.at) (λ a. is_same a.agent agent && a.filing == number) interest_rows (λ p. interests_stand p.at 1 (interests_of p.statement.details)) (placed r.members)
-      ∙ ap (flat_map interest_rows) (own_statements agent r.members shows.stored.ordered (λ p. p.at.filing == number)))
-
-  pub identifiers_of_filing_found : (agent : List ℕ) (number : ℕ) → Shows identifiers_of_filing_text (Text agent ∷ Int (pos number) ∷ []) old new rows → rows ≡ map identifier_columns (flat_map identifier_rows (in_filing number (placed_of agent r)))
-  identifiers_of_filing_found agent number h =
-      from_identifiers r old new shows rows identifiers_of_filing_text (Text agent ∷ Int (pos number) ∷ []) _ identifiers_of_filing_query.filter identifiers_of_filing_query.project h (λ i. is_same i.at.agent agent && i.at.filing == number)
-      (λ i. ap₂ (λ x y. x && y) (text_test i.at.agent agent) (and-true _ ∙ int_test (pos i.at.filing) (pos number) ∙ number_test i.at.filing number)) identifiers_of_filing_is (λ id x. refl) (λ id x. refl) (λ i. refl)
-      ∙ ap (map identifier_columns)
-      (rows_at (λ (i : IdentifierRow). i.at) (λ a. is_same a.agent agent && a.filing == number) identifier_rows (λ p. identifiers_stand p.at 1 (identifiers_of p.statement.details)) (placed r.members)
-      ∙ ap (flat_map identifier_rows) (own_statements agent r.members shows.stored.ordered (λ p. p.at.filing == number)))
-
-  pub more_of_declaration_found : (agent declaration : List ℕ) (count : ℕ) → Shows more_of_declaration_text (Text agent ∷ Text declaration ∷ Int (pos count) ∷ []) old new rows
-      → rows ≡ map (λ p. Text p.statement.declaration ∷ []) (take 1 (drop count (in_declaration declaration (placed_of agent r))))
-  more_of_declaration_found agent declaration count h =
-      let params : Row = Text agent ∷ Text declaration ∷ Int (pos count) ∷ [] in
-      let out : Placed → Row = λ p. Text p.statement.declaration ∷ [] in
-      let own = own_statements agent r.members shows.stored.ordered (λ p. is_same p.statement.declaration declaration) in
-      picked_later 8 refl more_of_declaration_query.filter params more_of_declaration_query.project [] (λ id x. refl) (λ p. statement_columns (bare p)) out (λ p. is_same p.at.agent agent && is_same p.statement.declaration declaration)
-      (λ p. ap₂ (λ x y. x && y) (text_test p.at.agent agent) (and-true _ ∙ text_test p.statement.declaration declaration)) (placed r.members) old.now.trees (map (λ p. statement_columns (bare p)) (placed r.members)) rows refl
-      (has_now r old new shows h.0).statements 2 count refl (λ id x. refl) (λ p. refl) (answers r old new shows h.0 more_of_declaration_text params more_of_declaration_query _ more_of_declaration_is rows h.1)
-      (Text declaration ∷ []) (subst (AllByRecursion (λ (p : Placed). out p ≡ Text declaration ∷ [])) (sym own) (declared declaration (placed_of agent r)))
-      ∙ ap (λ l. map out (take 1 (drop count l))) own
 
   pub statements_of_series_found : (agent declaration rec : List ℕ) → Shows statements_of_series_text (Text agent ∷ Text declaration ∷ Text rec ∷ []) old new rows
       → rows ≡ map (λ p. statement_columns (bare p)) (in_series declaration rec (placed_of agent r))

@@ -71,19 +71,11 @@ pub(crate) fn file_key<'a>(agent: &'a str, key: &'a str, bytes: &'a [u8]) -> [Va
     ]
 }
 
-/// A declaration by agent and identifier, with a number of its statements.
-pub(crate) fn declaration_count<'a>(
-    agent: &'a str,
-    declaration: &'a str,
-    count: u32,
-) -> [ValueRef<'a>; 3]
-    ensures { bound result ≡ Text agent.now ∷ Text declaration.now ∷ Int (pos count) ∷ [] }
+/// One number.
+pub(crate) fn one_number(number: u32) -> [ValueRef<'static>; 1]
+    ensures { bound result ≡ Int (pos number) ∷ [] }
 {
-    [
-        ValueRef::Text(agent.as_bytes()),
-        ValueRef::Text(declaration.as_bytes()),
-        ValueRef::Int(i64::from(count)),
-    ]
+    [ValueRef::Int(i64::from(number))]
 }
 
 /// A day's number, alone.

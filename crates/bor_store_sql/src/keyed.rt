@@ -1,26 +1,22 @@
 //! What reads rows by key.
 
-ghost use Rattle.std.specs.Prelude.{◌≡◌, false, [], ◌∷◌, map, take, drop};
-ghost use Rattle.std.specs.List.{flat_map};
+ghost use Rattle.std.specs.Prelude.{◌≡◌, false, [], ◌∷◌, map};
 ghost use Rattle.sqlite.specs.Held.{state};
-ghost use Rattle.sqlite.specs.declared.types.Value.TheVariants.{Text};
 ghost use Rattle.bor_terms.specs.Texts.{is_same};
 ghost use Rattle.bor_register.specs.Register.{filings_of};
 ghost use Rattle.bor_register.specs.Publication.{filing_shown};
-ghost use Rattle.bor_store_rows.specs.Placed.{bare, filing_row, interest_rows, identifier_rows};
+ghost use Rattle.bor_store_rows.specs.Placed.{bare, filing_row};
 ghost use Rattle.bor_store_rows.specs.Encoding.{truth, agent_columns, line_columns, shown_columns, statement_columns, interest_columns, identifier_columns};
 ghost use Rattle.bor_store_sql.specs.Found.{Finds};
 ghost use Rattle.bor_store_sql.specs.Selected.{named, with_token, keyed, numbered, last, placed_of, in_filing, in_declaration, in_series, identified, interests_at, identifiers_at, place_columns};
 
 use crate::queries::{
-    query_by_count, query_by_file, query_by_filing, query_by_one, query_by_statement,
-    query_by_three, query_by_two,
+    query_by_file, query_by_filing, query_by_one, query_by_statement, query_by_three, query_by_two,
 };
 use bor_store_texts::queries::{
-    AGENT_BY_NAME, AGENT_BY_TOKEN, FILING_BY_KEY, FILINGS_OF_AGENT, IDENTIFIERS_OF_FILING,
-    IDENTIFIERS_OF_STATEMENT, INTERESTS_OF_FILING, INTERESTS_OF_STATEMENT, LAST_FILING,
-    LAST_OF_SERIES, LINE_BY_KEY, LINE_BY_NUMBER, MORE_OF_DECLARATION, SAME_BYTES, STATEMENT_BY_ID,
-    STATEMENTS_OF_DECLARATION, STATEMENTS_OF_FILING,
+    AGENT_BY_NAME, AGENT_BY_TOKEN, FILING_BY_KEY, FILINGS_OF_AGENT, IDENTIFIERS_OF_STATEMENT,
+    INTERESTS_OF_STATEMENT, LAST_FILING, LAST_OF_SERIES, LINE_BY_KEY, LINE_BY_NUMBER, SAME_BYTES,
+    STATEMENT_BY_ID, STATEMENTS_OF_DECLARATION, STATEMENTS_OF_FILING,
 };
 use sqlite::{Alter, Connection, Error, Row};
 
@@ -207,48 +203,4 @@ pub fn identifiers_of_statement<S: Alter>(
     ensures finds { Finds (state S.Store conn.old) (state S.Store conn.new) result (λ r. map identifier_columns (identifiers_at (record { agent = agent.now; filing = number; place = place }) r.members)) }
 {
     query_by_statement(conn, IDENTIFIERS_OF_STATEMENT, agent, number, place)
-}
-
-/// The interests of the live statements of the agent's filing with this number, by place and item.
-#[tactic(auto, using(crate::proofs::Plain::interests_of_filing_asks))]
-pub fn interests_of_filing<S: Alter>(
-    conn: &mut Connection<S>,
-    agent: &str,
-    number: u32,
-) -> Result<Vec<Row>, Error>
-    requires { conn.old.in_transaction ≡ false }
-    ensures mode { conn.new.in_transaction ≡ false }
-    ensures finds { Finds (state S.Store conn.old) (state S.Store conn.new) result (λ r. map interest_columns (flat_map interest_rows (in_filing number (placed_of agent.now r)))) }
-{
-    query_by_filing(conn, INTERESTS_OF_FILING, agent, number)
-}
-
-/// The identifiers of the live statements of the agent's filing with this number, by place and item.
-#[tactic(auto, using(crate::proofs::Plain::identifiers_of_filing_asks))]
-pub fn identifiers_of_filing<S: Alter>(
-    conn: &mut Connection<S>,
-    agent: &str,
-    number: u32,
-) -> Result<Vec<Row>, Error>
-    requires { conn.old.in_transaction ≡ false }
-    ensures mode { conn.new.in_transaction ≡ false }
-    ensures finds { Finds (state S.Store conn.old) (state S.Store conn.new) result (λ r. map identifier_columns (flat_map identifier_rows (in_filing number (placed_of agent.now r)))) }
-{
-    query_by_filing(conn, IDENTIFIERS_OF_FILING, agent, number)
-}
-
-/// Whether the agent has more than `count` live statements of a declaration: one row where it has, and
-/// else no row.
-#[tactic(auto, using(crate::proofs::Plain::more_of_declaration_asks))]
-pub fn more_of_declaration<S: Alter>(
-    conn: &mut Connection<S>,
-    agent: &str,
-    declaration: &str,
-    count: u32,
-) -> Result<Vec<Row>, Error>
-    requires { conn.old.in_transaction ≡ false }
-    ensures mode { conn.new.in_transaction ≡ false }
-    ensures finds { Finds (state S.Store conn.old) (state S.Store conn.new) result (λ r. map (λ p. Text p.statement.declaration ∷ []) (take 1 (drop count (in_declaration declaration.now (placed_of agent.now r))))) }
-{
-    query_by_count(conn, MORE_OF_DECLARATION, agent, declaration, count)
 }

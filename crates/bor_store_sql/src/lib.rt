@@ -20,13 +20,13 @@ mod withdrawal;
 pub use additions::add_filing;
 pub use creation::set_up;
 pub use keyed::{
-    agent_by_name, agent_by_token, filing_by_key, filings_of_agent, identifiers_of_filing,
-    identifiers_of_statement, interests_of_filing, interests_of_statement, last_filing,
-    last_of_series, line_by_key, line_by_number, more_of_declaration, same_bytes, statement_by_id,
-    statements_of_declaration, statements_of_filing,
+    agent_by_name, agent_by_token, filing_by_key, filings_of_agent, identifiers_of_statement,
+    interests_of_statement, last_filing, last_of_series, line_by_key, line_by_number, same_bytes,
+    statement_by_id, statements_of_declaration, statements_of_filing,
 };
 pub use reads::{
     all_agents, all_filings, all_identifiers, all_interests, all_register, all_statements,
+    more_statements,
 };
 pub use records::{
     identifiers_by_id, statement_by_place, statements_of_record, statements_of_series,

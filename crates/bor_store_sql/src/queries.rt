@@ -6,9 +6,7 @@ ghost use Rattle.sqlite.specs.Values.{bound};
 ghost use Rattle.sqlite.specs.declared.types.Value.TheVariants.{Int, Text, Blob};
 ghost use Rattle.bor_store_sql.specs.Found.{IsQuery, Asked};
 
-use crate::columns::{
-    declaration_count, file_key, filing_key, one_text, statement_key, three_texts, two_texts,
-};
+use crate::columns::{file_key, filing_key, one_text, statement_key, three_texts, two_texts};
 use sqlite::types::ValueRef;
 use sqlite::{Alter, Connection, Error, Row};
 
@@ -117,20 +115,4 @@ pub(crate) fn query_by_file<S: Alter>(
     ensures asked { Asked sql.now (Text agent.now ∷ Text key.now ∷ Blob bytes.now ∷ []) (state S.Store conn.old) (state S.Store conn.new) result }
 {
     query(conn, sql, &file_key(agent, key, bytes))
-}
-
-/// A query that is given a declaration and a number of its statements.
-pub(crate) fn query_by_count<S: Alter>(
-    conn: &mut Connection<S>,
-    sql: &str,
-    agent: &str,
-    declaration: &str,
-    count: u32,
-) -> Result<Vec<Row>, Error>
-    requires settled { conn.old.in_transaction ≡ false }
-    requires asks { IsQuery sql.now }
-    ensures mode { conn.new.in_transaction ≡ false }
-    ensures asked { Asked sql.now (Text agent.now ∷ Text declaration.now ∷ Int (pos count) ∷ []) (state S.Store conn.old) (state S.Store conn.new) result }
-{
-    query(conn, sql, &declaration_count(agent, declaration, count))
 }

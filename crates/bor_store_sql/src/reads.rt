@@ -1,15 +1,18 @@
-//! What reads whole tables.
+//! What reads whole tables, and whether there are more statements than a number.
 
-ghost use Rattle.std.specs.Prelude.{◌≡◌, false, [], ◌∷◌, map};
+ghost use Rattle.std.specs.Prelude.{◌≡◌, false, pos, [], ◌∷◌, drop, map, take};
 ghost use Rattle.std.specs.List.{flat_map};
 ghost use Rattle.sqlite.specs.Held.{state};
+ghost use Rattle.sqlite.specs.declared.types.Value.TheVariants.{Int};
 ghost use Rattle.bor_store_rows.specs.Placed.{bare, filing_lines, placed, interest_rows, identifier_rows};
 ghost use Rattle.bor_store_rows.specs.Encoding.{register_columns, agent_columns, line_columns, statement_columns, interest_columns, identifier_columns};
 ghost use Rattle.bor_store_sql.specs.Found.{Finds};
 
+use crate::columns::one_number;
 use crate::queries::query;
 use bor_store_texts::queries::{
     ALL_AGENTS, ALL_FILINGS, ALL_IDENTIFIERS, ALL_INTERESTS, ALL_REGISTER, ALL_STATEMENTS,
+    MORE_STATEMENTS,
 };
 use sqlite::{Alter, Connection, Error, Row};
 
@@ -71,4 +74,14 @@ pub fn all_identifiers<S: Alter>(conn: &mut Connection<S>) -> Result<Vec<Row>, E
     ensures finds { Finds (state S.Store conn.old) (state S.Store conn.new) result (λ r. map identifier_columns (flat_map identifier_rows (placed r.members))) }
 {
     query(conn, ALL_IDENTIFIERS, &[])
+}
+
+/// Whether there are more live statements than `count`: one row where there are, and else no row.
+#[tactic(auto, using(crate::proofs::Plain::more_statements_asks))]
+pub fn more_statements<S: Alter>(conn: &mut Connection<S>, count: u32) -> Result<Vec<Row>, Error>
+    requires { conn.old.in_transaction ≡ false }
+    ensures mode { conn.new.in_transaction ≡ false }
+    ensures finds { Finds (state S.Store conn.old) (state S.Store conn.new) result (λ r. map (λ p. Int (pos 1) ∷ []) (take 1 (drop count (placed r.members)))) }
+{
+    query(conn, MORE_STATEMENTS, &one_number(count))
 }

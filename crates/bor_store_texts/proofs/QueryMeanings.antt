@@ -3,7 +3,7 @@ use Rattle.std.proofs.Common.{refl}
 use Rattle.sqlite.specs.Listing.{understood}
 use Rattle.sqlite_tied.specs.Compute.{everything}
 use Rattle.bor_store_texts.specs.Meanings.{Asks}
-use Rattle.bor_store_texts.specs.Queries.{all_register_text, all_register_command, all_agents_text, all_agents_command, all_filings_text, all_filings_command, all_statements_text, all_statements_command, all_interests_text, all_interests_command, all_identifiers_text, all_identifiers_command, agent_by_name_text, agent_by_name_command, agent_by_token_text, agent_by_token_command, filing_by_key_text, filing_by_key_command, line_by_key_text, line_by_key_command, line_by_number_text, line_by_number_command, same_bytes_text, same_bytes_command, filings_of_agent_text, filings_of_agent_command, last_filing_text, last_filing_command, last_of_series_text, last_of_series_command, statement_by_id_text, statement_by_id_command, statements_of_filing_text, statements_of_filing_command, statements_of_declaration_text, statements_of_declaration_command, interests_of_statement_text, interests_of_statement_command, identifiers_of_statement_text, identifiers_of_statement_command, interests_of_filing_text, interests_of_filing_command, identifiers_of_filing_text, identifiers_of_filing_command, more_of_declaration_text, more_of_declaration_command, statements_of_series_text, statements_of_series_command, statements_of_record_text, statements_of_record_command, statements_of_subject_text, statements_of_subject_command, statement_by_place_text, statement_by_place_command, identifiers_by_id_text, identifiers_by_id_command}
+use Rattle.bor_store_texts.specs.Queries.{all_register_text, all_register_command, all_agents_text, all_agents_command, all_filings_text, all_filings_command, all_statements_text, all_statements_command, all_interests_text, all_interests_command, all_identifiers_text, all_identifiers_command, agent_by_name_text, agent_by_name_command, agent_by_token_text, agent_by_token_command, filing_by_key_text, filing_by_key_command, line_by_key_text, line_by_key_command, line_by_number_text, line_by_number_command, same_bytes_text, same_bytes_command, filings_of_agent_text, filings_of_agent_command, last_filing_text, last_filing_command, last_of_series_text, last_of_series_command, statement_by_id_text, statement_by_id_command, statements_of_filing_text, statements_of_filing_command, statements_of_declaration_text, statements_of_declaration_command, interests_of_statement_text, interests_of_statement_command, identifiers_of_statement_text, identifiers_of_statement_command, more_statements_text, more_statements_command, statements_of_series_text, statements_of_series_command, statements_of_record_text, statements_of_record_command, statements_of_subject_text, statements_of_subject_command, statement_by_place_text, statement_by_place_command, identifiers_by_id_text, identifiers_by_id_command}
 
 pub all_register_is : Asks all_register_text all_register_command
 unfolding understood everything
@@ -85,17 +85,9 @@ pub identifiers_of_statement_is : Asks identifiers_of_statement_text identifiers
 unfolding understood everything
 identifiers_of_statement_is = (refl, (refl, refl), refl)
 
-pub interests_of_filing_is : Asks interests_of_filing_text interests_of_filing_command
+pub more_statements_is : Asks more_statements_text more_statements_command
 unfolding understood everything
-interests_of_filing_is = (refl, (refl, refl), refl)
-
-pub identifiers_of_filing_is : Asks identifiers_of_filing_text identifiers_of_filing_command
-unfolding understood everything
-identifiers_of_filing_is = (refl, (refl, refl), refl)
-
-pub more_of_declaration_is : Asks more_of_declaration_text more_of_declaration_command
-unfolding understood everything
-more_of_declaration_is = (refl, (refl, refl), refl)
+more_statements_is = (refl, (refl, refl), refl)
 
 pub statements_of_series_is : Asks statements_of_series_text statements_of_series_command
 unfolding understood everything

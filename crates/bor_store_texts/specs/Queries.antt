@@ -10,7 +10,7 @@ use Rattle.sqlite.specs.Command.{Command}
 use Rattle.sqlite.specs.Command.TheVariants.{Select}
 use Rattle.sqlite_sql.specs.declared.ops.BinaryOp.TheVariants.{Compare}
 use Rattle.sqlite_sql.specs.declared.ops.CompareOp.TheVariants.{Eq}
-use Rattle.bor_store_texts.specs.declared.queries.TheConstants.{ALL_REGISTER, ALL_AGENTS, ALL_FILINGS, ALL_STATEMENTS, ALL_INTERESTS, ALL_IDENTIFIERS, AGENT_BY_NAME, AGENT_BY_TOKEN, FILING_BY_KEY, LINE_BY_KEY, LINE_BY_NUMBER, SAME_BYTES, FILINGS_OF_AGENT, LAST_FILING, LAST_OF_SERIES, STATEMENT_BY_ID, STATEMENTS_OF_FILING, STATEMENTS_OF_DECLARATION, INTERESTS_OF_STATEMENT, IDENTIFIERS_OF_STATEMENT, INTERESTS_OF_FILING, IDENTIFIERS_OF_FILING, MORE_OF_DECLARATION, STATEMENTS_OF_SERIES, STATEMENTS_OF_RECORD, STATEMENTS_OF_SUBJECT, STATEMENT_BY_PLACE, IDENTIFIERS_BY_ID}
+use Rattle.bor_store_texts.specs.declared.queries.TheConstants.{ALL_REGISTER, ALL_AGENTS, ALL_FILINGS, ALL_STATEMENTS, ALL_INTERESTS, ALL_IDENTIFIERS, AGENT_BY_NAME, AGENT_BY_TOKEN, FILING_BY_KEY, LINE_BY_KEY, LINE_BY_NUMBER, SAME_BYTES, FILINGS_OF_AGENT, LAST_FILING, LAST_OF_SERIES, STATEMENT_BY_ID, STATEMENTS_OF_FILING, STATEMENTS_OF_DECLARATION, INTERESTS_OF_STATEMENT, IDENTIFIERS_OF_STATEMENT, MORE_STATEMENTS, STATEMENTS_OF_SERIES, STATEMENTS_OF_RECORD, STATEMENTS_OF_SUBJECT, STATEMENT_BY_PLACE, IDENTIFIERS_BY_ID}
 
 -- Columns are counted from 1, parameters from 0.
 
@@ -232,32 +232,14 @@ identifiers_of_statement_query = table_query 13 (equals 1 0 ∷ equals 2 1 ∷ e
 abbrev pub identifiers_of_statement_command : Command
 identifiers_of_statement_command = shows_rows identifiers_of_statement_query (codes "agent" ∷ codes "filing" ∷ codes "place" ∷ codes "item" ∷ codes "scheme" ∷ codes "id" ∷ [])
 
-abbrev pub interests_of_filing_text : List ℕ
-interests_of_filing_text = INTERESTS_OF_FILING.now
+abbrev pub more_statements_text : List ℕ
+more_statements_text = MORE_STATEMENTS.now
 
-abbrev pub interests_of_filing_query : Query
-interests_of_filing_query = table_query 11 (equals 1 0 ∷ equals 2 1 ∷ []) (col 1 1 ∷ col 1 2 ∷ col 1 3 ∷ col 1 4 ∷ col 1 5 ∷ col 1 6 ∷ col 1 7 ∷ col 1 8 ∷ col 1 9 ∷ col 1 10 ∷ []) (rising 1 ∷ rising 2 ∷ rising 3 ∷ rising 4 ∷ [])
+abbrev pub more_statements_query : Query
+more_statements_query = later_query 8 [] (lit (Int (pos 1)) ∷ []) 0
 
-abbrev pub interests_of_filing_command : Command
-interests_of_filing_command = shows_rows interests_of_filing_query (codes "agent" ∷ codes "filing" ∷ codes "place" ∷ codes "item" ∷ codes "kind" ∷ codes "directness" ∷ codes "low" ∷ codes "low_open" ∷ codes "high" ∷ codes "high_open" ∷ [])
-
-abbrev pub identifiers_of_filing_text : List ℕ
-identifiers_of_filing_text = IDENTIFIERS_OF_FILING.now
-
-abbrev pub identifiers_of_filing_query : Query
-identifiers_of_filing_query = table_query 13 (equals 1 0 ∷ equals 2 1 ∷ []) (col 1 1 ∷ col 1 2 ∷ col 1 3 ∷ col 1 4 ∷ col 1 5 ∷ col 1 6 ∷ []) (rising 1 ∷ rising 2 ∷ rising 3 ∷ rising 4 ∷ [])
-
-abbrev pub identifiers_of_filing_command : Command
-identifiers_of_filing_command = shows_rows identifiers_of_filing_query (codes "agent" ∷ codes "filing" ∷ codes "place" ∷ codes "item" ∷ codes "scheme" ∷ codes "id" ∷ [])
-
-abbrev pub more_of_declaration_text : List ℕ
-more_of_declaration_text = MORE_OF_DECLARATION.now
-
-abbrev pub more_of_declaration_query : Query
-more_of_declaration_query = later_query 8 (equals 1 0 ∷ equals 6 1 ∷ []) (col 1 6 ∷ []) 2
-
-abbrev pub more_of_declaration_command : Command
-more_of_declaration_command = shows_rows more_of_declaration_query (codes "declaration" ∷ [])
+abbrev pub more_statements_command : Command
+more_statements_command = shows_rows more_statements_query (codes "1" ∷ [])
 
 abbrev pub statements_of_series_text : List ℕ
 statements_of_series_text = STATEMENTS_OF_SERIES.now

@@ -1,6 +1,6 @@
 //! What is asked of the tables.
 //!
-//! Each query is over one table. Those with parameters find their rows by an index; what they show is
+//! Each query is over one table. Those that are given values find their rows by an index; what is shown is
 //! sorted by the table's primary key, or is the last row by it, or is the same in each row.
 
 /// The register's one row.
@@ -90,20 +90,10 @@ pub const IDENTIFIERS_OF_STATEMENT: &str = "SELECT agent, filing, place, item, s
      FROM identifier WHERE agent = ?1 AND filing = ?2 AND place = ?3 \
      ORDER BY agent, filing, place, item";
 
-/// The interests of a filing's statements, by agent and number.
-pub const INTERESTS_OF_FILING: &str =
-    "SELECT agent, filing, place, item, kind, directness, low, low_open, high, high_open \
-     FROM interest WHERE agent = ?1 AND filing = ?2 ORDER BY agent, filing, place, item";
-
-/// The identifiers of a filing's statements, by agent and number.
-pub const IDENTIFIERS_OF_FILING: &str = "SELECT agent, filing, place, item, scheme, id \
-     FROM identifier WHERE agent = ?1 AND filing = ?2 ORDER BY agent, filing, place, item";
-
-/// Whether a declaration of an agent has more statements than a number: one row where it has.
+/// Whether there are more statements than a number: one row where there are.
 ///
-/// Each row shows the same, so no order is asked for, and none of them is sorted.
-pub const MORE_OF_DECLARATION: &str = "SELECT declaration \
-     FROM statement WHERE agent = ?1 AND declaration = ?2 LIMIT 1 OFFSET ?3";
+/// Each row shows the same, so no order is asked for, and as many rows are passed over as the number says.
+pub const MORE_STATEMENTS: &str = "SELECT 1 FROM statement LIMIT 1 OFFSET ?1";
 
 /// The statements of a record of a declaration of an agent.
 pub const STATEMENTS_OF_SERIES: &str =

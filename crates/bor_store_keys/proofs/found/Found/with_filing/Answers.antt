@@ -2,8 +2,8 @@ use Rattle.std.proofs.Common.{◌≡◌}
 use Rattle.std.specs.BTreeMap.{get}
 use Rattle.bor_register.specs.Register.{filings_of}
 use Rattle.bor_store_reads.specs.Asking.{is_number_seen}
-use Rattle.bor_store_wholes.specs.Register.{filing_cmp}
-use Rattle.bor_store_wholes.proofs.Maps.{exact_filing, one_more}
+use Rattle.bor_store_keys.specs.Finding.{filing_cmp}
+use Rattle.bor_store_keys.proofs.Holding.{exact_filing, one_more}
 use Rattle.bor_store_keys.proofs.found.Found.with_filing.Goals as goal
 
 pub returns-in-Ok : goal.returns-in-Ok
@@ -13,5 +13,5 @@ returns-in-Ok c = λ r of is. record {
       (get filing_cmp c.args.self.filings) (get filing_cmp c.insert.new.self) c.args.key c.args.seen c.in-Ok.ensures.updates.0 is of.filings;
   rows = of.rows;
   places = of.places;
-  wholes = of.wholes;
+  lists = of.lists;
 }

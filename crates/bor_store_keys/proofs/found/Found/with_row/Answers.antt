@@ -4,7 +4,7 @@ use Rattle.bor_links.specs.Nodes.{node_cmp}
 use Rattle.bor_links.specs.Series.{open_at}
 use Rattle.bor_links.proofs.Exact.{exact_node}
 use Rattle.bor_store_keys.specs.Viewed.{rows_seen}
-use Rattle.bor_store_wholes.proofs.Maps.{one_more}
+use Rattle.bor_store_keys.proofs.Holding.{one_more}
 use Rattle.bor_store_keys.proofs.found.Found.with_row.Goals as goal
 
 pub returns-in-Ok-insert : goal.returns-in-Ok-insert
@@ -14,5 +14,5 @@ returns-in-Ok-insert c = λ r stored of is. record {
   rows = one_more node_cmp exact_node (λ n row. row ≡ open_at c.args.self.view.day n (rows_seen c.args.self.view r))
       (get node_cmp c.args.self.rows) (get node_cmp c.insert.new.self) c.args.node c.args.row c.in-Ok-insert.ensures.updates.0 is of.rows;
   places = c.in-Ok.ensures r c.args.self.view stored of.places is;
-  wholes = of.wholes;
+  lists = of.lists;
 }
