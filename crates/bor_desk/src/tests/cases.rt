@@ -1,14 +1,11 @@
 //! Worked cases of who stands behind an entity, each answered twice.
 
-use crate::tests::filed::{
-    Filed, answers, board, chains_of, company, entity, held, numbered, of_kind, over_a1, person,
-    shares, votes,
-};
+use crate::tests::filed::{Filed, answers, numbered, over_a1, votes};
 use crate::tests::notation::{day, node};
-use bods_read::{Directness, EntityKind, InterestKind, Status};
+use bods_read::Directness;
 use bor_chains::{ListSource, Node, PersonLine, persons_of};
 use bor_records::Row;
-use bor_terms::{Day, Span};
+use bor_terms::Day;
 use std::alloc::Global;
 use std::process::Abort;
 
@@ -33,127 +30,55 @@ fn the_first_page_is_right(rt: HostRuntime) {
     p1_is_behind(&rt, alloc, &rows, day(&rt, "2024-02-01"), &e1);
 }
 
-#[test]
-fn half_is_no_majority(rt: HostRuntime) {
-    let alloc = rt.alloc();
-    for (low, low_open, high, wanted) in [
-        (50, true, 100, "p1"),
-        (50, false, 50, ""),
-        (50, false, 100, ""),
-        (51, false, 100, "p1"),
-    ] {
-        let share = Span::new(low, low_open, high, false);
-        let filed = over_a1(&rt, alloc, &[of_kind(InterestKind::VotingRights, share)]);
-        chains_of(&rt, &filed, "e1", wanted);
+// Files in words, each after the agent that files it, and who stands behind which entity.
+fn are_answered(rt: &impl Abort, alloc: Global, case: &str, files: &[&str], asks: &[(&str, &str)]) {
+    let mut filed = Filed::new(alloc);
+    for words in files {
+        filed.state(rt, words);
+    }
+    for (ask, wanted) in asks {
+        answers(rt, &filed, case, ask, wanted);
     }
 }
 
-#[test]
-fn the_last_link_may_be_small(rt: HostRuntime) {
-    let alloc = rt.alloc();
-    chains_of(&rt, &over_a1(&rt, alloc, &[votes(60)]), "e1", "p1");
-    chains_of(&rt, &over_a1(&rt, alloc, &[shares(60)]), "e1", "");
-}
+// p1's interests in a1, which holds 10 percent of the shares of e1, and who stands behind e1.
+const OVER_A1: [(&str, &str); 12] = [
+    (r#"V{"minimum":50,"exclusiveMinimum":true}"#, "p1"),
+    (r#"V{"exclusiveMinimum":50}"#, "p1"),
+    (r#"V{"exact":50}"#, ""),
+    (r#"V{"minimum":50}"#, ""),
+    (r#"V{"minimum":51}"#, "p1"),
+    // The last link may be small, and no other.
+    ("V60", "p1"),
+    ("S60", ""),
+    // A majority of the board is a member's.
+    ("B", ""),
+    ("B S1", "p1"),
+    ("B S0", ""),
+    ("B50 S1", ""),
+    ("B51 S1", "p1"),
+];
 
 #[test]
-fn a_majority_of_the_board_is_a_members(rt: HostRuntime) {
+fn a_majority_of_votes_or_of_the_board_is_followed(rt: HostRuntime) {
     let alloc = rt.alloc();
-    let half = Span::new(50, false, 50, false);
-    let more = Span::new(51, false, 51, false);
-    chains_of(&rt, &over_a1(&rt, alloc, &[board(None)]), "e1", "");
-    chains_of(
-        &rt,
-        &over_a1(&rt, alloc, &[board(None), shares(1)]),
-        "e1",
-        "p1",
-    );
-    chains_of(
-        &rt,
-        &over_a1(&rt, alloc, &[board(None), shares(0)]),
-        "e1",
-        "",
-    );
-    chains_of(
-        &rt,
-        &over_a1(&rt, alloc, &[board(half), shares(1)]),
-        "e1",
-        "",
-    );
-    chains_of(
-        &rt,
-        &over_a1(&rt, alloc, &[board(more), shares(1)]),
-        "e1",
-        "p1",
-    );
+    for (interests, wanted) in OVER_A1 {
+        let words = format!(in alloc;
+            "alder E s1 e1; E s2 a1; P s3 p1; R s4 r1 a1<-p1 {interests}; R s5 r2 e1<-a1 S10"
+        ).expect(&rt, "memory");
+        are_answered(&rt, alloc, interests, &[words.as_str()], &[("e1", wanted)]);
+    }
 }
 
 #[test]
 fn an_indirect_interest_counts_for_nothing(rt: HostRuntime) {
-    let alloc = rt.alloc();
-    let mut indirect = votes(60);
-    indirect.directness = Directness::Indirect;
-    let filed = over_a1(&rt, alloc, &[indirect]);
-    chains_of(&rt, &filed, "e1", "");
-    chains_of(&rt, &filed, "a1", "");
-    let mut direct = votes(60);
-    direct.directness = Directness::Direct;
-    chains_of(&rt, &over_a1(&rt, alloc, &[direct]), "e1", "p1");
-}
-
-#[test]
-fn a_loop_is_walked_as_target_and_as_middle(rt: HostRuntime) {
-    let mut filed = Filed::new(rt.alloc());
-    filed.records(&rt, &["e1", "a1", "p1", "q1", "r1"]);
-    filed.link(&rt, "e1", "a1", &[shares(10)]);
-    filed.link(&rt, "a1", "e1", &[votes(60)]);
-    filed.link(&rt, "e1", "p1", &[shares(5)]);
-    filed.link(&rt, "e1", "q1", &[votes(70)]);
-    filed.link(&rt, "a1", "r1", &[shares(5)]);
-    chains_of(&rt, &filed, "e1", "p1 q1");
-    chains_of(&rt, &filed, "a1", "q1 r1");
-}
-
-// A chain may pass e1 on the way to e1, over one link twice.
-#[test]
-fn a_link_may_occur_again(rt: HostRuntime) {
-    let mut filed = Filed::new(rt.alloc());
-    filed.records(&rt, &["e1", "a1", "p1"]);
-    filed.link(&rt, "e1", "a1", &[votes(60)]);
-    filed.link(&rt, "a1", "e1", &[votes(60)]);
-    filed.link(&rt, "a1", "p1", &[votes(60)]);
-    chains_of(&rt, &filed, "e1", "p1");
-    chains_of(&rt, &filed, "a1", "p1");
-}
-
-#[test]
-fn an_arrangement_is_no_link_of_a_chain(rt: HostRuntime) {
-    let alloc = rt.alloc();
-    for kind in [EntityKind::Arrangement, EntityKind::StateBody] {
-        let mut filed = Filed::new(alloc);
-        filed.records(&rt, &["e1", "p1"]);
-        filed.with(&rt, "a1", entity(&rt, alloc, kind, &[]));
-        filed.link(&rt, "a1", "p1", &[votes(100)]);
-        filed.link(&rt, "e1", "a1", &[shares(10)]);
-        chains_of(&rt, &filed, "e1", "");
-        chains_of(&rt, &filed, "a1", "p1");
-    }
-}
-
-#[test]
-fn the_party_of_a_link_must_be_legal_and_not_its_alias(rt: HostRuntime) {
-    let alloc = rt.alloc();
-    for (party, wanted) in [("a2", "p1"), ("a1", "")] {
-        let mut filed = Filed::new(alloc);
-        filed.records(&rt, &["e1", "p1"]);
-        filed.with(
-            &rt,
-            "a1",
-            entity(&rt, alloc, EntityKind::Arrangement, &[("X", "1")]),
-        );
-        filed.with(&rt, "a2", numbered(&rt, alloc, &[("X", "1")]));
-        filed.link(&rt, "a1", "p1", &[votes(100)]);
-        filed.link(&rt, "e1", party, &[shares(10)]);
-        chains_of(&rt, &filed, "e1", wanted);
+    for (directness, wanted) in [(Directness::Indirect, ""), (Directness::Direct, "p1")] {
+        let mut interest = votes(60);
+        interest.directness = directness;
+        let filed = over_a1(&rt, rt.alloc(), &[interest]);
+        for rec in ["e1", "a1"] {
+            answers(&rt, &filed, "directness", rec, wanted);
+        }
     }
 }
 
@@ -167,93 +92,127 @@ fn aliases_go_over_several_identifiers(rt: HostRuntime) {
         filed.with(&rt, "b1", numbered(&rt, alloc, &[("Y", id)]));
         filed.records(&rt, &["p1"]);
         filed.link(&rt, "b1", "p1", &[votes(100)]);
-        chains_of(&rt, &filed, "e1", wanted);
+        answers(&rt, &filed, id, "e1", wanted);
     }
 }
 
+// Cases by their names: files, and who stands behind which entity, on 2024-02-01 or another day.
+const CASES: [(&str, &[&str], &[(&str, &str)]); 15] = [
+    (
+        "a loop is walked as target and as middle",
+        &[
+            "alder E s1 e1; E s2 a1; P s3 p1; P s4 q1; P s5 r1; R s6 x1 e1<-a1 S10; R s7 x2 a1<-e1 V60; R s8 x3 e1<-p1 S5; R s9 x4 e1<-q1 V70; R s10 x5 a1<-r1 S5",
+        ],
+        &[("e1", "p1 q1"), ("a1", "q1 r1")],
+    ),
+    // A chain may pass e1 on the way to e1, over one link twice.
+    (
+        "a link may occur again",
+        &[
+            "alder E s1 e1; E s2 a1; P s3 p1; R s4 x1 e1<-a1 V60; R s5 x2 a1<-e1 V60; R s6 x3 a1<-p1 V60",
+        ],
+        &[("e1", "p1"), ("a1", "p1")],
+    ),
+    (
+        "an arrangement is no link of a chain",
+        &["alder E s1 e1; P s2 p1; E s3 a1 arrangement; R s4 x1 a1<-p1 V100; R s5 x2 e1<-a1 S10"],
+        &[("e1", ""), ("a1", "p1")],
+    ),
+    (
+        "a state body is no link of a chain",
+        &["alder E s1 e1; P s2 p1; E s3 a1 stateBody; R s4 x1 a1<-p1 V100; R s5 x2 e1<-a1 S10"],
+        &[("e1", ""), ("a1", "p1")],
+    ),
+    (
+        "the party of a link is legal, and its alias is none",
+        &[
+            "alder E s1 e1; P s2 p1; E s3 a1 arrangement #X/1; E s4 a2 #X/1; R s5 x1 a1<-p1 V100; R s6 x2 e1<-a2 S10",
+        ],
+        &[("e1", "p1")],
+    ),
+    (
+        "the alias of a link's party is legal, and the party is none",
+        &[
+            "alder E s1 e1; P s2 p1; E s3 a1 arrangement #X/1; E s4 a2 #X/1; R s5 x1 a1<-p1 V100; R s6 x2 e1<-a1 S10",
+        ],
+        &[("e1", "")],
+    ),
+    (
+        "equal records of one agent are aliases",
+        &[
+            "alder E s1 e1",
+            "alder E s2 e1; P s3 p1; R s4 r9 e1<-p1 S5 in c2",
+        ],
+        &[("e1", "p1")],
+    ),
+    (
+        "equal records of two agents are none",
+        &[
+            "alder E s1 e1",
+            "birch E s2 e1; P s3 p1; R s4 r9 e1<-p1 S5 in c2",
+        ],
+        &[("e1", "")],
+    ),
+    // By agent, then declaration, then record, and not in the order in which they are met.
+    (
+        "persons are in order",
+        &[
+            "alder E s1 e1 #X/1; P s2 z9; P s3 p2; P s4 p10; R s5 x1 e1<-z9 S5; R s6 x2 e1<-p2 S5; R s7 x3 e1<-p10 S5",
+            "birch E s1 e9 #X/1; P s2 b; R s3 r9 e9<-b S5 in c0",
+            "agate E s1 e9 #X/1; P s2 z; R s3 r9 e9<-z S5 in c9",
+            "alder E s8 e9 #X/1; P s9 y; R s10 r9 e9<-y S5 in c0",
+        ],
+        &[("e1", "z y p10 p2 z9 b")],
+    ),
+    (
+        "a closed record is no entity",
+        &["alder E s1 e1; E s2 e1 @2024-01-12 +closed"],
+        &[
+            ("e1 2024-01-09", "NoEntity"),
+            ("e1 2024-01-10", ""),
+            ("e1 2024-01-11", ""),
+            ("e1 2024-01-12", "NoEntity"),
+            ("e1 2024-01-13", "NoEntity"),
+        ],
+    ),
+    (
+        "a person, an unknown record and a relationship are no entity",
+        &["alder E s1 e1; P s2 p1; R s3 r1 e1<-p1 V60"],
+        &[("p1", "NoEntity"), ("x1", "NoEntity"), ("r1", "NoEntity")],
+    ),
+    (
+        "a closed relationship links no more",
+        &[
+            "alder E s1 e1; E s2 a1; P s3 p1; R s4 r1 a1<-p1 V60; R s5 r2 e1<-a1 S10; R s6 r1 a1<-p1 V60 @2024-01-12 +closed",
+        ],
+        &[("e1 2024-01-11", "p1"), ("e1", "")],
+    ),
+    (
+        "a closed person links no more",
+        &[
+            "alder E s1 e1; E s2 a1; P s3 p1; R s4 r1 a1<-p1 V60; R s5 r2 e1<-a1 S10; P s6 p1 @2024-01-12 +closed",
+        ],
+        &[("e1 2024-01-11", "p1"), ("e1", "")],
+    ),
+    (
+        "a closed entity links no more",
+        &[
+            "alder E s1 e1; E s2 a1; P s3 p1; R s4 r1 a1<-p1 V60; R s5 r2 e1<-a1 S10; E s6 a1 @2024-01-12 +closed",
+        ],
+        &[("e1 2024-01-11", "p1"), ("e1", "")],
+    ),
+    (
+        "the latest statement is the last and not the newest",
+        &[
+            "alder E s1 e1; P s2 p1; R s3 r1 e1<-p1 S0 @2024-01-20; R s4 r1 e1<-p1 S60 @2024-01-15 +updated",
+        ],
+        &[("e1 2024-01-14", ""), ("e1", "p1")],
+    ),
+];
+
 #[test]
-fn equal_records_are_aliases_within_one_agent(rt: HostRuntime) {
-    let alloc = rt.alloc();
-    for (agent, wanted) in [("alder", "p1"), ("birch", "")] {
-        let mut filed = Filed::new(alloc);
-        filed.records(&rt, &["e1"]);
-        filed.held_beside(&rt, (agent, "c2"), ("e1", company(&rt, alloc)), "p1");
-        chains_of(&rt, &filed, "e1", wanted);
+fn the_cases_are_answered(rt: HostRuntime) {
+    for (case, files, asks) in CASES {
+        are_answered(&rt, rt.alloc(), case, files, asks);
     }
-}
-
-// By agent, then declaration, then record, and not in the order in which they are met.
-#[test]
-fn persons_are_in_order(rt: HostRuntime) {
-    let alloc = rt.alloc();
-    let mut filed = Filed::new(alloc);
-    filed.with(&rt, "e1", numbered(&rt, alloc, &[("X", "1")]));
-    filed.records(&rt, &["z9", "p2", "p10"]);
-    filed.links(&rt, "e1", &["z9", "p2", "p10"], &[shares(5)]);
-    for (agent, declaration, rec) in [
-        ("birch", "c0", "b"),
-        ("agate", "c9", "z"),
-        ("alder", "c0", "y"),
-    ] {
-        let same = numbered(&rt, alloc, &[("X", "1")]);
-        filed.held_beside(&rt, (agent, declaration), ("e9", same), rec);
-    }
-    chains_of(&rt, &filed, "e1", "z y p10 p2 z9 b");
-}
-
-// ---- days
-
-#[test]
-fn a_closed_record_is_no_entity(rt: HostRuntime) {
-    let alloc = rt.alloc();
-    let mut filed = Filed::new(alloc);
-    filed.records(&rt, &["e1"]);
-    filed.closed(&rt, "e1", company(&rt, alloc));
-    for (date, wanted) in [
-        ("2024-01-09", "NoEntity"),
-        ("2024-01-10", ""),
-        ("2024-01-11", ""),
-        ("2024-01-12", "NoEntity"),
-        ("2024-01-13", "NoEntity"),
-    ] {
-        answers(&rt, &filed, date, "e1", wanted);
-    }
-}
-
-#[test]
-fn a_person_and_an_unknown_record_are_no_entity(rt: HostRuntime) {
-    let filed = over_a1(&rt, rt.alloc(), &[votes(60)]);
-    chains_of(&rt, &filed, "p1", "NoEntity");
-    chains_of(&rt, &filed, "x1", "NoEntity");
-    chains_of(&rt, &filed, "r-e1-a1", "NoEntity");
-}
-
-#[test]
-fn what_is_closed_links_no_more(rt: HostRuntime) {
-    let alloc = rt.alloc();
-    for rec in ["r-a1-p1", "p1", "a1"] {
-        let mut filed = over_a1(&rt, alloc, &[votes(60)]);
-        let details = match rec {
-            "p1" => person(&rt, alloc, "p1"),
-            "a1" => company(&rt, alloc),
-            _ => held(&rt, alloc, "a1", "p1", &[votes(60)]),
-        };
-        filed.closed(&rt, rec, details);
-        answers(&rt, &filed, "2024-01-11", "e1", "p1");
-        chains_of(&rt, &filed, "e1", "");
-    }
-}
-
-#[test]
-fn the_latest_statement_is_the_last_and_not_the_newest(rt: HostRuntime) {
-    let alloc = rt.alloc();
-    let mut filed = Filed::new(alloc);
-    filed.records(&rt, &["e1", "p1"]);
-    let at = ("alder", "c1", "r1");
-    let small = held(&rt, alloc, "e1", "p1", &[shares(0)]);
-    filed.add(&rt, at, "2024-01-20", Status::New, small);
-    let large = held(&rt, alloc, "e1", "p1", &[shares(60)]);
-    filed.add(&rt, at, "2024-01-15", Status::Updated, large);
-    answers(&rt, &filed, "2024-01-14", "e1", "");
-    chains_of(&rt, &filed, "e1", "p1");
 }

@@ -1,14 +1,15 @@
 //! Rows of declarations, and two answers to who is joined by them.
 
-use crate::tests::notation::{day, ident, node};
+use crate::tests::notation::{agent, day, ident, node};
 use crate::tests::rounds::{by_rounds, tell};
 use crate::tests::same;
 use bods_read::{
     Details, Directness, EntityKind, FreeText, Identifier, Interest, InterestKind, PersonKind,
-    Statement, Status,
+    Statement, Status, read_file,
 };
 use bor_chains::{ChainFault, ListSource, Node, PersonLine, persons_of};
 use bor_records::Row;
+use bor_rows::file;
 use bor_terms::{Day, Listed, Span};
 use std::alloc::Global;
 use std::process::Abort;
@@ -25,30 +26,21 @@ fn identifier(rt: &impl Abort, alloc: Global, scheme: &str, id: &str) -> Identif
     }
 }
 
-pub(super) fn entity(
-    rt: &impl Abort,
-    alloc: Global,
-    kind: EntityKind,
-    numbers: &[(&str, &str)],
-) -> Details {
+pub(super) fn numbered(rt: &impl Abort, alloc: Global, numbers: &[(&str, &str)]) -> Details {
     let mut identifiers = Vec::new(alloc);
     for (scheme, id) in numbers {
         let number = identifier(rt, alloc, scheme, id);
         identifiers.push(number).expect(rt, "memory");
     }
     Details::Entity {
-        kind,
+        kind: EntityKind::RegisteredEntity,
         name: None,
         identifiers: Listed::new(identifiers),
     }
 }
 
 pub(super) fn company(rt: &impl Abort, alloc: Global) -> Details {
-    entity(rt, alloc, EntityKind::RegisteredEntity, &[])
-}
-
-pub(super) fn numbered(rt: &impl Abort, alloc: Global, numbers: &[(&str, &str)]) -> Details {
-    entity(rt, alloc, EntityKind::RegisteredEntity, numbers)
+    numbered(rt, alloc, &[])
 }
 
 pub(super) fn person(rt: &impl Abort, alloc: Global, name: &str) -> Details {
@@ -58,7 +50,7 @@ pub(super) fn person(rt: &impl Abort, alloc: Global, name: &str) -> Details {
     }
 }
 
-pub(super) fn held(
+fn held(
     rt: &impl Abort,
     alloc: Global,
     subject: &str,
@@ -73,7 +65,18 @@ pub(super) fn held(
     }
 }
 
-// The rows of an agent's declaration.
+// The row of an agent's statement, which has the status that it tells, or is new.
+fn row(rt: &impl Abort, alloc: Global, name: &str, statement: Statement) -> Row {
+    Row {
+        agent: agent(rt, alloc, name),
+        filing: 1,
+        place: 1,
+        status: statement.status.unwrap_or(Status::New),
+        statement,
+    }
+}
+
+// The rows of declarations.
 #[derive(Drop)]
 pub(super) struct Filed {
     pub(super) alloc: Global,
@@ -88,61 +91,29 @@ impl Filed {
         }
     }
 
-    pub(super) fn add(
-        &mut self,
-        rt: &impl Abort,
-        at: (&str, &str, &str),
-        dated: &str,
-        status: Status,
-        details: Details,
-    ) {
-        let node = node(rt, self.alloc, at.0, at.1, at.2);
-        let row = Row {
-            agent: node.agent,
-            filing: 1,
-            place: 1,
-            status,
-            statement: Statement {
-                id: ident(rt, self.alloc, "s"),
-                day: day(rt, dated),
-                declaration: node.declaration,
-                rec: node.rec,
-                status: None,
-                details,
-            },
-        };
-        self.rows.push(row).expect(rt, "memory");
-    }
-
-    fn stated(&mut self, rt: &impl Abort, at: (&str, &str, &str), details: Details) {
-        self.add(rt, at, "2024-01-10", Status::New, details);
+    // The statements of a file in the notation of `bor_rows`, after the agent that files it.
+    pub(super) fn state(&mut self, rt: &impl Abort, words: &str) {
+        let (name, words) = words.split_once(' ').expect(rt, "no agent");
+        let file = file(self.alloc, words).expect(rt, "no file");
+        let statements = read_file(self.alloc, file.as_bytes()).expect(rt, "not read");
+        for statement in statements {
+            let row = row(rt, self.alloc, name, statement);
+            self.rows.push(row).expect(rt, "memory");
+        }
     }
 
     // A statement of alder's declaration c1.
     pub(super) fn with(&mut self, rt: &impl Abort, rec: &str, details: Details) {
-        self.stated(rt, ("alder", "c1", rec), details);
-    }
-
-    // Of an agent's declaration: an entity, and a person that holds 5 percent of its shares.
-    pub(super) fn held_beside(
-        &mut self,
-        rt: &impl Abort,
-        of: (&str, &str),
-        entity: (&str, Details),
-        holder: &str,
-    ) {
-        let (agent, declaration) = of;
-        let (rec, details) = entity;
-        self.stated(rt, (agent, declaration, rec), details);
-        let details = person(rt, self.alloc, holder);
-        self.stated(rt, (agent, declaration, holder), details);
-        let details = held(rt, self.alloc, rec, holder, &[shares(5)]);
-        self.stated(rt, (agent, declaration, "r9"), details);
-    }
-
-    pub(super) fn closed(&mut self, rt: &impl Abort, rec: &str, details: Details) {
-        let at = ("alder", "c1", rec);
-        self.add(rt, at, "2024-01-12", Status::Closed, details);
+        let statement = Statement {
+            id: ident(rt, self.alloc, "s"),
+            day: day(rt, "2024-01-10"),
+            declaration: ident(rt, self.alloc, "c1"),
+            rec: ident(rt, self.alloc, rec),
+            status: None,
+            details,
+        };
+        let row = row(rt, self.alloc, "alder", statement);
+        self.rows.push(row).expect(rt, "memory");
     }
 
     pub(super) fn link(
@@ -155,18 +126,6 @@ impl Filed {
         let rec = format!(in self.alloc; "r-{subject}-{party}").expect(rt, "memory");
         let details = held(rt, self.alloc, subject, party, interests);
         self.with(rt, rec.as_str(), details);
-    }
-
-    pub(super) fn links(
-        &mut self,
-        rt: &impl Abort,
-        subject: &str,
-        parties: &[&str],
-        interests: &[Interest],
-    ) {
-        for party in parties {
-            self.link(rt, subject, party, interests);
-        }
     }
 
     // An entity that begins with e, a or b, or a person that begins with anything else.
@@ -187,7 +146,7 @@ impl Filed {
     }
 }
 
-pub(super) fn of_kind(kind: InterestKind, share: Option<Span>) -> Interest {
+fn of_kind(kind: InterestKind, share: Option<Span>) -> Interest {
     Interest {
         kind,
         directness: Directness::Unknown,
@@ -207,10 +166,6 @@ pub(super) fn shares(percent: u8) -> Interest {
         InterestKind::Shareholding,
         Span::new(percent, false, percent, false),
     )
-}
-
-pub(super) fn board(share: Option<Span>) -> Interest {
-    of_kind(InterestKind::AppointmentOfBoard, share)
 }
 
 // p1's interests in a1, which holds 10 percent of the shares of e1.
@@ -254,16 +209,14 @@ pub(super) fn walked(
     }
 }
 
-// Both answers are the wanted one.
-pub(super) fn answers(rt: &impl Abort, filed: &Filed, dated: &str, rec: &str, wanted: &str) {
+// Both answers on a record of alder's declaration c1 are the wanted one, on 2024-02-01 or the day that
+// follows the record.
+pub(super) fn answers(rt: &impl Abort, filed: &Filed, case: &str, ask: &str, wanted: &str) {
+    let (rec, dated) = ask.split_once(' ').unwrap_or((ask, "2024-02-01"));
     let target = node(rt, filed.alloc, "alder", "c1", rec);
     let day = day(rt, dated);
     let found = walked(rt, filed.alloc, &filed.rows, day, &target);
-    same(rt, "chains", rec, found.as_str(), wanted);
+    same(rt, case, ask, found.as_str(), wanted);
     let again = by_rounds(rt, filed.alloc, &filed.rows, day, &target);
-    same(rt, "chains by rounds", rec, again.as_str(), wanted);
-}
-
-pub(super) fn chains_of(rt: &impl Abort, filed: &Filed, rec: &str, wanted: &str) {
-    answers(rt, filed, "2024-02-01", rec, wanted);
+    same(rt, "by rounds", case, again.as_str(), wanted);
 }

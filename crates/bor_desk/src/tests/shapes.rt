@@ -2,7 +2,7 @@
 //! numbers.
 
 use crate::tests::filed::{
-    Filed, chains_of, company, name_of, numbered, person, shares, votes, walked,
+    Filed, answers, company, name_of, numbered, person, shares, votes, walked,
 };
 use crate::tests::notation::{day, node};
 use crate::tests::same;
@@ -83,5 +83,5 @@ fn a_ring_of_fifty_aliases(rt: HostRuntime) {
     }
     filed.records(&rt, &["p"]);
     filed.link(&rt, "e25", "p", &[shares(1)]);
-    chains_of(&rt, &filed, "e0", "p");
+    answers(&rt, &filed, "a ring", "e0", "p");
 }
