@@ -19,7 +19,7 @@ mod spelled;
 mod worked_rows;
 
 use super::*;
-use bor_rows::{FIRST, file};
+use bor_rows::{Row, body_of};
 use std::alloc::Global;
 use std::process::Abort;
 
@@ -32,15 +32,10 @@ fn is_text(told: &Text, text: &str, refused: bool) -> bool {
     told.bytes.as_slice() == text.as_bytes() && told.refused == refused
 }
 
-fn told(rt: &impl Abort, alloc: Global, file: &str, text: &str, refused: bool) -> bool {
+// What is told of the file is the text: a refusal, where the text says so.
+fn is_told(rt: &impl Abort, alloc: Global, row: &str, file: &str, text: &str) {
     let told = check_text(alloc, file.as_bytes()).expect(rt, "memory");
-    is_text(&told, text, refused)
-}
-
-fn told_with_share(rt: &impl Abort, alloc: Global, share: &str, text: &str, refused: bool) -> bool {
-    let (before, after) = FIRST.split_once("100").expect(rt, "no share");
-    let file = format!(in alloc; "{before}{share}{after}").expect(rt, "memory");
-    told(rt, alloc, file.as_str(), text, refused)
+    assert!(rt; is_text(&told, text, text.starts_with("refused ")), "{row}");
 }
 
 // The example of the crate's first page.
@@ -51,64 +46,57 @@ fn an_empty_list_is_refused(rt: HostRuntime) {
     assert!(rt; text.bytes.as_slice() == b"refused NoStatements\n".as_slice());
 }
 
-#[test]
-fn an_accepted_file_is_listed(rt: HostRuntime) {
-    let text =
-        "filing 1 published\n1\tentity\tnew\tc1\te1\n2\tperson\tnew\tc1\tp1\n3\trelationship\tnew\tc1\tr1\n";
-    assert!(rt; told_with_share(&rt, rt.alloc(), "100", text, false));
-}
+// Files in words, and what is told of each.
+const CHECKED: [Row; 15] = [
+    (
+        "FIRST",
+        "filing 1 published\n1\tentity\tnew\tc1\te1\n2\tperson\tnew\tc1\tp1\n3\trelationship\tnew\tc1\tr1\n",
+    ),
+    // A record may be updated.
+    (
+        "E s1 e1; E s2 e1",
+        "filing 1 published\n1\tentity\tnew\tc1\te1\n2\tentity\tupdated\tc1\te1\n",
+    ),
+    // A refusal has its name, its place and its field.
+    ("[{\"statementId\":\"s1\"", "refused NotJson\n"),
+    ("[{}]", "refused Missing at 1 in statementId\n"),
+    ("[7]", "refused Bad at 1 in statement\n"),
+    (
+        "E s1 e1; P s2 p1; R s3 r1 e1<-p1 V25.0",
+        "refused Fraction at 3\n",
+    ),
+    (
+        "E s1 e1; P s2 p1; R s3 r1 e1<-p1 V1e2",
+        "refused Fraction at 3\n",
+    ),
+    (
+        "E s1 e1; P s2 p1; R s3 r1 e1<-p1 V101",
+        "refused ShareRange at 3\n",
+    ),
+    (
+        "E s1 e1; P s2 p1; R s3 r1 e1<-p1 V\"25\"",
+        "refused Bad at 3 in exact\n",
+    ),
+    // A statement that may not follow is refused at its place.
+    ("E s1 e1; E s1 e2", "refused StatementTwice at 2\n"),
+    ("E s1 e1; E s2 e1 +new", "refused RecordExists at 2\n"),
+    ("E s1 e1 +updated", "refused RecordUnknown at 1\n"),
+    (
+        "E s1 e1; E s2 e1 +closed; E s3 e1 +updated",
+        "refused RecordClosed at 3\n",
+    ),
+    ("E s1 e1; E s2 e1 @2024-01-09", "refused DateBack at 2\n"),
+    ("E s1 e1; P s2 e1", "refused TypeChanged at 2\n"),
+];
 
 #[test]
-fn a_refusal_has_its_name_place_and_field(rt: HostRuntime) {
+fn a_file_is_listed_or_refused(rt: HostRuntime) {
     let alloc = rt.alloc();
-    for (file, text) in [
-        ("[]", "refused NoStatements\n"),
-        ("{}", "refused NotAList\n"),
-        ("[{\"statementId\":\"s1\"", "refused NotJson\n"),
-        ("[{}]", "refused Missing at 1 in statementId\n"),
-        ("[7]", "refused Bad at 1 in statement\n"),
-    ] {
-        assert!(rt; told(&rt, alloc, file, text, true), "{file}");
+    for (words, text) in CHECKED {
+        let file = body_of(alloc, words).expect(&rt, "no file");
+        is_told(&rt, alloc, words, file.as_str(), text);
     }
-    for (share, text) in [
-        ("25.0", "refused Fraction at 3\n"),
-        ("1e2", "refused Fraction at 3\n"),
-        ("101", "refused ShareRange at 3\n"),
-        ("\"25\"", "refused Bad at 3 in exact\n"),
-    ] {
-        assert!(rt; told_with_share(&rt, alloc, share, text, true), "{share}");
-    }
-}
-
-fn told_of(rt: &impl Abort, alloc: Global, statements: &str, text: &str, refused: bool) -> bool {
-    let file = file(alloc, statements).expect(rt, "no file");
-    told(rt, alloc, file.as_str(), text, refused)
-}
-
-#[test]
-fn a_record_may_be_updated(rt: HostRuntime) {
-    let text = "filing 1 published\n1\tentity\tnew\tc1\te1\n2\tentity\tupdated\tc1\te1\n";
-    assert!(rt; told_of(&rt, rt.alloc(), "E s1 e1; E s2 e1", text, false));
-}
-
-#[test]
-fn a_statement_that_may_not_follow_is_refused_at_its_place(rt: HostRuntime) {
-    for (statements, text) in [
-        ("E s1 e1; E s1 e2", "refused StatementTwice at 2\n"),
-        ("E s1 e1; E s2 e1 +new", "refused RecordExists at 2\n"),
-        ("E s1 e1 +updated", "refused RecordUnknown at 1\n"),
-        (
-            "E s1 e1; E s2 e1 +closed; E s3 e1 +updated",
-            "refused RecordClosed at 3\n",
-        ),
-        ("E s1 e1; E s2 e1 @2024-01-09", "refused DateBack at 2\n"),
-        ("E s1 e1; P s2 e1", "refused TypeChanged at 2\n"),
-    ] {
-        assert!(rt;
-            told_of(&rt, rt.alloc(), statements, text, true),
-            "{statements}"
-        );
-    }
+    is_told(&rt, alloc, "no list", "{}", "refused NotAList\n");
 }
 
 // A list of nothing but spaces, so many bytes long.
@@ -128,9 +116,6 @@ fn a_byte_too_many_is_refused_first(rt: HostRuntime) {
         (1_048_577, "refused BodyTooLarge\n"),
     ] {
         let file = spaces(&rt, rt.alloc(), length);
-        assert!(rt;
-            told(&rt, rt.alloc(), file.as_str(), text, true),
-            "{length}"
-        );
+        is_told(&rt, rt.alloc(), text, file.as_str(), text);
     }
 }

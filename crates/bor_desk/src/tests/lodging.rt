@@ -2,7 +2,7 @@
 
 use crate::DeskReply;
 use crate::tests::asking::Desk;
-use bor_rows::lodging as rows;
+use bor_rows::{Row, lodging as rows};
 use std::alloc::Global;
 use std::process::Abort;
 
@@ -42,36 +42,39 @@ fn a_repeat_tells_the_filing_that_is_there(rt: HostRuntime) {
     }
 }
 
+// Files of which a statement may not follow an earlier one.
+const NONE_FOLLOWS: [Row; 7] = [
+    (
+        "alder lodge f1 2024-02-01 E s1 e1; E s2 e1 +new",
+        r#"{"place":2,"refusal":"RecordExists"}"#,
+    ),
+    (
+        "alder lodge f1 2024-02-01 E s1 e1 +updated",
+        r#"{"place":1,"refusal":"RecordUnknown"}"#,
+    ),
+    (
+        "alder lodge f1 2024-02-01 E s1 e1; E s2 e1 +closed; E s3 e1 +updated",
+        r#"{"place":3,"refusal":"RecordClosed"}"#,
+    ),
+    (
+        "alder lodge f1 2024-02-01 E s1 e1; E s2 e1 @2024-01-09",
+        r#"{"place":2,"refusal":"DateBack"}"#,
+    ),
+    (
+        "alder lodge f1 2024-02-01 E s1 e1; P s2 e1",
+        r#"{"place":2,"refusal":"TypeChanged"}"#,
+    ),
+    (
+        "alder lodge f1 2024-02-01 E s1 e1; E s1 e2",
+        r#"{"place":2,"refusal":"StatementTwice"}"#,
+    ),
+    ("alder filings", "[]"),
+];
+
 #[test]
 fn a_statement_that_may_not_follow_leaves_no_filing(rt: HostRuntime) {
     let mut desk = Desk::new(&rt, rt.alloc());
-    for (file, reply) in [
-        (
-            "E s1 e1; E s2 e1 +new",
-            r#"{"place":2,"refusal":"RecordExists"}"#,
-        ),
-        (
-            "E s1 e1 +updated",
-            r#"{"place":1,"refusal":"RecordUnknown"}"#,
-        ),
-        (
-            "E s1 e1; E s2 e1 +closed; E s3 e1 +updated",
-            r#"{"place":3,"refusal":"RecordClosed"}"#,
-        ),
-        (
-            "E s1 e1; E s2 e1 @2024-01-09",
-            r#"{"place":2,"refusal":"DateBack"}"#,
-        ),
-        ("E s1 e1; P s2 e1", r#"{"place":2,"refusal":"TypeChanged"}"#),
-        (
-            "E s1 e1; E s1 e2",
-            r#"{"place":2,"refusal":"StatementTwice"}"#,
-        ),
-    ] {
-        let ask = format!(in rt.alloc(); "alder lodge f1 2024-02-01 {file}");
-        desk.is_told(&rt, file, ask.expect(&rt, "memory").as_str(), reply);
-        desk.is_told(&rt, file, "alder filings", "[]");
-    }
+    desk.talk(&rt, "none follows", &NONE_FOLLOWS);
     let table = &rows::A_STATEMENT_THAT_MAY_NOT_FOLLOW_LEAVES_NO_FILING;
     desk.talk(&rt, "a statement that may not follow", table);
 }
