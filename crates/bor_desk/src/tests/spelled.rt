@@ -6,7 +6,7 @@ use bods_read::{
     Statement, Status,
 };
 use bor_chains::{Node, PersonLine};
-use bor_machine::{FilingLine, Lodged, Outward};
+use bor_machine::{FilingLine, Outward, State};
 use bor_records::Entry;
 use bor_terms::{Day, Ident, Span};
 use serde_json::Value;
@@ -180,17 +180,18 @@ fn add_statements(rt: &impl Abort, text: &mut String, alloc: Global, statements:
     }
 }
 
-fn add_outwards(rt: &impl Abort, text: &mut String, alloc: Global, outwards: &[Outward]) {
-    add(rt, text, "[");
+fn outwards_text(rt: &impl Abort, alloc: Global, outwards: &[Outward]) -> String {
+    let mut text = String::from_str(alloc, "[").expect(rt, "memory");
     for outward in outwards {
-        begin_item(rt, text);
+        begin_item(rt, &mut text);
         let agent = outward.agent.as_str();
         let due = day_text(rt, alloc, outward.due);
         write!(text, r#"{{"agent":"{agent}","due":"{due}","statements":["#).expect(rt, "memory");
-        add_statements(rt, text, alloc, outward.statements.as_slice());
-        add(rt, text, "]}");
+        add_statements(rt, &mut text, alloc, outward.statements.as_slice());
+        add(rt, &mut text, "]}");
     }
-    add(rt, text, "]");
+    add(rt, &mut text, "]");
+    text
 }
 
 fn add_record(rt: &impl Abort, text: &mut String, alloc: Global, record: &Entry) {
@@ -209,13 +210,14 @@ fn add_record(rt: &impl Abort, text: &mut String, alloc: Global, record: &Entry)
     .expect(rt, "memory");
 }
 
-fn add_records(rt: &impl Abort, text: &mut String, alloc: Global, date: Day, records: &[Entry]) {
+fn records_text(rt: &impl Abort, alloc: Global, date: Day, records: &[Entry]) -> String {
     let date = day_text(rt, alloc, date);
-    write!(text, r#"{{"date":"{date}","records":["#).expect(rt, "memory");
+    let mut text = format!(in alloc; r#"{{"date":"{date}","records":["#).expect(rt, "memory");
     for record in records {
-        add_record(rt, text, alloc, record);
+        add_record(rt, &mut text, alloc, record);
     }
-    add(rt, text, "]}");
+    add(rt, &mut text, "]}");
+    text
 }
 
 fn add_person(rt: &impl Abort, text: &mut String, alloc: Global, person: &PersonLine) {
@@ -231,32 +233,30 @@ fn add_person(rt: &impl Abort, text: &mut String, alloc: Global, person: &Person
     write!(text, r#","record":"{rec}"}}"#).expect(rt, "memory");
 }
 
-fn add_persons(
+fn persons_text(
     rt: &impl Abort,
-    text: &mut String,
     alloc: Global,
     entity: &Node,
     date: Day,
     persons: &[PersonLine],
-) {
+) -> String {
     let (agent, declaration) = (entity.agent.as_str(), entity.declaration.as_str());
     let date = day_text(rt, alloc, date);
-    write!(
-        text,
+    let mut text = format!(in alloc;
         r#"{{"agent":"{agent}","date":"{date}","declaration":"{declaration}","persons":["#
-    )
-    .expect(rt, "memory");
+    ).expect(rt, "memory");
     for person in persons {
-        add_person(rt, text, alloc, person);
+        add_person(rt, &mut text, alloc, person);
     }
     let rec = entity.rec.as_str();
     write!(text, r#"],"record":"{rec}"}}"#).expect(rt, "memory");
+    text
 }
 
-fn add_lines(rt: &impl Abort, text: &mut String, alloc: Global, lines: &[FilingLine]) {
-    add(rt, text, "[");
+fn lines_text(rt: &impl Abort, alloc: Global, lines: &[FilingLine]) -> String {
+    let mut text = String::from_str(alloc, "[").expect(rt, "memory");
     for line in lines {
-        begin_item(rt, text);
+        begin_item(rt, &mut text);
         let due = day_text(rt, alloc, line.due);
         let (number, key, state) = (line.number, line.key.as_str(), line.state.as_str());
         write!(
@@ -265,27 +265,19 @@ fn add_lines(rt: &impl Abort, text: &mut String, alloc: Global, lines: &[FilingL
         )
         .expect(rt, "memory");
     }
-    add(rt, text, "]");
+    add(rt, &mut text, "]");
+    text
 }
 
-fn add_filing(
-    rt: &impl Abort,
-    text: &mut String,
-    alloc: Global,
-    number: u32,
-    due: Day,
-    state: &str,
-) {
-    let due = day_text(rt, alloc, due);
-    write!(
-        text,
-        r#"{{"due":"{due}","filing":{number},"state":"{state}"}}"#
+fn filing_text(rt: &impl Abort, alloc: Global, number: u32, due: Day, state: State) -> String {
+    let (due, state) = (day_text(rt, alloc, due), state.as_str());
+    format!(in alloc; r#"{{"due":"{due}","filing":{number},"state":"{state}"}}"#).expect(
+        rt, "memory",
     )
-    .expect(rt, "memory");
 }
 
-fn add_refusal(rt: &impl Abort, text: &mut String, refusal: Refusal) {
-    add(rt, text, "{");
+fn refusal_text(rt: &impl Abort, alloc: Global, refusal: Refusal) -> String {
+    let mut text = String::from_str(alloc, "{").expect(rt, "memory");
     if let Some(field) = refusal.field() {
         let field = field.as_str();
         write!(text, r#""field":"{field}","#).expect(rt, "memory");
@@ -295,53 +287,43 @@ fn add_refusal(rt: &impl Abort, text: &mut String, refusal: Refusal) {
     }
     let name = refusal.name();
     write!(text, r#""refusal":"{name}"}}"#).expect(rt, "memory");
+    text
 }
 
-fn add_lodged(rt: &impl Abort, text: &mut String, alloc: Global, lodged: &Lodged) {
-    let state = lodged.state.as_str();
-    add_filing(rt, text, alloc, lodged.number, lodged.due, state);
-}
-
-fn add_withdrawn(rt: &impl Abort, text: &mut String, alloc: Global, line: &FilingLine) {
-    add_filing(rt, text, alloc, line.number, line.due, line.state.as_str());
-}
-
-fn add_file(rt: &impl Abort, text: &mut String, alloc: Global, file: &[u8]) {
-    let file = String::from_utf8_lossy(alloc, file).expect(rt, "memory");
-    add(rt, text, file.as_str());
-}
-
-fn add_day(rt: &impl Abort, text: &mut String, alloc: Global, day: Day) {
+fn day_reply(rt: &impl Abort, alloc: Global, day: Day) -> String {
     let day = day_text(rt, alloc, day);
-    write!(text, r#"{{"day":"{day}"}}"#).expect(rt, "memory");
+    format!(in alloc; r#"{{"day":"{day}"}}"#).expect(rt, "memory")
 }
 
-fn add_enrolled(rt: &impl Abort, text: &mut String, name: &str) {
-    write!(text, r#"{{"agent":"{name}"}}"#).expect(rt, "memory");
+fn enrolled_text(rt: &impl Abort, alloc: Global, name: &str) -> String {
+    format!(in alloc; r#"{{"agent":"{name}"}}"#).expect(rt, "memory")
 }
 
 /// The reply as JSON; a file as it was lodged.
 pub(crate) fn spelled(rt: &impl Abort, alloc: Global, reply: &DeskReply) -> String {
-    let mut text = String::new(alloc);
-    let to = &mut text;
     match reply {
-        DeskReply::Lodged(lodged) => add_lodged(rt, to, alloc, lodged),
-        DeskReply::Withdrawn(line) => add_withdrawn(rt, to, alloc, line),
-        DeskReply::Filings(lines) => add_lines(rt, to, alloc, lines.as_slice()),
-        DeskReply::File(file) => add_file(rt, to, alloc, file.as_slice()),
-        DeskReply::Published(outwards) => add_outwards(rt, to, alloc, outwards.as_slice()),
+        DeskReply::Lodged(lodged) => {
+            filing_text(rt, alloc, lodged.number, lodged.due, lodged.state)
+        }
+        DeskReply::Withdrawn(line) => filing_text(rt, alloc, line.number, line.due, line.state),
+        DeskReply::Filings(lines) => lines_text(rt, alloc, lines.as_slice()),
+        DeskReply::File(file) => {
+            String::from_utf8_lossy(alloc, file.as_slice()).expect(rt, "memory")
+        }
+        DeskReply::Published(outwards) => outwards_text(rt, alloc, outwards.as_slice()),
         DeskReply::Snapshot { date, records } => {
-            add_records(rt, to, alloc, *date, records.as_slice());
+            records_text(rt, alloc, *date, records.as_slice())
         }
         DeskReply::Chains {
             entity,
             date,
             persons,
-        } => add_persons(rt, to, alloc, entity, *date, persons.as_slice()),
-        DeskReply::Day(day) => add_day(rt, to, alloc, *day),
-        DeskReply::Enrolled(name) => add_enrolled(rt, to, name.as_str()),
-        DeskReply::Refused(refusal) => add_refusal(rt, to, *refusal),
-        DeskReply::Failed(_) => add(rt, to, r#"{"refusal":"StoreFault"}"#),
+        } => persons_text(rt, alloc, entity, *date, persons.as_slice()),
+        DeskReply::Day(day) => day_reply(rt, alloc, *day),
+        DeskReply::Enrolled(name) => enrolled_text(rt, alloc, name.as_str()),
+        DeskReply::Refused(refusal) => refusal_text(rt, alloc, *refusal),
+        DeskReply::Failed(_) => {
+            String::from_str(alloc, r#"{"refusal":"StoreFault"}"#).expect(rt, "memory")
+        }
     }
-    text
 }
