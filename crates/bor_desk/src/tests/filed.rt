@@ -184,7 +184,7 @@ pub(super) fn name_of(rt: &impl Abort, alloc: Global, letter: &str, number: u32)
 
 // ---- two answers
 
-pub(super) fn told_lines(rt: &impl Abort, alloc: Global, lines: &[PersonLine]) -> String {
+fn told_lines(rt: &impl Abort, alloc: Global, lines: &[PersonLine]) -> String {
     let mut out = String::new(alloc);
     for line in lines {
         tell(rt, &mut out, &line.node);

@@ -1,18 +1,14 @@
-//! Sources of links that count, fail, lie and are borrowed.
+//! Sources of links that count, fail and lie.
 
-ghost use Rattle.std.specs.Prelude.{◌≡◌, IfOk};
-ghost use Rattle.std.specs.Borrow.{GName};
-ghost use Rattle.bor_records.specs.Promises.{Kept, Promised, counted};
+ghost use Rattle.std.specs.Prelude.{◌≡◌};
+ghost use Rattle.bor_records.specs.Promises.{counted};
 ghost use Rattle.bor_links.specs.Shown.{Shown};
-ghost use Rattle.bor_chains.specs.Chains.{AreJoined};
 
-use crate::tests::filed::{Filed, name_of, numbered, over_a1, shares, told_lines, votes};
+use crate::tests::filed::{Filed, name_of, numbered, over_a1, shares, votes};
 use crate::tests::notation::{day, node};
 use crate::tests::rounds::told;
 use crate::tests::same;
-use bor_chains::{
-    ChainFault, Link, LinkSource, ListSource, Node, NodeInfo, PersonLine, persons_of,
-};
+use bor_chains::{ChainFault, Link, LinkSource, ListSource, Node, NodeInfo, persons_of};
 use bor_records::Row;
 use std::alloc::{AllocError, Global};
 use std::process::Abort;
@@ -117,75 +113,6 @@ impl LinkSource for Counting {
         };
         self.told(answer)
     }
-}
-
-// A source over another one that it borrows, as a source over a keep does.
-#[derive(Drop)]
-struct Borrowing<'a, S> {
-    source: &'a mut S,
-}
-
-impl<'a, S: LinkSource> LinkSource for Borrowing<'a, S> {
-    type Fault = S::Fault;
-
-    ghost Meaning = { S.Meaning };
-
-    ghost shown = { S.shown };
-
-    ghost shows = { λ x m. S.shows x.source.now m };
-
-    ghost is_clean = { λ x. S.is_clean x.source.now };
-
-    ghost fault_count = { λ x. S.fault_count x.source.now };
-
-    ghost may_tell = { S.may_tell };
-
-    ghost Lender = { GName };
-
-    ghost lender = { λ x. x.source.ghost_name };
-
-    fn faults(&self) -> u64 {
-        self.source.faults()
-    }
-
-    fn node(&mut self, node: &Node) -> Result<Option<NodeInfo>, S::Fault> {
-        self.source.node(node)
-    }
-
-    fn aliases(&mut self, node: &Node) -> Result<Vec<Node>, S::Fault> {
-        self.source.aliases(node)
-    }
-
-    fn same(&mut self, node: &Node) -> Result<Vec<Node>, S::Fault> {
-        self.source.same(node)
-    }
-
-    fn links_into(&mut self, node: &Node) -> Result<Vec<Link>, S::Fault> {
-        self.source.links_into(node)
-    }
-}
-
-impl<'a, S: LinkSource> Borrowing<'a, S> {
-    fn new(source: &'a mut S) -> Borrowing<'a, S>
-        ensures source { result.source.now ≡ source.entry.now }
-        ensures same_reference { result.source.ghost_name ≡ source.entry.ghost_name }
-    {
-        Borrowing { source }
-    }
-}
-
-// The report of a source that is borrowed: what it showed, it shows.
-fn persons_behind<S: LinkSource>(
-    alloc: Global,
-    source: &mut S,
-    target: &Node,
-) -> Result<Vec<PersonLine>, ChainFault<S::Fault>>
-    ensures kept { Kept S.shows S.is_clean source.old source.new }
-    ensures joined { Promised S.shows S.is_clean source.old source.new (λ m.
-        IfOk result (λ lines. AreJoined (S.shown m) target.now lines.items)) }
-{
-    let mut borrowing = Borrowing::new(source);
-    persons_of(alloc, &mut borrowing, target)
 }
 
 fn source_of(rt: &impl Abort, alloc: Global, rows: &[Row], fails_at: u64) -> Counting {
@@ -340,31 +267,6 @@ fn a_class_of_a_thousand_is_asked_for_once(rt: HostRuntime) {
     assert!(rt; count_behind(&rt, alloc, &mut source, &target) == 1);
     // the target and the person, the class, and the links into each of it
     assert!(rt; source.calls == 1003);
-}
-
-fn told_behind<S: LinkSource>(
-    rt: &impl Abort,
-    alloc: Global,
-    source: &mut S,
-    target: &Node,
-) -> String {
-    match persons_behind(alloc, source, target) {
-        Ok(lines) => told_lines(rt, alloc, &lines),
-        Err(_) => panic!(rt; "a fault"),
-    }
-}
-
-#[test]
-fn a_source_may_be_borrowed(rt: HostRuntime) {
-    let alloc = rt.alloc();
-    let rows = over_a1(&rt, alloc, &[votes(60)]).rows;
-    let target = node(&rt, alloc, "alder", "c1", "e1");
-    let day = day(&rt, "2024-02-01");
-    let mut source = ListSource::from_rows(alloc, &rows, day).expect(&rt, "memory");
-    for _ in 0..2 {
-        let told = told_behind(&rt, alloc, &mut source, &target);
-        same(&rt, "borrowed", "e1", told.as_str(), "p1");
-    }
 }
 
 #[test]
