@@ -1,10 +1,9 @@
-//! Who stands behind an entity, over declarations and agents.
+//! Worked rows of who stands behind an entity, over declarations and agents.
 
-use crate::tests::asking::Desk;
 use bor_rows::{PUBLISHED, Row};
 
-// e1 stands in two declarations, and is one entity.
-const A_RECORD_OF_TWO_DECLARATIONS_IS_ONE_ENTITY: [Row; 4] = [
+/// e1 stands in two declarations, and is one entity.
+pub(super) const A_RECORD_OF_TWO_DECLARATIONS_IS_ONE_ENTITY: [Row; 4] = [
     (
         "alder lodge f1 2024-02-01 E s1 e1; P s2 p1; R s3 r1 e1<-p1 S5",
         PUBLISHED,
@@ -23,8 +22,8 @@ const A_RECORD_OF_TWO_DECLARATIONS_IS_ONE_ENTITY: [Row; 4] = [
     ),
 ];
 
-// By agent, then declaration, then record, whoever filed first.
-const PERSONS_OF_SEVERAL_AGENTS_ARE_IN_ORDER: [Row; 5] = [
+/// By agent, then declaration, then record, whoever filed first.
+pub(super) const PERSONS_OF_SEVERAL_AGENTS_ARE_IN_ORDER: [Row; 5] = [
     (
         "birch lodge f1 2024-02-01 E s1 b1 #X/1; P s2 a; R s3 r1 b1<-a S5 in c0",
         PUBLISHED,
@@ -43,22 +42,3 @@ const PERSONS_OF_SEVERAL_AGENTS_ARE_IN_ORDER: [Row; 5] = [
     ),
     ("alder chains alder c1 z", r#"{"refusal":"NoEntity"}"#),
 ];
-
-// Tables by their names, each asked of a new desk.
-const TABLES: [(&str, &[Row]); 2] = [
-    (
-        "a record of two declarations is one entity",
-        &A_RECORD_OF_TWO_DECLARATIONS_IS_ONE_ENTITY,
-    ),
-    (
-        "persons of several agents are in order",
-        &PERSONS_OF_SEVERAL_AGENTS_ARE_IN_ORDER,
-    ),
-];
-
-#[test]
-fn chains_go_over_declarations_and_agents(rt: HostRuntime) {
-    for (name, rows) in TABLES {
-        Desk::new(&rt, rt.alloc()).talk(&rt, name, rows);
-    }
-}

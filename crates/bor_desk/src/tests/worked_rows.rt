@@ -1,10 +1,12 @@
 //! The worked rows: who may ask for what, what is lodged, withdrawn and seen, and when.
 
 use crate::tests::asking::Desk;
+use crate::tests::chains;
+use crate::tests::lodging::A_STATEMENT_THAT_MAY_NOT_FOLLOW_IS_REFUSED_AT_ITS_PLACE;
 use bor_rows::{FIRST, PUBLISHED, Row, callers, keyed, lodging, sight, withdrawing, worlds};
 
 // Tables by their names, each asked of a new desk.
-const TABLES: [(&str, &[Row]); 20] = [
+const TABLES: [(&str, &[Row]); 24] = [
     (
         "each caller has its own requests",
         &callers::EACH_CALLER_HAS_ITS_OWN_REQUESTS,
@@ -22,6 +24,14 @@ const TABLES: [(&str, &[Row]); 20] = [
     (
         "a file that is not read is refused whole",
         &lodging::A_FILE_THAT_IS_NOT_READ_IS_REFUSED_WHOLE,
+    ),
+    (
+        "a statement that may not follow is refused at its place",
+        &A_STATEMENT_THAT_MAY_NOT_FOLLOW_IS_REFUSED_AT_ITS_PLACE,
+    ),
+    (
+        "a statement that may not follow leaves no filing",
+        &lodging::A_STATEMENT_THAT_MAY_NOT_FOLLOW_LEAVES_NO_FILING,
     ),
     (
         "drafts are withdrawn from the last on",
@@ -87,6 +97,14 @@ const TABLES: [(&str, &[Row]); 20] = [
     (
         "a draft in the middle joins for its own agent alone",
         &keyed::A_DRAFT_IN_THE_MIDDLE_JOINS_FOR_ITS_OWN_AGENT_ALONE,
+    ),
+    (
+        "a record of two declarations is one entity",
+        &chains::A_RECORD_OF_TWO_DECLARATIONS_IS_ONE_ENTITY,
+    ),
+    (
+        "persons of several agents are in order",
+        &chains::PERSONS_OF_SEVERAL_AGENTS_ARE_IN_ORDER,
     ),
 ];
 
