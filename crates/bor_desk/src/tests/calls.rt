@@ -276,22 +276,23 @@ fn a_keep_is_asked_for_no_more_than_is_needed(rt: HostRuntime) {
     assert!(rt; keep.faults() == 0);
 }
 
-// Adds the entity of this number to a chain, and who holds it: the next one, or a person.
-fn add_link(rt: &impl Abort, file: &mut String, x: &str, i: u32, entities: u32) {
-    write!(file, "; E {x}s{i} {x}e{i}; R {x}t{i} {x}r{i} {x}e{i}<-").expect(rt, "memory");
-    if i < entities {
-        let next = i + 1;
-        write!(file, "{x}e{next} V100").expect(rt, "memory");
-    } else {
-        write!(file, "{x}p V100").expect(rt, "memory");
-    }
+// Adds the entity of this number to a chain, which the next number holds.
+fn add_link(rt: &impl Abort, file: &mut String, x: &str, i: u32) {
+    let next = i.wrapping_add(1);
+    write!(
+        file,
+        "; E {x}s{i} {x}e{i}; R {x}t{i} {x}r{i} {x}e{i}<-{x}e{next} V100"
+    )
+    .expect(rt, "memory");
 }
 
-// A chain of entities, each wholly the next one's, and the last one a person's; `x` begins each name.
+// A chain of entities, each wholly the next one's, and the last one a person's, whose number comes
+// after theirs; `x` begins each name.
 fn chain(rt: &impl Abort, alloc: Global, x: &str, entities: u32) -> String {
-    let mut file = format!(in alloc; "P {x}s {x}p").expect(rt, "memory");
+    let person = entities.wrapping_add(1);
+    let mut file = format!(in alloc; "P {x}s {x}e{person}").expect(rt, "memory");
     for i in 1..=entities {
-        add_link(rt, &mut file, x, i, entities);
+        add_link(rt, &mut file, x, i);
     }
     file
 }

@@ -66,11 +66,8 @@ fn is_failed<K: Keep>(
     if failing.faults() == 0 {
         return false;
     }
-    assert!(rt;
-        matches!(&told, DeskReply::Failed(met) if *met == failing.fault),
-        "{ask} {calls}"
-    );
-    assert!(rt; failing.faults() == 1, "{ask} {calls}");
+    let is_told = matches!(&told, DeskReply::Failed(met) if *met == failing.fault);
+    assert!(rt; is_told && failing.faults() == 1, "{ask} {calls}");
     true
 }
 

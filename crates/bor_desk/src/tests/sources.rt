@@ -273,10 +273,10 @@ fn a_class_of_a_thousand_is_asked_for_once(rt: HostRuntime) {
 fn links_are_asked_for_at_most_twice(rt: HostRuntime) {
     let alloc = rt.alloc();
     let mut filed = Filed::new(alloc);
-    filed.records(&rt, &["e1", "a1", "p1"]);
-    filed.link(&rt, "e1", "a1", &[votes(60)]);
-    filed.link(&rt, "a1", "e1", &[votes(60)]);
-    filed.link(&rt, "a1", "p1", &[votes(60)]);
+    filed.state(
+        &rt,
+        "alder E s1 e1; E s2 a1; P s3 p1; R s4 x1 e1<-a1 V60; R s5 x2 a1<-e1 V60; R s6 x3 a1<-p1 V60",
+    );
     let target = node(&rt, alloc, "alder", "c1", "e1");
     let mut source = source_of(&rt, alloc, &filed.rows, 0);
     assert!(rt; count_behind(&rt, alloc, &mut source, &target) == 1);
