@@ -4,9 +4,11 @@ use crate::tests::asking::Desk;
 use crate::tests::chains;
 use crate::tests::lodging::A_STATEMENT_THAT_MAY_NOT_FOLLOW_IS_REFUSED_AT_ITS_PLACE;
 use bor_rows::{FIRST, PUBLISHED, Row, callers, keyed, lodging, sight, withdrawing, worlds};
+use std::alloc::Global;
+use std::process::Abort;
 
-// Tables by their names, each asked of a new desk.
-const TABLES: [(&str, &[Row]); 24] = [
+// Tables of callers, lodging and withdrawing by their names.
+const ASKED: [(&str, &[Row]); 10] = [
     (
         "each caller has its own requests",
         &callers::EACH_CALLER_HAS_ITS_OWN_REQUESTS,
@@ -47,6 +49,10 @@ const TABLES: [(&str, &[Row]); 24] = [
         "nobody reads or withdraws another agent's filing",
         &withdrawing::NOBODY_READS_OR_WITHDRAWS_ANOTHER_AGENTS_FILING,
     ),
+];
+
+// Tables of what is seen by their names.
+const SEEN: [(&str, &[Row]); 14] = [
     (
         "published statements have their settled statuses",
         &sight::PUBLISHED_STATEMENTS_HAVE_THEIR_SETTLED_STATUSES,
@@ -108,11 +114,17 @@ const TABLES: [(&str, &[Row]); 24] = [
     ),
 ];
 
+// Each table is asked of a new desk.
+fn are_replied(rt: &impl Abort, alloc: Global, tables: &[(&str, &[Row])]) {
+    for (name, rows) in tables {
+        Desk::new(rt, alloc).talk(rt, name, rows);
+    }
+}
+
 #[test]
 fn the_worked_rows_are_replied(rt: HostRuntime) {
-    for (name, rows) in TABLES {
-        Desk::new(&rt, rt.alloc()).talk(&rt, name, rows);
-    }
+    are_replied(&rt, rt.alloc(), &ASKED);
+    are_replied(&rt, rt.alloc(), &SEEN);
     assert!(rt; FIRST.len() == 622);
 }
 
