@@ -116,17 +116,27 @@ fn a_class_of_a_thousand_entities_is_one_entity(rt: HostRuntime) {
     names(&rt, ask, told.as_str(), "p1", true);
 }
 
-// A file of 200 entities with an identifier each: each holds the one before, and a person the last.
+// A file of 300 entities with an identifier each: each holds the one before, and a person the last.
 fn a_ladder(rt: &impl Abort, alloc: Global) -> String {
     let mut ask = String::new(alloc);
     write!(
         ask,
-        "alder lodge f1 2024-02-01 P p p1; R r r e199<-p1 V100; E s e199 #X/199"
+        "alder lodge f1 2024-02-01 P p p1; R r r e299<-p1 V100; E s e299 #X/299"
     )
     .expect(rt, "memory");
-    for i in 0..199u32 {
+    for i in 0..299u32 {
         let next = i.wrapping_add(1);
         write!(ask, "; E s{i} e{i} #X/{i}; R t{i} r{i} e{i}<-e{next} V100").expect(rt, "memory");
+    }
+    ask
+}
+
+// A file of 999 persons that no chain meets.
+fn a_crowd(rt: &impl Abort, alloc: Global, key: &str) -> String {
+    let mut ask = String::new(alloc);
+    write!(ask, "birch lodge {key} 2024-02-01 P {key} p").expect(rt, "memory");
+    for i in 0..998u32 {
+        write!(ask, "; P {key}{i} p{key}{i}").expect(rt, "memory");
     }
     ask
 }
@@ -137,19 +147,33 @@ const CLIMBS: [(&str, bool); 2] = [
     ("alder chains alder c1 e0", false),
 ];
 
-#[test]
-fn a_long_ladder_is_climbed(rt: HostRuntime) {
-    let mut desks = Desks::new(&rt, rt.alloc());
-    desks.ask(&rt, a_ladder(&rt, rt.alloc()).as_str());
+fn climb(rt: &impl Abort, desks: &mut Desks) {
+    let alloc = desks.alloc;
+    desks.ask(rt, a_ladder(rt, alloc).as_str());
     desks.ask(
-        &rt,
-        "alder lodge f2 2024-03-01 R u r150 e150<-e151 V100 +closed",
+        rt,
+        "alder lodge f2 2024-03-01 R u r290 e290<-e291 V100 +closed",
     );
     for (ask, climbs) in CLIMBS {
-        desks.ask(&rt, ask);
-        let told = told(&rt, rt.alloc(), &mut desks.tables, ask);
-        names(&rt, ask, told.as_str(), "p1", climbs);
+        desks.ask(rt, ask);
+        let told = told(rt, alloc, &mut desks.tables, ask);
+        names(rt, ask, told.as_str(), "p1", climbs);
     }
+}
+
+#[test]
+fn a_long_ladder_is_climbed(rt: HostRuntime) {
+    climb(&rt, &mut Desks::new(&rt, rt.alloc()));
+}
+
+// Twice as much of the ladder is met before the rest of the register is read.
+#[test]
+fn a_long_ladder_is_climbed_beside_a_crowd(rt: HostRuntime) {
+    let mut desks = Desks::new(&rt, rt.alloc());
+    for key in ["g1", "g2"] {
+        desks.ask(&rt, a_crowd(&rt, rt.alloc(), key).as_str());
+    }
+    climb(&rt, &mut desks);
 }
 
 fn count(rt: &impl Abort, conn: &mut Connection<MemStore>, text: &str) -> usize {
