@@ -1,15 +1,18 @@
 //! Exchanges over files, in a new register.
 
 use crate::exchange::exchange_on;
-use crate::program::run;
+use crate::host::OpenRegister;
 use crate::status::Status;
-use crate::tests::streams::{Closed, Machine, Small, run_on};
+use crate::tests::streams::{
+    Closed, Machine, Small, ends, fails_untold, has_ended, new_register, run_at,
+};
 use bor_failing::FailingKeep;
-use bor_machine::{ListKeep, StoreFault};
-use bor_terms::{Day, Token};
+use bor_machine::StoreFault;
 use bor_wire::UNAVAILABLE;
+use std::alloc::Global;
 use std::fs;
-use std::test::Fail;
+use std::process::Abort;
+use std::rt::Files;
 
 /// The request that enrols alder.
 pub const ENROLMENT: &str =
@@ -20,6 +23,16 @@ const ENROLLED: &str =
 
 const TAKEN: &str =
     "HTTP/1.1 409 Conflict\r\nContent-Type: application/json\r\nContent-Length: 23\r\nConnection: close\r\n\r\n{\"refusal\":\"NameTaken\"}";
+
+/// Writes that request into the file of this name.
+pub fn write_enrolment<R: Files + Abort>(rt: &R, name: &str) {
+    assert!(rt; fs::write(rt, name, ENROLMENT).is_ok());
+}
+
+/// Removes the file of this name.
+pub fn remove<R: Files + Abort>(rt: &R, name: &str) {
+    assert!(rt; fs::remove_file(rt, name).is_ok());
+}
 
 // An exchange of these files, without a register's file.
 fn words<'a>(files: [&'a str; 3]) -> [&'a str; 8] {
@@ -37,76 +50,80 @@ fn words<'a>(files: [&'a str; 3]) -> [&'a str; 8] {
 }
 
 #[test]
-fn replies_are_printed_in_order(rt: HostRuntime) -> Result<(), Fail> {
+fn replies_are_printed_in_order(rt: HostRuntime) {
     let name = "exchange-in-order.http";
-    fs::write(&rt, name, ENROLMENT)?;
-    let ran = run_on(&rt, &words(["/", name, name]), b"");
-    fs::remove_file(&rt, name)?;
-    assert_eq!(rt; ran.status, 3);
-    assert!(rt; ran.output.as_slice() == format!(in rt.alloc(); "{ENROLLED}{TAKEN}")?.as_bytes());
-    assert!(rt; ran.errors.as_slice() == b"bor: cannot read /\n".as_slice());
-    Ok(())
+    write_enrolment(&rt, name);
+    let asked = words(["/", name, name]);
+    let mut input: &[u8] = b"";
+    let ran = run_at(&Machine::new(&rt), &asked, &mut input);
+    remove(&rt, name);
+    let whole = format!(in rt.alloc(); "{ENROLLED}{TAKEN}").expect(&rt, "memory");
+    let wanted = (3, whole.as_str(), "bor: cannot read /\n");
+    has_ended(&rt, &ran, &asked, wanted);
 }
 
 #[test]
-fn the_greatest_status_is_given(rt: HostRuntime) -> Result<(), Fail> {
+fn the_greatest_status_is_given(rt: HostRuntime) {
     let name = "exchange-greatest.http";
-    fs::write(&rt, name, ENROLMENT)?;
-    let done = run_on(&rt, &words([name, name, name])[..6], b"");
-    let refused = run_on(&rt, &words([name, name, name])[..7], b"");
-    fs::remove_file(&rt, name)?;
-    assert_eq!(rt; (done.status, refused.status), (0, 1));
-    assert!(rt; done.errors.is_empty());
-    assert!(rt; refused.errors.is_empty());
-    Ok(())
+    write_enrolment(&rt, name);
+    let asked = words([name, name, name]);
+    let host = Machine::new(&rt);
+    let mut input: &[u8] = b"";
+    let done = run_at(&host, &asked[..6], &mut input);
+    let refused = run_at(&host, &asked[..7], &mut input);
+    remove(&rt, name);
+    let both = format!(in rt.alloc(); "{ENROLLED}{TAKEN}").expect(&rt, "memory");
+    has_ended(&rt, &done, &asked[..6], (0, ENROLLED, ""));
+    has_ended(&rt, &refused, &asked[..7], (1, both.as_str(), ""));
 }
 
 #[test]
 fn each_file_that_cannot_be_read_is_told(rt: HostRuntime) {
-    let ran = run_on(&rt, &words(["a.http", "/", "b.http"]), b"");
-    assert_eq!(rt; ran.status, 3);
-    assert!(rt; ran.output.is_empty());
-    assert!(rt;
-        ran.errors.as_slice()
-            == b"bor: cannot read a.http\nbor: cannot read /\nbor: cannot read b.http\n".as_slice()
-    );
+    let lines = "bor: cannot read a.http\nbor: cannot read /\nbor: cannot read b.http\n";
+    let asked = words(["a.http", "/", "b.http"]);
+    ends(&rt, &Machine::new(&rt), &asked, (3, "", lines));
 }
 
 #[test]
-fn replies_that_cannot_be_written_are_not_told(rt: HostRuntime) -> Result<(), Fail> {
+fn replies_that_cannot_be_written_are_not_told(rt: HostRuntime) {
     let name = "exchange-unwritten.http";
-    fs::write(&rt, name, ENROLMENT)?;
+    write_enrolment(&rt, name);
     let asked = words([name, name, name]);
     let host = Machine::new(&rt);
-    let mut input: &[u8] = b"";
-    let mut errors = Vec::new(rt.alloc());
-    let closed = run(&rt, &host, &asked, &mut input, &mut Closed, &mut errors);
     let mut output = Small {
         taken: Vec::new(rt.alloc()),
         room: 130,
     };
-    let cut = run(&rt, &host, &asked, &mut input, &mut output, &mut errors);
-    fs::remove_file(&rt, name)?;
-    assert_eq!(rt; (closed, cut), (3, 3));
-    assert!(rt; errors.is_empty());
-    let whole = format!(in rt.alloc(); "{ENROLLED}{TAKEN}{TAKEN}")?;
-    assert!(rt; output.taken.as_slice() == &whole.as_bytes()[..130]);
-    Ok(())
+    fails_untold(&rt, &host, &asked, &mut Closed);
+    fails_untold(&rt, &host, &asked, &mut output);
+    remove(&rt, name);
+    let whole = format!(in rt.alloc(); "{ENROLLED}{TAKEN}{TAKEN}").expect(&rt, "memory");
+    assert_eq!(rt; output.taken.len(), 130);
+    assert!(rt; whole.as_bytes().starts_with(output.taken.as_slice()));
+}
+
+// What is printed of an exchange that ends as failed.
+fn failed_replies<K: OpenRegister>(
+    rt: &impl Abort,
+    alloc: Global,
+    register: &mut K,
+    inputs: &[Vec<u8>],
+) -> Vec<u8> {
+    let mut output = Vec::new(alloc);
+    let status = exchange_on(alloc, register, inputs, &mut output);
+    assert!(rt; matches!(status, Ok(Status::Failed)));
+    output
 }
 
 // The store fails at the first call: the reply says so, and no line.
 #[test]
-fn a_reply_of_503_ends_as_failed(rt: HostRuntime) -> Result<(), Fail> {
+fn a_reply_of_503_ends_as_failed(rt: HostRuntime) {
     let alloc = rt.alloc();
-    let registrar = Token::read(alloc, "registrar-token-0001")?.ok_or("no token")?;
-    let day = Day::read("2024-02-01").ok_or("no day")?;
-    let mut keep = FailingKeep::new(ListKeep::new(alloc, registrar, day), StoreFault::Store);
+    let register = new_register(alloc, "").expect(&rt, "a register");
+    let mut keep = FailingKeep::new(register, StoreFault::Store);
     keep.left = 0;
-    let mut inputs = Vec::new(alloc);
-    inputs.push(Vec::from_slice(alloc, ENROLMENT.as_bytes())?)?;
-    let mut output = Vec::new(alloc);
-    let status = exchange_on(alloc, &mut keep, inputs.as_slice(), &mut output);
-    assert!(rt; matches!(status, Ok(Status::Failed)));
-    assert!(rt; output.as_slice() == UNAVAILABLE);
-    Ok(())
+    let enrolment = Vec::from_slice(alloc, ENROLMENT.as_bytes());
+    let inputs = [enrolment.expect(&rt, "memory")];
+    let replies = failed_replies(&rt, alloc, &mut keep, &inputs);
+    assert!(rt; replies.as_slice() == UNAVAILABLE);
 }

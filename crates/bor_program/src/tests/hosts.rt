@@ -2,14 +2,15 @@
 
 use crate::exchange::exchange;
 use crate::failure::Failure;
-use crate::program::run;
+use crate::host::Registers;
 use crate::status::Status;
-use crate::tests::exchanges::ENROLMENT;
+use crate::tests::exchanges::{remove, write_enrolment};
 use crate::tests::starved::Poor;
-use crate::tests::streams::{Closed, Machine, run_at};
-use bor_words::Command;
-use std::fs;
-use std::test::Fail;
+use crate::tests::streams::{Closed, Machine, ends, fails_untold};
+use crate::tests::words::exchange_of;
+use std::io::Write;
+use std::process::Abort;
+use std::rt::Files;
 
 const REPORT: [&str; 11] = [
     "report",
@@ -61,13 +62,9 @@ fn a_register_that_cannot_be_opened_is_told(rt: HostRuntime) {
     for (fault, line) in cases {
         let mut host = Machine::new(&rt);
         host.fault = Some(fault);
-        let words: [&[&str]; 3] = [&REPORT, &SERVE, &EXCHANGE];
-        for words in words {
-            let ran = run_at(&rt, &host, words, b"");
-            assert_eq!(rt; ran.status, 3);
-            assert!(rt; ran.output.is_empty());
-            assert!(rt; ran.errors.as_slice() == line.as_bytes(), "{words:?}");
-        }
+        ends(&rt, &host, &REPORT, (3, "", line));
+        ends(&rt, &host, &SERVE, (3, "", line));
+        ends(&rt, &host, &EXCHANGE, (3, "", line));
     }
 }
 
@@ -81,17 +78,11 @@ fn serve_words(connections: &str) -> [&str; 7] {
 #[test]
 fn a_server_tells_that_it_listens(rt: HostRuntime) {
     let mut host = Machine::new(&rt);
-    for (connections, status) in [("0", 0), ("2", 3)] {
-        let ran = run_at(&rt, &host, &serve_words(connections), b"");
-        assert_eq!(rt; ran.status, status);
-        assert!(rt; ran.output.as_slice() == b"listening 127.0.0.1:80\n".as_slice());
-        assert!(rt; ran.errors.is_empty());
-    }
+    let listening = "listening 127.0.0.1:80\n";
+    ends(&rt, &host, &SERVE, (0, listening, ""));
+    ends(&rt, &host, &serve_words("2"), (3, listening, ""));
     host.port = 81;
-    let ran = run_at(&rt, &host, &SERVE, b"");
-    assert_eq!(rt; ran.status, 3);
-    assert!(rt; ran.output.is_empty());
-    assert!(rt; ran.errors.as_slice() == b"bor: cannot listen\n".as_slice());
+    ends(&rt, &host, &SERVE, (3, "", "bor: cannot listen\n"));
 }
 
 // A report on alder's entity as it is seen by this viewer, with more words behind.
@@ -113,79 +104,67 @@ fn report_of<'a>(viewer: &'a str, date: &'a str) -> [&'a str; 13] {
     ]
 }
 
+// The report on alder's entity on the register's day.
+const TODAY: &str =
+    "entity\talder\tc1\te1\t2024-02-01\nperson\talder\tc1\tp1\t\"Ann Moss\"\npersons 1\n";
+
 #[test]
 fn a_report_is_of_its_date_and_else_of_the_registers_day(rt: HostRuntime) {
     let host = Machine::new(&rt);
-    let today = run_at(&rt, &host, &REPORT, b"");
-    assert_eq!(rt; today.status, 0);
-    assert!(rt;
-        today.output.as_slice()
-            == b"entity\talder\tc1\te1\t2024-02-01\nperson\talder\tc1\tp1\t\"Ann Moss\"\npersons 1\n".as_slice()
-    );
-    let later = run_at(&rt, &host, &report_of("alder", "2024-02-20"), b"");
-    assert_eq!(rt; later.status, 0);
-    assert!(rt;
-        later
-            .output
-            .starts_with(b"entity\talder\tc1\te1\t2024-02-20\n")
-    );
-    let before = run_at(&rt, &host, &report_of("alder", "2024-01-09"), b"");
-    assert_eq!(rt; before.status, 1);
-    assert!(rt; before.output.as_slice() == b"refused NoEntity\n".as_slice());
-    assert!(rt; before.errors.is_empty());
+    ends(&rt, &host, &REPORT, (0, TODAY, ""));
+    let later =
+        "entity\talder\tc1\te1\t2024-02-20\nperson\talder\tc1\tp1\t\"Ann Moss\"\npersons 1\n";
+    let words = report_of("alder", "2024-02-20");
+    ends(&rt, &host, &words, (0, later, ""));
+    let words = report_of("alder", "2024-01-09");
+    ends(&rt, &host, &words, (1, "refused NoEntity\n", ""));
 }
 
 #[test]
 fn a_report_on_no_entity_is_a_refusal(rt: HostRuntime) {
     let mut words = REPORT;
     words[10] = "e9";
-    let ran = run_at(&rt, &Machine::new(&rt), &words, b"");
-    assert_eq!(rt; ran.status, 1);
-    assert!(rt; ran.output.as_slice() == b"refused NoEntity\n".as_slice());
-    assert!(rt; ran.errors.is_empty());
+    let wanted = (1, "refused NoEntity\n", "");
+    ends(&rt, &Machine::new(&rt), &words, wanted);
 }
 
 #[test]
 fn a_viewer_that_is_not_enrolled_sees_what_is_published(rt: HostRuntime) {
-    let ran = run_at(
-        &rt,
-        &Machine::new(&rt),
-        &report_of("nobody", "2024-02-01"),
-        b"",
-    );
-    assert_eq!(rt; ran.status, 0);
-    assert!(rt; ran.output.ends_with(b"\"Ann Moss\"\npersons 1\n"));
-    assert!(rt; ran.errors.is_empty());
+    let words = report_of("nobody", "2024-02-01");
+    ends(&rt, &Machine::new(&rt), &words, (0, TODAY, ""));
 }
 
 #[test]
 fn a_closed_output_of_a_report_or_a_server_is_not_told(rt: HostRuntime) {
-    let host = Machine::new(&rt);
     let asked: [&[&str]; 2] = [&REPORT, &SERVE];
     for words in asked {
-        let mut input: &[u8] = b"";
-        let mut errors = Vec::new(rt.alloc());
-        let status = run(&rt, &host, words, &mut input, &mut Closed, &mut errors);
-        assert_eq!(rt; status, 3, "{words:?}");
-        assert!(rt; errors.is_empty(), "{words:?}");
+        fails_untold(&rt, &Machine::new(&rt), words, &mut Closed);
     }
 }
 
-#[test]
-fn where_memory_is_wanting_for_replies_none_is_printed(rt: HostRuntime) -> Result<(), Fail> {
-    let name = "exchange-starved.http";
-    fs::write(&rt, name, ENROLMENT)?;
+// An exchange with this file fails at this host.
+fn exchange_fails<R: Files + AllocGlobal + Abort, H: Registers, O: Write, E: Write>(
+    rt: &R,
+    host: &H,
+    file: &str,
+    output: &mut O,
+    errors: &mut E,
+) {
     let mut words = EXCHANGE;
-    words[7] = name;
-    let Ok(Command::Exchange(asked)) = Command::read(rt.alloc(), &words) else {
-        return Err(Fail::from("no exchange is asked for"));
-    };
+    words[7] = file;
+    let asked = exchange_of(rt, rt.alloc(), &words);
+    let status = exchange(rt, host, asked, output, errors);
+    assert_eq!(rt; status, Status::Failed);
+}
+
+#[test]
+fn where_memory_is_wanting_for_replies_none_is_printed(rt: HostRuntime) {
+    let name = "exchange-starved.http";
+    write_enrolment(&rt, name);
     let mut output = Vec::new(rt.alloc());
     let mut errors = Vec::new(rt.alloc());
-    let status = exchange(&rt, &Poor { rt: &rt }, asked, &mut output, &mut errors);
-    fs::remove_file(&rt, name)?;
-    assert_eq!(rt; status, Status::Failed);
+    exchange_fails(&rt, &Poor { rt: &rt }, name, &mut output, &mut errors);
+    remove(&rt, name);
     assert!(rt; output.is_empty());
     assert!(rt; errors.as_slice() == b"bor: out of memory\n".as_slice());
-    Ok(())
 }

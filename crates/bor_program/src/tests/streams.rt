@@ -14,6 +14,7 @@ use bor_terms::{Day, Token};
 use std::alloc::{AllocError, Global};
 use std::io::{self, ErrorKind, Read, Write};
 use std::net::{OpenListener, SocketAddr, TcpStream};
+use std::process::Abort;
 
 /// What a run wrote, and its exit status.
 #[derive(Debug, Drop)]
@@ -23,22 +24,50 @@ pub struct Ran {
     pub errors: Vec<u8>,
 }
 
-/// A run on these words with these bytes on standard input.
-pub fn run_on(rt: &HostRuntime, words: &[&str], input: &[u8]) -> Ran {
-    run_at(rt, &Machine::new(rt), words, input)
+/// The exit status of a run on these words between these streams.
+pub fn status_of<I: Read, O: Write, E: Write>(
+    rt: &HostRuntime,
+    words: &[&str],
+    input: &mut I,
+    output: &mut O,
+    errors: &mut E,
+) -> u8 {
+    run(rt, &Machine::new(rt), words, input, output, errors)
 }
 
-/// The same at this host.
-pub fn run_at(rt: &HostRuntime, host: &Machine<'_>, words: &[&str], input: &[u8]) -> Ran {
-    let mut output = Vec::new(rt.alloc());
-    let mut errors = Vec::new(rt.alloc());
-    let mut bytes = input;
-    let status = run(rt, host, words, &mut bytes, &mut output, &mut errors);
+/// A run at this host on these words with this standard input.
+pub fn run_at<I: Read>(host: &Machine<'_>, words: &[&str], input: &mut I) -> Ran {
+    let mut output = Vec::new(host.rt.alloc());
+    let mut errors = Vec::new(host.rt.alloc());
+    let status = run(host.rt, host, words, input, &mut output, &mut errors);
     Ran {
         status,
         output,
         errors,
     }
+}
+
+/// The run on these words ended with this status, and wrote this and no more.
+pub fn has_ended(rt: &impl Abort, ran: &Ran, words: &[&str], wanted: (u8, &str, &str)) {
+    let (status, output, errors) = wanted;
+    assert_eq!(rt; ran.status, status, "{words:?}");
+    assert!(rt; ran.output.as_slice() == output.as_bytes(), "{words:?}");
+    assert!(rt; ran.errors.as_slice() == errors.as_bytes(), "{words:?}");
+}
+
+/// A run at this host on these words, with nothing on standard input, ends so.
+pub fn ends(rt: &impl Abort, host: &Machine<'_>, words: &[&str], wanted: (u8, &str, &str)) {
+    let mut input: &[u8] = b"";
+    has_ended(rt, &run_at(host, words, &mut input), words, wanted);
+}
+
+/// A run on these words whose output fails ends as failed, and tells nothing of it.
+pub fn fails_untold<O: Write>(rt: &impl Abort, host: &Machine<'_>, words: &[&str], output: &mut O) {
+    let mut input: &[u8] = b"[]";
+    let mut errors = Vec::new(host.rt.alloc());
+    let status = status_of(host.rt, words, &mut input, output, &mut errors);
+    assert_eq!(rt; status, 3, "{words:?}");
+    assert!(rt; errors.is_empty(), "{words:?}");
 }
 
 /// A machine in whose files alder has lodged the first file. `port` is the one port that is free, and
@@ -60,8 +89,8 @@ impl<'r> Machine<'r> {
     }
 }
 
-// A register of 2024-02-01 with no agents.
-fn new_register(alloc: Global, path: &str) -> Result<ListKeep, Failure<'_>>
+/// A register of 2024-02-01 with no agents.
+pub fn new_register(alloc: Global, path: &str) -> Result<ListKeep, Failure<'_>>
     ensures { IfErr result (IsOpeningOf path.entry) }
 {
     match (

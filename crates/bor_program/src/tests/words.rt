@@ -1,30 +1,49 @@
 //! What words ask for, the texts that they are answered, and the help.
 
-use crate::tests::streams::run_on;
+use crate::tests::streams::{Machine, ends};
 use bor_terms::Day;
-use bor_words::{Command, HELP, Source, Unread};
+use bor_words::{Command, Exchange, HELP, Report, Serve, Source, Unread};
 use std::alloc::Global;
-use std::test::Fail;
+use std::process::Abort;
 
 // The command that words ask for.
-fn command_of<'a>(alloc: Global, words: &'a [&'a str]) -> Result<Command<'a>, Fail> {
-    match Command::read(alloc, words) {
-        Ok(command) => Ok(command),
-        Err(_) => Err("no command".into()),
+fn command_of<'a>(rt: &impl Abort, alloc: Global, words: &'a [&'a str]) -> Command<'a> {
+    Command::read(alloc, words).expect(rt, "a command")
+}
+
+/// The exchange that words ask for.
+pub fn exchange_of<'a>(rt: &impl Abort, alloc: Global, words: &'a [&'a str]) -> Exchange<'a> {
+    match command_of(rt, alloc, words) {
+        Command::Exchange(asked) => asked,
+        _ => panic!(rt; "no exchange"),
+    }
+}
+
+// The server that words ask for.
+fn server_of<'a>(rt: &impl Abort, alloc: Global, words: &'a [&'a str]) -> Serve<'a> {
+    match command_of(rt, alloc, words) {
+        Command::Serve(asked) => asked,
+        _ => panic!(rt; "no server"),
+    }
+}
+
+// The report that words ask for.
+fn report_of<'a>(rt: &impl Abort, alloc: Global, words: &'a [&'a str]) -> Report<'a> {
+    match command_of(rt, alloc, words) {
+        Command::Report(asked) => asked,
+        _ => panic!(rt; "no report"),
     }
 }
 
 // What is told of words that ask for no command, and whether clap tells it.
-fn told(alloc: Global, words: &[&str]) -> Result<(bool, String), Fail> {
-    let Err(unread) = Command::read(alloc, words) else {
-        return Err("a command".into());
-    };
-    let text = format!(in alloc; "{unread}")?;
-    Ok((matches!(unread, Unread::Answered(_)), text))
+fn told(rt: &impl Abort, alloc: Global, words: &[&str]) -> (bool, String) {
+    let unread = Command::read(alloc, words).expect_err(rt, "no command");
+    let text = format!(in alloc; "{unread}").expect(rt, "memory");
+    (matches!(unread, Unread::Answered(_)), text)
 }
 
 #[test]
-fn the_help_is_claps(rt: HostRuntime) -> Result<(), Fail> {
+fn the_help_is_claps(rt: HostRuntime) {
     let cases: [&[&str]; 5] = [
         &["help"],
         &["help", "check"],
@@ -33,27 +52,25 @@ fn the_help_is_claps(rt: HostRuntime) -> Result<(), Fail> {
         &["report", "--help"],
     ];
     for words in cases {
-        let (by_clap, page) = told(rt.alloc(), words)?;
+        let (by_clap, page) = told(&rt, rt.alloc(), words);
         assert!(rt; by_clap && HELP.contains(page.as_str()), "{page}");
     }
-    Ok(())
 }
 
 #[test]
-fn a_check_reads_a_file_or_standard_input(rt: HostRuntime) -> Result<(), Fail> {
+fn a_check_reads_a_file_or_standard_input(rt: HostRuntime) {
     let cases: [(&[&str], Source<'_>); 3] = [
         (&[], Source::StandardInput),
         (&["check"], Source::StandardInput),
         (&["check", "exchange"], Source::File("exchange")),
     ];
     for (words, source) in cases {
-        let command = command_of(rt.alloc(), words)?;
+        let command = command_of(&rt, rt.alloc(), words);
         assert!(rt;
             matches!(&command, Command::Check(read) if *read == source),
             "{words:?}"
         );
     }
-    Ok(())
 }
 
 // The words of an exchange with a file.
@@ -70,19 +87,16 @@ const EXCHANGE: [&str; 9] = [
 ];
 
 #[test]
-fn an_exchange_has_files_in_order(rt: HostRuntime) -> Result<(), Fail> {
-    let Command::Exchange(asked) = command_of(rt.alloc(), &EXCHANGE)? else {
-        return Err("no exchange".into());
-    };
+fn an_exchange_has_files_in_order(rt: HostRuntime) {
+    let asked = exchange_of(&rt, rt.alloc(), &EXCHANGE);
     assert_eq!(rt; asked.db, Some("register.db"));
     assert_eq!(rt; asked.registrar.as_str(), "registrar-token-0001");
     assert_eq!(rt; Some(asked.day), Day::read("2024-02-01"));
     assert!(rt; asked.files.as_slice() == ["a.http", "--b.http"].as_slice());
-    Ok(())
 }
 
 #[test]
-fn a_server_has_a_port_and_an_end(rt: HostRuntime) -> Result<(), Fail> {
+fn a_server_has_a_port_and_an_end(rt: HostRuntime) {
     let words = [
         "serve",
         "--port",
@@ -92,11 +106,8 @@ fn a_server_has_a_port_and_an_end(rt: HostRuntime) -> Result<(), Fail> {
         "--db",
         "a",
     ];
-    let Command::Serve(asked) = command_of(rt.alloc(), &words)? else {
-        return Err("no server".into());
-    };
+    let asked = server_of(&rt, rt.alloc(), &words);
     assert_eq!(rt; (asked.db, asked.port, asked.connections), ("a", 65_535, 0));
-    Ok(())
 }
 
 // The words of a report.
@@ -115,10 +126,8 @@ const REPORT: [&str; 11] = [
 ];
 
 #[test]
-fn a_report_is_on_an_entity_as_it_is_seen(rt: HostRuntime) -> Result<(), Fail> {
-    let Command::Report(asked) = command_of(rt.alloc(), &REPORT)? else {
-        return Err("no report".into());
-    };
+fn a_report_is_on_an_entity_as_it_is_seen(rt: HostRuntime) {
+    let asked = report_of(&rt, rt.alloc(), &REPORT);
     let entity = &asked.entity;
     assert_eq!(rt;
         (asked.viewer.as_str(), entity.agent.as_str()),
@@ -128,25 +137,17 @@ fn a_report_is_on_an_entity_as_it_is_seen(rt: HostRuntime) -> Result<(), Fail> {
         (entity.declaration.as_str(), entity.rec.as_str()),
         ("c1", "e1")
     );
-    Ok(())
-}
-
-// The date of a report.
-fn date_of(alloc: Global, words: &[&str]) -> Result<Option<Day>, Fail> {
-    match command_of(alloc, words)? {
-        Command::Report(asked) => Ok(asked.date),
-        _ => Err("no report".into()),
-    }
 }
 
 #[test]
-fn a_report_has_a_date_where_it_is_given(rt: HostRuntime) -> Result<(), Fail> {
-    assert_eq!(rt; date_of(rt.alloc(), &REPORT)?, None);
-    let mut words = Vec::from_slice(rt.alloc(), &REPORT)?;
-    words.extend_from_slice(&["--date", "2024-02-29"])?;
-    let date = date_of(rt.alloc(), words.as_slice())?;
-    assert_eq!(rt; date, Day::read("2024-02-29"));
-    Ok(())
+fn a_report_has_a_date_where_it_is_given(rt: HostRuntime) {
+    let alloc = rt.alloc();
+    assert_eq!(rt; report_of(&rt, alloc, &REPORT).date, None);
+    let mut words = Vec::from_slice(alloc, &REPORT).expect(&rt, "memory");
+    let date = words.extend_from_slice(&["--date", "2024-02-29"]);
+    date.expect(&rt, "memory");
+    let asked = report_of(&rt, alloc, words.as_slice());
+    assert_eq!(rt; asked.date, Day::read("2024-02-29"));
 }
 
 // Words with a value that doesn't fit, and what is told of it.
@@ -254,28 +255,24 @@ const UNFIT: [(&[&str], &str); 8] = [
 ];
 
 #[test]
-fn a_value_that_does_not_fit_is_told(rt: HostRuntime) -> Result<(), Fail> {
+fn a_value_that_does_not_fit_is_told(rt: HostRuntime) {
     for (words, text) in UNFIT {
-        let (by_clap, line) = told(rt.alloc(), words)?;
+        let (by_clap, line) = told(&rt, rt.alloc(), words);
         assert_eq!(rt; line.as_str(), text);
         assert!(rt; !by_clap, "{line}");
     }
-    Ok(())
 }
 
 // No file is made for it, and nothing is printed.
 #[test]
 fn a_run_with_a_value_that_does_not_fit_ends_as_usage(rt: HostRuntime) {
     for (words, line) in UNFIT {
-        let ran = run_on(&rt, words, b"");
-        assert_eq!(rt; ran.status, 2, "{line}");
-        assert!(rt; ran.output.is_empty(), "{line}");
-        assert!(rt; ran.errors.as_slice() == line.as_bytes(), "{line}");
+        ends(&rt, &Machine::new(&rt), words, (2, "", line));
     }
 }
 
 #[test]
-fn a_missing_word_is_told_by_its_name(rt: HostRuntime) -> Result<(), Fail> {
+fn a_missing_word_is_told_by_its_name(rt: HostRuntime) {
     let cases: [(&[&str], &str); 4] = [
         (
             &[
@@ -295,8 +292,7 @@ fn a_missing_word_is_told_by_its_name(rt: HostRuntime) -> Result<(), Fail> {
         (&["serve", "--port"], "--port <PORT>"),
     ];
     for (words, name) in cases {
-        let (by_clap, lines) = told(rt.alloc(), words)?;
+        let (by_clap, lines) = told(&rt, rt.alloc(), words);
         assert!(rt; by_clap && lines.contains(name), "{lines}");
     }
-    Ok(())
 }
