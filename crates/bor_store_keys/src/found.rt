@@ -1,6 +1,6 @@
 //! What a report was last told, for one viewer and day.
 
-ghost use Rattle.std.specs.Prelude.{◌≡◌, Option, None, Some, IfOk, IfSome, OnOk};
+ghost use Rattle.std.specs.Prelude.{◌≡◌, Option, Some, IfOk, IfSome, OnOk};
 ghost use Rattle.bor_links.specs.declared.node.NodeInfo.{NodeInfo};
 ghost use Rattle.bor_links.specs.declared.node.OpenNode.{OpenNode};
 ghost use Rattle.bor_links.specs.ByKey.{node_at};
@@ -39,7 +39,7 @@ pub(crate) struct PlaceKey {
     pub(crate) agent: AgentName,
 }
 
-/// So many records are read one by one before it is asked whether all are.
+/// So many records are read one by one before it is asked whether to read all.
 const MANY: usize = 128;
 
 /// All are read where there are at most so many statements for each record that was read.
@@ -54,7 +54,7 @@ pub(crate) struct Found {
     pub(crate) rows: BTreeMap<Node, Option<Row>>,
     pub(crate) places: BTreeMap<PlaceKey, Node>,
     pub(crate) lists: Option<ListSource>,
-    /// With so many rows it is asked whether all are read.
+    /// With so many rows it is asked whether to read all.
     pub(crate) many: usize,
 }
 
@@ -83,8 +83,8 @@ impl Found {
         found
     }
 
-    /// How many statements a register has at most of which all are read now. It is told where many records
-    /// were read since it was last told.
+    /// All is read now where the register has at most so many statements: so many for each record that was
+    /// read. It is told where as many records were read since it was last told as before.
     pub(crate) fn most(&mut self) -> Option<u32>
         ensures view { self.new.view ≡ self.old.view }
         ensures same { (r : Register) → AreOf r self.old → AreOf r self.new }

@@ -36,8 +36,8 @@ use std::marker::Model;
 
 /// A connection to a register's tables, with what a report was last told over it: of one viewer and day
 /// the filings that are seen and what nodes show, with where it stands. So a report reads each of them once.
-/// Where a report has met much of the register, the rest is read at once, and the report asks lists in
-/// memory. What was told is forgotten where the connection is used for anything else.
+/// Where a report has met much of the register, all is read at once, and the report asks lists in memory
+/// from then on. What was told is forgotten where the connection is used for anything else.
 #[derive(Drop)]
 pub struct Lookup<S: Alter + Drop> {
     conn: Connection<S>,
@@ -376,7 +376,7 @@ impl<S: Alter + Drop> Lookup<S> {
         }
     }
 
-    // How many statements a register has at most of which all are read now.
+    // All is read now where the register has at most so many statements.
     fn most(&mut self, view: &View) -> Option<u32>
         ensures kept { self.new ≡ self.old }
         ensures today { IfSome result (λ _. Holds (state S.Store self.old) (λ r. view.now.today ≡ r.day)) }
@@ -442,8 +442,8 @@ impl<S: Alter + Drop> Lookup<S> {
 
 // What is read at once.
 impl<S: Alter + Drop> Lookup<S> {
-    // Reads and notes all rows that the viewer sees. Where memory is wanting for them, nothing is noted.
-    fn list(&mut self, alloc: Global, view: &View) -> Result<(), ReadError>
+    // Reads and notes all rows that the viewer sees, where the register has at most so many statements.
+    fn list(&mut self, alloc: Global, view: &View, most: u32) -> Result<(), ReadError>
         requires mode { self.old.in_transaction ≡ false }
         requires today { Holds (state S.Store self.old) (λ r. view.now.today ≡ r.day) }
         ensures mode { self.new.in_transaction ≡ false }
@@ -451,18 +451,16 @@ impl<S: Alter + Drop> Lookup<S> {
         ensures kept { IsClean (state S.Store self.new) → (state S.Store self.new).committed ≡ (state S.Store self.old).committed }
         ensures answer { Answers (state S.Store self.old) (state S.Store self.new) result (λ r _. Unit {0}) }
     {
-        match self.visible(alloc, &view.viewer) {
-            Ok(rows) => {
-                self.note_rows(alloc, view, &rows);
-                Ok(())
-            }
-            Err(ReadError::Memory) => Ok(()),
-            Err(error) => Err(error),
+        if self.has_more(most)? {
+            return Ok(());
         }
+        let rows = self.visible(alloc, &view.viewer)?;
+        self.note_rows(alloc, view, &rows);
+        Ok(())
     }
 
     /// Where many records were read one by one, and the register isn't much larger, reads and notes all
-    /// that the viewer sees.
+    /// that the viewer sees. Where memory is wanting for it, records are read one by one as before.
     pub(crate) fn list_where_many(&mut self, alloc: Global, view: &View) -> Result<(), ReadError>
         requires { self.old.in_transaction ≡ false }
         ensures mode { self.new.in_transaction ≡ false }
@@ -473,9 +471,9 @@ impl<S: Alter + Drop> Lookup<S> {
         let Some(most) = self.most(view) else {
             return Ok(());
         };
-        if self.has_more(most)? {
-            return Ok(());
+        match self.list(alloc, view, most) {
+            Err(ReadError::Memory) => Ok(()),
+            told => told,
         }
-        self.list(alloc, view)
     }
 }

@@ -149,7 +149,7 @@ pub(crate) fn is_node<S: Alter + Drop>(
     Ok(info_in(lookup, alloc, view, node)?.is_some())
 }
 
-// What a chain asks of a node, of the lists where all was read.
+// What a chain asks of a node, which is read of the tables once, or of the lists where all was read.
 fn info_told<S: Alter + Drop>(
     lookup: &mut Lookup<S>,
     alloc: Global,
@@ -163,10 +163,13 @@ fn info_told<S: Alter + Drop>(
     ensures answer { Answers (state S.Store lookup.old) (state S.Store lookup.new) result (λ r info.
         info ≡ info_of (seen view.now r) node.now) }
 {
+    if let Some(info) = lookup.info(alloc, view, node)? {
+        return Ok(info);
+    }
     lookup.list_where_many(alloc, view)?;
     match lookup.take_lists(view) {
         Some(lists) => node_listed(lookup, view, lists, node),
-        None => info_in(lookup, alloc, view, node),
+        None => info_read(lookup, alloc, view, node),
     }
 }
 

@@ -1,9 +1,9 @@
 //! What a register in tables answers to each question of a keep, over a connection.
 //!
-//! Each read asks by key for the rows that it needs. Where the connection shows a register
-//! (`bor_store_sql`), the answer is what the trait `Keep` of `bor_keep` says of that register,
-//! or memory or the store failed: [`ReadError::Damaged`] is never answered of such tables
-//! (`specs/Answering`).
+//! Each read but those of all rows (`read_visible`, `read_published`, `has_more`) asks by key for the rows
+//! that it needs. Where the connection shows a register (`bor_store_sql`), the answer is what the trait
+//! `Keep` of `bor_keep` says of that register, or memory or the store failed: [`ReadError::Damaged`] is
+//! never answered of such tables (`specs/Answering`).
 #![tactic(auto)]
 
 mod agents;

@@ -134,7 +134,7 @@ fn an_output_that_breaks_off_is_not_told(rt: HostRuntime) {
     }
 }
 
-// How a run ends that has a line for standard error, and what it writes where there is so much room.
+// The status of a run that tells a line, and what it writes of it on a standard error with so much room.
 fn cut_off(rt: &HostRuntime, room: usize) -> (u8, Vec<u8>) {
     let mut input: &[u8] = b"[]";
     let mut output = Vec::new(rt.alloc());

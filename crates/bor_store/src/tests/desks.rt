@@ -3,7 +3,7 @@
 use crate::SqlKeep;
 use crate::tests::asking::{agent, asking, day, token_of, told};
 use crate::tests::checks::{begins, counts, names, same};
-use crate::tests::stores::new_keep;
+use crate::tests::stores::{adopting, new_keep, run};
 use bor_keep::Keep;
 use bor_machine::ListKeep;
 use bor_register::FilingLine;
@@ -166,7 +166,16 @@ fn a_long_ladder_is_climbed(rt: HostRuntime) {
     climb(&rt, &mut Desks::new(&rt, rt.alloc()));
 }
 
-// Twice as much of the ladder is met before the rest of the register is read.
+// A person of the crowd is of no kind: a report that reads all tells of damage.
+const SPOILED: &str = "UPDATE statement SET kind = 'ship' WHERE id = 'g1'";
+
+// Of 2,600 statements all are read with 256 records, and not with 128.
+const CLIMBS_FROM: [(&str, &str); 3] = [
+    ("birch chains alder c1 e200", "Chains"),
+    ("birch chains alder c1 e100", "Chains"),
+    ("birch chains alder c1 e0", "Failed(Damaged)"),
+];
+
 #[test]
 fn a_long_ladder_is_climbed_beside_a_crowd(rt: HostRuntime) {
     let mut desks = Desks::new(&rt, rt.alloc());
@@ -174,6 +183,13 @@ fn a_long_ladder_is_climbed_beside_a_crowd(rt: HostRuntime) {
         desks.ask(&rt, a_crowd(&rt, rt.alloc(), key).as_str());
     }
     climb(&rt, &mut desks);
+    let mut conn = desks.tables.into_connection();
+    run(&rt, &mut conn, &[SPOILED]);
+    let mut keep = adopting(&rt, rt.alloc(), conn).expect(&rt, "a register");
+    for (ask, start) in CLIMBS_FROM {
+        let told = told(&rt, rt.alloc(), &mut keep, ask);
+        begins(&rt, ask, told.as_str(), start);
+    }
 }
 
 fn count(rt: &impl Abort, conn: &mut Connection<MemStore>, text: &str) -> usize {
