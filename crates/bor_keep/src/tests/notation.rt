@@ -1,8 +1,9 @@
 //! Values from their texts.
 
-use bods_read::{Details, EntityKind, Statement, Status, read_file};
+use bods_read::{Details, Interest, Statement, Status, read_file};
 use bor_records::Row;
-use bor_terms::{AgentName, Day, Ident, Listed, LodgeKey, Token};
+use bor_rows::body_of;
+use bor_terms::{Day, Form, Text};
 use std::alloc::Global;
 use std::process::Abort;
 
@@ -10,82 +11,47 @@ pub(super) fn day(rt: &impl Abort, text: &str) -> Day {
     Day::read(text).expect(rt, "no day")
 }
 
-pub(super) fn agent(rt: &impl Abort, alloc: Global, text: &str) -> AgentName {
-    AgentName::read(alloc, text)
+pub(super) fn read<F: Form>(rt: &impl Abort, alloc: Global, text: &str) -> Text<F> {
+    Text::read(alloc, text)
         .expect(rt, "memory")
-        .expect(rt, "no name")
+        .expect(rt, "not of the form")
 }
 
-pub(super) fn token(rt: &impl Abort, alloc: Global, text: &str) -> Token {
-    Token::read(alloc, text)
-        .expect(rt, "memory")
-        .expect(rt, "no token")
+// The statements of a file in words.
+pub(super) fn statements(rt: &impl Abort, alloc: Global, words: &str) -> Vec<Statement> {
+    let file = body_of(alloc, words).expect(rt, "no file");
+    read_file(alloc, file.as_bytes()).expect(rt, "not read")
 }
 
-pub(super) fn key(rt: &impl Abort, alloc: Global, text: &str) -> LodgeKey {
-    LodgeKey::read(alloc, text)
-        .expect(rt, "memory")
-        .expect(rt, "no key")
-}
-
-pub(super) fn ident(rt: &impl Abort, alloc: Global, text: &str) -> Ident {
-    Ident::read(alloc, text)
-        .expect(rt, "memory")
-        .expect(rt, "no identifier")
-}
-
-// A statement of a company: its identifier, the declaration, the record and the day.
-pub(super) fn statement(
-    rt: &impl Abort,
-    alloc: Global,
-    (id, declaration, rec, date): (&str, &str, &str, &str),
-    status: Option<Status>,
-) -> Statement {
-    Statement {
-        id: ident(rt, alloc, id),
-        day: day(rt, date),
-        declaration: ident(rt, alloc, declaration),
-        rec: ident(rt, alloc, rec),
-        status,
-        details: Details::Entity {
-            kind: EntityKind::RegisteredEntity,
-            name: None,
-            identifiers: Listed::new(Vec::new(alloc)),
-        },
+pub(super) fn interests_of(statement: &Statement) -> &[Interest] {
+    match &statement.details {
+        Details::Relationship { interests, .. } => interests.as_slice(),
+        _ => &[],
     }
 }
 
-// A statement of the record e1 of declaration c1.
-pub(super) fn entity(rt: &impl Abort, alloc: Global, id: &str) -> Statement {
-    statement(
-        rt,
-        alloc,
-        (id, "c1", "e1", "2024-01-10"),
-        Some(Status::Updated),
-    )
-}
-
-// The row of a statement of alder's first filing.
-pub(super) fn row(rt: &impl Abort, alloc: Global, status: Status, statement: Statement) -> Row {
+// A row of alder's, new where the statement gives no status.
+fn row(rt: &impl Abort, alloc: Global, statement: Statement) -> Row {
     Row {
-        agent: agent(rt, alloc, "alder"),
+        agent: read(rt, alloc, "alder"),
         filing: 1,
         place: 1,
-        status,
+        status: statement.status.unwrap_or(Status::New),
         statement,
     }
 }
 
-pub(super) fn statements(rt: &impl Abort, alloc: Global, file: &str) -> Vec<Statement> {
-    read_file(alloc, file.as_bytes()).expect(rt, "not read")
+fn add_rows(rt: &impl Abort, alloc: Global, rows: &mut Vec<Row>, words: &str) {
+    for statement in statements(rt, alloc, words) {
+        rows.push(row(rt, alloc, statement)).expect(rt, "memory");
+    }
 }
 
-// The statements of a file as rows, each the first of its record.
-pub(super) fn rows(rt: &impl Abort, alloc: Global, file: &str) -> Vec<Row> {
+// The statements of files in words as rows of alder's.
+pub(super) fn rows(rt: &impl Abort, alloc: Global, files: &[&str]) -> Vec<Row> {
     let mut rows = Vec::new(alloc);
-    for statement in statements(rt, alloc, file) {
-        rows.push(row(rt, alloc, Status::New, statement))
-            .expect(rt, "memory");
+    for words in files {
+        add_rows(rt, alloc, &mut rows, words);
     }
     rows
 }
