@@ -53,11 +53,6 @@ value_of bytes = if is_utf8 bytes then read bytes else None
 unfoldable pub reading_of : Data → Result (List Statement) FileFault
 reading_of d = outcome (faults d) (statements d)
 
--- why bytes have no value: memory was wanting, or they are no JSON
-abbrev pub IsNoValue : Type 0 → ReadFault → Type 0
-IsNoValue wanting (File fault) = ¬ wanting × (fault ≡ NotJson)
-IsNoValue wanting Memory = wanting
-
 -- without a value the bytes are no JSON
 abbrev pub reading_in : Option Data → Result (List Statement) FileFault
 reading_in None = Err NotJson
@@ -76,6 +71,13 @@ IsUnread Memory read = Unit {0}
 abbrev pub IsReadingBy : {X Y : Type 0} → (X → Y) → Result X ReadFault → Result Y FileFault → Type 0
 IsReadingBy view (Ok x) read = read ≡ Ok (view x)
 IsReadingBy view (Err why) read = IsUnread why read
+
+-- ---- for clauses of private functions alone
+
+-- why bytes have no value: memory was wanting, or they are no JSON
+abbrev pub IsNoValue : Type 0 → ReadFault → Type 0
+IsNoValue wanting (File fault) = ¬ wanting × (fault ≡ NotJson)
+IsNoValue wanting Memory = wanting
 
 -- what is answered for a trouble with the statement at a place
 abbrev pub fault_at : ℕ → Trouble → ReadFault

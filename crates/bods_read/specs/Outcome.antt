@@ -24,6 +24,8 @@ abbrev pub lines_from : {F D : Type 0} → (ℕ → D → List F) → ℕ → Li
 lines_from lines place [] = []
 lines_from lines place (d ∷ ds) = lines place d ++ lines_from lines (place + 1) ds
 
+-- ---- for clauses of private functions alone
+
 -- a fault that a part of the reader returned is the outcome; of want of memory nothing is said
 abbrev pub Fails : {Y : Type 0} → Trouble → Result Y Fault → Type 0
 Fails troubles.Memory read = Unit {0}

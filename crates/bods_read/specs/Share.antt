@@ -155,7 +155,7 @@ range_lines share =
 unfoldable pub range_of : Data → Option Range
 range_of share = shown (points (share_bounds (members_of share)))
 
--- ---- shares whose numbers are percents
+-- ---- shares whose numbers are percents, for clauses of private functions alone
 
 -- its number, where it is one
 abbrev pub IsSmallExclusive : Exclusive → Type 0
