@@ -12,6 +12,7 @@ use Rattle.std.proofs.lemmas.Cmp.{nat_list_cmp_total}
 use Rattle.std.proofs.lemmas.List.Kept.{IsStrictlySortedBy-filter}
 use Rattle.std.proofs.lemmas.Map.Lookups.{exact_bytes, btree_set_from_contains}
 use Rattle.std.proofs.lemmas.Map.Views.{any-filter_same, tells_apart}
+use Rattle.bor_records.proofs.Lists.{all_map}
 
 abbrev pub by_bytes : List ℕ → List ℕ → Ordering
 by_bytes a b = slice_cmp nat_cmp a b
@@ -61,10 +62,6 @@ same_given g ks js s t h k =
     both q = kept q ks ∙ at q (is_some (g q)) refl ∙ sym (kept q js)
 
 -- ---- one identifier more, in its place
-
-all_map : {X : Type 0} (P Q : X → Type 0) (xs : List X) → ((x : X) → P x → Q x) → AllByRecursion P xs → AllByRecursion Q xs
-all_map P Q [] f h = tt
-all_map P Q (x ∷ xs) f h = (f x h.0, all_map P Q xs f h.1)
 
 all_insert : (P : List ℕ → Type 0) (ks : List (List ℕ)) (k : List ℕ) → AllByRecursion P ks → P k → AllByRecursion P (insert_key (slice_cmp nat_cmp) ks k)
 all_insert P [] k h p = (p, tt)

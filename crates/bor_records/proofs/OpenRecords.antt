@@ -11,8 +11,9 @@ use Rattle.std.specs.BTreeSet.{insert_key}
 use Rattle.std.specs.BTreeMap as tree
 use Rattle.std.specs.BTreeMap.{BTreeMap}
 use Rattle.std.specs.Map.{lookup}
+use Rattle.std.proofs.lemmas.Bool.{and_parts}
 use Rattle.std.proofs.lemmas.Cmp.{nat_list_cmp_total, eq_by_cmp_equiv}
-use Rattle.std.proofs.lemmas.List.Elements.{All-contains, All-from_recursion, Contains-append_left, Contains-append_right, Contains-push}
+use Rattle.std.proofs.lemmas.List.Elements.{All-contains, All-from_recursion}
 use Rattle.std.proofs.lemmas.List.Kept.{IsStrictlySortedBy-filter}
 use Rattle.std.proofs.lemmas.Map.Keys.{sorted_head, sorted_tail}
 use Rattle.std.proofs.lemmas.Map.Lookups.{exact_bytes}
@@ -27,6 +28,7 @@ use Rattle.bor_records.specs.Admission.{is_of, is_closed}
 use Rattle.bor_records.specs.Snapshot.{is_dated, latest, series, unless_closed, open_row, entry_of, records, snapshot, IsSnapshot, SnapshotIsDetermined}
 use Rattle.bor_records.specs.Found.{found_at}
 use Rattle.bor_records.proofs.Identifiers.{by_bytes, has, GoesUp, same_given, goes_up-insert, has-insert}
+use Rattle.bor_records.proofs.Lists.{all_map, none_pass, here, there}
 
 -- ---- the declaration's records
 
@@ -55,14 +57,6 @@ has-records declaration q (r ∷ rows) = at (is_same r.statement.declaration dec
     at false h = h
 
 -- ---- the row that an open record shows
-
-none_pass : (p : Row → Bool) (rows : List Row) → list_any p rows ≡ false → filter p rows ≡ []
-none_pass p [] h = refl
-none_pass p (r ∷ rows) h = at (p r) (none_pass p rows) h
-  where
-    at : (b : Bool) → (list_any p rows ≡ false → filter p rows ≡ []) → (b || list_any p rows) ≡ false → cond b (r ∷ filter p rows) (filter p rows) ≡ []
-    at true f h = absurd cc
-    at false f h = f h
 
 -- an open record is one of the declaration's
 pub open_is_there : (declaration : List ℕ) (day : ℤ) (rows : List Row) (q : List ℕ) → is_some (open_row declaration day rows q) ≡ true → has q (records declaration rows) ≡ true
@@ -102,16 +96,12 @@ not_closed (Some x) r h = at (is_closed x.status) h
     at true h = absurd cc
     at false h = h
 
-of_both : (a b : Bool) → (a && b) ≡ true → b ≡ true
-of_both true b h = h
-of_both false b h = absurd cc
-
 -- it is a row of that record
 pub open_row-rec : (declaration : List ℕ) (day : ℤ) (rows : List Row) (q : List ℕ) (r : Row) → open_row declaration day rows q ≡ Some r → r.statement.rec ≡ q
 open_row-rec declaration day rows q r h =
     let of = of_record declaration q in
     let is : of r ≡ true = last_holds (λ x. of x ≡ true) (filter (is_dated day) (filter of rows)) None r (λ x e. absurd cc) (filter_holds (λ x. of x ≡ true) (is_dated day) (filter of rows) (filter_gives of rows)) (not_closed (latest day (series declaration q rows)) r h) in
-    same_is r.statement.rec q (of_both (is_same r.statement.declaration declaration) (is_same r.statement.rec q) is)
+    same_is r.statement.rec q (and_parts (is_same r.statement.declaration declaration) (is_same r.statement.rec q) is).1
 
 -- ---- what is shown of a list of identifiers
 
@@ -122,10 +112,6 @@ same_on f g (k ∷ ks) h = ap (λ o. cons_option o (filter_map f ks)) h.0 ∙ ap
 all_are : {X : Type 0} (P : X → Type 0) (xs : List X) → ((x : X) → P x) → AllByRecursion P xs
 all_are P [] f = tt
 all_are P (x ∷ xs) f = (f x, all_are P xs f)
-
-all_turned : {X : Type 0} (P Q : X → Type 0) (xs : List X) → ((x : X) → P x → Q x) → AllByRecursion P xs → AllByRecursion Q xs
-all_turned P Q [] f h = tt
-all_turned P Q (x ∷ xs) f h = (f x h.0, all_turned P Q xs f h.1)
 
 abbrev Found : Type 0
 Found = List (List ℕ × Row)
@@ -144,7 +130,7 @@ given_of : {Y : Type 0} (h : Row → Option Y) (fs : Found) → GoesUp (keys fs)
 given_of h [] s = refl
 given_of {Y} h (e ∷ fs) s =
     ap (λ o. cons_option o (filter_map h (values fs))) (sym here)
-    ∙ ap (cons_option (option_and_then h (at_key e.0 (e ∷ fs)))) (given_of h fs (sorted_tail _ e.0 (keys fs) s) ∙ sym (same_on _ _ (keys fs) (all_turned _ _ (keys fs) later (sorted_head _ e.0 (keys fs) s))))
+    ∙ ap (cons_option (option_and_then h (at_key e.0 (e ∷ fs)))) (given_of h fs (sorted_tail _ e.0 (keys fs) s) ∙ sym (same_on _ _ (keys fs) (all_map _ _ (keys fs) later (sorted_head _ e.0 (keys fs) s))))
   where
     here : option_and_then h (at_key e.0 (e ∷ fs)) ≡ h e.1
     here = ap (λ (b : Bool). option_and_then h (cond b (Some e.1) (at_key e.0 fs))) ((eq_by_cmp_equiv nat_list_cmp_total).refl e.0)
@@ -221,12 +207,6 @@ rec_of e = e.statement.rec
 abbrev entry_at : List ℕ → ℤ → List Row → List ℕ → Option Entry
 entry_at declaration day rows q = option_map entry_of (open_row declaration day rows q)
 
-here : {X : Type 0} (x : X) (xs : List X) → Contains (x ∷ xs) x
-here x xs = Contains-append_left (x ∷ []) xs x (Contains-push [] x)
-
-there : {X : Type 0} (y : X) (xs : List X) (x : X) → Contains xs x → Contains (y ∷ xs) x
-there y xs x h = Contains-append_right (y ∷ []) xs x h
-
 -- what holds of each of a list, item by item
 all_held : {X : Type 0} (P : X → Type 0) (xs : List X) → ((x : X) → Contains xs x → P x) → AllByRecursion P xs
 all_held P [] f = tt
@@ -278,7 +258,7 @@ given_each g own (k ∷ ks) = at (g k) refl (given_each g own ks)
 
 mapped_all : (entries : List Entry) → AllByRecursion (λ x. Contains (map rec_of entries) (rec_of x)) entries
 mapped_all [] = tt
-mapped_all (e ∷ es) = (here (rec_of e) (map rec_of es), all_turned _ _ es (λ x c. there (rec_of e) (map rec_of es) (rec_of x) c) (mapped_all es))
+mapped_all (e ∷ es) = (here (rec_of e) (map rec_of es), all_map _ _ es (λ x c. there (rec_of e) (map rec_of es) (rec_of x) c) (mapped_all es))
 
 mapped : (entries : List Entry) (e : Entry) → Contains entries e → Contains (map rec_of entries) (rec_of e)
 mapped entries e h = All-contains (λ x. Contains (map rec_of entries) (rec_of x)) entries e (All-from_recursion _ entries (mapped_all entries)) h

@@ -11,17 +11,9 @@ use Rattle.bods_read.specs.declared.statement.Status.{Status}
 use Rattle.bor_records.specs.declared.fault.RecordFault.{RecordFault}
 use Rattle.bor_records.specs.Admission.{Live, is_of, known_of, last_of, admitted, refusals, settled_status, unless_refused}
 use Rattle.bor_records.specs.Settling.{Refusal, statement_twice, by_record, PlacedRefusal, has_id, verdict, as_settled, as_live, ahead, settled_then, settled_from, settled}
+use Rattle.bor_records.proofs.Lists.{last_or-append}
 
 -- ---- one live statement more
-
-last_or-append : {X : Type 0} (o : Option X) (xs ys : List X) → last_or o (xs ++ ys) ≡ option_or (last_or None ys) (last_or o xs)
-last_or-append o [] [] = refl
-last_or-append o [] (y ∷ ys) = started ys y o
-  where
-    started : {X : Type 0} (zs : List X) (x : X) (p : Option X) → last_or (Some x) zs ≡ option_or (last_or (Some x) zs) p
-    started [] x p = refl
-    started (z ∷ zs) x p = started zs z p
-last_or-append o (x ∷ xs) ys = last_or-append (Some x) xs ys
 
 -- the last of a record is among the later statements, if one of them is of the record
 pub last_of-append : (declaration rec : List ℕ) (earlier later : List Live) → last_of declaration rec (earlier ++ later) ≡ option_or (last_of declaration rec later) (last_of declaration rec earlier)

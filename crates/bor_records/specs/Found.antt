@@ -1,4 +1,4 @@
--- A map of rows by the identifiers of their records.
+-- A map of rows by the identifiers of their records; for clauses of private functions alone.
 use Rattle.std.specs.Prelude.{ℕ, List, Option, option_map}
 use Rattle.std.specs.Borrow.{Bor}
 use Rattle.std.specs.Ordering.{nat_cmp}

@@ -1,4 +1,4 @@
--- The series that were seen among some rows.
+-- The series that were seen among some rows; for clauses of private functions alone.
 use Rattle.std.specs.Prelude.{◌≡◌, ℤ, List, Bool, ◌&&◌}
 use Rattle.std.specs.List.{list_any}
 use Rattle.std.specs.Ordering.{nat_cmp, ordering_then}
