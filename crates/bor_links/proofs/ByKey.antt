@@ -3,6 +3,7 @@
 use Rattle.std.proofs.Common.{◌≡◌, ◌&&◌, not, ℤ, Bool, true, false, cond, Option, Some, None, option_and_then, List, [], ◌∷◌, Contains, sym, refl, ap, ◌∙◌, subst, inl, inr}
 use Rattle.std.specs.List.{find, filter, filter_map, cons_option, list_any}
 use Rattle.std.proofs.lemmas.Bool.{not-true, or_parts}
+use Rattle.std.proofs.lemmas.Option.{same_Some}
 use Rattle.bor_terms.specs.Texts.{is_same}
 use Rattle.bods_read.specs.declared.details.Details.{Details}
 use Rattle.bods_read.specs.declared.details.Details.TheVariants as details
@@ -87,16 +88,13 @@ found_of_series day (x ∷ xs) r h = at (λ k. found_of_series day xs r k) (is_o
 pub open_row_at : (day : ℤ) (rows : List Row) (r : Row) → Contains (open_rows day rows) r → open_at day (series_of r) rows ≡ Some r
 open_row_at day rows r h = sym (open_are_latest day (series_of r) rows) ∙ found_of_series day rows r h
 
-some_is : (x y : Row) → Some x ≡ Some y → x ≡ y
-some_is x y h = cc
-
 -- what is found is there, and of the series
 found_in : (n : Node) (rows : List Row) (r : Row) → find (is_of n) rows ≡ Some r → Contains rows r × (series_of r ≡ n)
 found_in n [] r h = let no : None ≡ Some r = h in absurd cc
 found_in n (x ∷ xs) r h = at (λ k. found_in n xs r k) (is_of n x) refl h
   where
     at : (find (is_of n) xs ≡ Some r → Contains xs r × (series_of r ≡ n)) → (t : Bool) → is_of n x ≡ t → cond t (Some x) (find (is_of n) xs) ≡ Some r → Contains (x ∷ xs) r × (series_of r ≡ n)
-    at more true e k = let q = some_is x r k in (subst (λ (z : Row). Contains (x ∷ xs) z) q (here x xs), ap (λ (z : Row). series_of z) (sym q) ∙ same_node_is (series_of x) n e)
+    at more true e k = let q = same_Some x r k in (subst (λ (z : Row). Contains (x ∷ xs) z) q (here x xs), ap (λ (z : Row). series_of z) (sym q) ∙ same_node_is (series_of x) n e)
     at more false e k = let m = more k in (there x xs r m.0, m.1)
 
 pub open_at_in : (day : ℤ) (n : Node) (rows : List Row) (r : Row) → open_at day n rows ≡ Some r → Contains (open_rows day rows) r × (series_of r ≡ n)
@@ -210,15 +208,12 @@ alias_by_key day rows a b = (
 
 -- ---- aliases by candidates
 
-same_one : (x y : OpenNode) → Some x ≡ Some y → x ≡ y
-same_one x y h = cc
-
 -- a node that is alike is among candidates that cover those that may be
 pub alike_covered : (day : ℤ) (rows : List Row) (candidates : List Node) (a b : Node) (one : OpenNode) → node_at day a rows ≡ Some one → CoverAliases rows candidates one → AreAlikeAt day rows a b → Contains candidates b
 alike_covered day rows candidates a b one here cover h = at (open_at day b rows) refl h.two_is
   where
     alike : are_alike one h.two ≡ true
-    alike = ap (λ (x : OpenNode). are_alike x h.two) (same_one one h.one (sym here ∙ h.one_is)) ∙ h.alike
+    alike = ap (λ (x : OpenNode). are_alike x h.two) (same_Some one h.one (sym here ∙ h.one_is)) ∙ h.alike
 
     at : (o : Option Row) → open_at day b rows ≡ o → option_and_then node_in o ≡ Some h.two → Contains candidates b
     at None e k = let no : None ≡ Some h.two = k in absurd cc

@@ -9,7 +9,7 @@ use Rattle.bor_links.specs.declared.sign.Sign.{Sign}
 use Rattle.bor_links.specs.Nodes.{text_cmp, node_cmp}
 use Rattle.bor_links.specs.Signs.{sign_cmp}
 
-parts : (p q : Ordering) → ordering_then p q ≡ Equal → (p ≡ Equal) × (q ≡ Equal)
+pub parts : (p q : Ordering) → ordering_then p q ≡ Equal → (p ≡ Equal) × (q ≡ Equal)
 parts Less q h = absurd (cc)
 parts Equal q h = (cc, h)
 parts Greater q h = absurd (cc)

@@ -9,7 +9,7 @@ use Rattle.bods_read.specs.declared.interest.InterestKind.TheVariants.{Sharehold
 use Rattle.bods_read.specs.declared.interest.Directness.TheVariants.{Direct, Indirect, Unknown}
 use Rattle.bods_read.specs.declared.details.Details.{Details}
 use Rattle.bods_read.specs.declared.details.Details.TheVariants as details
-use Rattle.bods_read.specs.declared.details.EntityKind.TheVariants.{RegisteredEntity}
+use Rattle.bods_read.specs.declared.details.EntityKind.TheVariants as kinds
 use Rattle.bods_read.specs.declared.details.PersonKind.TheVariants.{KnownPerson}
 use Rattle.bods_read.specs.declared.details.Identifier.{Identifier}
 use Rattle.bods_read.specs.declared.statement.Status.{Status}
@@ -23,7 +23,7 @@ use Rattle.bor_links.specs.Stakes.{is_stake, is_holding}
 use Rattle.bor_records.specs.OpenRows.{open_rows}
 use Rattle.bor_links.specs.Shown.{Shown, are_alike}
 use Rattle.bor_links.specs.Aliases.{Alias, Same}
-use Rattle.bor_links.specs.Rows.{shown_of}
+use Rattle.bor_links.specs.Rows.{is_legal_kind, shown_of}
 
 -- ---- stakes and holdings
 
@@ -110,6 +110,13 @@ direct_stake : is_stake (record (votes (exactly 51)) { directness = Direct } ∷
 unfolding points
 direct_stake = refl
 
+-- ---- legal entities
+
+-- which of the eight kinds make a legal entity: a registered one and a legal one, and these alone may stand in the middle of a chain
+legal_kinds : map is_legal_kind (kinds.RegisteredEntity ∷ kinds.LegalEntity ∷ kinds.Arrangement ∷ kinds.AnonymousEntity ∷ kinds.UnknownEntity ∷ kinds.State ∷ kinds.StateBody ∷ kinds.Other ∷ [])
+    ≡ true ∷ true ∷ false ∷ false ∷ false ∷ false ∷ false ∷ false ∷ []
+legal_kinds = refl
+
 -- ---- rows on days
 
 abbrev of_record : List ℕ → ℕ → Status → Details → Row
@@ -122,7 +129,7 @@ of_record rec day status said = record {
 }
 
 abbrev company : Details
-company = details.Entity RegisteredEntity None []
+company = details.Entity kinds.RegisteredEntity None []
 
 abbrev opened_row : Row
 opened_row = of_record (codes "e1") 10 New company

@@ -25,11 +25,11 @@ any_or : {X : Type 0} (f g : X → Bool) (xs : List X) → list_any (λ x. f x |
 any_or f g [] = refl
 any_or f g (x ∷ xs) = ap (λ (b : Bool). (f x || g x) || b) (any_or f g xs) ∙ or_swap (f x) (g x) (list_any f xs) (list_any g xs)
 
-any_turn : {X Y : Type 0} (f : X → Y → Bool) (xs : List X) (ys : List Y) → list_any (λ x. list_any (λ y. f x y) ys) xs ≡ list_any (λ y. list_any (λ x. f x y) xs) ys
+pub any_turn : {X Y : Type 0} (f : X → Y → Bool) (xs : List X) (ys : List Y) → list_any (λ x. list_any (λ y. f x y) ys) xs ≡ list_any (λ y. list_any (λ x. f x y) xs) ys
 any_turn f [] ys = sym (any_none ys)
 any_turn f (x ∷ xs) ys = ap (λ (b : Bool). list_any (λ y. f x y) ys || b) (any_turn f xs ys) ∙ sym (any_or (λ y. f x y) (λ y. list_any (λ z. f z y) xs) ys)
 
-any_like : {X : Type 0} (f g : X → Bool) (xs : List X) → ((x : X) → f x ≡ g x) → list_any f xs ≡ list_any g xs
+pub any_like : {X : Type 0} (f g : X → Bool) (xs : List X) → ((x : X) → f x ≡ g x) → list_any f xs ≡ list_any g xs
 any_like f g [] e = refl
 any_like f g (x ∷ xs) e = ap (λ (b : Bool). b || list_any f xs) (e x) ∙ ap (λ (b : Bool). g x || b) (any_like f g xs e)
 

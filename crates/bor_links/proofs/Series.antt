@@ -1,6 +1,7 @@
 -- The open rows are, of each series, its latest statement where it is open; each series once.
 use Rattle.std.proofs.Common.{◌≡◌, ◌&&◌, ◌||◌, not, ℤ, Bool, true, false, cond, Option, Some, None, option_and_then, List, [], ◌∷◌, map, sym, refl, ap, ◌∙◌}
 use Rattle.std.specs.List.{filter, find, filter_map, cons_option, list_any, last_or, IsDistinct, AllByRecursion}
+use Rattle.std.proofs.lemmas.Bool.{or_parts}
 use Rattle.bods_read.specs.declared.details.Details.{Details}
 use Rattle.bods_read.specs.declared.details.Details.TheVariants as details
 use Rattle.bor_records.specs.declared.row.Row.{Row}
@@ -13,6 +14,7 @@ use Rattle.bor_records.specs.Snapshot.{is_dated, unless_closed}
 use Rattle.bor_records.specs.OpenRows.{is_open_before, open_rows}
 use Rattle.bor_links.specs.Series.{series_of, is_of, open_at}
 use Rattle.bor_links.specs.Rows.{node_in, node_with, nodes_of}
+use Rattle.bor_records.proofs.Lists.{none_pass}
 use Rattle.bor_links.proofs.SameNode.{same_node_is}
 
 -- whether a row that is dated is of a series
@@ -44,14 +46,6 @@ last_some o p (r ∷ rows) h = at (λ k. last_some o p rows k) (p r) refl
     at more true e = refl
     at more false e = more (ap (λ (b : Bool). b || list_any p rows) (sym e) ∙ h)
 
-none_left : (p : Row → Bool) (rows : List Row) → list_any p rows ≡ false → filter p rows ≡ []
-none_left p [] h = refl
-none_left p (r ∷ rows) h = at (λ k. none_left p rows k) (p r) refl
-  where
-    at : (list_any p rows ≡ false → filter p rows ≡ []) → (t : Bool) → p r ≡ t → cond t (r ∷ filter p rows) (filter p rows) ≡ []
-    at more true e = let no : true ≡ false = ap (λ (b : Bool). b || list_any p rows) (sym e) ∙ h in absurd cc
-    at more false e = more (ap (λ (b : Bool). b || list_any p rows) (sym e) ∙ h)
-
 -- a row before others: of another series, dated later, replaced, closed, or open
 step : (day : ℤ) (n : Node) (r : Row) (rows : List Row) → find (is_of n) (open_rows day rows) ≡ open_of day n rows → find (is_of n) (open_rows day (r ∷ rows)) ≡ open_of day n (r ∷ rows)
 step day n r rows more = of_series (is_of n r) refl
@@ -80,12 +74,12 @@ step day n r rows more = of_series (is_of n r) refl
 
     -- the last of its series
     alone : list_any tests rows ≡ false → latest_of day n rows ≡ None
-    alone none = ap (λ (xs : List Row). last_or None xs) (none_left tests rows none)
+    alone none = ap (λ (xs : List Row). last_or None xs) (none_pass tests rows none)
 
     last_is : list_any tests rows ≡ false → tests r ≡ true → open_of day n (r ∷ rows) ≡ unless_closed r
     last_is none f =
         ap (λ (b : Bool). option_and_then unless_closed (last_or None (cond b (r ∷ filter tests rows) (filter tests rows)))) f
-        ∙ ap (λ (xs : List Row). option_and_then unless_closed (last_or (Some r) xs)) (none_left tests rows none)
+        ∙ ap (λ (xs : List Row). option_and_then unless_closed (last_or (Some r) xs)) (none_pass tests rows none)
 
     closed : list_any tests rows ≡ false → tests r ≡ true → is_closed r.status ≡ true → is_open_before day r rows ≡ false → find (is_of n) (open_rows day (r ∷ rows)) ≡ open_of day n (r ∷ rows)
     closed none f c e =
@@ -133,10 +127,6 @@ open_are_latest day n rows = open_are day n rows ∙ ap (λ (xs : List Row). opt
 
 -- ---- distinct
 
-parts : (a b : Bool) → (a || b) ≡ false → (a ≡ false) × (b ≡ false)
-parts true b e = absurd cc
-parts false b e = (refl, e)
-
 first : (a b c : Bool) → (a && b && not c) ≡ true → a ≡ true
 first true b c k = refl
 first false b c k = absurd cc
@@ -157,7 +147,7 @@ AreApart m nodes = AllByRecursion (λ n. same_node m n ≡ false) (map (λ x. x.
 -- where no later dated row is of a row's series, none of the later nodes is its node
 apart : (day : ℤ) (m : Node) (rows : List Row) → list_any (λ x. is_of m x && is_dated day x) rows ≡ false → AreApart m (nodes_of day rows)
 apart day m [] h = tt
-apart day m (r ∷ rows) h = let both = parts (is_of m r && is_dated day r) (list_any (λ x. is_of m x && is_dated day x) rows) h in at both.0 (apart day m rows both.1) (is_open_before day r rows) refl
+apart day m (r ∷ rows) h = let both = or_parts (is_of m r && is_dated day r) (list_any (λ x. is_of m x && is_dated day x) rows) h in at both.0 (apart day m rows both.1) (is_open_before day r rows) refl
   where
     other : (is_of m r && is_dated day r) ≡ false → is_dated day r ≡ true → same_node m (series_of r) ≡ false
     other f e = node_equiv.symm m (series_of r) ∙ not_of (is_of m r) (ap (λ (b : Bool). is_of m r && b) (sym e) ∙ f)

@@ -17,11 +17,13 @@ pub record AreSame (s : Shown) (a : Node) (nodes : List Node) : Type 0 where
   pub each : (b : Node) → Contains nodes b ↔ Same s a b
   pub once : IsDistinct same_node nodes
 
+-- exactly the links with this subject
+abbrev pub AreLinksInto : Shown → Node → List Link → Type 0
+AreLinksInto s n links = (l : Link) → Contains links l ↔ (Contains s.links l × (l.subject ≡ n))
+
+-- ---- for clauses of private functions alone
+
 -- a link, where it is into the node
 abbrev pub only_into : Node → Option Link → Option Link
 only_into n None = None
 only_into n (Some l) = if same_node l.subject n then Some l else None
-
--- exactly the links with this subject
-abbrev pub AreLinksInto : Shown → Node → List Link → Type 0
-AreLinksInto s n links = (l : Link) → Contains links l ↔ (Contains s.links l × (l.subject ≡ n))
