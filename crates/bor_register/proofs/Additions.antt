@@ -1,11 +1,11 @@
 -- The settled statements of a file may be added to the live ones that they were settled after.
-use Rattle.std.proofs.Common.{◌≡◌, ℕ, ◌+◌, ℤ, pos, List, [], ◌∷◌, ◌++◌, map, Option, Some, None, Result, Ok, Err, Bool, true, false, refl, sym, ap, subst, ◌∙◌, arith, if◌then◌else◌}
+use Rattle.std.proofs.Common.{◌≡◌, ℕ, ◌+◌, ℤ, pos, List, [], ◌∷◌, ◌++◌, map, Result, Ok, Err, Bool, true, false, refl, sym, subst, ◌∙◌, if◌then◌else◌}
 use Rattle.std.specs.Prelude.{All, IsSome, ◌||◌}
-use Rattle.std.specs.List.{IsDistinct, AllByRecursion, list_any}
+use Rattle.std.specs.List.{IsDistinct, AllByRecursion}
+use Rattle.std.proofs.lemmas.Bool.{or_parts}
 use Rattle.std.proofs.lemmas.List.Elements.{All-nil, All-cons, All-head, All-tail, All-weaker}
 use Rattle.std.proofs.lemmas.Map.Keys.{IsDistinct-cons}
 use Rattle.bor_terms.specs.Texts.{is_same}
-use Rattle.bor_terms.proofs.Texts.{same_sym}
 use Rattle.bods_read.specs.declared.statement.Statement.{Statement}
 use Rattle.bods_read.specs.declared.statement.Status.{Status}
 use Rattle.bor_records.specs.Admission.{Live}
@@ -20,15 +20,11 @@ none_new : (live : List Live) → AreNew live []
 unfolding IsDistinct
 none_new live = record { settled = All-nil _; distinct = tt; free = All-nil _ }
 
-neither : (a b : Bool) → (a || b) ≡ false → (a ≡ false) × (b ≡ false)
-neither true b h = absurd cc
-neither false b h = (refl, h)
-
 -- an identifier that isn't live once the statement is: neither the live ones' nor the statement's
 free_before : (live : List Live) (due : ℤ) (s t : Statement) → has_id t.id (live ++ as_live due s ∷ []) ≡ false → (has_id t.id live ≡ false) × (is_same s.id t.id ≡ false)
 free_before live due s t h =
-    let both = neither (has_id t.id live) (is_same s.id t.id || false) (sym (has_id-append t.id live (as_live due s ∷ [])) ∙ h) in
-    (both.0, (neither (is_same s.id t.id) false both.1).0)
+    let both = or_parts (has_id t.id live) (is_same s.id t.id || false) (sym (has_id-append t.id live (as_live due s ∷ [])) ∙ h) in
+    (both.0, (or_parts (is_same s.id t.id) false both.1).0)
 
 ids_other : (id : List ℕ) (ss : List Statement) → All (λ t. is_same id t.id ≡ false) ss → AllByRecursion (λ other. is_same id other ≡ false) (map (λ s. s.id) ss)
 ids_other id [] h = tt

@@ -11,9 +11,7 @@ use Rattle.bor_register.specs.declared.member.Member.{Member}
 use Rattle.bor_register.specs.declared.filing.AcceptedFiling.{AcceptedFiling}
 use Rattle.bor_register.specs.Register.{Register, empty_register, new_member, with_member, with_filings, filing_keyed, caller_of}
 use Rattle.bor_register.specs.Live.{live_of, AreNew}
-use Rattle.bor_register.specs.declared.filing.FilingLine.{FilingLine}
 use Rattle.bor_register.specs.declared.filing.Outward.{Outward}
-use Rattle.bor_register.specs.declared.filing.State.{State}
 use Rattle.bor_register.specs.declared.filing.State.TheVariants.{Draft, Published, Withdrawn}
 use Rattle.bor_register.specs.Publication.{published, outward, is_published, state_of, line_of, filing_shown, has_bytes}
 use Rattle.bor_register.specs.Rows.{rows_of, visible}

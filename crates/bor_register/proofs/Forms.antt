@@ -1,5 +1,5 @@
 -- A change of a register keeps the forms of its values.
-use Rattle.std.proofs.Common.{◌≡◌, ℕ, ℤ, ◌+◌, ◌<◌, ◌^◌, List, [], ◌∷◌, ◌++◌, length, true, false, arith, if◌then◌else◌}
+use Rattle.std.proofs.Common.{◌≡◌, ℕ, ℤ, ◌+◌, ◌<◌, List, [], ◌∷◌, ◌++◌, length, true, false, arith, if◌then◌else◌}
 use Rattle.std.specs.Prelude.{All, ◌==◌}
 use Rattle.std.proofs.lemmas.List.Elements.{All-nil, All-cons, All-head, All-tail, All-push}
 use Rattle.bor_terms.specs.Day.{IsDay}
@@ -8,7 +8,7 @@ use Rattle.bods_read.specs.declared.statement.Statement.{Statement}
 use Rattle.bods_read.specs.Forms.{IsFormedStatement}
 use Rattle.bor_register.specs.declared.member.Member.{Member}
 use Rattle.bor_register.specs.declared.filing.AcceptedFiling.{AcceptedFiling}
-use Rattle.bor_register.specs.Register.{Register, empty_register, filings_of, with_filings, new_member, with_member}
+use Rattle.bor_register.specs.Register.{empty_register, filings_of, with_filings, new_member, with_member}
 use Rattle.bor_register.specs.Live.{accepted}
 use Rattle.bor_register.specs.Withdrawal.{as_withdrawn, with_withdrawn}
 use Rattle.bor_register.specs.Forms.{IsFormedFiling, IsFormedMember, IsFormed}

@@ -1,9 +1,9 @@
 -- An agent's live statements, one filing after the other.
 use Rattle.std.proofs.Common.{◌≡◌, ℕ, ℤ, ◌+◌, ◌<◌, List, [], ◌∷◌, ◌++◌, length, take, get_or, map, Option, Some, None, option_map, refl, ◌∙◌, sym, ap, append_assoc, true, false, Bool}
 use Rattle.std.specs.Prelude.{if◌then◌else◌, ◌||◌}
-use Rattle.std.specs.List.{list_any, filter, last_or}
+use Rattle.std.specs.Option.{option_or}
+use Rattle.std.specs.List.{list_any, last_or}
 use Rattle.std.proofs.lemmas.List.{take_more, append-nil, map-append}
-use Rattle.std.proofs.lemmas.List.Elements.{filter-append}
 use Rattle.std.proofs.lemmas.List.Folds.{list_any-append}
 use Rattle.std.proofs.Math.Bool.{or-false, or-true}
 use Rattle.bor_terms.specs.Texts.{is_same}
@@ -11,6 +11,7 @@ use Rattle.bods_read.specs.declared.statement.Statement.{Statement}
 use Rattle.bor_records.specs.declared.admission.Last.{Last}
 use Rattle.bor_records.specs.Admission.{Live, is_of, known_of, last_of}
 use Rattle.bor_records.specs.Settling.{as_live, has_id}
+use Rattle.bor_records.proofs.Settled.{last_of-append as last_of-either}
 use Rattle.bor_register.specs.declared.filing.AcceptedFiling.{AcceptedFiling}
 use Rattle.bor_register.specs.Live.{live_of}
 
@@ -21,25 +22,12 @@ abbrev pub later : Option Last → Option Last → Option Last
 later earlier None = earlier
 later earlier (Some last) = Some last
 
-later_some : (o z : Option Last) (l : Last) → later o (later (Some l) z) ≡ later (Some l) z
-later_some o None l = refl
-later_some o (Some m) l = refl
-
-last_or-from : (o : Option Live) (ls : List Live) → option_map known_of (last_or o ls) ≡ later (option_map known_of o) (option_map known_of (last_or None ls))
-last_or-from o [] = refl
-last_or-from o (l ∷ ls) =
-    let more = last_or-from (Some l) ls in
-    more ∙ sym (ap (later (option_map known_of o)) more ∙ later_some (option_map known_of o) (option_map known_of (last_or None ls)) (known_of l))
-
-last_or-append : {X : Type 0} (o : Option X) (xs ys : List X) → last_or o (xs ++ ys) ≡ last_or (last_or o xs) ys
-last_or-append o [] ys = refl
-last_or-append o (x ∷ xs) ys = last_or-append (Some x) xs ys
+by_later : (o z : Option Last) → option_or z o ≡ later o z
+by_later o None = refl
+by_later o (Some l) = refl
 
 pub last_of-append : (d r : List ℕ) (xs ys : List Live) → last_of d r (xs ++ ys) ≡ later (last_of d r xs) (last_of d r ys)
-last_of-append d r xs ys =
-    let p = λ (l : Live). is_of d r l.statement in
-    ap (λ ls. option_map known_of (last_or None ls)) (filter-append p xs ys) ∙ ap (option_map known_of) (last_or-append None (filter p xs) (filter p ys))
-    ∙ last_or-from (last_or None (filter p xs)) (filter p ys)
+last_of-append d r xs ys = last_of-either d r xs ys ∙ by_later (last_of d r xs) (last_of d r ys)
 
 last_one : (d r : List ℕ) (l : Live) → last_of d r (l ∷ []) ≡ (if is_of d r l.statement then Some (known_of l) else None)
 last_one d r l = elim (is_of d r l.statement) as (λ b. option_map known_of (last_or None (if b then l ∷ [] else [])) ≡ (if b then Some (known_of l) else None)) [ true ↦ refl | false ↦ refl ]

@@ -3,7 +3,7 @@ use Rattle.std.proofs.Common.{◌≡◌, ◌++◌, ◌&&◌, ◌+◌, ℕ, ℤ, 
 use Rattle.std.specs.Prelude.{filter}
 use Rattle.std.proofs.lemmas.List.{append-nil}
 use Rattle.std.proofs.lemmas.List.Elements.{filter-append}
-use Rattle.bor_terms.specs.Texts.{is_same, is_below}
+use Rattle.bor_terms.specs.Texts.{is_same}
 use Rattle.bor_terms.proofs.Texts.{same_is, below_differs}
 use Rattle.bods_read.specs.declared.statement.Statement.{Statement}
 use Rattle.bor_records.specs.declared.row.Row.{Row}
@@ -13,7 +13,7 @@ use Rattle.bor_register.specs.declared.member.Member.{Member}
 use Rattle.bor_register.specs.Register.{IsOrdered, AllAbove, filings_of}
 use Rattle.bor_register.specs.Rows.{is_visible, row_of, rows_from, rows_in, visible_in, visible}
 use Rattle.bor_links.specs.declared.node.Node.{Node}
-use Rattle.bor_links.specs.Series.{series, is_of, series_of, open_at}
+use Rattle.bor_links.specs.Series.{series, is_of, open_at}
 use Rattle.bor_register.specs.Seen.{SeriesIsOfOneAgent}
 
 -- another agent's rows have none of the series

@@ -1,5 +1,5 @@
 -- What a viewer sees of a register: its nodes and links, on a day.
-use Rattle.std.specs.Prelude.{◌≡◌, ℕ, ℤ, List, filter}
+use Rattle.std.specs.Prelude.{◌≡◌, ℕ, ℤ, List}
 use Rattle.bor_links.specs.declared.node.Node.{Node}
 use Rattle.bor_links.specs.Series.{series}
 use Rattle.bor_links.specs.Shown.{Shown}
