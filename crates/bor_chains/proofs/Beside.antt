@@ -6,7 +6,7 @@ use Rattle.std.specs.Ordering.{is_eq}
 use Rattle.std.proofs.Math.ListN.{set, length-set}
 use Rattle.std.proofs.lemmas.List.{drop_more, get_or-set_same, get_or-set_other}
 use Rattle.std.proofs.lemmas.List.Elements.{Contains-push, Contains-append_left}
-use Rattle.std.proofs.lemmas.Option.{slice_get-get_or, slice_get_within, slice_get_cases, get_or_from_slice_get}
+use Rattle.std.proofs.lemmas.Option.{same_Some, slice_get-get_or, slice_get_within, slice_get_cases, get_or_from_slice_get}
 use Rattle.std.proofs.lemmas.Bool.{and_parts, eqb-true, eqb-false, ltb-true, ltb-false}
 use Rattle.bods_read.specs.declared.details.Details.{Details}
 use Rattle.bods_read.specs.declared.details.Details.TheVariants as details
@@ -25,16 +25,13 @@ use Rattle.bor_chains.specs.Tables.{placed, items_of, items_at, StayAt, ArePlace
 use Rattle.bor_links.proofs.Found.{none, Contains-filter_map, Contains-from_filter_map}
 use Rattle.bor_links.proofs.SameNode.{same_node_is}
 
-some_link : (x y : Link) → Some x ≡ Some y → x ≡ y
-some_link x y h = cc
-
 -- what is told of a place is the link there, with the subject
 link_is : (n : Node) (o : Option Link) (l : Link) → only_into n o ≡ Some l → (o ≡ Some l) × (same_node l.subject n ≡ true)
 link_is n None l e = let z : None ≡ Some l = e in absurd cc
 link_is n (Some k) l e = at (same_node k.subject n) refl e
   where
     at : (t : Bool) → same_node k.subject n ≡ t → cond t (Some k) None ≡ Some l → (Some k ≡ Some l) × (same_node l.subject n ≡ true)
-    at true f q = (q, ap (λ (m : Link). same_node m.subject n) (sym (some_link k l q)) ∙ f)
+    at true f q = (q, ap (λ (m : Link). same_node m.subject n) (sym (same_Some k l q)) ∙ f)
     at false f q = let z : None ≡ Some l = q in absurd cc
 
 -- a link is made where its subject is listed
@@ -51,7 +48,7 @@ subject_listed nodes r l h = by r.statement.details h
     between : (subject party : Node) (interests : List Interest) (t : Bool) → (is_entity_info (info_in nodes subject) && is_some_info (info_in nodes party)) ≡ t
         → cond t (Some (record { party = party; subject = subject; stake = is_stake interests; holding = is_holding interests })) None ≡ Some l → IsSome (listed_at nodes l.subject)
     between subject party interests true f e =
-        subst (λ (m : Node). IsSome (listed_at nodes m)) (ap (λ (k : Link). k.subject) (some_link _ l e))
+        subst (λ (m : Node). IsSome (listed_at nodes m)) (ap (λ (k : Link). k.subject) (same_Some _ l e))
         (entity (listed_at nodes subject) (and_parts (is_entity_info (info_in nodes subject)) (is_some_info (info_in nodes party)) f).0)
     between subject party interests false f e = no_link e
 
@@ -82,9 +79,6 @@ places_before nodes next k x key was now one lt at named before more q =
 at_place : (lists : List (Vec ℕ Global)) (j : ℕ) (v : Vec ℕ Global) (x : ℕ) → slice_get lists j ≡ Some v → Contains v.items x → Contains (items_at (λ v. v.items) lists (Some j)) x
 at_place lists j v x at h = subst (λ (o : Option (Vec ℕ Global)). Contains (items_of (λ v. v.items) o) x) (sym at) h
 
-some_list : (x y : Vec ℕ Global) → Some x ≡ Some y → x ≡ y
-some_list x y h = cc
-
 pub some_place : (o : Option (Bor ℕ)) (place : Bor ℕ) (i : ℕ) → o ≡ Some place → option_map (λ x. x.now) o ≡ Some i → place.now ≡ i
 some_place o place i is at = number (sym (ap (λ (p : Option (Bor ℕ)). option_map (λ x. x.now) p) is) ∙ at)
   where
@@ -108,7 +102,7 @@ lists_stay lists i old new x lt at is (Some j) y h = elim (slice_get_cases lists
     by : (b : Bool) → nat_eq j i ≡ b → (v : Vec ℕ Global) → j < length lists → slice_get lists j ≡ Some v → get_or lists j v ≡ v → Contains v.items y → Contains (items_at (λ v. v.items) (set lists i new) (Some j)) y
     by true e v within here_is got on =
         let same : j ≡ i = eqb-true j i e in
-        let own : v ≡ old = some_list v old (sym here_is ∙ ap (λ (k : ℕ). slice_get lists k) same ∙ slice_get-get_or lists i old lt ∙ ap (λ (w : Vec ℕ Global). Some w) (sym at)) in
+        let own : v ≡ old = same_Some v old (sym here_is ∙ ap (λ (k : ℕ). slice_get lists k) same ∙ slice_get-get_or lists i old lt ∙ ap (λ (w : Vec ℕ Global). Some w) (sym at)) in
         at_place (set lists i new) j new y
         (ap (λ (k : ℕ). slice_get (set lists i new) k) same ∙ slice_get-get_or (set lists i new) i new (subst (λ (n : ℕ). i < n) (sym (length-set lists i new)) lt)
         ∙ ap (λ (w : Vec ℕ Global). Some w) (get_or-set_same lists i new new lt))
@@ -135,7 +129,7 @@ into_more links n one was now lt is before stays there i l below at = elim (spli
         by false e = inr (let le = ltb-false j n e in omega (arith, k, le))
 
     same : i ≡ n → l ≡ one
-    same e = some_link l one (sym at ∙ ap (λ (j : ℕ). slice_get links j) e ∙ slice_get-get_or links n one lt ∙ ap (λ (k : Link). Some k) (sym is))
+    same e = same_Some l one (sym at ∙ ap (λ (j : ℕ). slice_get links j) e ∙ slice_get-get_or links n one lt ∙ ap (λ (k : Link). Some k) (sym is))
 
 -- the links at the places that are found by a node are those into it
 pub into_told : (s : Shown) (n : Node) (into : Node → List ℕ) → AreInto (length s.links) s.links into → AreLinksInto s n (links_at s.links n (into n))

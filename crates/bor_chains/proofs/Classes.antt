@@ -8,6 +8,7 @@ use Rattle.std.proofs.lemmas.Map.Views.{tells_apart}
 use Rattle.std.proofs.lemmas.Map.Lookups.{exact_unsigned}
 use Rattle.std.proofs.Math.Bool.{or-true}
 use Rattle.std.proofs.lemmas.Bool.{and_parts, not-false}
+use Rattle.std.proofs.lemmas.Option.{same_Some}
 use Rattle.std.proofs.lemmas.List.{append-nil, take_all, take-append-le}
 use Rattle.std.proofs.lemmas.List.Elements.{Contains-append_left, Contains-append_right, Contains-append_cases, Contains-get_or}
 use Rattle.bor_terms.specs.Texts.{is_same}
@@ -31,7 +32,7 @@ use Rattle.bor_links.proofs.Listed.{found_is}
 use Rattle.bor_chains.proofs.Lists.{AreDistinct, listed_is}
 use Rattle.bor_links.proofs.Exact.{exact_sign}
 use Rattle.bor_links.proofs.Signs.{in_common}
-use Rattle.bor_chains.proofs.Signs.{identifiers_more, placed_in, in_place, some_is}
+use Rattle.bor_chains.proofs.Signs.{identifiers_more, placed_in, in_place}
 use Rattle.bor_links.proofs.Growth.{Contains-take_more}
 use Rattle.bor_links.proofs.Sames.{same_more, same_reached, same_alone}
 
@@ -47,7 +48,7 @@ expands_none nodes places one found seen = record {
   fresh = λ k h. inl h;
 }
 
-one_of : {X : Type 0} (x y : X) → Contains (x ∷ []) y → x ≡ y
+pub one_of : {X : Type 0} (x y : X) → Contains (x ∷ []) y → x ≡ y
 one_of x y h = elim (cases x [] y h) [ inl e ↦ e | inr k ↦ absurd (none y k) ]
 
 -- a sign that was seen
@@ -245,7 +246,7 @@ visits_entity s first place one places a b p q was now d under at entity split s
       | inr new ↦ looked g on k y listed has new.0 new.1
     ];
     signed = λ i x k h here_is has. elim (split i h) [
-      | inl z ↦ e.seen k (subst (λ (y : OpenNode). Contains (signs y) k) (some_is x one (sym here_is ∙ ap (λ (j : ℕ). slice_get s.nodes j) z ∙ at)) has.1)
+      | inl z ↦ e.seen k (subst (λ (y : OpenNode). Contains (signs y) k) (same_Some x one (sym here_is ∙ ap (λ (j : ℕ). slice_get s.nodes j) z ∙ at)) has.1)
       | inr old ↦ e.stays k (g.signed i x k old here_is has)
     ];
   };
@@ -258,7 +259,7 @@ visits_entity s first place one places a b p q was now d under at entity split s
     added g on i h =
         let y = like_is one (slice_get s.nodes i) (e.alike i h) in
         let x = g.sound place on in
-        let same : Same s first one.node = subst (λ (z : OpenNode). Same s first z.node) (some_is x.0 one (sym x.1 ∙ at)) x.2 in
+        let same : Same s first one.node = subst (λ (z : OpenNode). Same s first z.node) (same_Some x.0 one (sym x.1 ∙ at)) x.2 in
         let step : Alias s one.node (y.0).node = record { one = one; two = y.0; one_is = listed; two_is = listed_is s.nodes y.0 d (in_place s.nodes y.0 i y.1); alike = y.2 } in
         (y.0, y.1, same_more s first same.0 one.node (y.0).node same.1 step)
 
@@ -277,7 +278,7 @@ entity_is None x h = absurd (let no : None ≡ Some x = h in cc)
 entity_is (Some y) x h = by (is_entity y.info) refl h
   where
     by : (b : Bool) → is_entity y.info ≡ b → cond b (Some y) None ≡ Some x → (Some y ≡ Some x) × (is_entity x.info ≡ true)
-    by true e k = (k, ap (λ (z : OpenNode). is_entity z.info) (sym (some_is y x k)) ∙ e)
+    by true e k = (k, ap (λ (z : OpenNode). is_entity z.info) (sym (same_Some y x k)) ∙ e)
     by false e k = absurd (let no : None ≡ Some x = k in cc)
 
 no_entity_is : (o : Option OpenNode) (x : OpenNode) → entity_in o ≡ None → o ≡ Some x → is_entity x.info ≡ true → ⊥
@@ -341,14 +342,14 @@ gathered_start s x first seen done at unseen undone = record {
 pub gathered_all : (s : Shown) (x : OpenNode) (first : ℕ) (found : List ℕ) (seen : Sign → Bool) (done : ℕ → Bool) → AreDistinct s.nodes → slice_get s.nodes first ≡ Some x → Contains found first → AreGathered s x.node found seen done
     → ((i : ℕ) → Contains found i → done i ≡ true) → AreAllSame s x.node found
 gathered_all s x first found seen done d at on g all n = (
-  (λ h. let y = g.sound h.place h.there in subst (λ (m : Node). Same s x.node m) (ap (λ (z : OpenNode). z.node) (some_is y.0 h.one (sym y.1 ∙ h.at)) ∙ h.is) y.2),
+  (λ h. let y = g.sound h.place h.there in subst (λ (m : Node). Same s x.node m) (ap (λ (z : OpenNode). z.node) (same_Some y.0 h.one (sym y.1 ∙ h.at)) ∙ h.is) y.2),
   (λ h. same_reached s (λ m. IsAmong s.nodes found m) closed x.node h.0 n h.1 (record { place = first; there = on; one = x; at = at; is = refl })),
 )
   where
     closed : (b c : Node) → IsAmong s.nodes found b → Alias s b c → IsAmong s.nodes found c
     closed b c h l =
         let listed : listed_at s.nodes b ≡ Some h.one = ap (λ (m : Node). listed_at s.nodes m) (sym h.is) ∙ listed_is s.nodes h.one d (in_place s.nodes h.one h.place h.at) in
-        let same : h.one ≡ l.one = some_is h.one l.one (sym listed ∙ l.one_is) in
+        let same : h.one ≡ l.one = same_Some h.one l.one (sym listed ∙ l.one_is) in
         let two = found_is s.nodes c l.two l.two_is in
         let k = in_common l.one l.two l.alike in
         let ea = and_parts (is_entity l.one.info && is_entity l.two.info) (same_record l.one.node l.two.node || share_identifier l.one.identifiers l.two.identifiers && not (same_node l.one.node l.two.node)) l.alike in

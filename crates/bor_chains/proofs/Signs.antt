@@ -1,31 +1,26 @@
 -- The places of nodes by their signs, and the aliases that are found so.
-use Rattle.std.proofs.Common.{◌≡◌, ◌↔◌, ◌⊎◌, ◌+◌, ◌<◌, ◌++◌, ◌&&◌, ◌||◌, not, ℕ, Bool, true, false, cond, Option, Some, None, List, [], ◌∷◌, Contains, take, length, get_or, map, sym, refl, ap, ◌∙◌, subst, inl, inr, arith, Vec, Global}
+use Rattle.std.proofs.Common.{◌≡◌, ◌↔◌, ◌⊎◌, ◌+◌, ◌<◌, ◌++◌, ℕ, Bool, true, false, cond, Option, Some, None, List, [], ◌∷◌, Contains, take, length, get_or, map, sym, refl, ap, ◌∙◌, subst, inl, inr, arith, Vec, Global}
 use Rattle.std.specs.Prelude.{nat_lt}
-use Rattle.std.specs.declared.cmp.Ordering.{Ordering}
-use Rattle.std.specs.declared.cmp.Ordering.TheVariants.{Less, Equal, Greater}
-use Rattle.std.specs.Ordering.{is_eq, ordering_then, bool_cmp}
-use Rattle.std.specs.List.{filter, slice_get, list_any, IsDistinct}
+use Rattle.std.specs.Ordering.{is_eq}
+use Rattle.std.specs.List.{filter, slice_get, IsDistinct}
 use Rattle.std.specs.BTreeMap.{BTreeMap, get}
-use Rattle.std.proofs.lemmas.Map.Lookups.{CmpEqualImpliesEq, exact_bytes}
 use Rattle.std.proofs.lemmas.Map.Views.{tells_apart}
 use Rattle.std.proofs.lemmas.List.Elements.{Contains-push, Contains-push_cases, Contains-append_left, Contains-append_right}
 use Rattle.std.proofs.lemmas.List.{take_more, map-append}
-use Rattle.std.proofs.lemmas.Option.{slice_get-get_or, slice_get_within, get_or_from_slice_get}
-use Rattle.std.proofs.lemmas.Bool.{and_parts, ltb-true, ltb-false}
-use Rattle.bor_terms.specs.Texts.{is_same}
-use Rattle.bor_terms.proofs.Texts.{same_is}
+use Rattle.std.proofs.lemmas.Option.{same_Some, slice_get-get_or, slice_get_within, get_or_from_slice_get}
+use Rattle.std.proofs.lemmas.Bool.{ltb-true, ltb-false}
 use Rattle.bods_read.specs.declared.details.Identifier.{Identifier}
 use Rattle.bor_links.specs.declared.node.Node.{Node}
 use Rattle.bor_links.specs.declared.node.OpenNode.{OpenNode}
 use Rattle.bor_links.specs.declared.sign.Sign.{Sign}
-use Rattle.bor_links.specs.Nodes.{same_node, text_cmp}
-use Rattle.bor_links.specs.Shown.{Shown, listed_at, are_alike, is_entity, same_record, share_identifier, same_identifier}
-use Rattle.bor_chains.specs.Listing.{aliases_to, aliases_in}
+use Rattle.bor_links.specs.Nodes.{same_node}
+use Rattle.bor_links.specs.Shown.{Shown, listed_at, are_alike}
+use Rattle.bor_chains.specs.Listing.{aliases_to}
 use Rattle.bor_links.specs.Answers.{AreAliases}
 use Rattle.bor_chains.specs.Tables.{items_of}
 use Rattle.bor_links.specs.Signs.{sign_cmp, by_record, by_identifier, signs}
 use Rattle.bor_chains.specs.Likeness.{Stays, IsUnder, AreUnder, AreAll, alike_node, alike_at}
-use Rattle.bor_links.proofs.Found.{Contains-filter_map, Contains-from_filter_map, none, here, there, cases, Contains-filter, Contains-from_filter, Contains-map, Contains-from_map}
+use Rattle.bor_links.proofs.Found.{Contains-filter_map, Contains-from_filter_map, none, cases, Contains-filter, Contains-from_filter, Contains-map, Contains-from_map}
 use Rattle.bor_links.proofs.Exact.{exact_sign}
 use Rattle.bor_links.proofs.Signs.{in_common}
 use Rattle.bor_chains.proofs.Lists.{aliases_told}
@@ -84,9 +79,6 @@ under_first x key place was now is at stays rest k h = elim (cases (by_record x.
 pub nodes_none : (nodes : List OpenNode) (places : Sign → List ℕ) → AreUnder 0 nodes places
 nodes_none nodes places i x lt at = absurd (omega (arith, lt))
 
-pub some_is : (x y : OpenNode) → Some x ≡ Some y → x ≡ y
-some_is x y h = cc
-
 pub nodes_more : (nodes : List OpenNode) (n : ℕ) (one : OpenNode) (was now : Sign → List ℕ) → n < length nodes → one ≡ get_or nodes n one → AreUnder n nodes was → Stays was now → IsUnder (signs one) n now → AreUnder (n + 1) nodes now
 nodes_more nodes n one was now lt is before stays these i x below at k h = elim (split i below) [
   | inl less ↦ stays k i (before i x less at k h)
@@ -101,7 +93,7 @@ nodes_more nodes n one was now lt is before stays these i x below at k h = elim 
         by false e = inr (let le = ltb-false j n e in omega (arith, l, le))
 
     same : i ≡ n → x ≡ one
-    same e = some_is x one (sym at ∙ ap (λ (j : ℕ). slice_get nodes j) e ∙ slice_get-get_or nodes n one lt ∙ ap (λ (y : OpenNode). Some y) (sym is))
+    same e = same_Some x one (sym at ∙ ap (λ (j : ℕ). slice_get nodes j) e ∙ slice_get-get_or nodes n one lt ∙ ap (λ (y : OpenNode). Some y) (sym is))
 
 -- ---- found
 
@@ -134,15 +126,12 @@ placed_in nodes y h = (h.0, h.1, slice_get-get_or nodes h.0 y h.1 ∙ ap (λ (z 
 pub in_place : (nodes : List OpenNode) (y : OpenNode) (i : ℕ) → slice_get nodes i ≡ Some y → Contains nodes y
 in_place nodes y i e = (i, slice_get_within nodes i y e, get_or_from_slice_get nodes i y y e)
 
-node_some : (m n : Node) → Some m ≡ Some n → m ≡ n
-node_some m n h = cc
-
 alike_is : (one : OpenNode) (o : Option OpenNode) (b : Node) → alike_node one o ≡ Some b → (y : OpenNode) × (o ≡ Some y) × (are_alike one y ≡ true) × (y.node ≡ b)
 alike_is one None b e = let z : None ≡ Some b = e in absurd cc
 alike_is one (Some y) b e = at (are_alike one y) refl e
   where
     at : (t : Bool) → are_alike one y ≡ t → cond t (Some y.node) None ≡ Some b → (z : OpenNode) × (Some y ≡ Some z) × (are_alike one z ≡ true) × (z.node ≡ b)
-    at true f k = (y, refl, f, node_some y.node b k)
+    at true f k = (y, refl, f, same_Some y.node b k)
     at false f k = let z : None ≡ Some b = k in absurd cc
 
 pub aliases_confirmed : (s : Shown) (n : Node) (one : OpenNode) (places : Sign → List ℕ) (found : List ℕ) (rough out : List Node) → listed_at s.nodes n ≡ Some one → IsDistinct same_node (map (λ x. x.node) s.nodes)
