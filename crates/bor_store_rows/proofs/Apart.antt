@@ -1,6 +1,7 @@
 -- No two statements of a stored register stand at one place.
-use Rattle.std.proofs.Common.{◌≡◌, ℕ, ◌+◌, ◌<◌, ◌==◌, ◌&&◌, Bool, true, false, List, [], ◌∷◌, ◌++◌, refl, sym, subst, ◌∙◌, arith}
+use Rattle.std.proofs.Common.{◌≡◌, ℕ, ◌+◌, ◌<◌, ◌==◌, Bool, true, false, List, [], ◌∷◌, ◌++◌, refl, sym, subst, ◌∙◌, arith}
 use Rattle.std.specs.List.{AllByRecursion}
+use Rattle.std.proofs.Math.Bool.{and-false}
 use Rattle.std.proofs.lemmas.Bool.Decides.{nat_tests}
 use Rattle.std.specs.Prelude.{filter, if◌then◌else◌}
 use Rattle.sqlite_keyed.proofs.ListLemmas.{all-append, all-filter}
@@ -18,15 +19,11 @@ use Rattle.bor_store_rows.specs.Stored.{AreNumbered, AllNumbered}
 abbrev AllOff : At → List Placed → Type 0
 AllOff at qs = AllByRecursion (λ (q : Placed). same_place q.at at ≡ false) qs
 
-and_false : (b : Bool) → (b && false) ≡ false
-and_false true = refl
-and_false false = refl
-
 off_number : (a b : At) → (a.filing == b.filing) ≡ false → same_place a b ≡ false
-off_number a b e = rw e (and_false (is_same a.agent b.agent))
+off_number a b e = rw e (and-false (is_same a.agent b.agent))
 
 off_place : (a b : At) → (a.place == b.place) ≡ false → same_place a b ≡ false
-off_place a b e = rw (e, and_false (a.filing == b.filing)) (and_false (is_same a.agent b.agent))
+off_place a b e = rw (e, and-false (a.filing == b.filing)) (and-false (is_same a.agent b.agent))
 
 off_name : (a b : At) → is_same a.agent b.agent ≡ false → same_place a b ≡ false
 off_name a b e = rw e refl

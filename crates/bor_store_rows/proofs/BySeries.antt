@@ -2,7 +2,6 @@
 use Rattle.std.proofs.Common.{◌≡◌, ℕ, ◌+◌, ◌<◌, ◌==◌, Bool, true, false, List, [], ◌∷◌, ◌++◌, map, length, Option, Some, None, refl, sym, ap, ap₂, ◌∙◌, arith, subst, if◌then◌else◌}
 use Rattle.std.specs.Prelude.{filter, option_map, nat_lt}
 use Rattle.std.specs.List.{AllByRecursion, list_any, last_or}
-use Rattle.std.proofs.lemmas.Bool.Decides.{nat_tests}
 use Rattle.std.proofs.lemmas.List.{map-append}
 use Rattle.sqlite_keyed.proofs.ListLemmas.{all-append, filter-map}
 use Rattle.bor_terms.specs.Texts.{is_same}
@@ -18,6 +17,7 @@ use Rattle.bor_store_rows.specs.declared.rows.Placed.{Placed}
 use Rattle.bor_store_rows.specs.Placed.{bare, part_of, placed_from, placed_by}
 use Rattle.bor_store_rows.specs.Seen.{type_of_part, known_at}
 use Rattle.bor_store_rows.specs.Stored.{AreNumbered}
+use Rattle.bor_store_rows.proofs.Numbers.{same_number, other_number, before_number}
 use Rattle.bor_store_rows.proofs.ByKey.{any_found}
 
 -- a live statement with where it stands
@@ -57,7 +57,7 @@ live_standing agent (f ∷ fs) =
     map-append live_at (standing_from agent f 1 f.statements) (standing agent fs)
     ∙ ap₂ (λ xs ys. xs ++ ys) (live_standing_from agent f 1 f.statements) (live_standing agent fs)
 
-last_map : {A B : Type 0} (g : A → B) (o : Option A) (xs : List A) → last_or (option_map g o) (map g xs) ≡ option_map g (last_or o xs)
+pub last_map : {A B : Type 0} (g : A → B) (o : Option A) (xs : List A) → last_or (option_map g o) (map g xs) ≡ option_map g (last_or o xs)
 last_map g o [] = refl
 last_map g o (x ∷ xs) = last_map g (Some x) xs
 
@@ -73,15 +73,6 @@ known_is t = rw (kind_is t.at.statement.details) refl
 
 abbrev Owns : List AcceptedFiling → Standing → Type 0
 Owns fs t = filter (λ (f : AcceptedFiling). f.number == t.at.at.filing) fs ≡ t.filing ∷ []
-
-same_number : (n : ℕ) → (n == n) ≡ true
-same_number n = grind (arith, nat_tests)
-
-other_number : (n m : ℕ) → n < m → (m == n) ≡ false
-other_number n m low = grind (arith, nat_tests)
-
-before_number : (n m : ℕ) → n < m → (n == m) ≡ false
-before_number n m low = grind (arith, nat_tests)
 
 none_numbered : (number n : ℕ) (fs : List AcceptedFiling) → number < n → AreNumbered n fs → filter (λ (f : AcceptedFiling). f.number == number) fs ≡ []
 none_numbered number n [] low numbered = refl
@@ -174,7 +165,7 @@ module _ (agent declaration rec : List ℕ) (fs : List AcceptedFiling) where
 
 -- ---- identifiers
 
-any_map : {A B : Type 0} (p : B → Bool) (g : A → B) (xs : List A) → list_any p (map g xs) ≡ list_any (λ x. p (g x)) xs
+pub any_map : {A B : Type 0} (p : B → Bool) (g : A → B) (xs : List A) → list_any p (map g xs) ≡ list_any (λ x. p (g x)) xs
 any_map p g [] = refl
 any_map p g (x ∷ xs) = rw (any_map p g xs) refl
 

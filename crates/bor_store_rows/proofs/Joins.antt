@@ -1,7 +1,6 @@
 -- The rows of the statements that are left, and one statement more.
-use Rattle.std.proofs.Common.{◌≡◌, ℕ, ◌+◌, true, false, ◌==◌, List, [], ◌∷◌, ◌++◌, length, map, append-nil, append_assoc, refl, sym, ap, ◌∙◌, arith}
+use Rattle.std.proofs.Common.{◌≡◌, ℕ, ◌+◌, true, false, List, [], ◌∷◌, ◌++◌, map, append-nil, append_assoc, refl, sym, ap, ◌∙◌}
 use Rattle.std.specs.List.{AllByRecursion, flat_map}
-use Rattle.std.proofs.lemmas.Bool.Decides.{nat_tests}
 use Rattle.sqlite_keyed.proofs.ListLemmas.{all-append}
 use Rattle.bor_terms.proofs.Texts.{same_refl}
 use Rattle.bods_read.specs.declared.details.Details.{Details}
@@ -14,9 +13,7 @@ use Rattle.bor_store_rows.specs.declared.rows.StatementRow.{StatementRow}
 use Rattle.bor_store_rows.specs.declared.rows.InterestRow.{InterestRow}
 use Rattle.bor_store_rows.specs.declared.rows.IdentifierRow.{IdentifierRow}
 use Rattle.bor_store_rows.specs.Placed.{same_place, bare, interest_rows, identifier_rows, interests_from, identifiers_from, interests_of, identifiers_of, part_of, details_with, with_lists, AreApart}
-
-same_number : (n : ℕ) → (n == n) ≡ true
-same_number n = grind (arith, nat_tests)
+use Rattle.bor_store_rows.proofs.Numbers.{same_number}
 
 at_itself : (at : At) → same_place at at ≡ true
 at_itself at = rw (same_refl at.agent, same_number at.filing, same_number at.place) refl
@@ -106,7 +103,3 @@ one_more all out rows more row is is_left own_is ds ds_left own_ds made l first 
           interests_are = one.1;
           identifiers_are = two.1;
         }
-
-pub nothing_left : {X : Type 0} (xs : List X) → length xs ≡ 0 → xs ≡ []
-nothing_left [] e = refl
-nothing_left (x ∷ xs) e = absurd (omega arith)

@@ -14,6 +14,7 @@ use Rattle.bor_store_rows.specs.declared.rows.FilingRow.{FilingRow}
 use Rattle.bor_store_rows.specs.declared.rows.Placed.{Placed}
 use Rattle.bor_store_rows.specs.Placed.{agent_row, filing_row, filing_lines, placed_from, placed_by, placed, without_file, member_without_files, without_files}
 use Rattle.bor_store_rows.specs.Stored.{AreNumbered, AllNumbered}
+use Rattle.bor_store_rows.proofs.Numbers.{same_number}
 
 -- rows are split into those of a key and those that follow
 abbrev pub Splits : {R : Type 0} → (R → Bool) → List R → List R → List R → Type 0
@@ -21,9 +22,6 @@ Splits {R} is_own rows own rest = (mine more : List R) → rows ≡ mine ++ more
     → AllByRecursion (λ row. is_own row ≡ false) more → (own ≡ mine) × (rest ≡ more)
 
 -- ---- the statements of a filing
-
-same_number : (n : ℕ) → (n == n) ≡ true
-same_number n = grind (arith, nat_tests)
 
 statements_at : (agent : List ℕ) (number place : ℕ) (ss : List Statement) → AllByRecursion (λ (p : Placed). (p.at.filing == number) ≡ true) (placed_from agent number place ss)
 statements_at agent number place [] = tt

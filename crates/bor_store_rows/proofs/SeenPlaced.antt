@@ -2,10 +2,10 @@
 use Rattle.std.proofs.Common.{◌≡◌, ℕ, ℤ, ◌+◌, ◌<◌, ◌==◌, Bool, true, false, ◌&&◌, ◌||◌, List, [], ◌∷◌, ◌++◌, map, refl, sym, ap, ap₂, ◌∙◌, arith, if◌then◌else◌}
 use Rattle.std.specs.Prelude.{filter}
 use Rattle.std.specs.List.{AllByRecursion, list_any}
+use Rattle.std.proofs.Math.Bool.{or-false}
 use Rattle.std.proofs.lemmas.List.{map-append}
 use Rattle.std.proofs.lemmas.List.Elements.{filter-append}
-use Rattle.std.proofs.lemmas.Bool.Decides.{nat_tests}
-use Rattle.sqlite_keyed.proofs.ListLemmas.{all-append, filter-map, filter_all}
+use Rattle.sqlite_keyed.proofs.ListLemmas.{all-append, filter-map, filter_all, filter_none}
 use Rattle.bor_terms.specs.Texts.{is_same}
 use Rattle.bods_read.specs.declared.statement.Statement.{Statement}
 use Rattle.bor_register.specs.Rows.{row_of, rows_from, rows_in, rows_of, of_declaration, is_visible}
@@ -15,6 +15,7 @@ use Rattle.bor_store_rows.specs.declared.rows.FilingRow.{FilingRow}
 use Rattle.bor_store_rows.specs.Placed.{filing_row, placed_from, placed_by}
 use Rattle.bor_store_rows.specs.Seen.{row_placed, is_of_declaration, is_seen, is_line_visible}
 use Rattle.bor_store_rows.specs.Stored.{AreNumbered}
+use Rattle.bor_store_rows.proofs.Numbers.{same_number, other_number, before_number}
 
 rows_from-placed : (agent : List ℕ) (number place : ℕ) (ss : List Statement) → rows_from agent number place ss ≡ map row_placed (placed_from agent number place ss)
 rows_from-placed agent number place [] = refl
@@ -30,10 +31,6 @@ pub filter_same : {X : Type 0} (p q : X → Bool) (xs : List X) → AllByRecursi
 filter_same p q [] h = refl
 filter_same p q (x ∷ xs) h = rw (h.0, filter_same p q xs h.1) refl
 
-filter_none : {X : Type 0} (p : X → Bool) (xs : List X) → AllByRecursion (λ x. p x ≡ false) xs → filter p xs ≡ []
-filter_none p [] h = refl
-filter_none p (x ∷ xs) h = rw h.0 (filter_none p xs h.1)
-
 pub filters_swap : {X : Type 0} (p q : X → Bool) (xs : List X) → filter p (filter q xs) ≡ filter q (filter p xs)
 filters_swap p q [] = refl
 filters_swap p q (x ∷ xs) = go (p x) (q x) refl refl (filters_swap p q xs)
@@ -43,12 +40,6 @@ filters_swap p q (x ∷ xs) = go (p x) (q x) refl refl (filters_swap p q xs)
     go true false e h rest = rw (e, h) rest
     go false true e h rest = rw (e, h, e) rest
     go false false e h rest = rw (e, h) rest
-
-same_number : (n : ℕ) → (n == n) ≡ true
-same_number n = grind (arith, nat_tests)
-
-other_number : (n m : ℕ) → n < m → (m == n) ≡ false
-other_number n m low = grind (arith, nat_tests)
 
 module _ (viewer : List ℕ) (day : ℤ) (agent : List ℕ) where
   seen_by : List AcceptedFiling → Placed → Bool
@@ -64,19 +55,12 @@ module _ (viewer : List ℕ) (day : ℤ) (agent : List ℕ) where
       → AllByRecursion (λ (p : Placed). is_seen viewer day agent (f ∷ fs) p ≡ is_visible viewer day agent f) (placed_from agent f.number place ss)
   own_seen f fs n place low numbered [] = tt
   own_seen f fs n place low numbered (s ∷ ss) =
-      (rw (same_number f.number, none_later f.number n fs low numbered) (or_false (is_visible viewer day agent f)), own_seen f fs n (place + 1) low numbered ss)
-    where
-      or_false : (b : Bool) → (b || false) ≡ b
-      or_false true = refl
-      or_false false = refl
+      (rw (same_number f.number, none_later f.number n fs low numbered) (or-false (is_visible viewer day agent f)), own_seen f fs n (place + 1) low numbered ss)
 
   later_from : (f : AcceptedFiling) (fs : List AcceptedFiling) (number place : ℕ) → f.number < number → (ss : List Statement)
       → AllByRecursion (λ (p : Placed). is_seen viewer day agent (f ∷ fs) p ≡ is_seen viewer day agent fs p) (placed_from agent number place ss)
   later_from f fs number place low [] = tt
   later_from f fs number place low (s ∷ ss) = (rw (before_number f.number number low) refl, later_from f fs number (place + 1) low ss)
-    where
-      before_number : (n m : ℕ) → n < m → (n == m) ≡ false
-      before_number n m low = grind (arith, nat_tests)
 
   later_by : (f : AcceptedFiling) (fs : List AcceptedFiling) (n : ℕ) (gs : List AcceptedFiling) → f.number < n → AreNumbered n gs
       → AllByRecursion (λ (p : Placed). is_seen viewer day agent (f ∷ fs) p ≡ is_seen viewer day agent fs p) (placed_by agent gs)

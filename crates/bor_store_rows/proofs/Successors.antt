@@ -2,55 +2,29 @@
 use Rattle.std.proofs.Common.{◌≡◌, ℕ, ◌+◌, ◌<◌, ◌≤◌, ◌==◌, Bool, true, false, ◌&&◌, ◌||◌, List, [], ◌∷◌, ◌++◌, append-nil, Option, Some, None, refl, sym, ap, ap₂, ◌∙◌, arith, if◌then◌else◌}
 use Rattle.std.specs.Prelude.{filter, nat_lt}
 use Rattle.std.specs.List.{list_any, last_or}
-use Rattle.std.proofs.Math.Bool.{and-true, or-false}
+use Rattle.std.proofs.Math.Bool.{and-true, and-false, or-false}
 use Rattle.std.proofs.lemmas.Bool.Decides.{nat_tests}
 use Rattle.std.proofs.lemmas.List.Elements.{filter-append}
 use Rattle.std.proofs.lemmas.List.Folds.{list_any-append}
 use Rattle.bods_read.specs.declared.statement.Statement.{Statement}
 use Rattle.bor_records.specs.Admission.{is_of}
+use Rattle.bor_links.proofs.Sames.{any_turn, any_like}
 use Rattle.bor_register.specs.Withdrawal.{shares_record, has_successor}
 use Rattle.bor_register.specs.declared.filing.AcceptedFiling.{AcceptedFiling}
 use Rattle.bor_store_rows.specs.declared.rows.Placed.{Placed}
 use Rattle.bor_store_rows.specs.Placed.{placed_from, placed_by}
 use Rattle.bor_store_rows.specs.Seen.{is_of_record_of, is_later}
 use Rattle.bor_store_rows.specs.Stored.{AreNumbered}
-
--- ---- one of many
-
-any_same : {X : Type 0} (p q : X → Bool) (xs : List X) → ((x : X) → p x ≡ q x) → list_any p xs ≡ list_any q xs
-any_same p q [] same = refl
-any_same p q (x ∷ xs) same = ap₂ (λ a b. a || b) (same x) (any_same p q xs same)
-
-any_of_none : {X : Type 0} (xs : List X) → list_any (λ (x : X). false) xs ≡ false
-any_of_none [] = refl
-any_of_none (x ∷ xs) = any_of_none xs
-
-any_or : {X : Type 0} (p q : X → Bool) (xs : List X) → list_any (λ x. p x || q x) xs ≡ (list_any p xs || list_any q xs)
-any_or p q [] = refl
-any_or p q (x ∷ xs) = ap (λ b. (p x || q x) || b) (any_or p q xs) ∙ shuffle (p x) (q x) (list_any p xs) (list_any q xs)
-  where
-    shuffle : (a b c d : Bool) → ((a || b) || (c || d)) ≡ ((a || c) || (b || d))
-    shuffle true b c d = refl
-    shuffle false true true d = refl
-    shuffle false true false d = refl
-    shuffle false false c d = refl
-
-any_swap : {X Y : Type 0} (r : X → Y → Bool) (xs : List X) (ys : List Y) → list_any (λ x. list_any (r x) ys) xs ≡ list_any (λ y. list_any (λ x. r x y) xs) ys
-any_swap r [] ys = sym (any_of_none ys)
-any_swap r (x ∷ xs) ys = ap (λ b. list_any (r x) ys || b) (any_swap r xs ys) ∙ sym (any_or (r x) (λ y. list_any (λ z. r z y) xs) ys)
+use Rattle.bor_store_rows.proofs.Numbers.{same_number}
 
 -- ---- statements of a record in later filings
 
 abbrev after : ℕ → Placed → Placed → Bool
 after number p q = is_of_record_of p q && nat_lt number q.at.filing
 
-and_false : (b : Bool) → (b && false) ≡ false
-and_false true = refl
-and_false false = refl
-
 none_after : (number : ℕ) (p : Placed) (agent : List ℕ) (filing place : ℕ) (ss : List Statement) → nat_lt number filing ≡ false → list_any (after number p) (placed_from agent filing place ss) ≡ false
 none_after number p agent filing place [] e = refl
-none_after number p agent filing place (s ∷ ss) e = rw (e, none_after number p agent filing (place + 1) ss e) (ap (λ b. b || false) (and_false (is_of p.statement.declaration p.statement.rec s)))
+none_after number p agent filing place (s ∷ ss) e = rw (e, none_after number p agent filing (place + 1) ss e) (ap (λ b. b || false) (and-false (is_of p.statement.declaration p.statement.rec s)))
 
 all_after : (number : ℕ) (p : Placed) (agent : List ℕ) (filing place : ℕ) (ss : List Statement) → nat_lt number filing ≡ true
     → list_any (after number p) (placed_from agent filing place ss) ≡ list_any (is_of p.statement.declaration p.statement.rec) ss
@@ -72,9 +46,6 @@ later_after number p agent n (g ∷ gs) low numbered =
     (later_after number p agent (n + 1) gs (omega arith) numbered.1)
 
 -- ---- the statements of a filing
-
-same_number : (n : ℕ) → (n == n) ≡ true
-same_number n = grind (arith, nat_tests)
 
 own_filing : (agent : List ℕ) (number place : ℕ) (ss : List Statement) → filter (λ (p : Placed). p.at.filing == number) (placed_from agent number place ss) ≡ placed_from agent number place ss
 own_filing agent number place [] = refl
@@ -108,9 +79,9 @@ is_number n m e = grind (arith, nat_tests)
 
 own_succeeded : (agent : List ℕ) (f : AcceptedFiling) (fs : List AcceptedFiling) (n : ℕ) → f.number < n → AreNumbered n fs → list_any (shares_record f) fs ≡ succeeded agent f.number (f ∷ fs)
 own_succeeded agent f fs n low numbered =
-    any_swap (λ (g : AcceptedFiling) (s : Statement). list_any (is_of s.declaration s.rec) g.statements) fs f.statements
+    any_turn (λ (g : AcceptedFiling) (s : Statement). list_any (is_of s.declaration s.rec) g.statements) fs f.statements
     ∙ sym (any_statement (λ s. list_any (λ (g : AcceptedFiling). list_any (is_of s.declaration s.rec) g.statements) fs) agent f.number 1 f.statements)
-    ∙ sym (any_same (λ (p : Placed). list_any (after f.number p) (placed_by agent (f ∷ fs))) (λ (p : Placed). list_any (λ (g : AcceptedFiling). list_any (is_of p.statement.declaration p.statement.rec) g.statements) fs)
+    ∙ sym (any_like (λ (p : Placed). list_any (after f.number p) (placed_by agent (f ∷ fs))) (λ (p : Placed). list_any (λ (g : AcceptedFiling). list_any (is_of p.statement.declaration p.statement.rec) g.statements) fs)
     (placed_from agent f.number 1 f.statements)
     (λ p. list_any-append (after f.number p) (placed_from agent f.number 1 f.statements) (placed_by agent fs)
     ∙ ap₂ (λ a b. a || b) (none_after f.number p agent f.number 1 f.statements (not_below_itself f.number)) (later_after f.number p agent n fs low numbered)))
@@ -132,7 +103,7 @@ other_succeeded agent number f fs n low numbered e = go (nat_lt number f.number)
         let none = none_filed agent number n fs (grind (arith, nat_tests)) numbered in
         ap (list_any (λ p. list_any (after number p) (placed_by agent fs))) none ∙ sym (ap (list_any (λ p. list_any (after number p) (placed_by agent (f ∷ fs)))) (kept ∙ none))
     go false not_low =
-        any_same (λ p. list_any (after number p) (placed_by agent fs)) (λ p. list_any (after number p) (placed_by agent (f ∷ fs))) (filter (λ (p : Placed). p.at.filing == number) (placed_by agent fs))
+        any_like (λ p. list_any (after number p) (placed_by agent fs)) (λ p. list_any (after number p) (placed_by agent (f ∷ fs))) (filter (λ (p : Placed). p.at.filing == number) (placed_by agent fs))
         (λ p. sym (list_any-append (after number p) (placed_from agent f.number 1 f.statements) (placed_by agent fs)
         ∙ ap (λ a. a || list_any (after number p) (placed_by agent fs)) (none_after number p agent f.number 1 f.statements not_low)))
         ∙ sym (ap (list_any (λ p. list_any (after number p) (placed_by agent (f ∷ fs)))) kept)
@@ -208,6 +179,6 @@ last_later number q o low (p ∷ ps) rises within =
 pub successor_is : (agent : List ℕ) (number n : ℕ) (fs : List AcceptedFiling) → AreNumbered n fs
     → list_any (λ p. is_later number (last_or None (filter (is_of_record_of p) (placed_by agent fs)))) (filter (λ (p : Placed). p.at.filing == number) (placed_by agent fs)) ≡ has_successor number fs
 successor_is agent number n fs numbered =
-    any_same (λ p. is_later number (last_or None (filter (is_of_record_of p) (placed_by agent fs)))) (λ p. list_any (after number p) (placed_by agent fs)) (filter (λ (p : Placed). p.at.filing == number) (placed_by agent fs))
+    any_like (λ p. is_later number (last_or None (filter (is_of_record_of p) (placed_by agent fs)))) (λ p. list_any (after number p) (placed_by agent fs)) (filter (λ (p : Placed). p.at.filing == number) (placed_by agent fs))
     (λ p. last_later number (is_of_record_of p) None n (placed_by agent fs) (rises_by agent n fs numbered) tt)
     ∙ sym (successor_any agent number n fs numbered)

@@ -1,25 +1,18 @@
 -- Texts of a form are UTF-8.
-use Rattle.std.proofs.Common.{◌≡◌, ℕ, ◌<◌, ◌&&◌, Bool, List, [], ◌∷◌, true, false, refl, arith}
+use Rattle.std.proofs.Common.{◌≡◌, ℕ, ◌<◌, ◌&&◌, Bool, List, [], ◌∷◌, true, arith}
 use Rattle.std.specs.Prelude.{All}
 use Rattle.std.specs.List.{list_all}
 use Rattle.std.specs.Str.{IsUtf8, is_utf8}
+use Rattle.std.proofs.lemmas.Bool.{and_parts}
 use Rattle.std.proofs.lemmas.Bool.Decides.{nat_tests}
 use Rattle.std.proofs.lemmas.List.Elements.{All-nil, All-cons}
 use Rattle.std.proofs.lemmas.Str.{IsUtf8-from_ascii, IsUtf8-from_is_utf8}
 use Rattle.std.proofs.lemmas.Str.Ascii.{IsAscii-from_all}
 use Rattle.bor_terms.specs.Texts.{is_agent_name, is_lodge_key, is_token, is_ident, is_name_byte, is_key_byte, is_visible, is_printed, has_length}
 
-second : (a b : Bool) → (a && b) ≡ true → b ≡ true
-second true b h = h
-second false b h = absurd cc
-
-first : (a b : Bool) → (a && b) ≡ true → a ≡ true
-first true b h = refl
-first false b h = absurd cc
-
 all_below : (p : ℕ → Bool) → ((b : ℕ) → p b ≡ true → b < 128) → (t : List ℕ) → list_all p t ≡ true → All (λ b. b < 128) t
 all_below p small [] h = All-nil (λ b. b < 128)
-all_below p small (b ∷ t) h = All-cons (λ c. c < 128) b t (small b (first _ _ h)) (all_below p small t (second _ _ h))
+all_below p small (b ∷ t) h = All-cons (λ c. c < 128) b t (small b (and_parts _ _ h).0) (all_below p small t (and_parts _ _ h).1)
 
 ascii_utf8 : (p : ℕ → Bool) → ((b : ℕ) → p b ≡ true → b < 128) → (t : List ℕ) → list_all p t ≡ true → IsUtf8 t
 ascii_utf8 p small t h = IsUtf8-from_ascii t (IsAscii-from_all t (all_below p small t h))
@@ -35,19 +28,19 @@ visible_small b h = grind (arith, nat_tests)
 
 pub name_utf8 : (t : List ℕ) → is_agent_name t ≡ true → IsUtf8 t
 unfolding is_agent_name
-name_utf8 t h = ascii_utf8 is_name_byte name_byte_small t (second (has_length 1 32 t) (list_all is_name_byte t) h)
+name_utf8 t h = ascii_utf8 is_name_byte name_byte_small t (and_parts (has_length 1 32 t) (list_all is_name_byte t) h).1
 
 pub key_utf8 : (t : List ℕ) → is_lodge_key t ≡ true → IsUtf8 t
 unfolding is_lodge_key
-key_utf8 t h = ascii_utf8 is_key_byte key_byte_small t (second (has_length 1 64 t) (list_all is_key_byte t) h)
+key_utf8 t h = ascii_utf8 is_key_byte key_byte_small t (and_parts (has_length 1 64 t) (list_all is_key_byte t) h).1
 
 pub token_utf8 : (t : List ℕ) → is_token t ≡ true → IsUtf8 t
 unfolding is_token
-token_utf8 t h = ascii_utf8 is_visible visible_small t (second (has_length 16 64 t) (list_all is_visible t) h)
+token_utf8 t h = ascii_utf8 is_visible visible_small t (and_parts (has_length 16 64 t) (list_all is_visible t) h).1
 
 pub ident_utf8 : (t : List ℕ) → is_ident t ≡ true → IsUtf8 t
 unfolding is_ident
-ident_utf8 t h = IsUtf8-from_is_utf8 t (second (has_length 1 255 t && list_all is_printed t) (is_utf8 t) h)
+ident_utf8 t h = IsUtf8-from_is_utf8 t (and_parts (has_length 1 255 t && list_all is_printed t) (is_utf8 t) h).1
 
 pub free_utf8 : (t : List ℕ) → is_utf8 t ≡ true → IsUtf8 t
 free_utf8 t h = IsUtf8-from_is_utf8 t h

@@ -1,6 +1,7 @@
 use Rattle.std.proofs.Common.{◌≡◌, ◌∷◌, [], length, refl, sym, ap, ◌∙◌, rules, arith}
 use Rattle.std.specs.Vec.Iter.{into_iter_items}
-use Rattle.bor_store_rows.proofs.Joins.{one_more, none_left, nothing_left}
+use Rattle.std.proofs.lemmas.List.{nil_from_length}
+use Rattle.bor_store_rows.proofs.Joins.{one_more, none_left}
 use Rattle.bor_store_rows.proofs.joining.joined.Goals as goal
 
 pub loop-row-init : goal.loop-row-init
@@ -29,5 +30,5 @@ loop-row-preserved c =
 
 pub returns : goal.returns
 returns c ps apart rows is ds =
-    let none : into_iter_items c.loop-row.row-iterator ≡ [] = nothing_left _ (sym c.loop-row.invariant.0 ∙ c.in-None.ensures.steps.0) in
+    let none : into_iter_items c.loop-row.row-iterator ≡ [] = nil_from_length _ (sym c.loop-row.invariant.0 ∙ c.in-None.ensures.steps.0) in
     none_left ps c.loop-row.placed.items _ _ _ (c.loop-row.invariant.1 ps apart rows is ds) none
