@@ -11,25 +11,15 @@ use Rattle.sqlite_trees.specs.Tree.{rowid, has_rowid, without_rowid}
 use Rattle.sqlite_rules.specs.Edit.{without_all, id_in}
 use Rattle.sqlite_keyed.proofs.ListLemmas.{along_permutation}
 use Rattle.sqlite_value.proofs.OrderLemmas.{value_cmp-Int, value_cmp_total}
+use Rattle.bor_store_rows.proofs.SeenPlaced.{filters_swap}
 use Rattle.bor_store_sql.specs.Kept.{AreRows}
 use Rattle.bor_store_sql.proofs.Rowids.{lower_id}
-
--- two filters in either order
-turn_filters : {A : Type 0} (p q : A → Bool) (xs : List A) → filter p (filter q xs) ≡ filter q (filter p xs)
-turn_filters p q [] = refl
-turn_filters p q (x ∷ xs) = go (p x) (q x) refl refl (turn_filters p q xs)
-  where
-    go : (a b : Bool) → p x ≡ a → q x ≡ b → filter p (filter q xs) ≡ filter q (filter p xs) → filter p (filter q (x ∷ xs)) ≡ filter q (filter p (x ∷ xs))
-    go true true e f more = rw (e, f, e) (ap (λ l. x ∷ l) more)
-    go true false e f more = rw (e, f) more
-    go false true e f more = rw (e, f, e) more
-    go false false e f more = rw (e, f) more
 
 -- the order of the rowids does not matter
 pub any_order : (ids others : List ℤ) → IsPermutation ids others → (rows : List Row) → without_all rows ids ≡ without_all rows others
 any_order ids others =
     along_permutation (λ xs ys. (rows : List Row) → without_all rows xs ≡ without_all rows ys) (λ xs rows. refl) (λ x xs ys more rows. more (without_rowid x rows))
-    (λ x y xs rows. ap (λ l. without_all l xs) (turn_filters (λ r. not (has_rowid y r)) (λ r. not (has_rowid x r)) rows)) (λ xs ys zs one two rows. one rows ∙ two rows) ids others
+    (λ x y xs rows. ap (λ l. without_all l xs) (filters_swap (λ r. not (has_rowid y r)) (λ r. not (has_rowid x r)) rows)) (λ xs ys zs one two rows. one rows ∙ two rows) ids others
 
 abbrev pub ids_in : List Row → List ℤ
 ids_in = map (λ r. id_in (rowid r))

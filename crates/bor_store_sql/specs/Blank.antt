@@ -1,4 +1,4 @@
--- The tables while they are made, all without rows.
+-- The tables while they are made, all without rows; for clauses of private functions alone.
 use Rattle.std.specs.Prelude.{◌≡◌, [], OnOk, Result, IsTrue}
 use Rattle.std.specs.List.{AllByRecursion}
 use Rattle.sqlite.specs.Effect.{Database}

@@ -20,6 +20,25 @@ use Rattle.bor_store_rows.specs.declared.rows.IdentifierRow.{IdentifierRow}
 use Rattle.bor_store_rows.specs.Placed.{bare, interest_rows, identifier_rows, placed_from}
 use Rattle.bor_store_rows.specs.Encoding.{Contents, filing_columns, statement_columns, interest_columns, identifier_columns}
 
+-- the register once the agent's filing with this number is withdrawn
+abbrev pub withdrawn : List ℕ → ℕ → Register → Register
+withdrawn agent number r = record r { members = with_filings agent (with_withdrawn number (filings_of agent r.members)) r.members }
+
+-- the register once the agent's filing is added
+abbrev pub added : List ℕ → List ℕ → ℤ → List ℕ → List Statement → Register → Register
+added agent key due bytes statements r =
+    let own = filings_of agent r.members in
+    record r { members = with_filings agent (own ++ accepted own key due bytes statements ∷ []) r.members }
+
+-- the register once the agent is added
+abbrev pub enrolled : List ℕ → List ℕ → Register → Register
+enrolled agent token r = record r { members = with_member (new_member agent token) r.members }
+
+-- ---- rows of a withdrawn filing, for clauses of private functions alone
+
+abbrev pub Any : Contents → Type 0
+Any t = Unit {0}
+
 -- the columns pass these tests
 abbrev pub passes : List Term → Row → Row → Bool
 passes tests params x = list_all (holds (params ∷ (Null ∷ x) ∷ [])) tests
@@ -55,14 +74,7 @@ without_statements agent number t = record t { statements = others agent number 
 abbrev pub withdrawn_in : List ℕ → ℕ → Contents → Contents
 withdrawn_in agent number t = without_statements agent number (without_interests agent number (without_identifiers agent number (with_mark agent number t)))
 
-abbrev pub Any : Contents → Type 0
-Any t = Unit {0}
-
--- the register once the agent's filing with this number is withdrawn
-abbrev pub withdrawn : List ℕ → ℕ → Register → Register
-withdrawn agent number r = record r { members = with_filings agent (with_withdrawn number (filings_of agent r.members)) r.members }
-
--- ---- additions
+-- ---- rows that are added, for clauses of private functions alone
 
 -- a filing that isn't withdrawn
 abbrev pub live_filing : ℕ → List ℕ → ℤ → List ℕ → List Statement → AcceptedFiling
@@ -104,17 +116,7 @@ abbrev pub with_live_filing : List ℕ → ℕ → List ℕ → ℤ → List ℕ
 with_live_filing agent number key due bytes statements t =
     with_placed (placed_from agent number 1 statements) (with_filing_row agent (live_filing number key due bytes []) t)
 
--- the register once the agent's filing is added
-abbrev pub added : List ℕ → List ℕ → ℤ → List ℕ → List Statement → Register → Register
-added agent key due bytes statements r =
-    let own = filings_of agent r.members in
-    record r { members = with_filings agent (own ++ accepted own key due bytes statements ∷ []) r.members }
-
--- the register once the agent is added
-abbrev pub enrolled : List ℕ → List ℕ → Register → Register
-enrolled agent token r = record r { members = with_member (new_member agent token) r.members }
-
--- ---- the day
+-- ---- the row with the day, for clauses of private functions alone
 
 -- the first column is 1
 abbrev pub is_the_one : ℤ → Row → Bool
