@@ -3,7 +3,7 @@ use Rattle.std.proofs.Common.{◌≡◌, ℕ, ℤ, ◌+◌, ◌<◌, List, [], �
 use Rattle.std.specs.Prelude.{All, ◌==◌, ◌&&◌, ◌||◌, filter, if◌then◌else◌}
 use Rattle.std.specs.List.{AllByRecursion, flat_map, list_any}
 use Rattle.std.proofs.lemmas.Bool.Decides.{nat_tests}
-use Rattle.std.proofs.lemmas.List.Elements.{All-nil, All-cons, All-head, All-tail}
+use Rattle.std.proofs.lemmas.List.Elements.{All-nil, All-cons, All-head, All-tail, All-filter}
 use Rattle.std.proofs.lemmas.List.Folds.{flat_map-map}
 use Rattle.std.proofs.lemmas.Option.{none-some, same_Some}
 use Rattle.bor_terms.specs.Texts.{is_same}
@@ -23,16 +23,13 @@ use Rattle.bor_store_rows.specs.Placed.{bare, filing_row, identifier_rows, ident
 use Rattle.bor_records.specs.declared.row.Row.{Row}
 use Rattle.bor_store_rows.specs.Seen.{is_line_visible, row_placed}
 use Rattle.bor_store_rows.specs.Stored.{AreNumbered, IsStored}
+use Rattle.bor_store_rows.proofs.Numbers.{same_number, other_number}
 use Rattle.bor_store_rows.proofs.Apart.{all_apart}
 use Rattle.bor_store_sql.specs.Selected.{in_declaration, numbered, placed_of}
 use Rattle.bor_store_reads.specs.Asking.{is_number_seen, part_identifiers, part_interests}
-use Rattle.bor_store_reads.proofs.Lists.{all_left}
 use Rattle.bor_store_reads.proofs.FoundStatements.{own_placed}
 
 -- ---- the lists of one statement
-
-same_number : (n : ℕ) → (n == n) ≡ true
-same_number n = grind (arith, nat_tests)
 
 number_turned : (n m : ℕ) → (n == m) ≡ (m == n)
 number_turned n m = grind (arith, nat_tests)
@@ -73,7 +70,7 @@ module _ {Y : Type 0} (rows : Placed → List Y) (of_row : Part → At → List 
   lists_of agent declaration r stored =
       flat_map-map (λ (row : StatementRow). of_row row.part row.at r.members) bare (in_declaration declaration (placed_of agent r))
       ∙ lists_are r.members (in_declaration declaration (placed_of agent r))
-      (all_left (IsAlone (placed r.members)) (λ (p : Placed). is_same p.statement.declaration declaration) (placed_of agent r)
+      (All-filter (λ (p : Placed). is_same p.statement.declaration declaration) (IsAlone (placed r.members)) (placed_of agent r)
       (own_placed (IsAlone (placed r.members)) agent r.members (each_alone (placed r.members) (all_apart r.members stored.ordered stored.numbered))))
 
 -- a relationship's interests, and no others' are there
@@ -105,9 +102,6 @@ pub declared_identifiers : (agent declaration : List ℕ) (r : Register) → IsS
 declared_identifiers agent declaration r stored = lists_of identifier_rows part_identifiers identifiers_are agent declaration r stored
 
 -- ---- which filings a viewer sees
-
-other_number : (n m : ℕ) → n < m → (m == n) ≡ false
-other_number n m low = grind (arith, nat_tests)
 
 none_later : (v : AcceptedFiling → Bool) (number n : ℕ) (fs : List AcceptedFiling) → number < n → AreNumbered n fs → list_any (λ f. f.number == number && v f) fs ≡ false
 none_later v number n [] low h = refl

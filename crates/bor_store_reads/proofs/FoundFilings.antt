@@ -2,6 +2,7 @@
 use Rattle.std.proofs.Common.{◌≡◌, ℕ, ℤ, List, [], ◌∷◌, map, length, true, false, cond, Option, Some, None, option_map, refl, ap, ◌∙◌, slice_get}
 use Rattle.std.specs.Prelude.{All, if◌then◌else◌, unwrap_or}
 use Rattle.std.proofs.lemmas.Simd.{map-map}
+use Rattle.std.proofs.lemmas.List.Elements.{All-filter}
 use Rattle.bor_terms.specs.Texts.{is_same, is_agent_name}
 use Rattle.bor_register.specs.declared.filing.AcceptedFiling.{AcceptedFiling}
 use Rattle.bor_register.specs.declared.member.Member.{Member}
@@ -17,7 +18,7 @@ use Rattle.bor_store_rows.proofs.ByKey.{count_is}
 use Rattle.bor_store_rows.proofs.Formed.{filings_formed}
 use Rattle.bor_store_sql.specs.Selected.{keyed, last}
 use Rattle.bor_store_rows.specs.Seen.{line_shown}
-use Rattle.bor_store_reads.proofs.Lists.{all_left, all_mapped}
+use Rattle.bor_store_reads.proofs.Lists.{all_mapped}
 
 -- the first filing under a key
 pub keyed_first : {Y : Type 0} (make : AcceptedFiling → Y) (key : List ℕ) (fs : List AcceptedFiling) → slice_get (map make (keyed key fs)) 0 ≡ option_map make (filing_keyed key fs)
@@ -59,7 +60,7 @@ shown_formed f h = record { number = h.number; due = h.due }
 
 pub own_shown_formed : (agent key : List ℕ) (r : Register) → IsStored r → All IsFormedShown (map filing_shown (keyed key (filings_of agent r.members)))
 own_shown_formed agent key r stored =
-    all_mapped IsFormedFiling IsFormedShown filing_shown shown_formed (keyed key (filings_of agent r.members)) (all_left IsFormedFiling (λ f. is_same f.key key) (filings_of agent r.members) (formed-filings_of agent r.members stored.formed.members))
+    all_mapped IsFormedFiling IsFormedShown filing_shown shown_formed (keyed key (filings_of agent r.members)) (All-filter (λ (f : AcceptedFiling). is_same f.key key) IsFormedFiling (filings_of agent r.members) (formed-filings_of agent r.members stored.formed.members))
 
 -- the rows of some of an agent's filings
 pub own_rows_formed : (agent : List ℕ) → is_agent_name agent ≡ true → (pick : List AcceptedFiling → List AcceptedFiling) → ((fs : List AcceptedFiling) → All IsFormedFiling fs → All IsFormedFiling (pick fs))

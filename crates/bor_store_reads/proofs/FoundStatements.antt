@@ -1,11 +1,10 @@
 -- An agent's live statements, as they are found by identifier and by record.
-use Rattle.std.proofs.Common.{◌≡◌, ℕ, ℤ, pos, ◌+◌, ◌<◌, ◌≤◌, List, [], ◌∷◌, ◌++◌, map, length, not, Bool, true, false, Option, Some, None, option_map, refl, sym, ap, ap₂, subst, ◌∙◌, slice_get, arith}
+use Rattle.std.proofs.Common.{◌≡◌, ℕ, ℤ, pos, ◌+◌, ◌≤◌, List, [], ◌∷◌, ◌++◌, map, length, not, Bool, true, false, Option, Some, None, option_map, refl, sym, ap, ap₂, subst, ◌∙◌, slice_get, arith}
 use Rattle.std.specs.Prelude.{All, IfSome, ◌==◌, ◌||◌, if◌then◌else◌}
 use Rattle.std.specs.List.{list_any, last_or, AllByRecursion}
 use Rattle.std.proofs.lemmas.List.{map-append}
-use Rattle.std.proofs.lemmas.List.Elements.{All-nil, All-cons, All-append}
+use Rattle.std.proofs.lemmas.List.Elements.{All-nil, All-cons, All-append, All-filter}
 use Rattle.std.proofs.lemmas.List.Folds.{list_any-append}
-use Rattle.std.proofs.lemmas.Bool.Decides.{nat_tests}
 use Rattle.std.proofs.lemmas.Option.{none-some, same_Some}
 use Rattle.sqlite_keyed.proofs.ListLemmas.{filter-map, all_weaker}
 use Rattle.bor_terms.specs.Texts.{is_same}
@@ -28,13 +27,15 @@ use Rattle.bor_store_rows.specs.declared.rows.StatementRow.{StatementRow}
 use Rattle.bor_store_rows.specs.Placed.{bare, part_of, filing_row, placed_from, placed_by, placed}
 use Rattle.bor_store_rows.specs.RowForms.{IsFormedPlaced}
 use Rattle.bor_store_rows.specs.Stored.{AreNumbered, IsStored}
+use Rattle.bor_store_rows.proofs.BySeries.{last_map, any_map}
+use Rattle.bor_store_rows.proofs.Numbers.{same_number, before_number}
 use Rattle.bor_store_rows.proofs.Successors.{successor_is}
 use Rattle.bor_store_rows.proofs.Formed.{placed_formed}
 use Rattle.bor_store_sql.specs.Selected.{numbered, in_filing, placed_of, in_series, identified, place_columns}
 use Rattle.bor_store_rows.specs.Seen.{known_at, type_of_part, is_later}
 use Rattle.bor_store_reads.proofs.Found.{any_left}
-use Rattle.bor_store_reads.proofs.Lists.{all_left, all_front, all_back}
-use Rattle.bor_store_reads.proofs.LastOnes.{last_or-map, of_last}
+use Rattle.bor_store_reads.proofs.Lists.{all_front, all_back}
+use Rattle.bor_store_reads.proofs.LastOnes.{of_last}
 
 -- ---- tests of statements
 
@@ -65,12 +66,6 @@ own_formed agent r stored = own_placed IsFormedPlaced agent r.members (placed_fo
 
 -- ---- the due day of a statement's filing
 
-same_number : (n : ℕ) → (n == n) ≡ true
-same_number n = grind (arith, nat_tests)
-
-other_number : (n m : ℕ) → n < m → (n == m) ≡ false
-other_number n m low = grind (arith, nat_tests)
-
 -- the filing is the one of its number
 record IsNumbered (whole : List AcceptedFiling) (low : ℕ) (f : AcceptedFiling) : Type 0 where
   pub found : slice_get (numbered f.number whole) 0 ≡ Some f
@@ -82,7 +77,7 @@ each_numbered n (f ∷ fs) h =
     let is = h.0 in (
       record { found = rw (same_number f.number) refl; from = omega (arith, is) },
       all_weaker (IsNumbered fs (n + 1)) (IsNumbered (f ∷ fs) n)
-          (λ g k. let low = k.from in record { found = rw (other_number f.number g.number (omega (arith, is, low))) k.found; from = omega (arith, low) }) fs (each_numbered (n + 1) fs h.1),
+          (λ g k. let low = k.from in record { found = rw (before_number f.number g.number (omega (arith, is, low))) k.found; from = omega (arith, low) }) fs (each_numbered (n + 1) fs h.1),
     )
 
 abbrev due_in : Option AcceptedFiling → ℤ
@@ -129,10 +124,10 @@ module _ (agent declaration rec : List ℕ) (fs : List AcceptedFiling) (numbers 
   last_is =
       ap (last_of declaration rec) (live_placed fs agent 1 fs (each_numbered 1 fs numbers))
       ∙ ap (λ l. option_map known_of (last_or None l)) (filter-map (λ (l : Live). is_of declaration rec l.statement) (live_at fs) (placed_by agent fs))
-      ∙ ap (option_map known_of) (last_or-map (live_at fs) series)
+      ∙ ap (option_map known_of) (last_map (live_at fs) None series)
 
   last_there : IfSome (last_or None series) (HasFiling fs)
-  last_there = of_last (HasFiling fs) None series tt (all_left (HasFiling fs) (λ (p : Placed). is_of declaration rec p.statement) (placed_by agent fs) (there fs agent 1 fs (each_numbered 1 fs numbers)))
+  last_there = of_last (HasFiling fs) None series tt (All-filter (λ (p : Placed). is_of declaration rec p.statement) (HasFiling fs) (placed_by agent fs) (there fs agent 1 fs (each_numbered 1 fs numbers)))
 
   pub no_last : option_map bare (last_or None series) ≡ None → last_of declaration rec (live_of fs) ≡ None
   no_last e = last_is ∙ go (last_or None series) e
@@ -166,10 +161,6 @@ module _ (agent declaration rec : List ℕ) (fs : List AcceptedFiling) (numbers 
             none-some (filing_row agent h.0) (none ∙ ap (λ (x : StatementRow). option_map (filing_row agent) (slice_get (numbered x.at.filing fs) 0)) same ∙ ap (option_map (filing_row agent)) h.1)
 
 -- ---- successors
-
-any_map : {X Y : Type 0} (p : Y → Bool) (f : X → Y) (xs : List X) → list_any p (map f xs) ≡ list_any (λ x. p (f x)) xs
-any_map p f [] = refl
-any_map p f (x ∷ xs) = ap (λ b. p (f x) || b) (any_map p f xs)
 
 pub followed_is : (agent : List ℕ) (number : ℕ) (fs : List AcceptedFiling) → AreNumbered 1 fs
     → list_any (λ (row : StatementRow). is_later number (last_or None (in_series row.declaration row.rec (placed_by agent fs)))) (map bare (in_filing number (placed_by agent fs))) ≡ has_successor number fs

@@ -1,16 +1,8 @@
 -- Lists, and what holds of all their elements.
-use Rattle.std.proofs.Common.{List, [], ◌∷◌, ◌++◌, map, take, reverse, Bool, true, false, cond, sym, subst}
+use Rattle.std.proofs.Common.{List, [], ◌∷◌, ◌++◌, map, take, reverse, sym, subst}
 use Rattle.std.proofs.lemmas.List.{reverse-append}
 use Rattle.std.specs.Prelude.{All}
-use Rattle.std.specs.List.{filter}
-use Rattle.std.proofs.lemmas.List.Elements.{All-nil, All-cons, All-head, All-tail, All-append}
-
-pub all_left : {X : Type 0} (P : X → Type 0) (p : X → Bool) (xs : List X) → All P xs → All P (filter p xs)
-all_left P p [] h = h
-all_left P p (x ∷ xs) h = elim (p x) as (λ b. All P (cond b (x ∷ filter p xs) (filter p xs))) [
-  | true ↦ All-cons P x (filter p xs) (All-head P x xs h) (all_left P p xs (All-tail P x xs h))
-  | false ↦ all_left P p xs (All-tail P x xs h)
-]
+use Rattle.std.proofs.lemmas.List.Elements.{All-nil, All-cons, All-head, All-tail, All-append, All-take}
 
 pub all_mapped : {X Y : Type 0} (P : X → Type 0) (Q : Y → Type 0) (f : X → Y) → ((x : X) → P x → Q (f x)) → (xs : List X) → All P xs → All Q (map f xs)
 all_mapped P Q f make [] h = All-nil Q
@@ -25,13 +17,9 @@ all_turned P [] h = h
 all_turned P (x ∷ xs) h =
     subst (All P) (sym (reverse-append (x ∷ []) xs)) (All-append P (reverse xs) (x ∷ []) (all_turned P xs (All-tail P x xs h)) (All-cons P x [] (All-head P x xs h) (All-nil P)))
 
-all_first : {X : Type 0} (P : X → Type 0) (xs : List X) → All P xs → All P (take 1 xs)
-all_first P [] h = h
-all_first P (x ∷ xs) h = All-cons P x [] (All-head P x xs h) (All-nil P)
-
 -- the last of them, alone
 pub all_taken : {X : Type 0} (P : X → Type 0) (xs : List X) → All P xs → All P (take 1 (reverse xs))
-all_taken P xs h = all_first P (reverse xs) (all_turned P xs h)
+all_taken P xs h = All-take P 1 (reverse xs) (all_turned P xs h)
 
 pub all_front : {X : Type 0} (P : X → Type 0) (xs ys : List X) → All P (xs ++ ys) → All P xs
 all_front P [] ys h = All-nil P

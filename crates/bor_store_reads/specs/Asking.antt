@@ -12,7 +12,15 @@ use Rattle.bor_store_rows.specs.declared.rows.Part.TheVariants as part
 use Rattle.bor_store_sql.specs.Selected.{identifiers_at, interests_at}
 use Rattle.bor_store_reads.specs.declared.known.Known.{Known}
 
--- ---- lists
+-- the viewer sees the filing with this number among these of the agent
+abbrev pub is_number_seen : List ℕ → ℤ → List ℕ → List AcceptedFiling → ℕ → Bool
+is_number_seen viewer day agent filings number = list_any (λ f. f.number == number && is_visible viewer day agent f) filings
+
+-- ---- for clauses of private functions alone
+
+-- what is known of a filing is so
+abbrev pub IsKnown : List ℕ → ℤ → List ℕ → List AcceptedFiling → Known → Type 0
+IsKnown viewer day agent filings known = known.seen ≡ is_number_seen viewer day agent filings known.number
 
 -- the interests of a statement of this part at this place: a relationship alone has any
 abbrev pub part_interests : Part → At → List Member → List InterestRow
@@ -25,13 +33,3 @@ abbrev pub part_identifiers : Part → At → List Member → List IdentifierRow
 part_identifiers (part.Entity kind name) at ms = identifiers_at at ms
 part_identifiers (part.Person kind name) at ms = []
 part_identifiers (part.Relationship subject party) at ms = []
-
--- ---- filings
-
--- the viewer sees the filing with this number among these of the agent
-abbrev pub is_number_seen : List ℕ → ℤ → List ℕ → List AcceptedFiling → ℕ → Bool
-is_number_seen viewer day agent filings number = list_any (λ f. f.number == number && is_visible viewer day agent f) filings
-
--- what is known of a filing is so
-abbrev pub IsKnown : List ℕ → ℤ → List ℕ → List AcceptedFiling → Known → Type 0
-IsKnown viewer day agent filings known = known.seen ≡ is_number_seen viewer day agent filings known.number

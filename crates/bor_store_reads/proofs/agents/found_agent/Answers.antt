@@ -1,6 +1,8 @@
 use Rattle.std.proofs.Common.{◌≡◌, map, option_map, sym, ap, ◌∙◌, slice_get}
 use Rattle.std.proofs.lemmas.Simd.{map-map}
+use Rattle.std.proofs.lemmas.List.Elements.{All-filter}
 use Rattle.sqlite.specs.Held.{state}
+use Rattle.bor_register.specs.declared.member.Member.{Member}
 use Rattle.bor_register.specs.Register.{agent_with}
 use Rattle.bor_register.specs.Forms.{IsFormedMember}
 use Rattle.bor_store_rows.specs.declared.rows.AgentRow.{AgentRow}
@@ -11,7 +13,6 @@ use Rattle.bor_store_rows.proofs.Formed.{agents_formed}
 use Rattle.bor_store_sql.specs.Selected.{with_token}
 use Rattle.bor_terms.specs.Texts.{is_same}
 use Rattle.bor_store_reads.proofs.Found.{told, in_words}
-use Rattle.bor_store_reads.proofs.Lists.{all_left}
 use Rattle.bor_store_reads.proofs.FoundAgents.{first_with}
 use Rattle.bor_store_reads.proofs.agents.found_agent.Goals as goal
 
@@ -24,5 +25,5 @@ returns-clause-answer g c =
     (λ r x stored is. ap (option_map (λ (a : AgentRow). a.name)) is ∙ first_with token r.members)
     (told agent_row_columns IsFormedAgentRow old new c.agent_by_token.result (λ r. map agent_columns (with_token c.as_str.result.now r.members)) c.agent_by_token.ensures.finds
     (λ r. map agent_row (with_token token r.members)) (λ r. ap (λ t. map agent_columns (with_token t r.members)) c.as_str.ensures.value ∙ sym (map-map agent_row_columns agent_row (with_token token r.members)))
-    (λ r stored. agents_formed (with_token token r.members) (all_left IsFormedMember (λ m. is_same m.token token) r.members stored.formed.members))
+    (λ r stored. agents_formed (with_token token r.members) (All-filter (λ (m : Member). is_same m.token token) IsFormedMember r.members stored.formed.members))
     c.first.result (λ xs x. x ≡ slice_get xs 0) c.first.ensures)

@@ -1,5 +1,6 @@
 use Rattle.std.proofs.Common.{◌≡◌, List, map, ap}
 use Rattle.std.specs.Prelude.{filter}
+use Rattle.std.proofs.lemmas.List.Elements.{All-filter}
 use Rattle.sqlite.specs.Held.{state}
 use Rattle.bor_store_rows.specs.declared.places.At.{At}
 use Rattle.bor_store_rows.specs.declared.rows.Placed.{Placed}
@@ -9,7 +10,6 @@ use Rattle.bor_store_rows.specs.RowForms.{IsFormedPlaced, IsFormedInterestRow}
 use Rattle.bor_store_rows.proofs.Formed.{placed_formed, all_interests_formed}
 use Rattle.bor_store_sql.specs.Selected.{interests_at}
 use Rattle.bor_store_reads.proofs.Found.{told}
-use Rattle.bor_store_reads.proofs.Lists.{all_left}
 use Rattle.bor_store_reads.proofs.declarations.interests_of_one.Goals as goal
 
 pub returns-clause-answer : goal.returns-clause-answer
@@ -19,5 +19,5 @@ returns-clause-answer g c =
     told interest_columns IsFormedInterestRow (state g.S.Store c.args.conn.now) (state g.S.Store c.interests_of_statement.new.conn) c.interests_of_statement.result (λ r. map interest_columns (interests_at (shown c.as_str.result.now) r.members)) c.interests_of_statement.ensures.finds
     (λ r. interests_at at r.members)
     (λ r. ap (λ a. map interest_columns (interests_at (shown a) r.members)) c.as_str.ensures.value)
-    (λ r stored. all_interests_formed (filter (λ p. same_place p.at at) (placed r.members)) (all_left IsFormedPlaced (λ (p : Placed). same_place p.at at) (placed r.members) (placed_formed r stored)))
+    (λ r stored. all_interests_formed (filter (λ p. same_place p.at at) (placed r.members)) (All-filter (λ (p : Placed). same_place p.at at) IsFormedPlaced (placed r.members) (placed_formed r stored)))
     c.all.result (λ xs values. values.items ≡ xs) c.all.ensures

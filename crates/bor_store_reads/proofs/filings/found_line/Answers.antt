@@ -1,6 +1,8 @@
 use Rattle.std.proofs.Common.{◌≡◌, map, option_map, sym, ap₂, ◌∙◌, slice_get}
 use Rattle.std.proofs.lemmas.Simd.{map-map}
+use Rattle.std.proofs.lemmas.List.Elements.{All-filter}
 use Rattle.sqlite.specs.Held.{state}
+use Rattle.bor_register.specs.declared.filing.AcceptedFiling.{AcceptedFiling}
 use Rattle.bor_terms.specs.Texts.{is_same}
 use Rattle.bor_register.specs.Register.{filings_of, filing_keyed}
 use Rattle.bor_register.specs.Forms.{IsFormedFiling}
@@ -9,7 +11,6 @@ use Rattle.bor_store_rows.specs.Encoding.{line_columns}
 use Rattle.bor_store_rows.specs.RowForms.{IsFormedFilingRow}
 use Rattle.bor_store_sql.specs.Selected.{keyed}
 use Rattle.bor_store_reads.proofs.Found.{told, in_words}
-use Rattle.bor_store_reads.proofs.Lists.{all_left}
 use Rattle.bor_store_reads.proofs.FoundFilings.{keyed_first, own_rows_formed}
 use Rattle.bor_store_reads.proofs.filings.found_line.Goals as goal
 
@@ -24,5 +25,5 @@ returns-clause-answer g c =
     (told line_columns IsFormedFilingRow old new c.line_by_key.result (λ r. map (λ f. line_columns (filing_row c.as_str.result.now f)) (keyed c.as_str-2.result.now (filings_of c.as_str.result.now r.members))) c.line_by_key.ensures.finds
     (λ r. map (filing_row agent) (keyed key (filings_of agent r.members)))
     (λ r. ap₂ (λ a k. map (λ f. line_columns (filing_row a f)) (keyed k (filings_of a r.members))) c.as_str.ensures.value c.as_str-2.ensures.value ∙ sym (map-map line_columns (filing_row agent) (keyed key (filings_of agent r.members))))
-    (own_rows_formed agent c.as_str.ensures.form (keyed key) (all_left IsFormedFiling (λ f. is_same f.key key)))
+    (own_rows_formed agent c.as_str.ensures.form (keyed key) (All-filter (λ (f : AcceptedFiling). is_same f.key key) IsFormedFiling))
     c.first.result (λ xs x. x ≡ slice_get xs 0) c.first.ensures)

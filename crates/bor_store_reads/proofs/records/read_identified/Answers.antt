@@ -1,6 +1,7 @@
 use Rattle.std.proofs.Common.{◌≡◌, map, refl}
 use Rattle.std.specs.Prelude.{◌&&◌}
 use Rattle.std.specs.List.{flat_map}
+use Rattle.std.proofs.lemmas.List.Elements.{All-filter}
 use Rattle.sqlite.specs.Held.{state}
 use Rattle.bor_terms.specs.Texts.{is_same}
 use Rattle.bor_store_rows.specs.declared.rows.IdentifierRow.{IdentifierRow}
@@ -10,7 +11,6 @@ use Rattle.bor_store_rows.specs.RowForms.{IsFormedIdentifierRow}
 use Rattle.bor_store_rows.proofs.Formed.{placed_formed, all_identifiers_formed}
 use Rattle.bor_store_sql.specs.Selected.{identified_by}
 use Rattle.bor_store_reads.proofs.Found.{told}
-use Rattle.bor_store_reads.proofs.Lists.{all_left}
 use Rattle.bor_store_reads.proofs.records.read_identified.Goals as goal
 
 pub returns-clause-answer : goal.returns-clause-answer
@@ -20,5 +20,5 @@ returns-clause-answer g c =
     told identifier_columns IsFormedIdentifierRow (state g.S.Store c.args.conn.now) (state g.S.Store c.identifiers_by_id.new.conn) c.identifiers_by_id.result (λ r. map identifier_columns (identified_by scheme id r.members)) c.identifiers_by_id.ensures.finds
     (λ r. identified_by scheme id r.members)
     (λ r. refl)
-    (λ r stored. all_left IsFormedIdentifierRow (λ (i : IdentifierRow). is_same i.identifier.scheme scheme && is_same i.identifier.id id) (flat_map identifier_rows (placed r.members)) (all_identifiers_formed (placed r.members) (placed_formed r stored)))
+    (λ r stored. All-filter (λ (i : IdentifierRow). is_same i.identifier.scheme scheme && is_same i.identifier.id id) IsFormedIdentifierRow (flat_map identifier_rows (placed r.members)) (all_identifiers_formed (placed r.members) (placed_formed r stored)))
     c.all.result (λ xs values. values.items ≡ xs) c.all.ensures

@@ -1,5 +1,7 @@
 use Rattle.std.proofs.Common.{◌≡◌, List, map, option_map, sym, ap, ◌∙◌, slice_get}
 use Rattle.std.proofs.lemmas.Simd.{map-map}
+use Rattle.std.proofs.lemmas.List.Elements.{All-filter}
+use Rattle.std.proofs.lemmas.Option.{slice_get-map}
 use Rattle.sqlite.specs.Held.{state}
 use Rattle.bor_store_rows.specs.declared.rows.Placed.{Placed}
 use Rattle.bor_store_rows.specs.Placed.{bare}
@@ -11,8 +13,6 @@ use Rattle.bor_store_rows.specs.Placed.{placed, same_place}
 use Rattle.bor_store_rows.proofs.Formed.{placed_formed}
 use Rattle.bor_store_sql.specs.Selected.{standing_at}
 use Rattle.bor_store_reads.proofs.Found.{told, in_words}
-use Rattle.bor_store_reads.proofs.Lists.{all_left}
-use Rattle.bor_store_reads.proofs.LastOnes.{first_mapped}
 use Rattle.bor_store_reads.proofs.records.read_place.Goals as goal
 
 pub returns-clause-answer : goal.returns-clause-answer
@@ -22,9 +22,9 @@ returns-clause-answer g c =
     let old = state g.S.Store c.args.conn.now in
     let new = state g.S.Store c.statement_by_place.new.conn in
     in_words old new c.first.result (λ r x. x ≡ slice_get (map bare (standing_at at r.members)) 0) (λ r x. x ≡ option_map bare (slice_get (standing_at at r.members) 0))
-    (λ r x stored is. is ∙ first_mapped bare (standing_at at r.members))
+    (λ r x stored is. is ∙ slice_get-map bare (standing_at at r.members) 0)
     (told statement_columns IsFormedStatementRow old new c.statement_by_place.result (λ r. map (λ p. statement_columns (bare p)) (standing_at (shown c.as_str.result.now) r.members)) c.statement_by_place.ensures.finds
     (λ r. map bare (standing_at at r.members))
     (λ r. ap (λ a. map (λ p. statement_columns (bare p)) (standing_at (shown a) r.members)) c.as_str.ensures.value ∙ sym (map-map statement_columns bare (standing_at at r.members)))
-    (λ r stored. all_bare_formed (standing_at at r.members) (all_left IsFormedPlaced (λ (p : Placed). same_place p.at at) (placed r.members) (placed_formed r stored)))
+    (λ r stored. all_bare_formed (standing_at at r.members) (All-filter (λ (p : Placed). same_place p.at at) IsFormedPlaced (placed r.members) (placed_formed r stored)))
     c.first.result (λ xs x. x ≡ slice_get xs 0) c.first.ensures)

@@ -1,5 +1,6 @@
 use Rattle.std.proofs.Common.{◌≡◌, map, sym}
 use Rattle.std.proofs.lemmas.Simd.{map-map}
+use Rattle.std.proofs.lemmas.List.Elements.{All-filter}
 use Rattle.sqlite.specs.Held.{state}
 use Rattle.bor_store_rows.specs.declared.rows.Placed.{Placed}
 use Rattle.bor_store_rows.specs.Placed.{bare}
@@ -9,7 +10,6 @@ use Rattle.bor_store_rows.proofs.Formed.{all_bare_formed}
 use Rattle.bor_terms.specs.Texts.{is_same}
 use Rattle.bor_store_sql.specs.Selected.{in_record, placed_of}
 use Rattle.bor_store_reads.proofs.Found.{told}
-use Rattle.bor_store_reads.proofs.Lists.{all_left}
 use Rattle.bor_store_reads.proofs.FoundStatements.{own_formed}
 use Rattle.bor_store_reads.proofs.records.read_record.Goals as goal
 
@@ -20,5 +20,5 @@ returns-clause-answer g c =
     told statement_columns IsFormedStatementRow (state g.S.Store c.args.conn.now) (state g.S.Store c.statements_of_record.new.conn) c.statements_of_record.result (λ r. map (λ p. statement_columns (bare p)) (in_record rec_is (placed_of agent r))) c.statements_of_record.ensures.finds
     (λ r. map bare (in_record rec_is (placed_of agent r)))
     (λ r. sym (map-map statement_columns bare (in_record rec_is (placed_of agent r))))
-    (λ r stored. all_bare_formed (in_record rec_is (placed_of agent r)) (all_left IsFormedPlaced (λ (p : Placed). is_same p.statement.rec rec_is) (placed_of agent r) (own_formed agent r stored)))
+    (λ r stored. all_bare_formed (in_record rec_is (placed_of agent r)) (All-filter (λ (p : Placed). is_same p.statement.rec rec_is) IsFormedPlaced (placed_of agent r) (own_formed agent r stored)))
     c.all.result (λ xs values. values.items ≡ xs) c.all.ensures

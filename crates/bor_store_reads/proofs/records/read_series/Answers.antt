@@ -1,5 +1,6 @@
 use Rattle.std.proofs.Common.{◌≡◌, List, map, sym, ap, ap₂, ◌∙◌}
 use Rattle.std.proofs.lemmas.Simd.{map-map}
+use Rattle.std.proofs.lemmas.List.Elements.{All-filter}
 use Rattle.sqlite.specs.Held.{state}
 use Rattle.bor_store_rows.specs.declared.rows.Placed.{Placed}
 use Rattle.bor_store_rows.specs.Placed.{bare}
@@ -10,7 +11,6 @@ use Rattle.bor_records.specs.Admission.{is_of}
 use Rattle.bor_register.specs.Register.{Register}
 use Rattle.bor_store_sql.specs.Selected.{in_series, placed_of}
 use Rattle.bor_store_reads.proofs.Found.{told}
-use Rattle.bor_store_reads.proofs.Lists.{all_left}
 use Rattle.bor_store_reads.proofs.FoundStatements.{own_formed}
 use Rattle.bor_store_reads.proofs.records.read_series.Goals as goal
 
@@ -25,5 +25,5 @@ returns-clause-answer g c =
     (λ r. ap (λ a. map (λ p. statement_columns (bare p)) (in_series c.as_str-2.result.now c.as_str-3.result.now (placed_of a r))) c.as_str.ensures.value
     ∙ ap₂ (λ d i. map (λ p. statement_columns (bare p)) (in_series d i (placed_of agent r))) c.as_str-2.ensures.value c.as_str-3.ensures.value
     ∙ sym (map-map statement_columns bare (series r)))
-    (λ r stored. all_bare_formed (series r) (all_left IsFormedPlaced (λ (p : Placed). is_of declaration rec_is p.statement) (placed_of agent r) (own_formed agent r stored)))
+    (λ r stored. all_bare_formed (series r) (All-filter (λ (p : Placed). is_of declaration rec_is p.statement) IsFormedPlaced (placed_of agent r) (own_formed agent r stored)))
     c.all.result (λ xs values. values.items ≡ xs) c.all.ensures

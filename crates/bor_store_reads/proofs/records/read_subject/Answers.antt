@@ -1,6 +1,7 @@
 use Rattle.std.proofs.Common.{◌≡◌, List, map, sym, ap, ap₂, ◌∙◌}
 use Rattle.std.specs.Prelude.{◌&&◌}
 use Rattle.std.proofs.lemmas.Simd.{map-map}
+use Rattle.std.proofs.lemmas.List.Elements.{All-filter}
 use Rattle.sqlite.specs.Held.{state}
 use Rattle.bor_store_rows.specs.declared.rows.Placed.{Placed}
 use Rattle.bor_store_rows.specs.Placed.{bare}
@@ -11,7 +12,6 @@ use Rattle.bor_terms.specs.Texts.{is_same}
 use Rattle.bor_register.specs.Register.{Register}
 use Rattle.bor_store_sql.specs.Selected.{names_subject, with_subject, placed_of}
 use Rattle.bor_store_reads.proofs.Found.{told}
-use Rattle.bor_store_reads.proofs.Lists.{all_left}
 use Rattle.bor_store_reads.proofs.FoundStatements.{own_formed}
 use Rattle.bor_store_reads.proofs.records.read_subject.Goals as goal
 
@@ -26,5 +26,5 @@ returns-clause-answer g c =
     (λ r. ap (λ a. map (λ p. statement_columns (bare p)) (with_subject c.as_str-2.result.now c.as_str-3.result.now (placed_of a r))) c.as_str.ensures.value
     ∙ ap₂ (λ d i. map (λ p. statement_columns (bare p)) (with_subject d i (placed_of agent r))) c.as_str-2.ensures.value c.as_str-3.ensures.value
     ∙ sym (map-map statement_columns bare (named r)))
-    (λ r stored. all_bare_formed (named r) (all_left IsFormedPlaced (λ (p : Placed). is_same p.statement.declaration declaration && names_subject rec_is p.statement.details) (placed_of agent r) (own_formed agent r stored)))
+    (λ r stored. all_bare_formed (named r) (All-filter (λ (p : Placed). is_same p.statement.declaration declaration && names_subject rec_is p.statement.details) IsFormedPlaced (placed_of agent r) (own_formed agent r stored)))
     c.all.result (λ xs values. values.items ≡ xs) c.all.ensures

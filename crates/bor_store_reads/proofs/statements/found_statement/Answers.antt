@@ -1,6 +1,7 @@
 use Rattle.std.proofs.Common.{◌≡◌, List, map, None, option_map, sym, ap, ap₂, ◌∙◌, slice_get}
 use Rattle.std.specs.List.{last_or}
 use Rattle.std.proofs.lemmas.Simd.{map-map}
+use Rattle.std.proofs.lemmas.List.Elements.{All-filter}
 use Rattle.sqlite.specs.Held.{state}
 use Rattle.bor_records.specs.Admission.{is_of}
 use Rattle.bor_register.specs.Register.{Register}
@@ -11,7 +12,7 @@ use Rattle.bor_store_rows.specs.RowForms.{IsFormedPlaced, IsFormedStatementRow}
 use Rattle.bor_store_rows.proofs.Formed.{all_bare_formed}
 use Rattle.bor_store_sql.specs.Selected.{in_series, last, placed_of}
 use Rattle.bor_store_reads.proofs.Found.{told, in_words}
-use Rattle.bor_store_reads.proofs.Lists.{all_left, all_taken}
+use Rattle.bor_store_reads.proofs.Lists.{all_taken}
 use Rattle.bor_store_reads.proofs.LastOnes.{last_found}
 use Rattle.bor_store_reads.proofs.FoundStatements.{own_formed}
 use Rattle.bor_store_reads.proofs.statements.found_statement.Goals as goal
@@ -31,5 +32,5 @@ returns-clause-answer g c =
     (λ r. ap (λ a. map (λ p. statement_columns (bare p)) (last (in_series c.as_str-2.result.now c.as_str-3.result.now (placed_of a r)))) c.as_str.ensures.value
     ∙ ap₂ (λ d i. map (λ p. statement_columns (bare p)) (last (in_series d i (placed_of agent r)))) c.as_str-2.ensures.value c.as_str-3.ensures.value
     ∙ sym (map-map statement_columns bare (last (series r))))
-    (λ r stored. all_bare_formed (last (series r)) (all_taken IsFormedPlaced (series r) (all_left IsFormedPlaced (λ (p : Placed). is_of declaration rec_is p.statement) (placed_of agent r) (own_formed agent r stored))))
+    (λ r stored. all_bare_formed (last (series r)) (all_taken IsFormedPlaced (series r) (All-filter (λ (p : Placed). is_of declaration rec_is p.statement) IsFormedPlaced (placed_of agent r) (own_formed agent r stored))))
     c.first.result (λ xs x. x ≡ slice_get xs 0) c.first.ensures)
