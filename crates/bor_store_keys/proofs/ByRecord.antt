@@ -1,6 +1,8 @@
 -- Nodes, links and aliases of some rows, read record by record.
 use Rattle.std.proofs.Common.{◌≡◌, ◌+◌, ◌<◌, ◌≤◌, ◌&&◌, ℕ, ℤ, Bool, true, false, cond, Option, Some, None, option_and_then, List, [], take, length, get_or, Contains, sym, refl, ap, ◌∙◌, subst, inl, inr}
 use Rattle.std.specs.List.{filter_map, IsDistinct}
+use Rattle.std.proofs.lemmas.Bool.{and_from}
+use Rattle.std.proofs.lemmas.Option.{same_Some}
 use Rattle.bor_terms.specs.Texts.{is_same}
 use Rattle.bor_terms.proofs.Texts.{is_same-of}
 use Rattle.bods_read.specs.declared.details.Details.{Details}
@@ -34,14 +36,6 @@ record IsFrom (nodes : List OpenNode) (r : Row) (l : Link) : Type 0 where
   into : is_into l.subject r.agent r.statement ≡ true
   entity : is_entity_info (info_in nodes l.subject) ≡ true
 
-both : (a b : Bool) → a ≡ true → b ≡ true → (a && b) ≡ true
-both true true e f = refl
-both true false e f = f
-both false b e f = e
-
-some_link : (x y : Link) → Some x ≡ Some y → x ≡ y
-some_link x y h = cc
-
 from_between : (nodes : List OpenNode) (r : Row) (party subject : List ℕ) (interests : List Interest) (l : Link) → names subject r.statement.details ≡ true → link_between nodes (beside r party) (beside r subject) interests ≡ Some l → IsFrom nodes r l
 from_between nodes r party subject interests l named h = at (is_entity_info (info_in nodes (beside r subject))) refl (is_some_info (info_in nodes (beside r party))) h
   where
@@ -50,13 +44,13 @@ from_between nodes r party subject interests l named h = at (is_entity_info (inf
         let is : beside r subject ≡ l.subject = sym s ∙ ap (λ (z : Link). z.subject) same in
         subst (λ (z : Link). IsFrom nodes r z) same (record {
           into = subst (λ (n : Node). is_into n r.agent r.statement ≡ true) (sym s)
-              (both (is_same r.agent r.agent) (is_same r.statement.declaration r.statement.declaration && names subject r.statement.details) (is_same-of r.agent r.agent refl)
-              (both (is_same r.statement.declaration r.statement.declaration) (names subject r.statement.details) (is_same-of r.statement.declaration r.statement.declaration refl) named));
+              (and_from (is_same r.agent r.agent) (is_same r.statement.declaration r.statement.declaration && names subject r.statement.details) (is_same-of r.agent r.agent refl)
+              (and_from (is_same r.statement.declaration r.statement.declaration) (names subject r.statement.details) (is_same-of r.statement.declaration r.statement.declaration refl) named));
           entity = subst (λ (n : Node). is_entity_info (info_in nodes n) ≡ true) (sym s) e;
         })
 
     at : (a : Bool) → is_entity_info (info_in nodes (beside r subject)) ≡ a → (b : Bool) → cond (a && b) (Some (record { party = beside r party; subject = beside r subject; stake = is_stake interests; holding = is_holding interests })) None ≡ Some l → IsFrom nodes r l
-    at true e true k = told _ refl e (some_link _ l k)
+    at true e true k = told _ refl e (same_Some _ l k)
     at true e false k = let no : None ≡ Some l = k in absurd cc
     at false e b k = let no : None ≡ Some l = k in absurd cc
 
@@ -75,7 +69,7 @@ only n None l h = let no : None ≡ Some l = h in absurd cc
 only n (Some k) l h = at (same_node k.subject n) refl h
   where
     at : (b : Bool) → same_node k.subject n ≡ b → cond b (Some k) None ≡ Some l → (Some k ≡ Some l) × (l.subject ≡ n)
-    at true e j = (j, subst (λ (z : Link). z.subject ≡ n) (some_link k l j) (same_node_is k.subject n e))
+    at true e j = (j, subst (λ (z : Link). z.subject ≡ n) (same_Some k l j) (same_node_is k.subject n e))
     at false e j = let no : None ≡ Some l = j in absurd cc
 
 only_made : (n : Node) (l : Link) → l.subject ≡ n → only_into n (Some l) ≡ Some l
@@ -117,7 +111,7 @@ link_is nodes n party subject interests stake holding same entity known s h = sy
     l = record { party = party; subject = subject; stake = is_stake interests; holding = is_holding interests }
 
     made : link_between nodes party subject interests ≡ Some l
-    made = ap (λ (b : Bool). cond b (Some l) None) (both (is_entity_info (info_in nodes subject)) (is_some_info (info_in nodes party)) (ap (λ (m : Node). is_entity_info (info_in nodes m)) (same_node_is subject n same) ∙ entity) known)
+    made = ap (λ (b : Bool). cond b (Some l) None) (and_from (is_entity_info (info_in nodes subject)) (is_some_info (info_in nodes party)) (ap (λ (m : Node). is_entity_info (info_in nodes m)) (same_node_is subject n same) ∙ entity) known)
 
     is : l ≡ record { party = party; subject = subject; stake = stake; holding = holding }
     is =

@@ -3,6 +3,7 @@ use Rattle.std.proofs.Common.{◌≡◌, ◌⊎◌, ◌+◌, ◌<◌, ◌++◌, 
 use Rattle.std.specs.List.{IsDistinct}
 use Rattle.std.specs.Ordering.{is_eq}
 use Rattle.std.proofs.lemmas.Bool.{and_parts}
+use Rattle.std.proofs.lemmas.Option.{same_Some}
 use Rattle.std.proofs.lemmas.List.{take-append-le}
 use Rattle.std.proofs.lemmas.List.Elements.{Contains-get_or, Contains-append_left, Contains-append_right, Contains-append_cases}
 use Rattle.std.proofs.lemmas.Map.Views.{tells_apart}
@@ -28,32 +29,26 @@ use Rattle.bor_links.specs.Shown.{Shown, listed_at, is_entity, is_like, are_alik
 use Rattle.bor_links.specs.Signs.{by_identifier, by_record, sign_cmp, signs}
 use Rattle.bor_links.proofs.ByKey.{alias_by_key, listed_by_key, open_at_in, open_row_at, open_row_is}
 use Rattle.bor_links.proofs.Exact.{exact_sign}
-use Rattle.bor_links.proofs.Found.{none, here, cases, Contains-from_filter_map}
+use Rattle.bor_links.proofs.Found.{none, here, Contains-from_filter_map}
 use Rattle.bor_links.proofs.Growth.{grown_cases, Contains-take_more}
 use Rattle.bor_links.proofs.Listed.{found_is}
 use Rattle.bor_links.proofs.Reached.{AreGathered}
 use Rattle.bor_links.proofs.Sames.{same_more}
 use Rattle.bor_links.proofs.Signs.{in_common}
 use Rattle.bor_chains.specs.Classes.{HasSign}
-use Rattle.bor_chains.proofs.Classes.{common_alike}
+use Rattle.bor_chains.proofs.Classes.{common_alike, one_of}
 use Rattle.bor_chains.proofs.Signs.{identifiers_more}
 use Rattle.bor_store_keys.specs.Candidates.{IsAlikeIn}
 use Rattle.bor_store_keys.specs.Alike.{Expands, Follows}
 use Rattle.bor_store_keys.specs.Signed.{CoverSign}
-
-one_of : {X : Type 0} (x y : X) → Contains (x ∷ []) y → x ≡ y
-one_of x y h = elim (cases x [] y h) [ inl e ↦ e | inr k ↦ absurd (none y k) ]
-
-same_open : (x y : OpenNode) → Some x ≡ Some y → x ≡ y
-same_open x y h = cc
 
 -- the node that a row makes is its record
 node_of : (row : Row) (x : OpenNode) → node_in row ≡ Some x → x.node ≡ series_of row
 node_of row x e = go row.statement.details e
   where
     go : (d : Details) → node_with (series_of row) d ≡ Some x → x.node ≡ series_of row
-    go (details.Entity kind name identifiers) h = sym (ap (λ (y : OpenNode). y.node) (same_open _ x h))
-    go (details.Person kind name) h = sym (ap (λ (y : OpenNode). y.node) (same_open _ x h))
+    go (details.Entity kind name identifiers) h = sym (ap (λ (y : OpenNode). y.node) (same_Some _ x h))
+    go (details.Person kind name) h = sym (ap (λ (y : OpenNode). y.node) (same_Some _ x h))
     go (details.Relationship subject party interests) h = let no : None ≡ Some x = h in absurd cc
 
 -- an open node is made by a row of its series
@@ -167,7 +162,7 @@ module _ (day : ℤ) (rows : List Row) (node : Node) where
 
   pub follows_person : (nodes : List Node) (seen : Sign → Bool) (one : OpenNode) → Some one ≡ node_at day node rows → is_entity one.info ≡ false → Follows (shown_of day rows) node nodes nodes seen seen
   follows_person nodes seen one is person = follows_none nodes seen
-      (λ x at entity. let no : false ≡ true = sym person ∙ ap (λ (y : OpenNode). is_entity y.info) (same_open one x (is ∙ at)) ∙ entity in cc)
+      (λ x at entity. let no : false ≡ true = sym person ∙ ap (λ (y : OpenNode). is_entity y.info) (same_Some one x (is ∙ at)) ∙ entity in cc)
 
   module _ (one : OpenNode) (is : Some one ≡ node_at day node rows) (old new : List Node) (was now : Sign → Bool) (x : Expands day rows one (signs one) old new was now) where
     alias_of : (n : Node) → is_like one (node_at day n rows) ≡ true → Alias (shown_of day rows) node n
@@ -190,7 +185,7 @@ module _ (day : ℤ) (rows : List Row) (node : Node) where
       begins = x.begins;
       each = λ n h. alias_of n (x.alike n h);
       stays = x.stays;
-      looked = λ y k at has. x.looked k (subst (λ (z : OpenNode). Contains (signs z) k) (sym (same_open one y (is ∙ sym (listed_by_key day node rows) ∙ at))) has.1);
+      looked = λ y k at has. x.looked k (subst (λ (z : OpenNode). Contains (signs z) k) (sym (same_Some one y (is ∙ sym (listed_by_key day node rows) ∙ at))) has.1);
       fresh = λ k h. elim (x.fresh k h) [ inl before ↦ inl before | inr own ↦ inr (found entity k own.0 own.1) ];
     }
 
@@ -218,7 +213,7 @@ self_unlike x =
 
 no_alias_of_itself : (s : Shown) (a : Node) → Alias s a a → ⊥
 no_alias_of_itself s a h =
-    let one : h.one ≡ h.two = same_open h.one h.two (sym h.one_is ∙ h.two_is) in
+    let one : h.one ≡ h.two = same_Some h.one h.two (sym h.one_is ∙ h.two_is) in
     let no : true ≡ false = sym h.alike ∙ ap (λ (x : OpenNode). are_alike x h.two) one ∙ self_unlike h.two in cc
 
 -- two aliases are entities with a sign in common

@@ -4,6 +4,7 @@ use Rattle.std.specs.declared.cmp.Ordering.{Ordering}
 use Rattle.std.specs.declared.cmp.Ordering.TheVariants.{Less, Equal, Greater}
 use Rattle.std.specs.Ordering.{is_eq, nat_cmp, ordering_then}
 use Rattle.std.proofs.lemmas.Map.Lookups.{CmpEqualImpliesEq, exact_bytes, exact_pairs, exact_unsigned}
+use Rattle.std.proofs.lemmas.Option.{same_Some}
 use Rattle.sqlite.specs.State.{State}
 use Rattle.bor_links.specs.Nodes.{text_cmp}
 use Rattle.bor_store_sql.specs.Shown.{IsClean}
@@ -38,16 +39,13 @@ is_equal Less h = absurd (cc)
 is_equal Equal h = refl
 is_equal Greater h = absurd (cc)
 
-pub some_one : {X : Type 0} (x y : X) → Some x ≡ Some y → x ≡ y
-some_one x y h = cc
-
 -- what holds of each value holds with one more
 pub one_more : {K X : Type 0} (cmp : K → K → Ordering) → CmpEqualImpliesEq cmp → (P : K → X → Type 0) (was now : K → Option X) (key : K) (value : X)
     → ((q : K) → now q ≡ cond (is_eq (cmp key q)) (Some value) (was q)) → P key value → ((q : K) (x : X) → was q ≡ Some x → P q x) → (q : K) (x : X) → now q ≡ Some x → P q x
 one_more {K} {X} cmp exact P was now key value puts is before q x h = at (is_eq (cmp key q)) refl (sym (puts q) ∙ h)
   where
     at : (b : Bool) → is_eq (cmp key q) ≡ b → cond b (Some value) (was q) ≡ Some x → P q x
-    at true e k = let same : key ≡ q = exact key q (is_equal (cmp key q) e) in rw (← same, ← some_one value x k) is
+    at true e k = let same : key ≡ q = exact key q (is_equal (cmp key q) e) in rw (← same, ← same_Some value x k) is
     at false e k = before q x k
 
 -- ---- keys of filings and of places

@@ -1,10 +1,12 @@
 -- The statement that a record shows on a day, from the rows of its series.
 use Rattle.std.proofs.Common.{◌≡◌, List, [], ◌∷◌, ◌++◌, map, Bool, true, false, cond, Option, Some, None, option_map, option_and_then, refl, sym, ap, ◌∙◌}
 use Rattle.std.specs.Prelude.{◌&&◌, filter, int_le, if◌then◌else◌}
+use Rattle.std.specs.Option.{option_or}
 use Rattle.std.specs.List.{last_or}
 use Rattle.std.proofs.lemmas.List.Elements.{filter-append}
 use Rattle.sqlite_keyed.proofs.ListLemmas.{filter-map}
 use Rattle.bor_records.specs.declared.row.Row.{Row}
+use Rattle.bor_records.proofs.Lists.{last_or-append}
 use Rattle.bor_records.specs.Admission.{is_closed, status_of}
 use Rattle.bor_records.specs.Snapshot.{is_dated, latest, unless_closed as row_unless_closed}
 use Rattle.bor_links.specs.declared.node.Node.{Node}
@@ -17,7 +19,9 @@ use Rattle.bor_store_rows.specs.Placed.{bare}
 use Rattle.bor_store_rows.specs.Seen.{is_seen, row_placed}
 use Rattle.bor_store_rows.specs.Stored.{IsStored}
 use Rattle.bor_store_sql.specs.Selected.{in_series, placed_of}
-use Rattle.bor_store_reads.proofs.LastOnes.{or_else, last_or-append, last_or-map}
+use Rattle.bor_store_rows.proofs.BySeries.{last_map}
+use Rattle.bor_store_rows.proofs.SeenPlaced.{filters_swap}
+use Rattle.bor_store_sql.proofs.Picking.{filter_both}
 use Rattle.bor_store_keys.specs.declared.view.View.{View}
 use Rattle.bor_store_keys.specs.Latest.{bare_row, is_told, unless_closed}
 use Rattle.bor_store_keys.specs.Viewed.{rows_seen}
@@ -28,24 +32,17 @@ use Rattle.bor_store_keys.proofs.SeriesSeen.{series_seen, Stands, stands}
 -- its last element passes
 pub last_passes : {X : Type 0} (p : X → Bool) (whole xs : List X) (x : X) → whole ≡ xs ++ x ∷ [] → p x ≡ true → Some x ≡ last_or None (filter p whole)
 last_passes p whole xs x is e =
-    sym (ap (λ l. last_or None (filter p l)) is ∙ ap (last_or None) (filter-append p xs (x ∷ [])) ∙ last_or-append (filter p xs) (filter p (x ∷ [])) ∙ ap (λ b. or_else (last_or None (cond b (x ∷ []) [])) (last_or None (filter p xs))) e)
+    sym (ap (λ l. last_or None (filter p l)) is ∙ ap (last_or None) (filter-append p xs (x ∷ [])) ∙ last_or-append None (filter p xs) (filter p (x ∷ [])) ∙ ap (λ b. option_or (last_or None (cond b (x ∷ []) [])) (last_or None (filter p xs))) e)
 
 -- it doesn't
 pub last_before : {X : Type 0} (p : X → Bool) (whole xs : List X) (x : X) → whole ≡ xs ++ x ∷ [] → p x ≡ false → last_or None (filter p whole) ≡ last_or None (filter p xs)
 last_before p whole xs x is e =
-    ap (λ l. last_or None (filter p l)) is ∙ ap (last_or None) (filter-append p xs (x ∷ [])) ∙ last_or-append (filter p xs) (filter p (x ∷ [])) ∙ ap (λ b. or_else (last_or None (cond b (x ∷ []) [])) (last_or None (filter p xs))) e
+    ap (λ l. last_or None (filter p l)) is ∙ ap (last_or None) (filter-append p xs (x ∷ [])) ∙ last_or-append None (filter p xs) (filter p (x ∷ [])) ∙ ap (λ b. option_or (last_or None (cond b (x ∷ []) [])) (last_or None (filter p xs))) e
 
 -- ---- the latest one
 
 filter_and : {X : Type 0} (p q : X → Bool) (xs : List X) → filter (λ x. p x && q x) xs ≡ filter p (filter q xs)
-filter_and p q [] = refl
-filter_and p q (x ∷ xs) = go (p x) (q x) refl refl (filter_and p q xs)
-  where
-    go : (a b : Bool) → p x ≡ a → q x ≡ b → filter (λ x. p x && q x) xs ≡ filter p (filter q xs) → filter (λ x. p x && q x) (x ∷ xs) ≡ filter p (filter q (x ∷ xs))
-    go true true e f more = rw (e, f, e) (ap (λ l. x ∷ l) more)
-    go true false e f more = rw (e, f) more
-    go false true e f more = rw (e, f, e) more
-    go false false e f more = rw (e, f) more
+filter_and p q xs = filter_both p q xs ∙ filters_swap q p xs
 
 module _ (view : View) (n : Node) (r : Register) (stored : IsStored r) where
   -- the last statement of the series that is seen and dated
@@ -58,7 +55,7 @@ module _ (view : View) (n : Node) (r : Register) (stored : IsStored r) where
       let ps : List Placed = filter (is_seen view.viewer view.today n.agent (filings_of n.agent r.members)) (in_series n.declaration n.rec (placed_of n.agent r)) in
       ap (latest view.day) (series_seen view.viewer view.today n r.members stored.ordered stored.numbered)
       ∙ ap (last_or None) (filter-map (is_dated view.day) row_placed ps)
-      ∙ last_or-map row_placed (filter (λ p. int_le p.statement.day view.day) ps)
+      ∙ last_map row_placed None (filter (λ p. int_le p.statement.day view.day) ps)
 
   told_is : last_or None (filter (is_told view n.agent (filings_of n.agent r.members)) (map bare (in_series n.declaration n.rec (placed_of n.agent r)))) ≡ option_map bare last_one
   unfolding last_one
@@ -66,7 +63,7 @@ module _ (view : View) (n : Node) (r : Register) (stored : IsStored r) where
       let told : StatementRow → Bool = is_told view n.agent (filings_of n.agent r.members) in
       let ps : List Placed = in_series n.declaration n.rec (placed_of n.agent r) in
       ap (last_or None) (filter-map told bare ps)
-      ∙ last_or-map bare (filter (λ p. told (bare p)) ps)
+      ∙ last_map bare None (filter (λ p. told (bare p)) ps)
       ∙ ap (λ l. option_map bare (last_or None l)) (filter_and (λ (p : Placed). int_le p.statement.day view.day) (is_seen view.viewer view.today n.agent (filings_of n.agent r.members)) ps)
 
   closed_alike : (o : Option Placed) → option_and_then unless_closed (option_map bare o) ≡ option_map bare_row (option_and_then row_unless_closed (option_map row_placed o))

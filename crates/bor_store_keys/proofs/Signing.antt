@@ -2,6 +2,7 @@
 use Rattle.std.proofs.Common.{◌≡◌, ◌↔◌, ◌+◌, ◌&&◌, ℕ, Bool, true, Option, Some, None, option_map, List, [], ◌∷◌, Contains, map, slice_get, refl, sym, ap, ap₂, ◌∙◌, subst, inl, inr}
 use Rattle.std.specs.Prelude.{if◌then◌else◌}
 use Rattle.std.specs.List.{filter_map, flat_map, list_any}
+use Rattle.std.proofs.lemmas.Option.{same_Some}
 use Rattle.std.proofs.lemmas.List.Elements.{All-contains, All-contains_itself, Contains-append_left, Contains-append_right}
 use Rattle.bor_terms.specs.Texts.{is_same}
 use Rattle.bor_terms.proofs.Texts.{is_same-of}
@@ -38,13 +39,10 @@ use Rattle.bor_store_keys.proofs.SeriesSeen.{Stands, stands}
 
 -- ---- records by an identifier
 
-some_row : (x y : StatementRow) → Some x ≡ Some y → x ≡ y
-some_row x y h = cc
-
 -- the record of a statement, by its row
 pub standing_found : (o : Option Placed) (row : StatementRow) → Some row ≡ option_map bare o → Some (record_at row) ≡ option_map record_of o
 standing_found None row e = let no : Some row ≡ None = e in absurd cc
-standing_found (Some p) row e = ap (λ (x : StatementRow). Some (record_at x)) (some_row row (bare p) e)
+standing_found (Some p) row e = ap (λ (x : StatementRow). Some (record_at x)) (same_Some row (bare p) e)
 
 pub standing_none : (o : Option Placed) → None ≡ option_map bare o → None ≡ option_map record_of o
 standing_none None e = refl
@@ -82,16 +80,13 @@ identified_cover r stored scheme id rows made nodes is made_is same p h =
 
 -- ---- what has a sign is found by it
 
-same_open : (x y : OpenNode) → Some x ≡ Some y → x ≡ y
-same_open x y h = cc
-
 -- the node of a statement, and its identifiers
 node_parts : (p : Placed) (x : OpenNode) → node_in (row_placed p) ≡ Some x → (record_of p ≡ x.node) × (identifiers_of p.statement.details ≡ x.identifiers)
 node_parts p x e = go p.statement.details e
   where
     go : (d : Details) → node_in (row_placed (record p { statement = record p.statement { details = d } })) ≡ Some x → (record_of p ≡ x.node) × (identifiers_of d ≡ x.identifiers)
-    go (details.Entity kind name identifiers) h = let q = same_open _ x h in (ap (λ (y : OpenNode). y.node) q, ap (λ (y : OpenNode). y.identifiers) q)
-    go (details.Person kind name) h = let q = same_open _ x h in (ap (λ (y : OpenNode). y.node) q, ap (λ (y : OpenNode). y.identifiers) q)
+    go (details.Entity kind name identifiers) h = let q = same_Some _ x h in (ap (λ (y : OpenNode). y.node) q, ap (λ (y : OpenNode). y.identifiers) q)
+    go (details.Person kind name) h = let q = same_Some _ x h in (ap (λ (y : OpenNode). y.node) q, ap (λ (y : OpenNode). y.identifiers) q)
     go (details.Relationship subject party interests) h = let no : None ≡ Some x = h in absurd cc
 
 kind_of : (j k : Sign) → j ≡ k → j.of_record ≡ k.of_record

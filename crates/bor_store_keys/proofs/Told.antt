@@ -1,6 +1,7 @@
 -- The row that an open record shows.
 use Rattle.std.proofs.Common.{◌≡◌, map, append-nil, Option, Some, None, option_map, refl, sym, ap, ap₂, ◌∙◌}
 use Rattle.std.specs.List.{flat_map}
+use Rattle.std.proofs.lemmas.Option.{same_Some}
 use Rattle.bor_records.specs.declared.row.Row.{Row}
 use Rattle.bor_links.specs.declared.node.Node.{Node}
 use Rattle.bor_links.specs.Series.{open_at}
@@ -27,9 +28,6 @@ listed_placed r p alone =
     (ap (flat_map interest_rows) alone ∙ append-nil (interest_rows p)) (ap (flat_map identifier_rows) alone ∙ append-nil (identifier_rows p))
     ∙ ap row_placed (back p)
 
-some_row : (x y : StatementRow) → Some x ≡ Some y → x ≡ y
-some_row x y h = cc
-
 module _ (view : View) (n : Node) (r : Register) (stored : IsStored r) where
   abbrev now : Option Row
   now = open_at view.day n (rows_seen view r)
@@ -37,7 +35,7 @@ module _ (view : View) (n : Node) (r : Register) (stored : IsStored r) where
   -- the row whose statement was found
   found_row : (o : Option Row) (row : StatementRow) → Some row ≡ option_map bare_row o → (full : Row) × (o ≡ Some full) × (row ≡ bare_row full)
   found_row None row e = let no : Some row ≡ None = e in absurd cc
-  found_row (Some full) row e = (full, refl, some_row row (bare_row full) e)
+  found_row (Some full) row e = (full, refl, same_Some row (bare_row full) e)
 
   module _ (row : StatementRow) (is : Some row ≡ option_map bare_row now) where
     found_placed : (p : Placed) × (row ≡ bare p) × (now ≡ Some (row_placed p)) × IsAlone (placed r.members) p

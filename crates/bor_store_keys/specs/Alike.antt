@@ -1,4 +1,4 @@
--- Nodes that stand for one entity, while they are looked for sign by sign.
+-- Nodes that stand for one entity, while they are looked for sign by sign; for clauses of private functions alone.
 use Rattle.std.specs.Prelude.{◌≡◌, ◌⊎◌, ◌++◌, ℤ, true, Bool, List, Contains, Some}
 use Rattle.bor_records.specs.declared.row.Row.{Row}
 use Rattle.bor_links.specs.declared.node.Node.{Node}

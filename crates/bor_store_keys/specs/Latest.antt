@@ -1,4 +1,4 @@
--- The statement that a record shows on a day, by its row in the table statement.
+-- The statement that a record shows on a day, by its row in the table statement; for clauses of private functions alone.
 use Rattle.std.specs.Prelude.{ℕ, int_le, List, map, Bool, Option, Some, None, unwrap_or, if◌then◌else◌, ◌&&◌, ◌==◌}
 use Rattle.std.specs.List.{list_any}
 use Rattle.bods_read.specs.declared.statement.Status.TheVariants.{New}

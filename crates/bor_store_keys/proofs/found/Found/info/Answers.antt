@@ -1,6 +1,6 @@
 use Rattle.std.proofs.Common.{◌∙◌, Some, sym, ap}
 use Rattle.std.specs.Option.{option_copied}
-use Rattle.bor_store_keys.proofs.Holding.{some_one}
+use Rattle.std.proofs.lemmas.Option.{same_Some}
 use Rattle.bor_store_keys.proofs.Infos.{info_open}
 use Rattle.bor_store_keys.specs.Viewed.{rows_seen}
 use Rattle.bor_store_keys.proofs.found.Found.info.Goals as goal
@@ -9,5 +9,5 @@ pub returns-in_ok-info_stated-in-Some-Some : goal.returns-in_ok-info_stated-in-S
 returns-in_ok-info_stated-in-Some-Some c = λ r info of is.
     let view = c.args.self.now.view in
     let n = c.args.node.now in
-    sym (some_one _ _ is) ∙ c.in_ok-info_stated-in-Some-Some.ensures
+    sym (same_Some _ _ is) ∙ c.in_ok-info_stated-in-Some-Some.ensures
     ∙ info_open view.day n (rows_seen view r) _ (of.rows n _ (sym c.get.ensures.value ∙ ap option_copied c.in-Some-Some.is ∙ ap Some c.in-Some-Some.field-0-is))
