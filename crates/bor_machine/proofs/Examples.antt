@@ -12,7 +12,7 @@ use Rattle.bor_records.specs.declared.fault.RecordFault.TheVariants.{RecordExist
 use Rattle.bor_register.specs.declared.filing.AcceptedFiling.{AcceptedFiling}
 use Rattle.bor_register.specs.declared.filing.State.{State}
 use Rattle.bor_register.specs.declared.filing.State.TheVariants as states
-use Rattle.bor_register.specs.Register.{Register, new_member, with_member, with_filings}
+use Rattle.bor_register.specs.Register.{Register, with_filings}
 use Rattle.bor_register.proofs.Examples.{two_agents, today, tomorrow}
 use Rattle.bor_register.specs.Live.{accepted}
 use Rattle.bor_register.specs.Publication.{published, outward}

@@ -13,10 +13,10 @@ use Rattle.bods_read.specs.Forms.{IsFormedStatement}
 use Rattle.bor_records.specs.Admission.{Live}
 use Rattle.bor_records.specs.Settling.{Refusal, PlacedRefusal, verdict, as_settled, as_live, ahead, settled_then, settled_from, settled}
 use Rattle.bor_register.specs.declared.filing.AcceptedFiling.{AcceptedFiling}
-use Rattle.bor_register.specs.Register.{Register, filings_of, filing_keyed, with_filings, new_member, with_member, is_enrolled, is_taken}
+use Rattle.bor_register.specs.Register.{Register, filing_keyed, with_filings, new_member, with_member, is_enrolled, is_taken}
 use Rattle.bor_register.specs.Live.{live_of, accepted}
 use Rattle.bor_register.specs.Withdrawal.{has_successor, with_withdrawn}
-use Rattle.bor_register.specs.Forms.{IsFormedFiling, IsFormedMember, IsFormed}
+use Rattle.bor_register.specs.Forms.{IsFormedFiling, IsFormed}
 use Rattle.bor_register.proofs.Forms.{formed-empty_register, formed-filings_of, formed-accepted, formed-added, formed-with_withdrawn, formed-with_filings, formed-new_member, formed-with_member}
 use Rattle.bor_machine.specs.declared.fault.LodgeFault.{LodgeFault}
 use Rattle.bor_machine.specs.declared.fault.LodgeFault.TheVariants.{FilingsFull, DuePast}

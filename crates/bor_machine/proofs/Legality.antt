@@ -4,7 +4,7 @@ use Rattle.std.specs.Prelude.{if◌then◌else◌, int_lt, int_le, nat_le}
 use Rattle.bor_terms.specs.Texts.{is_same, is_below}
 use Rattle.std.proofs.lemmas.List.{append-nil}
 use Rattle.std.proofs.lemmas.List.Elements.{Contains-append_left, Contains-append_right, Contains-append_cases}
-use Rattle.std.proofs.lemmas.Bool.{leb-false}
+use Rattle.std.proofs.lemmas.Bool.{leb-false, or_parts}
 use Rattle.std.proofs.lemmas.Grind.{common_steps}
 use Rattle.bor_terms.proofs.Texts.{same_is, same_sym}
 use Rattle.bor_records.specs.Admission.{Live}
@@ -30,7 +30,7 @@ use Rattle.bor_machine.specs.Withdrawing.{own_withdrawn_at, own_withdrawn, withd
 use Rattle.bor_machine.specs.Registrar.{advance_step, enrol_step}
 use Rattle.bor_machine.specs.Legality.{IsNumberedFrom, IsKeyedOnce, IsRead, AreRead, AreLegal, AllLegal, AreTokensDistinct, IsLegal}
 use Rattle.bor_machine.specs.Laws.{agents_of, LeavesOthers, KeepsAgents}
-use Rattle.bor_machine.proofs.Withdrawals.{or_none, withdrawn-legal}
+use Rattle.bor_machine.proofs.Withdrawals.{withdrawn-legal}
 
 -- ---- another agent's filings
 
@@ -231,7 +231,7 @@ token-with_member token new (m ∷ ms) h other = grind (arith, token-with_member
 distinct-with_member : (new : Member) (ms : List Member) → AreTokensDistinct ms → is_agents_token new.token ms ≡ false → AreTokensDistinct (with_member new ms)
 distinct-with_member new [] h free = (refl, tt)
 distinct-with_member new (m ∷ ms) h free =
-    let both = or_none (is_same m.token new.token) (is_agents_token new.token ms) free in
+    let both = or_parts (is_same m.token new.token) (is_agents_token new.token ms) free in
     elim (is_below m.name new.name) as (λ b. AreTokensDistinct (if b then m ∷ with_member new ms else new ∷ m ∷ ms)) [
       | true ↦ (token-with_member m.token new ms h.0 (same_sym new.token m.token ∙ both.0), distinct-with_member new ms h.1 both.1)
       | false ↦ (free, h)
@@ -244,7 +244,7 @@ all-with_member new (m ∷ ms) own h =
 
 enrolled-legal : (r : Register) (name token : List ℕ) → IsLegal r → is_enrolled name r.members ≡ false → is_taken token r ≡ false → IsLegal (record r { members = with_member (new_member name token) r.members })
 enrolled-legal r name token legal fresh free =
-    let both = or_none (is_same r.registrar token) (is_agents_token token r.members) free in
+    let both = or_parts (is_same r.registrar token) (is_agents_token token r.members) free in
     record {
       names = ordered-with_member (new_member name token) r.members fresh legal.names;
       tokens = distinct-with_member (new_member name token) r.members legal.tokens both.1;

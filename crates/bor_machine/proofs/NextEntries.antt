@@ -14,7 +14,7 @@ use Rattle.bor_machine.specs.declared.fault.LodgeFault.{LodgeFault}
 use Rattle.bor_machine.specs.declared.fault.LodgeFault.TheVariants.{KeyReused}
 use Rattle.bor_machine.specs.declared.lodging.Lodged.{Lodged}
 use Rattle.bor_machine.specs.Sight.{Sight, sight_of}
-use Rattle.bor_machine.specs.Lodging.{told_of, told_added, addition, lodging_at, own_lodged_at, lodging, settled_reading, lodge_step}
+use Rattle.bor_machine.specs.Lodging.{told_of, told_added, addition, lodging_at, own_lodged_at, settled_reading, lodge_step}
 use Rattle.bods_read.specs.File.{reading}
 use Rattle.bor_machine.specs.Laws.{IsNextEntry}
 use Rattle.bor_machine.proofs.Lodgings.{addition_is}

@@ -3,6 +3,7 @@ use Rattle.std.proofs.Common.{◌≡◌, ℕ, ℤ, ◌+◌, List, [], ◌∷◌,
 use Rattle.std.specs.Prelude.{if◌then◌else◌, ◌&&◌, not, int_lt, int_le, filter}
 use Rattle.std.specs.List.{last_or}
 use Rattle.std.specs.Option.{option_or}
+use Rattle.std.proofs.lemmas.Bool.{and_parts, or_parts}
 use Rattle.std.proofs.lemmas.List.{append-nil}
 use Rattle.std.proofs.lemmas.List.Elements.{filter-append}
 use Rattle.std.proofs.lemmas.Int.{ints}
@@ -24,7 +25,6 @@ use Rattle.bor_register.specs.Live.{live_of}
 use Rattle.bor_machine.specs.Lodging.{told_settled, settled_reading}
 use Rattle.bor_machine.specs.Legality.{IsRead, AreRead, IsLegal}
 use Rattle.bor_machine.specs.Laws.{series, IsPrefix, PublishedPrefix}
-use Rattle.bor_machine.proofs.Withdrawals.{or_none}
 use Rattle.bor_machine.proofs.Legality.{own_legal}
 
 -- ---- due days of a record
@@ -77,16 +77,12 @@ series_push declaration rec live l b e = filter-append (λ l. is_of declaration 
 
 -- a statement of a record has its declaration and its identifier
 names_of : (declaration rec : List ℕ) (s : Statement) → is_of declaration rec s ≡ true → (s.declaration ≡ declaration) × (s.rec ≡ rec)
-names_of declaration rec s h = let both = and_both (is_same s.declaration declaration) (is_same s.rec rec) h in (same_is s.declaration declaration both.0, same_is s.rec rec both.1)
-  where
-    and_both : (a b : Bool) → (a && b) ≡ true → (a ≡ true) × (b ≡ true)
-    and_both true b h = (refl, h)
-    and_both false b h = absurd cc
+names_of declaration rec s h = let both = and_parts (is_same s.declaration declaration) (is_same s.rec rec) h in (same_is s.declaration declaration both.0, same_is s.rec rec both.1)
 
 -- a draft's statement is live after them
 draft_more : (day due : ℤ) (live kept : List Live) (s : Statement) → int_le due day ≡ false → IsFront day live kept → IsFront day (live ++ as_live due s ∷ []) kept
 draft_more day due live kept s h w = record {
-  free = λ id e. w.free id (or_none (has_id id live) (has_id id (l ∷ [])) (sym (has_id-append id live (l ∷ [])) ∙ e)).0;
+  free = λ id e. w.free id (or_parts (has_id id live) (has_id id (l ∷ [])) (sym (has_id-append id live (l ∷ [])) ∙ e)).0;
   whole = λ declaration rec e. whole declaration rec (is_of declaration rec s) refl e;
   front = λ declaration rec.
       let old = w.front declaration rec in
@@ -110,7 +106,7 @@ draft_all day due live kept (s ∷ ss) h w = rw append_assoc at (draft_all day d
 published_more : (day due : ℤ) (live kept : List Live) (s : Statement) → is_late day (last_of s.declaration s.rec live) ≡ false → IsFront day live kept →
     IsFront day (live ++ as_live due s ∷ []) (kept ++ as_live due s ∷ [])
 published_more day due live kept s early w = record {
-  free = λ id e. let both = or_none (has_id id live) (has_id id (l ∷ [])) (sym (has_id-append id live (l ∷ [])) ∙ e) in has_id-append id kept (l ∷ []) ∙ rw (w.free id both.0, both.1) refl;
+  free = λ id e. let both = or_parts (has_id id live) (has_id id (l ∷ [])) (sym (has_id-append id live (l ∷ [])) ∙ e) in has_id-append id kept (l ∷ []) ∙ rw (w.free id both.0, both.1) refl;
   whole = λ declaration rec e. whole declaration rec (is_of declaration rec s) refl e;
   front = λ declaration rec. front declaration rec (is_of declaration rec s) refl;
 }

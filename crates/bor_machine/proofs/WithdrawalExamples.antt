@@ -1,9 +1,6 @@
 -- What withdrawals are answered and leave: each refusal, each pair of neighbours in their order where both hold, and a filing that is withdrawn already.
-use Rattle.std.proofs.Common.{◌≡◌, ℕ, pos, List, [], ◌∷◌, Some, None, Result, Ok, Err, codes, refl, true, false}
-use Rattle.bods_read.specs.declared.statement.Statement.{Statement}
-use Rattle.bods_read.specs.declared.statement.Status.TheVariants.{New, Updated}
-use Rattle.bods_read.specs.declared.details.Details.TheVariants.{Entity}
-use Rattle.bods_read.specs.declared.details.EntityKind.TheVariants.{RegisteredEntity}
+use Rattle.std.proofs.Common.{◌≡◌, ℕ, List, [], ◌∷◌, Some, Result, Ok, Err, codes, refl, true}
+use Rattle.bods_read.specs.declared.statement.Status.TheVariants.{Updated}
 use Rattle.bor_register.specs.declared.filing.AcceptedFiling.{AcceptedFiling}
 use Rattle.bor_register.specs.declared.filing.FilingLine.{FilingLine}
 use Rattle.bor_register.specs.declared.filing.State.TheVariants as states

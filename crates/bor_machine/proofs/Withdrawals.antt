@@ -4,6 +4,7 @@ use Rattle.std.specs.Prelude.{if◌then◌else◌, ◌||◌, ◌==◌}
 use Rattle.std.specs.List.{list_any}
 use Rattle.std.specs.Option.{option_or}
 use Rattle.bor_terms.proofs.Texts.{same_sym}
+use Rattle.std.proofs.lemmas.Bool.{or_parts}
 use Rattle.std.proofs.lemmas.List.{append-nil}
 use Rattle.bods_read.specs.declared.statement.Statement.{Statement}
 use Rattle.bods_read.specs.declared.statement.Status.{Status}
@@ -37,17 +38,12 @@ record IsWithout (gone : List Statement) (live kept : List Live) : Type 0 where
 is_of-sym : (s t : Statement) → is_of s.declaration s.rec t ≡ is_of t.declaration t.rec s
 is_of-sym s t = rw (same_sym t.declaration s.declaration, same_sym t.rec s.rec) refl
 
--- where one or the other doesn't hold, neither does
-pub or_none : (b c : Bool) → (b || c) ≡ false → (b ≡ false) × (c ≡ false)
-or_none true c h = absurd cc
-or_none false c h = (refl, h)
-
 -- where no item passes one of two tests, none passes either of them
 none_either : {X : Type 0} (p q : X → Bool) (xs : List X) → list_any (λ x. p x || q x) xs ≡ false → (list_any p xs ≡ false) × (list_any q xs ≡ false)
 none_either p q [] h = (refl, refl)
 none_either p q (x ∷ xs) h =
-    let first = or_none (p x || q x) (list_any (λ x. p x || q x) xs) h in
-    let here = or_none (p x) (q x) first.0 in
+    let first = or_parts (p x || q x) (list_any (λ x. p x || q x) xs) h in
+    let here = or_parts (p x) (q x) first.0 in
     let rest = none_either p q xs first.1 in
     (rw (here.0, rest.0) refl, rw (here.1, rest.1) refl)
 
@@ -55,20 +51,20 @@ none_either p q (x ∷ xs) h =
 none_of : (gone : List Statement) (due : ℤ) (t : Statement) → share_its gone t ≡ false → last_of t.declaration t.rec (map (as_live due) gone) ≡ None
 none_of [] due t h = refl
 none_of (s ∷ gone) due t h =
-    let both = or_none (is_of s.declaration s.rec t) (share_its gone t) h in
+    let both = or_parts (is_of s.declaration s.rec t) (share_its gone t) h in
     rw (sym (is_of-sym s t) ∙ both.0) (none_of gone due t both.1)
 
 -- a filing's statements are the last that are live
 without_last : (live : List Live) (due : ℤ) (gone : List Statement) → IsWithout gone (live ++ map (as_live due) gone) (live ++ [])
 without_last live due gone = record {
-  free = λ id h. ap (has_id id) (append-nil live) ∙ (or_none (has_id id live) (has_id id (map (as_live due) gone)) (sym (has_id-append id live (map (as_live due) gone)) ∙ h)).0;
+  free = λ id h. ap (has_id id) (append-nil live) ∙ (or_parts (has_id id live) (has_id id (map (as_live due) gone)) (sym (has_id-append id live (map (as_live due) gone)) ∙ h)).0;
   last = λ t h. last_of-append t.declaration t.rec live (map (as_live due) gone) ∙ ap (λ o. option_or o (last_of t.declaration t.rec live)) (none_of gone due t h) ∙ ap (last_of t.declaration t.rec) (sym (append-nil live));
 }
 
 -- more statements are live after them
 without-more : (gone : List Statement) (live kept more : List Live) → IsWithout gone live kept → IsWithout gone (live ++ more) (kept ++ more)
 without-more gone live kept more w = record {
-  free = λ id h. let both = or_none (has_id id live) (has_id id more) (sym (has_id-append id live more) ∙ h) in has_id-append id kept more ∙ rw (w.free id both.0, both.1) refl;
+  free = λ id h. let both = or_parts (has_id id live) (has_id id more) (sym (has_id-append id live more) ∙ h) in has_id-append id kept more ∙ rw (w.free id both.0, both.1) refl;
   last = λ t h. last_of-append t.declaration t.rec live more ∙ ap (option_or (last_of t.declaration t.rec more)) (w.last t h) ∙ sym (last_of-append t.declaration t.rec kept more);
 }
 
@@ -129,7 +125,7 @@ read-without f live kept [] w h alone = tt
 read-without f live kept (g ∷ fs) w h alone = (by_withdrawn g.withdrawn h.0, read-without f _ _ fs (without-more f.statements live kept (map (as_live g.due) g.statements) w) h.1 both.1)
   where
     both : (shares_record f g ≡ false) × (list_any (shares_record f) fs ≡ false)
-    both = or_none (shares_record f g) (list_any (shares_record f) fs) alone
+    both = or_parts (shares_record f g) (list_any (shares_record f) fs) alone
 
     by_withdrawn : (b : Bool) → IsRead b live g → IsRead b kept g
     by_withdrawn true r = r

@@ -29,20 +29,10 @@ abbrev pub told_settled : Result (List Statement) PlacedRefusal → Result (List
 told_settled (Ok statements) = Ok statements
 told_settled (Err refusal) = Err (fault_at refusal.place refusal.why)
 
--- the status that a statement is settled as, or what the agent is told of its refusal
-abbrev pub told_verdict : ℕ → Result Status Refusal → Result Status LodgeFault
-told_verdict place (Ok status) = Ok status
-told_verdict place (Err why) = Err (fault_at place why)
-
 -- the statements that a file is read to, their statuses settled after the agent's live statements; or the first fault of the file, or the first place that is refused
 abbrev pub settled_reading : List Live → ℤ → Result (List Statement) FileFault → Result (List Statement) LodgeFault
 settled_reading live due (Ok statements) = told_settled (settled live due statements)
 settled_reading live due (Err fault) = Err (Read fault)
-
--- what a lodging is answered of a file's reading
-abbrev pub as_read : Result (List Statement) FileFault → Result (List Statement) LodgeFault
-as_read (Ok statements) = Ok statements
-as_read (Err fault) = Err (Read fault)
 
 -- ---- a key that is there
 
@@ -101,3 +91,15 @@ lodge_step r name key due bytes =
       answer = lodging sight key due bytes;
       register = record r { members = with_filings name (own_lodged sight key due bytes) r.members };
     }
+
+-- ---- for clauses of private functions alone
+
+-- the status that a statement is settled as, or what the agent is told of its refusal
+abbrev pub told_verdict : ℕ → Result Status Refusal → Result Status LodgeFault
+told_verdict place (Ok status) = Ok status
+told_verdict place (Err why) = Err (fault_at place why)
+
+-- what a lodging is answered of a file's reading
+abbrev pub as_read : Result (List Statement) FileFault → Result (List Statement) LodgeFault
+as_read (Ok statements) = Ok statements
+as_read (Err fault) = Err (Read fault)

@@ -33,10 +33,6 @@ withdrawal sight key = withdrawal_at sight (filing_keyed key sight.own)
 abbrev pub own_withdrawn : Sight → List ℕ → List AcceptedFiling
 own_withdrawn sight key = own_withdrawn_at sight (filing_keyed key sight.own)
 
--- a filing's line once it is withdrawn
-abbrev pub line_withdrawn : FilingLine → FilingLine
-line_withdrawn line = record line { state = Withdrawn }
-
 -- the withdrawal of a filing by its agent
 abbrev pub withdraw_step : Register → List ℕ → List ℕ → Outcome (Result FilingLine WithdrawFault)
 withdraw_step r name key =
@@ -45,3 +41,9 @@ withdraw_step r name key =
       answer = withdrawal sight key;
       register = record r { members = with_filings name (own_withdrawn sight key) r.members };
     }
+
+-- ---- for clauses of private functions alone
+
+-- a filing's line once it is withdrawn
+abbrev pub line_withdrawn : FilingLine → FilingLine
+line_withdrawn line = record line { state = Withdrawn }
