@@ -39,10 +39,6 @@ EndsText text before after end = MatchResult end (λ status. IsWritten text befo
 
 -- ---- the report on a file
 
--- exactly the report on these bytes was written, and the exit status tells whether it is a refusal
-abbrev pub IsReported : List ℕ → Option (List ℕ) → Option (List ℕ) → ℕ → Type 0
-IsReported bytes before after status = IsWritten (check_report bytes) before after status
-
 -- the report on these bytes was written, or the run failed on the way
 abbrev pub IsReportedOrCutOff : List ℕ → Option (List ℕ) → Option (List ℕ) → ℕ → Type 0
 IsReportedOrCutOff bytes before after status = IsWrittenOrCutOff (check_report bytes) before after status

@@ -6,7 +6,7 @@ ghost use Rattle.bor_words.specs.Asked.{IsAsked, IsCommand, IsWrong, MayAskForHe
 ghost use Rattle.bor_words.specs.Unread.{kind_of_answer};
 ghost use Rattle.bor_words.specs.Words.{entered_by};
 ghost use Rattle.bor_words.specs.declared.command.Command.{Command as Asked};
-ghost use Rattle.bor_program.specs.Failures.{IsMetBy, IsMetOn, IsMetPrinting, IsTold};
+ghost use Rattle.bor_program.specs.Failures.{IsMetBy, IsMetOn, IsMetPrinting, IsTold, IsWantOfMemory};
 ghost use Rattle.bor_program.specs.Performing.{Checks, Performs, TellsRefusal};
 ghost use Rattle.bor_program.specs.Program.{EndsReport, IsReportedOrCutOff, exit_code};
 ghost use Rattle.bor_program.specs.Streams.{AppendsPart, TakesAtMostPart, TakesPart, part_read};
@@ -44,8 +44,10 @@ pub fn run<R: Files + AllocGlobal, H: Ports, S: AsStr, I: Read, O: Write, E: Wri
 ) -> u8
     ensures at_most { result ≤ 3 }
 
-    // Words that ask for a command have it done, as it is stated of each command, or memory is wanting.
-    ensures performed { IsCommand (map S.text words.now) → ((result ≡ 3) × Keeps (O.contents output.old) (O.contents output.new))
+    // Words that ask for a command have it done, as it is stated of each command, or memory is wanting,
+    // which is told in its line.
+    ensures performed { IsCommand (map S.text words.now) → ((result ≡ 3) × Keeps (O.contents output.old) (O.contents output.new)
+        × IsTold IsWantOfMemory (E.contents errors.old) (E.contents errors.new))
         ⊎ ((asked : Asked) × IsAsked (entered_by (map S.text words.now)) asked × Performs H.Register.shows H.Register.is_clean asked (I.remaining input.old) (I.remaining input.new)
         (O.contents output.old) (O.contents output.new) (E.contents errors.old) (E.contents errors.new) result) }
 
@@ -200,7 +202,8 @@ fn check_file<'a, R: Files + AllocGlobal, O: Write>(
 // Answers words that ask for no command: the help on standard output, or what is wrong with them on
 // standard error.
 fn answer<O: Write, E: Write>(unread: Unread<'_>, output: &mut O, errors: &mut E) -> Status
-    ensures memory { kind_of_answer unread.entry ≡ ErrorKind.OutOfMemory → result ≡ Status.Failed }
+    ensures memory { kind_of_answer unread.entry ≡ ErrorKind.OutOfMemory → (result ≡ Status.Failed)
+        × IsTold IsWantOfMemory (E.contents errors.old) (E.contents errors.new) }
     ensures never { result ≢ Status.Refused }
     ensures done { result ≡ Status.Done → (kind_of_answer unread.entry ≡ ErrorKind.DisplayHelp)
         × Appends (O.contents output.old) (O.contents output.new) HELP.now }

@@ -18,10 +18,11 @@ returns-clause-performed g c asked =
           inr (w.in-Ok.command, w.in-Ok.ensures.asked, done)
       | in-Err w ↦
           let memory = only_memory words w.in-Err.unread asked w.in-Err.ensures.err in
-          let failed = w.answer-status.ensures.memory memory in
+          let failed = (w.answer-status.ensures.memory memory).0 in
           let three = c.code.ensures ∙ ap exit_code (w.status-is ∙ failed) in
           let kept = w.answer-status.ensures.kept (memory_is_no_help _ memory) in
-          inl (three, kept_as _ _ _ (ap g.O.Write.contents w.output-is) kept)
+          let told = told_as _ _ _ _ _ (λ failure h. h) (ap g.E.Write.contents w.errors-is) (w.answer-status.ensures.memory memory).1 in
+          inl (three, kept_as _ _ _ (ap g.O.Write.contents w.output-is) kept, told)
     ]
 
 pub returns-clause-check : goal.returns-clause-check
@@ -34,7 +35,7 @@ returns-clause-check g c asked =
           (checked _ _ w.in-Ok.command (entered_by words) _ _ _ _ _ _ _ w.in-Ok.ensures.asked asked.1 done).2.report
       | in-Err w ↦
           let memory = only_memory words w.in-Err.unread asked.0 w.in-Err.ensures.err in
-          let failed = w.answer-status.ensures.memory memory in
+          let failed = (w.answer-status.ensures.memory memory).0 in
           let three = c.code.ensures ∙ ap exit_code (w.status-is ∙ failed) in
           let kept = w.answer-status.ensures.kept (memory_is_no_help _ memory) in
           ([], cut_unwritten [] _ _ _ _ (ap g.O.Write.contents w.output-is) three kept)
@@ -51,7 +52,7 @@ returns-clause-check_input g c asked =
           check.2.known (check.1 ∙ asked.1)
       | in-Err w ↦
           let memory = only_memory words w.in-Err.unread asked.0.0 w.in-Err.ensures.err in
-          let failed = w.answer-status.ensures.memory memory in
+          let failed = (w.answer-status.ensures.memory memory).0 in
           let three = c.code.ensures ∙ ap exit_code (w.status-is ∙ failed) in
           let kept = w.answer-status.ensures.kept (memory_is_no_help _ memory) in
           whatever _ (λ bytes. cut_unwritten _ _ _ _ _ (ap g.O.Write.contents w.output-is) three kept)
@@ -68,7 +69,7 @@ returns-clause-check_taken g c asked low =
           check.2.taken (check.1 ∙ asked.1) low
       | in-Err w ↦
           let memory = only_memory words w.in-Err.unread asked.0.0 w.in-Err.ensures.err in
-          let failed = w.answer-status.ensures.memory memory in
+          let failed = (w.answer-status.ensures.memory memory).0 in
           let three = c.code.ensures ∙ ap exit_code (w.status-is ∙ failed) in
           let kept = w.answer-status.ensures.kept (memory_is_no_help _ memory) in
           let bad : 3 ≤ 1 = rw (← three) low in absurd (omega arith)
