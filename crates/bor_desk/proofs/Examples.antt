@@ -22,7 +22,7 @@ use Rattle.bor_chains.specs.Chains.{IsChain, IsJoinedBy, AreJoined}
 use Rattle.bor_links.proofs.Found.{none, here, cases}
 use Rattle.bor_desk.specs.declared.refusal.Refusal.TheVariants.{NoEntity}
 use Rattle.bor_desk.specs.Refusals.{refusal_name}
-use Rattle.bor_desk.specs.Texts.{told, refused}
+use Rattle.bor_desk.specs.Texts.{answering, refusing}
 use Rattle.bor_desk.specs.Step as step
 use Rattle.bor_desk.specs.CheckReport.{check_day, check_step, check_report}
 use Rattle.bor_desk.specs.ChainReport.{person_line, IsTextOf}
@@ -33,27 +33,27 @@ use Rattle.bor_desk.specs.ChainReport.{person_line, IsTextOf}
 day : day_of (codes "2000-01-01") ≡ Some check_day
 day = first_day
 
-accepted : check_report worked_file ≡ told (codes "filing 1 published\n1\tentity\tnew\tc1\te1\n2\tperson\tnew\tc1\tp1\n3\trelationship\tnew\tc1\tr1\n")
+accepted : check_report worked_file ≡ answering (codes "filing 1 published\n1\tentity\tnew\tc1\te1\n2\tperson\tnew\tc1\tp1\n3\trelationship\tnew\tc1\tr1\n")
 unfolding check_report type_word status_word state_word digits
 accepted = rw worked_file-reading refl
 
-not_a_list : check_report (codes "{}") ≡ refused (codes "refused NotAList\n")
+not_a_list : check_report (codes "{}") ≡ refusing (codes "refused NotAList\n")
 unfolding check_report refusal_name file_fault_word reader
 not_a_list = refl
 
-missing : check_report (codes "[{}]") ≡ refused (codes "refused Missing at 1 in statementId\n")
+missing : check_report (codes "[{}]") ≡ refusing (codes "refused Missing at 1 in statementId\n")
 unfolding check_report refusal_name file_fault_word fault_word field_word digits reader
 missing = refl
 
 -- a first statement that says it is a later one
 unknown : check_report (codes "[{\"statementId\":\"s1\",\"statementDate\":\"2024-01-10\",\"declarationSubject\":\"c1\",\"recordId\":\"e1\",\"recordType\":\"entity\",\"recordStatus\":\"updated\",\"recordDetails\":{}}]")
-    ≡ refused (codes "refused RecordUnknown at 1\n")
+    ≡ refusing (codes "refused RecordUnknown at 1\n")
 unfolding check_report refusal_name fault_name digits reader
 unknown = refl
 
 -- an identifier that comes twice
 twice : check_report (codes "[{\"statementId\":\"s1\",\"statementDate\":\"2024-01-10\",\"declarationSubject\":\"c1\",\"recordId\":\"e1\",\"recordType\":\"entity\",\"recordDetails\":{}},{\"statementId\":\"s1\",\"statementDate\":\"2024-01-10\",\"declarationSubject\":\"c1\",\"recordId\":\"e2\",\"recordType\":\"entity\",\"recordDetails\":{}}]")
-    ≡ refused (codes "refused StatementTwice at 2\n")
+    ≡ refusing (codes "refused StatementTwice at 2\n")
 unfolding check_report refusal_name digits reader
 twice = refl
 
@@ -99,7 +99,7 @@ nobody : step.chains_answer seen (node (codes "e2")) worked_day ≡ step.refused
 unfolding calendar
 nobody = rw worked_file-reading refl
 
-refusal : IsTextOf (step.refused NoEntity) (refused (codes "refused NoEntity\n"))
+refusal : IsTextOf (step.refused NoEntity) (refusing (codes "refused NoEntity\n"))
 unfolding refusal_name
 refusal = refl
 
@@ -146,9 +146,9 @@ joined = record {
   sorted = (tt, tt);
 }
 
-worked_report : IsTextOf (step.chains_answer seen e1 worked_day) (told (codes "entity\tcheck\tc1\te1\t2024-01-10\nperson\tcheck\tc1\tp1\t\"Ann Moss\"\npersons 1\n"))
+worked_report : IsTextOf (step.chains_answer seen e1 worked_day) (answering (codes "entity\tcheck\tc1\te1\t2024-01-10\nperson\tcheck\tc1\tp1\t\"Ann Moss\"\npersons 1\n"))
 unfolding calendar digits serde_json_on_literals
-worked_report = subst (λ a. IsTextOf a (told (codes "entity\tcheck\tc1\te1\t2024-01-10\nperson\tcheck\tc1\tp1\t\"Ann Moss\"\npersons 1\n"))) (sym reported) (record {
+worked_report = subst (λ a. IsTextOf a (answering (codes "entity\tcheck\tc1\te1\t2024-01-10\nperson\tcheck\tc1\tp1\t\"Ann Moss\"\npersons 1\n"))) (sym reported) (record {
   date = codes "2024-01-10";
   spells = (refl, refl);
   persons = ann ∷ [];

@@ -15,14 +15,14 @@ use Rattle.bor_desk.specs.declared.text.Text.{Text}
 use Rattle.bor_desk.specs.declared.refusal.DeskFault.{DeskFault}
 use Rattle.bor_desk.specs.declared.refusal.DeskFault.TheVariants.{Refused, Failed}
 use Rattle.bor_desk.specs.Refusals.{of_lodging}
-use Rattle.bor_desk.specs.Texts.{told, accepted_line, outward_lines}
+use Rattle.bor_desk.specs.Texts.{answering, accepted_line, outward_lines}
 use Rattle.bor_desk.specs.CheckReport.{check_day, check_register, check_step, fault_text, answer_text, outcome_text, IsFaultTold}
 
 pub lodge_step-check : (r : Register) (agent key : List ℕ) (day : ℤ) (bytes : List ℕ) → r ≡ check_register → agent ≡ codes "check" → key ≡ codes "check" → day ≡ check_day → lodge_step r agent key day bytes ≡ check_step bytes
 lodge_step-check r agent key day bytes e f g h = rw (e, f, g, h) refl
 
 pub accepted-text : (o : Outcome (Result Lodged LodgeFault)) (lodged : Lodged) (after : Register) (outwards : List Outward) → o.answer ≡ Ok lodged → after ≡ o.register → outwards ≡ published after.day after.members →
-    told (accepted_line lodged ++ outward_lines outwards) ≡ outcome_text o
+    answering (accepted_line lodged ++ outward_lines outwards) ≡ outcome_text o
 accepted-text o lodged after outwards e f g = rw (e, g, f) refl
 
 -- what is made of a fault is its text

@@ -5,7 +5,7 @@ use Rattle.bor_register.specs.declared.caller.Caller.TheVariants.{Registrar, Age
 use Rattle.bor_register.specs.declared.filing.AcceptedFiling.{AcceptedFiling}
 use Rattle.bor_register.specs.declared.filing.Filing.{Filing}
 use Rattle.bor_register.specs.Publication.{filing_shown}
-use Rattle.bor_register.specs.Register.{Register, filings_of, with_filings}
+use Rattle.bor_register.specs.Register.{Register, IsOrdered, filings_of, with_filings}
 use Rattle.bor_register.proofs.Members.{with_filings_same}
 use Rattle.bor_machine.specs.Legality.{IsLegal}
 use Rattle.bor_machine.proofs.Legality.{lodging-stays_legal, withdrawal-stays_legal, advance-stays_legal, enrolment-stays_legal}
@@ -17,7 +17,7 @@ use Rattle.bor_keep.specs.declared.fault.StoreFault.{StoreFault}
 use Rattle.bor_machine.specs.Outcomes.{ByStore}
 use Rattle.bor_desk.specs.declared.refusal.Refusal.TheVariants.{NoSuchFiling}
 use Rattle.bor_desk.specs.Step.{file_answer, step, agent_step, registrar_step}
-use Rattle.bor_desk.specs.Outcomes.{IsTold, fault_of, IsLeft}
+use Rattle.bor_desk.specs.Outcomes.{IsTold, IsOrderedFor, fault_of, IsLeft}
 
 -- to write an agent's filings back changes nothing
 pub written_back : (r : Register) (name : List ℕ) → record r { members = with_filings name (filings_of name r.members) r.members } ≡ r
@@ -53,6 +53,11 @@ pub step-stays_legal : (r : Register) (caller : Option Caller) (request : Reques
 step-stays_legal r None request legal = legal
 step-stays_legal r (Some Registrar) request legal = registrar-stays_legal r request legal
 step-stays_legal r (Some (Agent name)) request legal = agent-stays_legal r name request legal
+
+-- of a register whose agents stand in order of their names each request's answer is said
+pub ordered_for : (request : Request) (r : Register) → IsOrdered r.members → IsOrderedFor request r
+ordered_for (ask.Snapshot agent declaration date) r h = h
+ordered_for request r h = tt
 
 -- ---- what follows from a reply
 

@@ -10,7 +10,7 @@ use Rattle.bor_links.specs.Shown.{Shown}
 use Rattle.bor_chains.specs.Chains.{AreJoined}
 use Rattle.bor_desk.specs.declared.text.Text.{Text}
 use Rattle.bor_desk.specs.declared.reply.DeskReply.TheVariants as tell
-use Rattle.bor_desk.specs.Texts.{tabbed, told, refused_text}
+use Rattle.bor_desk.specs.Texts.{answering, tabbed, refused_text}
 use Rattle.bor_desk.specs.Step.{Answer, exactly, report}
 
 -- a name, or none, as a value of JSON
@@ -38,7 +38,7 @@ pub record IsReportOn (shown : Shown) (entity : Node) (day : ℤ) (text : Text) 
   pub spells : IsSpelling day date
   pub persons : List PersonLine
   pub joined : AreJoined shown entity persons
-  pub lines : text ≡ told (report_lines entity date persons)
+  pub lines : text ≡ answering (report_lines entity date persons)
 
 -- the text of an answer to who stands behind an entity
 abbrev pub IsTextOf : Answer → Text → Type 0

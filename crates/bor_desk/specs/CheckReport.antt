@@ -13,7 +13,7 @@ use Rattle.bor_desk.specs.declared.refusal.DeskFault.{DeskFault}
 use Rattle.bor_desk.specs.declared.refusal.DeskFault.TheVariants.{Refused, Failed}
 use Rattle.bor_desk.specs.Limits.{file_limit}
 use Rattle.bor_desk.specs.Refusals.{of_lodging}
-use Rattle.bor_desk.specs.Texts.{told, refused, refused_text, outward_lines, accepted_line, refusal_line}
+use Rattle.bor_desk.specs.Texts.{answering, refusing, refused_text, outward_lines, accepted_line, refusal_line}
 
 -- 2000-01-01 in days since 1970-01-01
 abbrev pub check_day : ℤ
@@ -32,11 +32,11 @@ check_step bytes = lodge_step check_register (codes "check") (codes "check") che
 -- the text of a refusal; want of memory and a failed store have none
 abbrev pub fault_text : DeskFault → Text
 fault_text (Refused why) = refused_text why
-fault_text (Failed fault) = refused []
+fault_text (Failed fault) = refusing []
 
 -- the text of an answer, and of the register after it
 abbrev pub answer_text : Result Lodged LodgeFault → Register → Text
-answer_text (Ok lodged) after = told (accepted_line lodged ++ outward_lines (published after.day after.members))
+answer_text (Ok lodged) after = answering (accepted_line lodged ++ outward_lines (published after.day after.members))
 answer_text (Err fault) after = fault_text (of_lodging fault)
 
 abbrev pub outcome_text : Outcome (Result Lodged LodgeFault) → Text
@@ -45,10 +45,10 @@ outcome_text o = answer_text o.answer o.register
 -- the text of `bor check`: a file that is too long is refused before anything else
 unfoldable pub check_report : List ℕ → Text
 check_report bytes =
-    if nat_lt file_limit (length bytes) then refused (refusal_line (codes "BodyTooLarge") None None)
+    if nat_lt file_limit (length bytes) then refusing (refusal_line (codes "BodyTooLarge") None None)
     else outcome_text (check_step bytes)
 
--- ---- parts of the check
+-- ---- parts of the check, for clauses of private functions alone
 
 -- this text was made, or memory was wanting
 pub record IsMade (wanted : Text) (made : Result Text StoreFault) : Type 0 where

@@ -5,8 +5,10 @@ use Rattle.bor_chains.specs.declared.line.PersonLine.{PersonLine}
 use Rattle.bor_links.specs.Shown.{Shown}
 use Rattle.bor_chains.specs.Chains.{AreJoined}
 use Rattle.bor_keep.specs.declared.fault.StoreFault.{StoreFault}
-use Rattle.bor_register.specs.Register.{Register}
+use Rattle.bor_register.specs.Register.{Register, IsOrdered}
 use Rattle.bor_machine.specs.Outcomes.{ByStore, IsFaultOf}
+use Rattle.bor_desk.specs.declared.request.Request.{Request}
+use Rattle.bor_desk.specs.declared.request.Request.TheVariants as ask
 use Rattle.bor_desk.specs.declared.reply.DeskReply.{DeskReply}
 use Rattle.bor_desk.specs.declared.reply.DeskReply.TheVariants as tell
 use Rattle.bor_desk.specs.declared.refusal.DeskFault.{DeskFault}
@@ -31,6 +33,11 @@ fault_of reply = None
 -- The reply tells the answer, or a fault of the store.
 abbrev pub IsAnswered : DeskReply → Answer → Type 0
 IsAnswered reply answer = ByStore (fault_of reply) (IsTold answer reply) (λ fault. Unit {0})
+
+-- The registers of which an answer to the request is said: of a snapshot, those whose agents stand in order of their names, since where a name stood twice the rows would be those of the first that has it; of any other request, all.
+abbrev pub IsOrderedFor : Request → Register → Type 0
+IsOrderedFor (ask.Snapshot agent declaration date) r = IsOrdered r.members
+IsOrderedFor request r = Unit {0}
 
 -- The step's register is shown; a reply that tells a fault of the store leaves the register as it was.
 abbrev pub IsLeft : DeskReply → (Register → Type 0) → Register → Register → Type 0

@@ -84,6 +84,8 @@ IsOfChains into chains.NoEntity given = given ≡ Refused NoEntity
 IsOfChains into (chains.Source f) given = (fault : StoreFault) × into f fault × (given ≡ Failed fault)
 IsOfChains into chains.Memory given = given ≡ Failed stores.Memory
 
+-- ---- for a clause of a private function alone
+
 -- which faults are the store's
 abbrev pub failed : DeskFault → Option StoreFault
 failed (Failed fault) = Some fault

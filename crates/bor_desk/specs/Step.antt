@@ -1,9 +1,9 @@
 -- What each request is answered, and the register after it (this register's own rules).
-use Rattle.std.specs.Prelude.{ℕ, ℤ, Bool, true, false, List, map, filter, Option, Some, None, unwrap_or, Result, Ok, Err, if◌then◌else◌}
-use Rattle.bor_terms.specs.Texts.{is_same}
+use Rattle.std.specs.Prelude.{ℕ, ℤ, Bool, true, false, List, map, Option, Some, None, unwrap_or, Result, Ok, Err, if◌then◌else◌}
 use Rattle.bor_records.specs.declared.row.Row.{Row}
 use Rattle.bor_records.specs.Snapshot.{snapshot}
 use Rattle.bor_links.specs.declared.node.Node.{Node}
+use Rattle.bor_links.specs.ByKey.{rows_by}
 use Rattle.bor_links.specs.Shown.{Shown, info_of}
 use Rattle.bor_links.specs.Rows.{is_entity_info, shown_of}
 use Rattle.bor_register.specs.declared.caller.Caller.{Caller}
@@ -50,10 +50,6 @@ abbrev pub file_answer : Option AcceptedFiling → Answer
 file_answer None = refused NoSuchFiling
 file_answer (Some f) = exactly (tell.File f.bytes)
 
--- of these rows those of an agent
-abbrev pub rows_by : List ℕ → List Row → List Row
-rows_by agent rows = filter (λ row. is_same row.agent agent) rows
-
 -- the snapshot of the agent's declaration on a day; empty where there is no such agent or declaration
 abbrev pub snapshot_answer : List Row → List ℕ → List ℕ → ℤ → Answer
 snapshot_answer seen agent declaration day = exactly (tell.Snapshot day (snapshot declaration day (rows_by agent seen)))
@@ -83,12 +79,6 @@ own_after s (ask.Lodge key due file) = own_lodged s key due file
 own_after s (ask.Withdraw key) = own_withdrawn s key
 own_after s request = s.own
 
--- whether the request may change the agent's filings
-abbrev pub may_change_own : Request → Bool
-may_change_own (ask.Lodge key due file) = true
-may_change_own (ask.Withdraw key) = true
-may_change_own request = false
-
 abbrev pub agent_step : Register → List ℕ → Request → Outcome Answer
 agent_step r name request =
     let s = sight_of name r in
@@ -114,3 +104,11 @@ abbrev pub step : Register → Option Caller → Request → Outcome Answer
 step r None request = refuses r NoAgent
 step r (Some Registrar) request = registrar_step r request
 step r (Some (Agent name)) request = agent_step r name request
+
+-- ---- for a clause of a private function alone
+
+-- whether the request may change the agent's filings
+abbrev pub may_change_own : Request → Bool
+may_change_own (ask.Lodge key due file) = true
+may_change_own (ask.Withdraw key) = true
+may_change_own request = false

@@ -12,11 +12,13 @@ use Rattle.bor_desk.specs.declared.refusal.Refusal.{Refusal}
 use Rattle.bor_desk.specs.Refusals.{refusal_name, refusal_place, refusal_field}
 use Rattle.bor_register.specs.Publication.{state_word}
 
-abbrev pub told : List ℕ → Text
-told bytes = record { bytes = bytes; refused = false }
+-- what was asked for
+abbrev pub answering : List ℕ → Text
+answering bytes = record { bytes = bytes; refused = false }
 
-abbrev pub refused : List ℕ → Text
-refused bytes = record { bytes = bytes; refused = true }
+-- a refusal
+abbrev pub refusing : List ℕ → Text
+refusing bytes = record { bytes = bytes; refused = true }
 
 -- parts joined by tabs, and a line feed
 abbrev pub tabbed : List ℕ → List (List ℕ) → List ℕ
@@ -63,4 +65,4 @@ abbrev pub refusal_line : List ℕ → Option ℕ → Option Field → List ℕ
 refusal_line name place field = codes "refused " ++ name ++ place_part place ++ field_part field ++ 10 ∷ []
 
 abbrev pub refused_text : Refusal → Text
-refused_text why = refused (refusal_line (refusal_name why) (refusal_place why) (refusal_field why))
+refused_text why = refusing (refusal_line (refusal_name why) (refusal_place why) (refusal_field why))

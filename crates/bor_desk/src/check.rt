@@ -2,11 +2,11 @@
 
 ghost use Rattle.std.specs.Prelude.{◌≡◌, ◌++◌, codes, IfOk, IfErr};
 ghost use Rattle.bor_keep.specs.declared.fault.StoreFault.TheVariants.{Memory};
-ghost use Rattle.bor_desk.specs.Texts.{told, accepted_line, outward_lines};
+ghost use Rattle.bor_desk.specs.Texts.{answering, accepted_line, outward_lines};
 ghost use Rattle.bor_desk.specs.CheckReport.{check_day, check_register, check_step, outcome_text, check_report, IsFaultTold};
 
 use crate::refusal::DeskFault;
-use crate::text::{Text, add_accepted, add_outwards, refused, refused_as, told};
+use crate::text::{Text, add_accepted, add_outwards, answering, refused_as, refused_text};
 use bor_machine::{Keep, ListKeep, Lodged, Outward, StoreFault, lodge};
 use bor_terms::{AgentName, Day, LodgeKey, Token};
 use std::alloc::{AllocError, Global};
@@ -74,19 +74,19 @@ fn check_keep(alloc: Global) -> Result<ListKeep, StoreFault>
 }
 
 fn accepted(alloc: Global, lodged: &Lodged, outwards: &[Outward]) -> Result<Text, AllocError>
-    ensures { IfOk result (λ text. text ≡ told (accepted_line lodged.now ++ outward_lines outwards.now)) }
+    ensures { IfOk result (λ text. text ≡ answering (accepted_line lodged.now ++ outward_lines outwards.now)) }
 {
     let mut text = String::new(alloc);
     add_accepted(&mut text, lodged)?;
     add_outwards(&mut text, outwards)?;
-    Ok(told(text))
+    Ok(answering(text))
 }
 
 fn fault_text(alloc: Global, fault: DeskFault) -> Result<Text, StoreFault>
     ensures { IsFaultTold fault result }
 {
     match fault {
-        DeskFault::Refused(refusal) => Ok(refused(alloc, refusal)?),
+        DeskFault::Refused(refusal) => Ok(refused_text(alloc, refusal)?),
         DeskFault::Failed(fault) => Err(fault),
     }
 }

@@ -8,7 +8,7 @@ ghost use Rattle.bor_machine.specs.Sight.{seen_by, sight_of};
 ghost use Rattle.bor_machine.specs.Outcomes.{IsCounted};
 ghost use Rattle.bor_desk.specs.Step.{step, agent_answer, agent_step, may_change_own, registrar_step, file_answer, chains_answer, snapshot_answer};
 ghost use Rattle.bor_desk.specs.Laws.{IsToldAlone};
-ghost use Rattle.bor_desk.specs.Outcomes.{IsAnswered, IsLeft, IsReplyAccounted, reply_of, denial};
+ghost use Rattle.bor_desk.specs.Outcomes.{IsAnswered, IsLeft, IsOrderedFor, IsReplyAccounted, reply_of, denial};
 
 use crate::refusal::{DeskFault, Refusal};
 use crate::reply::DeskReply;
@@ -116,7 +116,7 @@ fn tell_agent<K: Keep>(
     ensures kept { Kept K.shows K.is_clean keep.old keep.new }
     ensures accounted { IsReplyAccounted K.may_tell (reply_of result) (K.fault_count keep.old) (K.fault_count keep.new) }
     ensures answer { Promised K.shows K.is_clean keep.old keep.new (λ r.
-        IsOrdered r.members → IsAnswered (reply_of result) (agent_answer (sight_of name.now r) request.now)) }
+        IsOrderedFor request.now r → IsAnswered (reply_of result) (agent_answer (sight_of name.now r) request.now)) }
 {
     match request {
         Request::Filings => Ok(DeskReply::Filings(Listed::new(keep.filings(name)?))),
@@ -144,7 +144,7 @@ fn answer_agent<K: Keep>(
     requires enrolled { Sure K.shows K.is_clean keep.old (λ r. is_enrolled name.now r.members ≡ true) }
     ensures began { K.is_clean keep.new → K.is_clean keep.old }
     ensures step { Promised K.shows K.is_clean keep.old keep.new (λ r.
-        IsOrdered r.members → IsAnswered (reply_of result) (agent_step r name.now request.now).answer) }
+        IsOrderedFor request.now r → IsAnswered (reply_of result) (agent_step r name.now request.now).answer) }
     ensures left { Promised K.shows K.is_clean keep.old keep.new (λ r.
         IsLeft (reply_of result) (K.shows keep.new) r (agent_step r name.now request.now).register) }
     ensures accounted { IsReplyAccounted K.may_tell (reply_of result) (K.fault_count keep.old) (K.fault_count keep.new) }
@@ -199,7 +199,7 @@ fn answer_caller<K: Keep>(
     request: &Request,
 ) -> Result<DeskReply, DeskFault>
     ensures began { K.is_clean keep.new → K.is_clean keep.old }
-    ensures step { Promised K.shows K.is_clean keep.old keep.new (λ r. IsOrdered r.members
+    ensures step { Promised K.shows K.is_clean keep.old keep.new (λ r. IsOrderedFor request.now r
         → IsAnswered (reply_of result) (step r (caller_of token.now r) request.now).answer) }
     ensures left { Promised K.shows K.is_clean keep.old keep.new (λ r.
         IsLeft (reply_of result) (K.shows keep.new) r (step r (caller_of token.now r) request.now).register) }
@@ -229,12 +229,12 @@ fn reply_of(made: Result<DeskReply, DeskFault>) -> DeskReply
 /// the operation's own. A refusal leaves the register as it was, and so does `Failed`. No call
 /// of the keep is made that the request doesn't need.
 ///
-/// What is left is said of every register; what is told, of each whose agents stand in order of
-/// their names, which every legal one does.
+/// What is left is said of every register, and so is what is told; but of a snapshot, of each whose
+/// agents stand in order of their names, which every legal one does.
 pub fn answer<K: Keep>(alloc: Global, keep: &mut K, token: &Token, request: &Request) -> DeskReply
     ensures began { K.is_clean keep.new → K.is_clean keep.old }
     ensures step { Promised K.shows K.is_clean keep.old keep.new (λ r.
-        IsOrdered r.members → IsAnswered result (step r (caller_of token.now r) request.now).answer) }
+        IsOrderedFor request.now r → IsAnswered result (step r (caller_of token.now r) request.now).answer) }
     ensures left { Promised K.shows K.is_clean keep.old keep.new (λ r.
         IsLeft result (K.shows keep.new) r (step r (caller_of token.now r) request.now).register) }
     ensures alone { Promised K.shows K.is_clean keep.old keep.new (λ r.

@@ -10,11 +10,11 @@ ghost use Rattle.bor_machine.specs.Outcomes.{IsAccounted};
 ghost use Rattle.bor_desk.specs.Refusals.{failed};
 ghost use Rattle.bor_desk.specs.Step.{chains_answer};
 ghost use Rattle.bor_desk.specs.Outcomes.{AreFound};
-ghost use Rattle.bor_desk.specs.Texts.{told};
+ghost use Rattle.bor_desk.specs.Texts.{answering};
 ghost use Rattle.bor_desk.specs.ChainReport.{name_data, person_line, person_lines, report_lines, IsTextOf};
 
 use crate::refusal::DeskFault;
-use crate::text::{Text, refused, told};
+use crate::text::{Text, answering, refused_text};
 use bods_read::FreeText;
 use bor_chains::{Node, PersonLine, persons_of};
 use bor_machine::{Keep, KeepSource, StoreFault};
@@ -85,7 +85,7 @@ fn persons_text(
     persons: &[PersonLine],
 ) -> Result<Text, AllocError>
     ensures { IfOk result (λ text. (date : List ℕ) × IsSpelling day date
-        × (text ≡ told (report_lines entity.now date persons.now))) }
+        × (text ≡ answering (report_lines entity.now date persons.now))) }
 {
     let mut text = String::new(alloc);
     let agent = entity.agent.as_str();
@@ -96,7 +96,7 @@ fn persons_text(
     add_persons(alloc, &mut text, persons)?;
     let count = persons.len();
     writeln!(text, "persons {count}")?;
-    Ok(told(text))
+    Ok(answering(text))
 }
 
 /// The text of a report: who stands behind an entity on a day, by the filings that the viewer sees,
@@ -123,7 +123,7 @@ pub fn report_text<K: Keep>(
 {
     match persons_seen(alloc, keep, viewer, entity, day) {
         Ok(persons) => Ok(persons_text(alloc, entity, day, &persons)?),
-        Err(DeskFault::Refused(refusal)) => Ok(refused(alloc, refusal)?),
+        Err(DeskFault::Refused(refusal)) => Ok(refused_text(alloc, refusal)?),
         Err(DeskFault::Failed(fault)) => Err(fault),
     }
 }

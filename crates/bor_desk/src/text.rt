@@ -1,7 +1,7 @@
 //! Texts that the program prints.
 
 ghost use Rattle.std.specs.Prelude.{◌≡◌, ◌++◌, IfOk, OnOk, string_bytes};
-ghost use Rattle.bor_desk.specs.Texts.{statement_line, statement_lines, outward_lines, accepted_line, refusal_line, place_part, field_part, settled_word, told, refused, refused_text};
+ghost use Rattle.bor_desk.specs.Texts.{statement_line, statement_lines, outward_lines, accepted_line, refusal_line, place_part, field_part, settled_word, answering, refusing, refused_text};
 
 use crate::refusal::Refusal;
 use bods_read::{Field, Statement, Status};
@@ -17,8 +17,8 @@ pub struct Text {
 }
 
 /// The text of what was done.
-pub(crate) fn told(text: String) -> Text
-    ensures { result ≡ told (string_bytes text) }
+pub(crate) fn answering(text: String) -> Text
+    ensures { result ≡ answering (string_bytes text) }
 {
     Text {
         bytes: Listed::new(text.into_bytes()),
@@ -33,7 +33,7 @@ pub(crate) fn refused_as(
     place: Option<u32>,
     field: Option<Field>,
 ) -> Result<Text, AllocError>
-    ensures { IfOk result (λ text. text ≡ refused (refusal_line name.now place field)) }
+    ensures { IfOk result (λ text. text ≡ refusing (refusal_line name.now place field)) }
 {
     let mut text = String::new(alloc);
     add_refusal(&mut text, name, place, field)?;
@@ -44,7 +44,7 @@ pub(crate) fn refused_as(
 }
 
 /// The text of a refusal.
-pub(crate) fn refused(alloc: Global, refusal: Refusal) -> Result<Text, AllocError>
+pub(crate) fn refused_text(alloc: Global, refusal: Refusal) -> Result<Text, AllocError>
     ensures { IfOk result (λ text. text ≡ refused_text refusal) }
 {
     refused_as(alloc, refusal.name(), refusal.place(), refusal.field())

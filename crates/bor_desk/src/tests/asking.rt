@@ -4,7 +4,7 @@ use crate::tests::notation::{agent, day, ident, key, node, token};
 use crate::tests::same;
 use crate::tests::spelled::spelled;
 use crate::{DeskReply, Request, Text, answer, report_text};
-use bor_machine::{Keep, ListKeep};
+use bor_machine::{Keep, ListKeep, StoreFault};
 use bor_rows::{Ask, Wish, body_of};
 use bor_terms::{Day, Listed, Token};
 use std::alloc::Global;
@@ -92,6 +92,23 @@ pub(crate) fn new_keep(rt: &impl Abort, alloc: Global) -> ListKeep {
     ListKeep::new(alloc, registrar, day(rt, "2024-02-01"))
 }
 
+/// The report on a record of alder's declaration c1, for a viewer, the record and a date.
+pub(crate) fn report<K: Keep>(
+    rt: &impl Abort,
+    alloc: Global,
+    keep: &mut K,
+    (viewer, rec, date): (&str, &str, &str),
+) -> Result<Text, StoreFault> {
+    let entity = node(rt, alloc, "alder", "c1", rec);
+    report_text(
+        alloc,
+        keep,
+        &agent(rt, alloc, viewer),
+        &entity,
+        day(rt, date),
+    )
+}
+
 /// A desk over a register in memory.
 #[derive(Drop)]
 pub(crate) struct Desk {
@@ -129,8 +146,6 @@ impl Desk {
 
     /// The report on a record of alder's declaration c1 that the viewer is shown.
     pub(crate) fn report(&mut self, rt: &impl Abort, viewer: &str, rec: &str, date: &str) -> Text {
-        let entity = node(rt, self.alloc, "alder", "c1", rec);
-        let (viewer, date) = (agent(rt, self.alloc, viewer), day(rt, date));
-        report_text(self.alloc, &mut self.keep, &viewer, &entity, date).expect(rt, "a fault")
+        report(rt, self.alloc, &mut self.keep, (viewer, rec, date)).expect(rt, "a fault")
     }
 }

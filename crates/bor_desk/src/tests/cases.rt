@@ -97,7 +97,7 @@ fn aliases_go_over_several_identifiers(rt: HostRuntime) {
 }
 
 // Cases by their names: files, and who stands behind which entity, on 2024-02-01 or another day.
-const CASES: [(&str, &[&str], &[(&str, &str)]); 15] = [
+const CASES: [(&str, &[&str], &[(&str, &str)]); 16] = [
     (
         "a loop is walked as target and as middle",
         &[
@@ -117,6 +117,11 @@ const CASES: [(&str, &[&str], &[(&str, &str)]); 15] = [
         "an arrangement is no link of a chain",
         &["alder E s1 e1; P s2 p1; E s3 a1 arrangement; R s4 x1 a1<-p1 V100; R s5 x2 e1<-a1 S10"],
         &[("e1", ""), ("a1", "p1")],
+    ),
+    (
+        "a legal entity is a link of a chain",
+        &["alder E s1 e1; P s2 p1; E s3 a1 legalEntity; R s4 x1 a1<-p1 V100; R s5 x2 e1<-a1 S10"],
+        &[("e1", "p1"), ("a1", "p1")],
     ),
     (
         "a state body is no link of a chain",

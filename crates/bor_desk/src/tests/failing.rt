@@ -1,8 +1,8 @@
-//! Each kind of fault at each call that an answer makes of a keep: it is told as what it is, and the
-//! register is as before.
+//! Each kind of fault at each call that an answer or a report makes of a keep: it is told as what it
+//! is, and the register is as before.
 
 use crate::DeskReply;
-use crate::tests::asking::{new_keep, reply, told};
+use crate::tests::asking::{new_keep, reply, report, told};
 use crate::tests::same;
 use bor_failing::FailingKeep;
 use bor_machine::{Keep, ListKeep, StoreFault};
@@ -85,6 +85,22 @@ fn failed_calls(rt: &impl Abort, alloc: Global, place: usize, ask: &str, fault: 
     panic!(rt; "too many calls of {ask}")
 }
 
+// How many calls of the keep a report makes: each of them was made to answer the fault in turn.
+fn failed_calls_of_a_report(rt: &impl Abort, alloc: Global, fault: StoreFault) -> u32 {
+    for calls in 0..100 {
+        let mut failing = FailingKeep::new(keep_after(rt, alloc, 3), fault);
+        failing.left = calls;
+        let told = report(rt, alloc, &mut failing, ("birch", "e1", "2024-02-01"));
+        if failing.faults() == 0 {
+            assert!(rt; told.is_ok());
+            return calls;
+        }
+        let is_told = matches!(told, Err(met) if met == fault);
+        assert!(rt; is_told && failing.faults() == 1, "report {calls}");
+    }
+    panic!(rt; "too many calls of a report")
+}
+
 #[test]
 fn each_call_that_fails_is_told_and_leaves_the_register(rt: HostRuntime) {
     for fault in [StoreFault::Memory, StoreFault::Store, StoreFault::Damaged] {
@@ -94,5 +110,6 @@ fn each_call_that_fails_is_told_and_leaves_the_register(rt: HostRuntime) {
                 "{ask}"
             );
         }
+        assert!(rt; failed_calls_of_a_report(&rt, rt.alloc(), fault) > 1);
     }
 }

@@ -1,6 +1,6 @@
 use Rattle.std.proofs.Common.{◌≡◌, ◌++◌, refl, ap, ◌∙◌}
 use Rattle.bor_machine.specs.Lodging.{lodge_step}
-use Rattle.bor_desk.specs.Texts.{told, accepted_line, outward_lines}
+use Rattle.bor_desk.specs.Texts.{answering, accepted_line, outward_lines}
 use Rattle.bor_desk.specs.CheckReport.{outcome_text}
 use Rattle.bor_desk.proofs.Reports.{lodge_step-check, accepted-text, refused-text, refused-err}
 use Rattle.bor_desk.proofs.check.lodged_text.Goals as goal
@@ -14,7 +14,7 @@ returns-in-Ok-clause-text c =
     let after = c.lodge.new.keep.register in
     let outwards = c.in_ok-published-in-Ok.field-0.items in
     let listed = c.in_ok-published-in-Ok.ensures.answer after refl tt in
-    c.in_ok-accepted-in-Ok.ensures ∙ ap (λ os. told (accepted_line c.in-Ok.lodged ++ outward_lines os)) c.deref.ensures.value
+    c.in_ok-accepted-in-Ok.ensures ∙ ap (λ os. answering (accepted_line c.in-Ok.lodged ++ outward_lines os)) c.deref.ensures.value
     ∙ accepted-text o c.in-Ok.lodged after outwards step.0 step.1 listed ∙ ap outcome_text same
 
 pub returns-clause-text : goal.returns-clause-text
