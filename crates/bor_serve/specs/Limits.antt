@@ -1,6 +1,5 @@
 -- How long a client is waited for, and how much is read of it.
-use Rattle.std.specs.Prelude.{ℕ, ◌+◌}
-use Rattle.bor_wire_read.specs.Message.{request_limit}
+use Rattle.std.specs.Prelude.{ℕ}
 
 -- ten seconds, in nanoseconds, until its request is read
 abbrev pub request_nanos : ℕ
@@ -17,7 +16,3 @@ rest_nanos = 1_000_000_000
 -- of which at most this many bytes are read
 abbrev pub rest_limit : ℕ
 rest_limit = 16_777_216
-
--- at most this many bytes are read of a connection
-abbrev pub connection_limit : ℕ
-connection_limit = request_limit + rest_limit

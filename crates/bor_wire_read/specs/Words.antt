@@ -27,7 +27,7 @@ refusal_word (WrongMethod _) = codes "WrongMethod"
 refusal_word NoToken = codes "NoToken"
 refusal_word (BadQuery _) = codes "BadQuery"
 
--- the name that a refusal is about
-abbrev pub refusal_name : Refusal → Option Name
-refusal_name (BadQuery asked) = Some asked
-refusal_name refusal = None
+-- the name in a query that a refusal is about
+abbrev pub refused_name : Refusal → Option Name
+refused_name (BadQuery asked) = Some asked
+refused_name refusal = None

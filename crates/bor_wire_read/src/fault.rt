@@ -1,7 +1,7 @@
 //! Why no request was read.
 
 ghost use Rattle.std.specs.Prelude.{◌≡◌};
-ghost use Rattle.bor_wire_read.specs.Words.{name_word, refusal_word, refusal_name};
+ghost use Rattle.bor_wire_read.specs.Words.{name_word, refusal_word, refused_name};
 
 use std::alloc::AllocError;
 
@@ -114,7 +114,7 @@ impl Refusal {
 
     /// The name that it is about, where it is about one.
     pub fn name(self) -> Option<Name>
-        ensures { result ≡ refusal_name self }
+        ensures { result ≡ refused_name self }
     {
         match self {
             Refusal::BadQuery(name) => Some(name),

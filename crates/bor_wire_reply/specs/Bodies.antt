@@ -65,4 +65,4 @@ desk_body (tell.Failed fault) = refusal_text (codes "StoreFault") None None
 -- ---- what is said of bytes that spell no request
 
 abbrev pub wire_refusal_text : Refusal → List ℕ
-wire_refusal_text why = refusal_text (wire.refusal_word why) None (option_map wire.name_word (wire.refusal_name why))
+wire_refusal_text why = refusal_text (wire.refusal_word why) None (option_map wire.name_word (wire.refused_name why))

@@ -128,7 +128,7 @@ fn put_desk_refusal(out: &mut Vec<u8>, refusal: Refusal)
 #[tactic(auto, using(crate::proofs::ShortTexts::query_short))]
 fn query_name_of(refusal: bor_wire_read::Refusal) -> Option<&'static str>
     ensures value { option_map (λ s. s.now) result
-        ≡ option_map wire.name_word (wire.refusal_name refusal) }
+        ≡ option_map wire.name_word (wire.refused_name refusal) }
     ensures short { IfSome result (λ name. length name.now ≤ 18) }
 {
     match refusal.name() {
