@@ -8,7 +8,7 @@ use Rattle.bor_wire_reply.specs.Replies.{refused, status_of, bytes_of}
 use Rattle.bor_wire_reply.specs.declared.reply.TheConstants.{UNAVAILABLE}
 use Rattle.bor_wire.specs.declared.outcome.Outcome.{Outcome}
 use Rattle.bor_wire.specs.declared.outcome.Outcome.TheVariants.{Replied, ReadFailed, WriteFailed}
-use Rattle.bor_wire.specs.Exchanges.{IsSpelled, IsSent, IsReplySent, IsReplied, IsExchanged, IsWritten, TellsUnavailable, TellsRefusal, OnRefusal}
+use Rattle.bor_wire.specs.Exchanges.{IsSpelled, IsSent, IsReplySent, IsReplied, IsExchanged, IsWritten, TellsUnavailable, TellsRefusal, WithoutReply, OnRefusal}
 use Rattle.bor_wire.proofs.HistoryLaws.{alone}
 use Rattle.bor_wire.proofs.ReportLaws.{exact}
 
@@ -50,6 +50,18 @@ pub available_told : (outcome : Outcome) (status : ℕ) (bytes : List ℕ) (old 
 available_told (Replied told) status bytes old new sure w = λ e. absurd (sure (sym w.0 ∙ e))
 available_told ReadFailed status bytes old new sure w = absurd w
 available_told (WriteFailed told) status bytes old new sure w = λ e. absurd (sure (sym w.0 ∙ e))
+
+-- what holds whatever was written
+pub without_reply : (outcome : Outcome) (P : Type 0) → P → WithoutReply outcome P
+without_reply (Replied told) P h = λ _. h
+without_reply ReadFailed P h = h
+without_reply (WriteFailed told) P h = λ _. h
+
+-- with another status than 503 there is a reply
+pub with_reply : (outcome : Outcome) (status : ℕ) (bytes : List ℕ) (old new : Option (List ℕ)) (P : Type 0) → status ≢ 503 → IsWritten outcome status bytes old new → WithoutReply outcome P
+with_reply (Replied told) status bytes old new P sure w = λ e. absurd (sure (sym w.0 ∙ e))
+with_reply ReadFailed status bytes old new P sure w = absurd w
+with_reply (WriteFailed told) status bytes old new P sure w = λ e. absurd (sure (sym w.0 ∙ e))
 
 -- the refusal is told where it went out
 refusal_told : (outcome : Outcome) (why : Refusal) (status : ℕ) (bytes : List ℕ) (old new : Option (List ℕ)) → (status ≡ status_of (refused why)) × (bytes ≡ bytes_of (refused why))

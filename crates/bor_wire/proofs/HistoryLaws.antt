@@ -1,5 +1,5 @@
 -- What an agent receives in a run is what it would receive alone.
-use Rattle.std.proofs.Common.{◌≡◌, ℕ, List, [], ◌∷◌, Option, Some, None, Ok, Err, refl, sym, ap, subst, ◌∙◌}
+use Rattle.std.proofs.Common.{◌≡◌, ℕ, suc, List, [], ◌∷◌, length, Option, Some, None, Ok, Err, refl, sym, ap, subst, ◌∙◌, arith}
 use Rattle.std.specs.List.{AllZip}
 use Rattle.bor_register.specs.Register.{Register, filings_of}
 use Rattle.bor_machine.specs.Legality.{IsLegal}
@@ -7,11 +7,12 @@ use Rattle.bor_desk.specs.declared.request.Request.{Request}
 use Rattle.bor_desk.specs.Step.{Answer}
 use Rattle.bor_desk.specs.Runs.{Asked, exchange, answers, request_of, told_then, told_to, history, solo}
 use Rattle.bor_desk.proofs.Isolation.{isolated}
+use Rattle.bor_desk.proofs.Lengths.{told_to-length}
 use Rattle.bor_desk.proofs.OneReply.{one_reply}
 use Rattle.bor_wire_spell.specs.Spell.{Spelled}
 use Rattle.bor_wire_reply.specs.Replies.{answered, bytes_of}
 use Rattle.bor_wire.specs.Runs.{AreReplies}
-use Rattle.bor_wire.specs.Histories.{AreBytesOf, IsAlone, SameHistorySameBytes, asked_in, told_in, received}
+use Rattle.bor_wire.specs.Histories.{AreBytesOf, EachIsReceived, IsAlone, SameHistorySameBytes, asked_in, told_in, received}
 
 one_bytes : (answer : Answer) (x y : List ℕ) → AreBytesOf answer x → AreBytesOf answer y → x ≡ y
 one_bytes answer x y p q = p.2 ∙ ap (λ reply. bytes_of (answered reply)) (one_reply answer p.0 q.0 p.1 q.1) ∙ sym q.2
@@ -62,3 +63,14 @@ same_bytes name r q inputs others replies told legal lawful one two own past =
     bytes_once (solo name (filings_of name q.members) (history name q (asked_in others))) (received name r inputs replies) (received name q others told)
     (subst (λ answers. AllZip AreBytesOf answers (received name r inputs replies)) alike (alone name r inputs replies legal one))
     (alone name q others told lawful two)
+
+-- ---- how many replies an agent receives
+
+told_in-length : (ss : List Spelled) (bs : List (List ℕ)) → length bs ≡ length ss → length (told_in ss bs) ≡ length (asked_in ss)
+told_in-length [] bs same = refl
+told_in-length (s ∷ ss) [] same = absurd (omega arith)
+told_in-length (Err why ∷ ss) (b ∷ bs) same = told_in-length ss bs (omega arith)
+told_in-length (Ok asked ∷ ss) (b ∷ bs) same = ap suc (told_in-length ss bs (omega arith))
+
+pub each_is_received : EachIsReceived
+each_is_received name r ss bs same = told_to-length name r (asked_in ss) (told_in ss bs) (told_in-length ss bs same)

@@ -1,9 +1,17 @@
 -- What goes out for an input, from what goes out for what it spells.
-use Rattle.std.proofs.Common.{◌≡◌, ℕ, List, Option, Some, None, Result, Err, refl, subst}
+use Rattle.std.proofs.Common.{◌≡◌, ℕ, List, true, Option, Some, None, Result, Err, refl, subst}
 use Rattle.std.specs.Prelude.{⊤}
 use Rattle.std.specs.Option.{IfSome}
 use Rattle.bor_records.specs.Promises.{Promised}
+use Rattle.bor_register.specs.declared.caller.Caller.{Caller}
 use Rattle.bor_register.specs.Register.{Register, IsOrdered}
+use Rattle.bor_desk.specs.declared.request.Request.{Request}
+use Rattle.bor_desk.specs.declared.request.Request.TheVariants as ask
+use Rattle.bor_desk.specs.declared.reply.DeskReply.{DeskReply}
+use Rattle.bor_desk.specs.Step.{step}
+use Rattle.bor_desk.specs.Outcomes.{IsTold, IsOrderedFor}
+use Rattle.bor_desk.specs.Laws.{is_long}
+use Rattle.bor_desk.proofs.Unchanged.{reads}
 use Rattle.bor_wire_read.specs.declared.fault.Refusal.{Refusal}
 use Rattle.bor_wire_read.specs.Message.{◌>>=◌, Message, IsMessage}
 use Rattle.bor_wire_spell.specs.Spell.{Spelled, spell}
@@ -11,7 +19,7 @@ use Rattle.bor_wire_spell.proofs.Messages.{message_spelled, one_spelling}
 use Rattle.bor_wire_reply.specs.Replies.{refused}
 use Rattle.bor_wire.specs.declared.outgoing.Outgoing.{Outgoing}
 use Rattle.bor_wire.specs.declared.outgoing.Outgoing.TheVariants.{Full, Unavailable}
-use Rattle.bor_wire.specs.Exchanges.{ByOutgoing, GoesOut, IsRefusal, IsSent, IsSpelled, OnRefusal}
+use Rattle.bor_wire.specs.Exchanges.{ByOutgoing, GoesOut, IfUnavailable, IsRefusal, IsSent, IsSpelled, OnRefusal}
 
 -- what was read is spelled, where the input is known
 pub spelled_known : (known : Option (List ℕ)) (read : Result Message Refusal) → IfSome known (λ input. IsMessage input read) → IsSpelled known (read >>= spell)
@@ -20,10 +28,21 @@ spelled_known (Some input) read h = message_spelled input read h
 
 -- what goes out for something that the input spells goes out for the input
 pub by_outgoing : {K : Type 0} (shows : K → Register → Type 0) (is_clean : K → Type 0) (old new : K) (o : Outgoing) (known : Option (List ℕ)) (s : Spelled) → IsSpelled known s
-    → Promised shows is_clean old new (λ r. IsOrdered r.members → GoesOut o (shows new) r s)
-    → ByOutgoing (Some o) known (λ t status bytes. Promised shows is_clean old new (λ r. IsOrdered r.members → IsSent (shows new) r t status bytes)) (Promised shows is_clean old new (λ r. IsOrdered r.members → shows new r))
-by_outgoing shows is_clean old new (Full status bytes) known s spells h = (s, spells, h)
-by_outgoing shows is_clean old new Unavailable known s spells h = h
+    → Promised shows is_clean old new (λ r. IsOrdered r.members → GoesOut o (shows new) r s) → Promised shows is_clean old new (λ r. IfUnavailable o (shows new r))
+    → ByOutgoing (Some o) known (λ t status bytes. Promised shows is_clean old new (λ r. IsOrdered r.members → IsSent (shows new) r t status bytes)) (Promised shows is_clean old new (shows new))
+by_outgoing shows is_clean old new (Full status bytes) known s spells h kept = (s, spells, h)
+by_outgoing shows is_clean old new Unavailable known s spells h kept = kept
+
+-- what holds whatever goes out
+pub if_unavailable : (o : Outgoing) (P : Type 0) → P → IfUnavailable o P
+if_unavailable (Full status bytes) P h = tt
+if_unavailable Unavailable P h = h
+
+-- a long reply leaves the register, also where a snapshot's isn't known to be told
+pub long_leaves : (r : Register) (caller : Option Caller) (request : Request) (reply : DeskReply) → (IsOrderedFor request r → IsTold (step r caller request).answer reply) → is_long reply ≡ true
+    → (step r caller request).register ≡ r
+long_leaves r caller (ask.Snapshot agent declaration date) reply told long = reads.by_request r caller (ask.Snapshot agent declaration date) refl
+long_leaves r caller request reply told long = reads.by_reply r caller request reply (told tt) long
 
 -- ---- the refusal that an input spells
 

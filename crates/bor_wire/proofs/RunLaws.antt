@@ -102,7 +102,7 @@ so_far_more before now clean shown later inputs replies input Unavailable count 
 
 -- what is said of each register whose agents stand in order is said of the legal ones
 pub legal_reply : {K : Type 0} (shows : K → Register → Type 0) (is_clean : K → Type 0) (old new : K) (reply : Reply) (input : List ℕ)
-    → ByReply reply input (λ s bytes. Promised shows is_clean old new (λ r. IsOrdered r.members → IsReplyTo r s bytes × shows new (after r s))) (Promised shows is_clean old new (λ r. IsOrdered r.members → shows new r))
+    → ByReply reply input (λ s bytes. Promised shows is_clean old new (λ r. IsOrdered r.members → IsReplyTo r s bytes × shows new (after r s))) (Promised shows is_clean old new (shows new))
     → ByReply reply input (λ s bytes. Promised shows is_clean old new (λ r. IsLegal r → IsReplyTo r s bytes × shows new (after r s))) (Promised shows is_clean old new (λ r. IsLegal r → shows new r))
 legal_reply shows is_clean old new (Full bytes) input h = (h.0, h.1, λ r is clean legal. h.2 r is clean legal.names)
-legal_reply shows is_clean old new Unavailable input h = λ r is clean legal. h r is clean legal.names
+legal_reply shows is_clean old new Unavailable input h = λ r is clean legal. h r is clean

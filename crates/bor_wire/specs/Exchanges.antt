@@ -46,10 +46,19 @@ abbrev pub IsRefusal : Outgoing → Refusal → Type 0
 IsRefusal (outgoing.Full status bytes) why = (status ≡ status_of (refused why)) × (bytes.items ≡ bytes_of (refused why))
 IsRefusal outgoing.Unavailable why = ⊤
 
--- the desk's reply, or that there is none, where nothing changed
-abbrev pub IsDeskReply : Option DeskReply → (Register → Type 0) → Register → Asked → Type 0
-IsDeskReply (Some reply) shown r asked = IsTold (exchange r asked).answer reply × shown (exchange r asked).register
-IsDeskReply None shown r asked = shown r
+-- the desk's reply, where there is one, tells the answer
+abbrev pub TellsAnswer : Option DeskReply → Register → Asked → Type 0
+TellsAnswer reply r asked = IfSome reply (λ told. IsTold (exchange r asked).answer told)
+
+-- the register after what the desk did; where it has no reply, nothing changed
+abbrev pub left_by : Option DeskReply → Register → Asked → Register
+left_by (Some reply) r asked = (exchange r asked).register
+left_by None r asked = r
+
+-- where there is no whole reply, P holds
+abbrev pub IfUnavailable : Outgoing → Type 0 → Type 0
+IfUnavailable (outgoing.Full status bytes) P = ⊤
+IfUnavailable outgoing.Unavailable P = P
 
 -- of a whole reply there is something that the input spells, of which P holds with its status and bytes; of anything else Q does
 abbrev pub ByOutgoing : Option Outgoing → Option (List ℕ) → (Spelled → ℕ → List ℕ → Type 0) → Type 0 → Type 0
@@ -92,6 +101,12 @@ abbrev pub TellsUnavailable : Outcome → Option (List ℕ) → Option (List ℕ
 TellsUnavailable (Replied status) old new = status ≡ 503 → Appends old new UNAVAILABLE.now
 TellsUnavailable ReadFailed old new = Keeps old new
 TellsUnavailable (WriteFailed status) old new = status ≡ 503 → (n : ℕ) × Appends old new (take n UNAVAILABLE.now)
+
+-- with status 503, and where the reader failed, P holds
+abbrev pub WithoutReply : Outcome → Type 0 → Type 0
+WithoutReply (Replied status) P = status ≡ 503 → P
+WithoutReply ReadFailed P = P
+WithoutReply (WriteFailed status) P = status ≡ 503 → P
 
 -- an input that spells a refusal is told it, where the status isn't 503
 abbrev pub TellsRefusal : Outcome → Refusal → Option (List ℕ) → Option (List ℕ) → Type 0

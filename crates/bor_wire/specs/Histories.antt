@@ -1,5 +1,5 @@
 -- What of a run an agent receives.
-use Rattle.std.specs.Prelude.{◌≡◌, ℕ, List, [], ◌∷◌, Ok, Err}
+use Rattle.std.specs.Prelude.{◌≡◌, ℕ, List, [], ◌∷◌, length, Ok, Err}
 use Rattle.std.specs.List.{AllZip}
 use Rattle.bor_register.specs.Register.{Register, filings_of}
 use Rattle.bor_machine.specs.Legality.{IsLegal}
@@ -50,3 +50,8 @@ SameHistorySameBytes = (name : List ℕ) (r q : Register) (inputs others : List 
     AreReplies r inputs replies → AreReplies q others told →
     filings_of name r.members ≡ filings_of name q.members → history_in name r inputs ≡ history_in name q others →
     received name r inputs replies ≡ received name q others told
+
+-- With one reply for each input of a run, an agent receives one for each exchange of its history. This holds of every register.
+abbrev pub EachIsReceived : Type 0
+EachIsReceived = (name : List ℕ) (r : Register) (inputs : List Spelled) (replies : List (List ℕ)) → length replies ≡ length inputs →
+    length (received name r inputs replies) ≡ length (history_in name r inputs)

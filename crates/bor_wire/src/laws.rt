@@ -1,6 +1,6 @@
 //! Laws of runs. Each function does nothing: its contract is the law.
 
-ghost use Rattle.bor_wire.specs.Histories.{SameHistorySameBytes};
+ghost use Rattle.bor_wire.specs.Histories.{EachIsReceived, SameHistorySameBytes};
 ghost use Rattle.bor_wire.specs.Nobody.{NobodysInputs};
 ghost use Rattle.bor_wire.specs.Sequences.{ExchangesAreARun};
 
@@ -10,6 +10,12 @@ use bor_machine::Keep;
 /// same history give it the same bytes in the same order.
 pub fn same_history_same_bytes()
     ensures { SameHistorySameBytes }
+{}
+
+/// With one reply for each input of a run, an agent receives one for each exchange of its history, of
+/// every register and run.
+pub fn each_is_received()
+    ensures { EachIsReceived }
 {}
 
 /// What spells no request, or has a token that nobody has, is in no agent's history and leaves the

@@ -5,7 +5,7 @@ ghost use Rattle.bor_records.specs.Promises.{Promised};
 ghost use Rattle.bor_register.specs.Register.{IsOrdered};
 ghost use Rattle.bor_wire_read.specs.Message.{request_limit};
 ghost use Rattle.bor_wire_read.specs.Reading.{TakesAtMost};
-ghost use Rattle.bor_wire.specs.Exchanges.{IsExchanged, IsWritten, OnRefusal, TellsRefusal, TellsUnavailable, read_faults, write_faults};
+ghost use Rattle.bor_wire.specs.Exchanges.{IsExchanged, IsWritten, OnRefusal, TellsRefusal, TellsUnavailable, WithoutReply, read_faults, write_faults};
 
 use crate::outgoing::{Outgoing, read_reply};
 use bor_machine::Keep;
@@ -45,8 +45,8 @@ fn write_reply<W: Write>(writer: &mut Counted<W>, status: u16, bytes: &[u8]) -> 
 /// are the reply to the one input, which each agent receives as it would alone, and the register left
 /// is the one after it; with 503 they are [`UNAVAILABLE`], and nothing changed. What each agent receives
 /// is said of legal registers, and the rest of each whose agents stand in order of their names, as every
-/// legal one's do; that 503 has [`UNAVAILABLE`] written, and which refusal an input is told that spells
-/// no request, of any register and any keep.
+/// legal one's do; that nothing changed with 503 or a failed read, that 503 has [`UNAVAILABLE`] written,
+/// and which refusal an input is told that spells no request, of any register and any keep.
 ///
 /// Statements on bytes are of readers and writers that tell theirs, as those over memory do: of another
 /// reader it isn't said which request was answered, and of another writer not what was written. What is
@@ -62,6 +62,7 @@ pub fn exchange<K: Keep, R: Read, W: Write>(
     ensures began { K.is_clean keep.new → K.is_clean keep.old }
     ensures exchanged { Promised K.shows K.is_clean keep.old keep.new (λ r. IsOrdered r.members →
         IsExchanged result (K.shows keep.new) r (R.remaining reader.old.inner) (W.contents writer.old.inner) (W.contents writer.new.inner)) }
+    ensures kept { Promised K.shows K.is_clean keep.old keep.new (λ r. WithoutReply result (K.shows keep.new r)) }
     ensures unavailable { TellsUnavailable result (W.contents writer.old.inner) (W.contents writer.new.inner) }
     ensures refused { OnRefusal (R.remaining reader.old.inner) (λ why.
         TellsRefusal result why (W.contents writer.old.inner) (W.contents writer.new.inner)) }

@@ -3,13 +3,14 @@
 ghost use Rattle.std.specs.Prelude.{◌≡◌, ◌≢◌, Ok, Err, IfSome};
 ghost use Rattle.bor_records.specs.Promises.{Promised};
 ghost use Rattle.bor_register.specs.Register.{IsOrdered};
+ghost use Rattle.bor_desk.specs.Outcomes.{IsOrderedFor};
 ghost use Rattle.bor_wire_read.specs.declared.fault.Refusal as fault;
 ghost use Rattle.bor_wire_read.specs.Message.{request_limit};
 ghost use Rattle.bor_wire_read.specs.Reading.{TakesAtMost};
 ghost use Rattle.bor_wire_spell.specs.Spell.{asked_view, spell};
 ghost use Rattle.bor_wire_spell.specs.Steps.{Finds};
 ghost use Rattle.bor_wire_reply.specs.Statuses.{desk_status};
-ghost use Rattle.bor_wire.specs.Exchanges.{ByOutgoing, GoesOut, GoesOutRefused, HasStatus, IsDeskReply, IsRefusal, IsSent, OnRefusal, faults_unread};
+ghost use Rattle.bor_wire.specs.Exchanges.{ByOutgoing, GoesOut, GoesOutRefused, HasStatus, IfUnavailable, IsRefusal, IsSent, OnRefusal, TellsAnswer, faults_unread, left_by};
 
 use bor_desk::{DeskReply, answer};
 use bor_machine::Keep;
@@ -46,7 +47,9 @@ fn refused(alloc: Global, refusal: Refusal) -> Outgoing
 fn asked<K: Keep>(alloc: Global, keep: &mut K, asking: &Asking) -> Option<DeskReply>
     ensures began { K.is_clean keep.new → K.is_clean keep.old }
     ensures reply { Promised K.shows K.is_clean keep.old keep.new (λ r.
-        IsOrdered r.members → IsDeskReply result (K.shows keep.new) r (asked_view asking.now)) }
+        IsOrderedFor asking.now.request r → TellsAnswer result r (asked_view asking.now)) }
+    ensures left { Promised K.shows K.is_clean keep.old keep.new (λ r.
+        K.shows keep.new (left_by result r (asked_view asking.now))) }
     ensures status { IfSome result (λ reply. desk_status reply ≢ 503) }
 {
     match answer(alloc, keep, &asking.token, &asking.request) {
@@ -60,7 +63,8 @@ fn asked<K: Keep>(alloc: Global, keep: &mut K, asking: &Asking) -> Option<DeskRe
 fn answered<K: Keep>(alloc: Global, keep: &mut K, asking: &Asking) -> Outgoing
     ensures began { K.is_clean keep.new → K.is_clean keep.old }
     ensures reply { Promised K.shows K.is_clean keep.old keep.new (λ r.
-        IsOrdered r.members → GoesOut result (K.shows keep.new) r (Ok (asked_view asking.now))) }
+        IsOrderedFor asking.now.request r → GoesOut result (K.shows keep.new) r (Ok (asked_view asking.now))) }
+    ensures kept { Promised K.shows K.is_clean keep.old keep.new (λ r. IfUnavailable result (K.shows keep.new r)) }
     ensures status { HasStatus result }
 {
     let Ok(mut out) = Vec::with_capacity(alloc, RESERVED) else {
@@ -93,6 +97,7 @@ fn reply_for<K: Keep>(alloc: Global, paths: &Paths, keep: &mut K, raw: RawReques
     ensures began { K.is_clean keep.new → K.is_clean keep.old }
     ensures reply { Promised K.shows K.is_clean keep.old keep.new (λ r.
         IsOrdered r.members → GoesOut result (K.shows keep.new) r (spell raw)) }
+    ensures kept { Promised K.shows K.is_clean keep.old keep.new (λ r. IfUnavailable result (K.shows keep.new r)) }
     ensures refused { (why : fault.Refusal) → spell raw ≡ Err why → IsRefusal result why }
     ensures status { HasStatus result }
 {
@@ -114,7 +119,7 @@ pub(crate) fn read_reply<K: Keep, R: Read>(
     ensures reply { ByOutgoing result (R.remaining reader.old.inner)
         (λ spelled status bytes. Promised K.shows K.is_clean keep.old keep.new (λ r.
         IsOrdered r.members → IsSent (K.shows keep.new) r spelled status bytes))
-        (Promised K.shows K.is_clean keep.old keep.new (λ r. IsOrdered r.members → K.shows keep.new r)) }
+        (Promised K.shows K.is_clean keep.old keep.new (K.shows keep.new)) }
     ensures refused { OnRefusal (R.remaining reader.old.inner) (GoesOutRefused result) }
     ensures status { IfSome result HasStatus }
     ensures taken { TakesAtMost request_limit (R.remaining reader.old.inner) (R.remaining reader.new.inner) }

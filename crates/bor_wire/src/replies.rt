@@ -33,7 +33,7 @@ fn reply_to<K: Keep>(alloc: Global, paths: &Paths, keep: &mut K, input: &[u8]) -
     ensures reply { ByReply result input.now
         (λ spelled bytes. Promised K.shows K.is_clean keep.old keep.new (λ r.
         IsOrdered r.members → IsReplyTo r spelled bytes × K.shows keep.new (after r spelled)))
-        (Promised K.shows K.is_clean keep.old keep.new (λ r. IsOrdered r.members → K.shows keep.new r)) }
+        (Promised K.shows K.is_clean keep.old keep.new (K.shows keep.new)) }
 {
     let mut reader = Counted::new(input);
     match read_reply(alloc, paths, keep, &mut reader) {

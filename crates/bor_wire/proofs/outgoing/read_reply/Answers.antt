@@ -1,6 +1,6 @@
 use Rattle.std.proofs.Common.{Ok, Err, refl}
 use Rattle.bor_wire_spell.specs.Spell.{spell}
-use Rattle.bor_wire.proofs.Outgoings.{by_outgoing, refusal_goes, spelled_known, refused_out, is_that, nothing_out}
+use Rattle.bor_wire.proofs.Outgoings.{by_outgoing, if_unavailable, refusal_goes, spelled_known, refused_out, is_that, nothing_out}
 use Rattle.bor_wire.proofs.outgoing.read_reply.Goals as goal
 
 pub returns-in-Ok-clause-reply : goal.returns-in-Ok-clause-reply
@@ -8,7 +8,7 @@ returns-in-Ok-clause-reply g c =
     let known = g.R.Read.remaining c.args.reader.now.inner in
     let keep = g.K.Keep in
     by_outgoing keep.shows keep.is_clean c.args.keep.now c.reply_for.new.keep c.reply_for.result known (spell c.in-Ok.raw)
-    (spelled_known known (Ok c.in-Ok.raw) c.in-Ok.ensures.request) c.reply_for.ensures.reply
+    (spelled_known known (Ok c.in-Ok.raw) c.in-Ok.ensures.request) c.reply_for.ensures.reply c.reply_for.ensures.kept
 
 pub returns-in-Ok-clause-refused : goal.returns-in-Ok-clause-refused
 returns-in-Ok-clause-refused g c =
@@ -34,3 +34,4 @@ returns-in-Err-Refused-clause-reply g c =
     by_outgoing keep.shows keep.is_clean c.args.keep.now c.args.keep.now c.refused.result known (Err why)
     (spelled_known known (Err why) (rw c.in-Err-Refused.field-0-is at c.in-Err-Refused.ensures.request))
     (λ r is clean ordered. refusal_goes c.refused.result (keep.shows c.args.keep.now) r why c.refused.ensures.refusal is)
+    (λ r is clean. if_unavailable c.refused.result (keep.shows c.args.keep.now r) is)

@@ -1,6 +1,7 @@
 use Rattle.std.proofs.Common.{◌≡◌, Ok}
+use Rattle.bor_desk.proofs.Steps.{ordered_for}
 use Rattle.bor_wire_spell.specs.Spell.{asked_view, spell}
-use Rattle.bor_wire.proofs.Outgoings.{refusal_goes, is_that}
+use Rattle.bor_wire.proofs.Outgoings.{if_unavailable, refusal_goes, is_that}
 use Rattle.bor_wire.proofs.outgoing.reply_for.Goals as goal
 
 pub returns-in-Ok-clause-refused : goal.returns-in-Ok-clause-refused
@@ -14,3 +15,10 @@ pub returns-in-Err-Refused-clause-reply : goal.returns-in-Err-Refused-clause-rep
 returns-in-Err-Refused-clause-reply g c = λ r is clean ordered.
     rw (rw c.in-Err-Refused.field-0-is at c.in-Err-Refused.ensures)
     (refusal_goes c.refused.result (g.K.Keep.shows c.args.keep.now) r c.in-Err-Refused.refusal c.refused.ensures.refusal is)
+
+pub returns-in-Ok-clause-reply : goal.returns-in-Ok-clause-reply
+returns-in-Ok-clause-reply g c = λ r is clean ordered.
+    rw c.in-Ok.ensures (c.answered.ensures.reply r is clean (ordered_for c.in-Ok.asking.request r ordered))
+
+pub returns-in-Err-Refused-clause-kept : goal.returns-in-Err-Refused-clause-kept
+returns-in-Err-Refused-clause-kept g c = λ r is clean. if_unavailable c.refused.result (g.K.Keep.shows c.args.keep.now r) is
