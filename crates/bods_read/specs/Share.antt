@@ -86,10 +86,10 @@ exclusive_at field share = exclusive_in (member (field_word field) share)
 
 -- ---- the bounds that a share gives
 
--- a member asks for a bound where it gives a number
-abbrev pub asked : (ℕ → Bound) → Option ℕ → List Bound
-asked bound None = []
-asked bound (Some m) = bound m ∷ []
+-- the bound that a member gives, where it has a number
+abbrev pub bound_given : (ℕ → Bound) → Option ℕ → List Bound
+bound_given bound None = []
+bound_given bound (Some m) = bound m ∷ []
 
 -- true opens the bound beside it
 abbrev pub opens : Exclusive → Bool
@@ -106,12 +106,12 @@ open_number (Percent m) = Some m
 -- minimum m asks for at least m, and for more where exclusiveMinimum is true; exclusiveMinimum m asks
 -- for more than m
 abbrev pub lows : Option ℕ → Exclusive → List Bound
-lows minimum e = asked (if opens e then above else at_least) minimum ++ asked above (open_number e)
+lows minimum e = bound_given (if opens e then above else at_least) minimum ++ bound_given above (open_number e)
 
 -- maximum m asks for at most m, and for less where exclusiveMaximum is true; exclusiveMaximum m asks
 -- for less than m
 abbrev pub highs : Option ℕ → Exclusive → List Bound
-highs maximum e = asked (if opens e then below else at_most) maximum ++ asked below (open_number e)
+highs maximum e = bound_given (if opens e then below else at_most) maximum ++ bound_given below (open_number e)
 
 -- exact x asks for x and nothing else
 abbrev pub exactly_or : Option ℕ → List Bound → List Bound

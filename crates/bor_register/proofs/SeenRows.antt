@@ -5,16 +5,16 @@ use Rattle.std.proofs.lemmas.List.{drop_more}
 use Rattle.bods_read.specs.declared.statement.Statement.{Statement}
 use Rattle.bor_records.specs.declared.row.Row.{Row}
 use Rattle.bor_register.specs.declared.member.Member.{Member}
-use Rattle.bor_register.specs.Rows.{is_asked, asked, row_of, rows_from, visible_in, visible}
+use Rattle.bor_register.specs.Rows.{is_asked, asked_rows, row_of, rows_from, visible_in, visible}
 
 -- the rows that are asked for, from the i-th statement on
 abbrev pub rows_left : Option (List ℕ) → List ℕ → ℕ → List Statement → ℕ → List Row
-rows_left declaration name number ss i = asked declaration (rows_from name number (i + 1) (drop i ss))
+rows_left declaration name number ss i = asked_rows declaration (rows_from name number (i + 1) (drop i ss))
 
 rows_left-more : (declaration : Option (List ℕ)) (name : List ℕ) (number i : ℕ) (ss : List Statement) (s : Statement) (b : Bool) → i < length ss → s ≡ get_or ss i s → is_asked declaration s ≡ b →
     rows_left declaration name number ss i ≡ (if b then row_of name number (i + 1) s ∷ rows_left declaration name number ss (i + 1) else rows_left declaration name number ss (i + 1))
 rows_left-more declaration name number i ss s b lt is of =
-    ap (λ ys. asked declaration (rows_from name number (i + 1) ys)) (drop_more ss i s lt ∙ ap (λ x. x ∷ drop (i + 1) ss) (sym is)) ∙ rw of refl
+    ap (λ ys. asked_rows declaration (rows_from name number (i + 1) ys)) (drop_more ss i s lt ∙ ap (λ x. x ∷ drop (i + 1) ss) (sym is)) ∙ rw of refl
 
 pub row_added : (declaration : Option (List ℕ)) (name : List ℕ) (number i : ℕ) (ss : List Statement) (s : Statement) (front whole : List Row) → i < length ss → s ≡ get_or ss i s → is_asked declaration s ≡ true →
     front ++ rows_left declaration name number ss i ≡ whole → (front ++ row_of name number (i + 1) s ∷ []) ++ rows_left declaration name number ss (i + 1) ≡ whole
@@ -32,14 +32,14 @@ pub ruleset more_rows = (row_added, row_passed)
 -- ---- one agent after the other
 
 -- where no declaration is named, all are asked for
-asked-none : (rows : List Row) → asked None rows ≡ rows
-asked-none [] = refl
-asked-none (row ∷ rows) = ap (λ rest. row ∷ rest) (asked-none rows)
+asked_rows-none : (rows : List Row) → asked_rows None rows ≡ rows
+asked_rows-none [] = refl
+asked_rows-none (row ∷ rows) = ap (λ rest. row ∷ rest) (asked_rows-none rows)
 
 pub agent_added : (viewer : List ℕ) (day : ℤ) (ms : List Member) (i : ℕ) (m : Member) (front whole : List Row) → i < length ms → m ≡ get_or ms i m →
-    front ++ visible viewer day (drop i ms) ≡ whole → (front ++ asked None (visible_in viewer day m.name m.filings)) ++ visible viewer day (drop (i + 1) ms) ≡ whole
+    front ++ visible viewer day (drop i ms) ≡ whole → (front ++ asked_rows None (visible_in viewer day m.name m.filings)) ++ visible viewer day (drop (i + 1) ms) ≡ whole
 agent_added viewer day ms i m front whole lt is h =
     let more = drop_more ms i m lt ∙ ap (λ n. n ∷ drop (i + 1) ms) (sym is) in
-    ap (λ rows. (front ++ rows) ++ visible viewer day (drop (i + 1) ms)) (asked-none (visible_in viewer day m.name m.filings))
+    ap (λ rows. (front ++ rows) ++ visible viewer day (drop (i + 1) ms)) (asked_rows-none (visible_in viewer day m.name m.filings))
     ∙ append_assoc front (visible_in viewer day m.name m.filings) (visible viewer day (drop (i + 1) ms))
     ∙ ap (λ ns. front ++ visible viewer day ns) (sym more) ∙ h

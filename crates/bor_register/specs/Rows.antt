@@ -52,5 +52,5 @@ is_asked None s = true
 is_asked (Some declaration) s = is_same s.declaration declaration
 
 -- of these rows those that are asked for
-abbrev pub asked : Option (List ℕ) → List Row → List Row
-asked declaration rows = filter (λ row. is_asked declaration row.statement) rows
+abbrev pub asked_rows : Option (List ℕ) → List Row → List Row
+asked_rows declaration rows = filter (λ row. is_asked declaration row.statement) rows

@@ -1,7 +1,7 @@
 //! The rows of statements that a viewer sees.
 
 ghost use Rattle.std.specs.Prelude.{◌≡◌, ◌++◌, option_map, OnOk, IfOk};
-ghost use Rattle.bor_register.specs.Rows.{is_asked, asked, row_of, rows_from, visible_in, rows_of, visible};
+ghost use Rattle.bor_register.specs.Rows.{is_asked, asked_rows, row_of, rows_from, visible_in, rows_of, visible};
 
 use crate::filing::AcceptedFiling;
 use crate::member::Member;
@@ -47,7 +47,7 @@ fn add_rows(
     declaration: Option<&Ident>,
 ) -> Result<(), AllocError>
     ensures { OnOk result (rows.new.items ≡ rows.old.items
-        ++ asked (option_map (λ d. d.now) declaration.entry)
+        ++ asked_rows (option_map (λ d. d.now) declaration.entry)
         (rows_from agent.now filing.now.number 1 filing.now.statements)) }
 {
     for (i, statement) in filing.statements.as_slice().iter().enumerate() {
@@ -69,7 +69,7 @@ fn add_visible(
     declaration: Option<&Ident>,
 ) -> Result<(), AllocError>
     ensures { OnOk result (rows.new.items ≡ rows.old.items
-        ++ asked (option_map (λ d. d.now) declaration.entry) (visible_in viewer.now day agent.now filings.now)) }
+        ++ asked_rows (option_map (λ d. d.now) declaration.entry) (visible_in viewer.now day agent.now filings.now)) }
 {
     for filing in filings {
         if filing.is_visible(viewer, agent, day) {
