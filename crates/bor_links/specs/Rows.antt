@@ -6,7 +6,6 @@ use Rattle.bods_read.specs.declared.details.Details.TheVariants as details
 use Rattle.bods_read.specs.declared.details.EntityKind.{EntityKind}
 use Rattle.bods_read.specs.declared.details.EntityKind.TheVariants as kinds
 use Rattle.bods_read.specs.declared.interest.Interest.{Interest}
-use Rattle.bods_read.specs.declared.statement.Statement.{Statement}
 use Rattle.bor_records.specs.declared.row.Row.{Row}
 use Rattle.bor_links.specs.declared.node.Node.{Node}
 use Rattle.bor_links.specs.declared.node.NodeInfo.{NodeInfo}
@@ -35,12 +34,9 @@ node_with n (details.Entity kind name identifiers) = Some (record { node = n; in
 node_with n (details.Person kind name) = Some (record { node = n; info = Person name; identifiers = [] })
 node_with n (details.Relationship subject party interests) = None
 
--- the node that a statement of an agent makes
-abbrev pub node_stated : List ℕ → Statement → Option OpenNode
-node_stated agent s = node_with (stated agent s) s.details
-
+-- the node that a row's statement makes
 abbrev pub node_in : Row → Option OpenNode
-node_in r = node_stated r.agent r.statement
+node_in r = node_with (stated r.agent r.statement) r.statement.details
 
 -- what a chain asks of it
 abbrev pub info_stated : Details → Option NodeInfo

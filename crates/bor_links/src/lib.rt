@@ -30,9 +30,6 @@ mod stake;
 
 pub use class::{Class, once};
 pub use node::{Link, Node, NodeInfo, OpenNode};
-pub use rows::{
-    info_stated, is_alias_stated, is_of, node_of, node_stated, record_beside, record_of,
-    record_stated,
-};
+pub use rows::{info_stated, node_of, record_of};
 pub use sign::Sign;
 pub use stake::{holding_of, stake_of};

@@ -139,7 +139,7 @@ impl OpenNode {
     }
 }
 
-pub(crate) fn share_identifier(ours: &[Identifier], theirs: &[Identifier]) -> bool
+fn share_identifier(ours: &[Identifier], theirs: &[Identifier]) -> bool
     ensures { result ≡ share_identifier ours.now theirs.now }
 {
     ours.iter()

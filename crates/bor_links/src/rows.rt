@@ -1,15 +1,12 @@
 //! The nodes that rows make.
 
 ghost use Rattle.std.specs.Prelude.{◌≡◌, IfOk};
-ghost use Rattle.bor_links.specs.Nodes.{same_node};
-ghost use Rattle.bor_links.specs.Series.{stated};
-ghost use Rattle.bor_links.specs.Shown.{is_like, same_record};
-ghost use Rattle.bor_links.specs.Rows.{is_legal_kind, node_in, node_stated, info_stated, beside};
+ghost use Rattle.bor_links.specs.Rows.{is_legal_kind, node_in, info_stated, beside};
 
-use crate::node::{Node, NodeInfo, OpenNode, share_identifier};
-use bods_read::{Details, EntityKind, Identifier, Statement};
+use crate::node::{Node, NodeInfo, OpenNode};
+use bods_read::{Details, EntityKind, Identifier};
 use bor_records::Row;
-use bor_terms::{AgentName, Ident, Listed};
+use bor_terms::{Ident, Listed};
 use std::alloc::{AllocError, Global};
 
 fn is_legal(kind: EntityKind) -> bool
@@ -18,42 +15,15 @@ fn is_legal(kind: EntityKind) -> bool
     kind == EntityKind::RegisteredEntity || kind == EntityKind::LegalEntity
 }
 
-/// The node of a record of the statement's own declaration.
-pub fn record_beside(
-    alloc: Global,
-    agent: &AgentName,
-    statement: &Statement,
-    rec: &Ident,
-) -> Result<Node, AllocError>
-    ensures { IfOk result (λ node. node ≡ record {
-      agent = agent.now;
-      declaration = statement.now.declaration;
-      rec = rec.now;
-    }) }
-{
-    Ok(Node {
-        agent: agent.copy(alloc)?,
-        declaration: statement.declaration.copy(alloc)?,
-        rec: rec.copy(alloc)?,
-    })
-}
-
 /// The node of a record of the row's own declaration.
 pub fn record_of(alloc: Global, row: &Row, rec: &Ident) -> Result<Node, AllocError>
     ensures { IfOk result (λ node. node ≡ beside row.now rec.now) }
 {
-    record_beside(alloc, &row.agent, &row.statement, rec)
-}
-
-/// The record that a statement of an agent is of.
-pub fn record_stated(
-    alloc: Global,
-    agent: &AgentName,
-    statement: &Statement,
-) -> Result<Node, AllocError>
-    ensures { IfOk result (λ node. node ≡ stated agent.now statement.now) }
-{
-    record_beside(alloc, agent, statement, &statement.rec)
+    Ok(Node {
+        agent: row.agent.copy(alloc)?,
+        declaration: row.statement.declaration.copy(alloc)?,
+        rec: rec.copy(alloc)?,
+    })
 }
 
 fn copied(alloc: Global, identifiers: &[Identifier]) -> Result<Listed<Identifier>, AllocError>
@@ -71,24 +41,13 @@ fn copied(alloc: Global, identifiers: &[Identifier]) -> Result<Listed<Identifier
 pub fn node_of(alloc: Global, row: &Row) -> Result<Option<OpenNode>, AllocError>
     ensures { IfOk result (λ node. node ≡ node_in row.now) }
 {
-    node_stated(alloc, &row.agent, &row.statement)
-}
-
-/// The node that a statement of an agent makes; a relationship makes none.
-pub fn node_stated(
-    alloc: Global,
-    agent: &AgentName,
-    statement: &Statement,
-) -> Result<Option<OpenNode>, AllocError>
-    ensures { IfOk result (λ node. node ≡ node_stated agent.now statement.now) }
-{
-    match &statement.details {
+    match &row.statement.details {
         Details::Entity {
             kind,
             identifiers,
             ..
         } => Ok(Some(OpenNode {
-            node: record_stated(alloc, agent, statement)?,
+            node: record_of(alloc, row, &row.statement.rec)?,
             info: NodeInfo::Entity {
                 legal: is_legal(*kind),
             },
@@ -98,14 +57,14 @@ pub fn node_stated(
             name: Some(name),
             ..
         } => Ok(Some(OpenNode {
-            node: record_stated(alloc, agent, statement)?,
+            node: record_of(alloc, row, &row.statement.rec)?,
             info: NodeInfo::Person {
                 name: Some(name.copy(alloc)?),
             },
             identifiers: Listed::new(Vec::new(alloc)),
         })),
         Details::Person { name: None, .. } => Ok(Some(OpenNode {
-            node: record_stated(alloc, agent, statement)?,
+            node: record_of(alloc, row, &row.statement.rec)?,
             info: NodeInfo::Person { name: None },
             identifiers: Listed::new(Vec::new(alloc)),
         })),
@@ -130,33 +89,4 @@ pub fn info_stated(alloc: Global, details: &Details) -> Result<Option<NodeInfo>,
         Details::Person { name: None, .. } => Ok(Some(NodeInfo::Person { name: None })),
         Details::Relationship { .. } => Ok(None),
     }
-}
-
-/// Whether the node that a statement of an agent makes stands for one entity with an open node by
-/// one step, as [`OpenNode::is_alias`] has it. It takes no memory.
-pub fn is_alias_stated(one: &OpenNode, agent: &AgentName, statement: &Statement) -> bool
-    ensures { result ≡ is_like one.now (node_stated agent.now statement.now) }
-{
-    match &statement.details {
-        Details::Entity { identifiers, .. } => {
-            one.info.is_entity()
-                && (is_elsewhere(&one.node, agent, statement)
-                    || share_identifier(one.identifiers.as_slice(), identifiers.as_slice())
-                        && !is_of(&one.node, agent, statement))
-        }
-        Details::Person { .. } | Details::Relationship { .. } => false,
-    }
-}
-
-fn is_elsewhere(node: &Node, agent: &AgentName, statement: &Statement) -> bool
-    ensures { result ≡ same_record node.now (stated agent.now statement.now) }
-{
-    node.agent == *agent && node.rec == statement.rec && node.declaration != statement.declaration
-}
-
-/// Whether a statement of an agent is of the record.
-pub fn is_of(node: &Node, agent: &AgentName, statement: &Statement) -> bool
-    ensures { result ≡ same_node (stated agent.now statement.now) node.now }
-{
-    *agent == node.agent && statement.declaration == node.declaration && statement.rec == node.rec
 }

@@ -1,7 +1,7 @@
 //! Nodes and links.
 
 use super::notation::{day, interests_of, rows, statements};
-use bor_links::{OpenNode, holding_of, is_alias_stated, is_of, node_of, stake_of};
+use bor_links::{OpenNode, holding_of, node_of, stake_of};
 use bor_records::{Row, open_rows};
 use std::alloc::Global;
 use std::process::Abort;
@@ -10,12 +10,6 @@ fn open_node(rt: &impl Abort, alloc: Global, row: &Row) -> OpenNode {
     node_of(alloc, row)
         .expect(rt, "memory")
         .expect(rt, "no node")
-}
-
-// Whether the node that a row's statement makes is an alias of a node, by itself and as it is stated.
-fn is_alias(rt: &impl Abort, alloc: Global, one: &OpenNode, row: &Row) -> (bool, bool) {
-    let is_alias = one.is_alias(&open_node(rt, alloc, row));
-    (is_alias, is_alias_stated(one, &row.agent, &row.statement))
 }
 
 // Two companies with one number, of which a1 has 60 percent of the votes of e1.
@@ -31,8 +25,7 @@ fn the_example_of_the_root_page(rt: HostRuntime) {
         panic!(rt; "not three rows");
     };
     let e1 = open_node(&rt, alloc, *first);
-    assert_eq!(rt; is_alias(&rt, alloc, &e1, *second), (true, true));
-    assert!(rt; is_of(&e1.node, &first.agent, &first.statement));
+    assert!(rt; e1.is_alias(&open_node(&rt, alloc, *second)));
     let votes = interests_of(&third.statement);
     assert!(rt; stake_of(votes));
     assert!(rt; holding_of(votes));
