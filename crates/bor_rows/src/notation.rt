@@ -2,8 +2,8 @@
 //!
 //! Statements are joined by `; `, their words by spaces:
 //!
-//! - `E s1 e1`: the entity e1, stated as s1, a `registeredEntity`. A further word is another type,
-//!   `#X/Y` an identifier of scheme X.
+//! - `E s1 e1`: the entity e1, stated as s1, a `registeredEntity`. A further word is another type, and
+//!   each `#X/Y` an identifier of scheme X.
 //! - `P s2 p1`: the person p1.
 //! - `R s3 r1 e1<-p1 V60 S10 B`: the relationship of p1 to e1, with 60 percent of the votes, 10 of the
 //!   shares, and the right to appoint the board with no share told. `V{..}` has the share as written.
@@ -35,16 +35,27 @@ fn kind_of(statement: &str) -> &str {
     "registeredEntity"
 }
 
+// The numbers of the entity: the words that begin with their mark.
+fn add_identifiers(text: &mut String, statement: &str) -> Result<(), RowFault> {
+    let mut has_any = false;
+    for word in statement.split(' ') {
+        if let Some(number) = word.strip_prefix("#") {
+            let (scheme, id) = number.split_once('/').ok_or(RowFault::Unread)?;
+            text.push_str(if has_any { "," } else { r#","identifiers":["# })?;
+            write!(text, r#"{{"scheme":"{scheme}","id":"{id}"}}"#)?;
+            has_any = true;
+        }
+    }
+    if has_any {
+        text.push(']')?;
+    }
+    Ok(())
+}
+
 fn add_entity(text: &mut String, statement: &str) -> Result<(), RowFault> {
     let kind = kind_of(statement);
     write!(text, r#"{{"entityType":{{"type":"{kind}"}}"#)?;
-    if let Some(number) = marked(statement, "#") {
-        let (scheme, id) = number.split_once('/').ok_or(RowFault::Unread)?;
-        write!(
-            text,
-            r#","identifiers":[{{"scheme":"{scheme}","id":"{id}"}}]"#
-        )?;
-    }
+    add_identifiers(text, statement)?;
     text.push('}')?;
     Ok(())
 }
