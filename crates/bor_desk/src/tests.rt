@@ -10,7 +10,6 @@ mod largest;
 mod lodging;
 pub(crate) mod notation;
 mod operations;
-mod operations_failing;
 mod reports;
 mod rounds;
 mod shapes;

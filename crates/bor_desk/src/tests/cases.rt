@@ -1,11 +1,9 @@
 //! Worked cases of who stands behind an entity, each answered twice.
 
-use crate::tests::filed::{Filed, answers, numbered, over_a1, votes};
+use crate::tests::filed::{Filed, answers};
 use crate::tests::notation::{day, node};
-use bods_read::Directness;
-use bor_chains::{ListSource, Node, PersonLine, persons_of};
-use bor_records::Row;
-use bor_terms::Day;
+use bor_chains::{ListSource, PersonLine, persons_of};
+use bor_rows::FIRST;
 use std::alloc::Global;
 use std::process::Abort;
 
@@ -13,27 +11,26 @@ fn is_named(line: &PersonLine, wanted: &str) -> bool {
     matches!(&line.name, Some(name) if name.as_str() == wanted)
 }
 
-// The example of the first page of `bor_chains`.
-fn p1_is_behind(rt: &impl Abort, alloc: Global, rows: &[Row], day: Day, e1: &Node) {
-    let mut source = ListSource::from_rows(alloc, rows, day).expect(rt, "memory");
-    let persons = persons_of(alloc, &mut source, e1).expect(rt, "no report");
-    assert_eq!(rt; persons.len(), 1);
-    assert!(rt; persons[0].node.rec.as_str() == "p1");
-    assert!(rt; is_named(&persons[0], "p1"));
-}
-
+// The example of the first page of `bor_chains`, of the first lodging.
 #[test]
 fn the_first_page_is_right(rt: HostRuntime) {
     let alloc = rt.alloc();
-    let rows = over_a1(&rt, alloc, &[votes(60)]).rows;
+    let rows = Filed::of(&rt, alloc, "alder FIRST").rows;
     let e1 = node(&rt, alloc, "alder", "c1", "e1");
-    p1_is_behind(&rt, alloc, &rows, day(&rt, "2024-02-01"), &e1);
+    let mut source = ListSource::from_rows(alloc, &rows, day(&rt, "2024-02-01")).expect(
+        &rt, "memory",
+    );
+    let persons = persons_of(alloc, &mut source, &e1).expect(&rt, "no report");
+    assert_eq!(rt; persons.len(), 1);
+    assert!(rt; persons[0].node.rec.as_str() == "p1");
+    assert!(rt; is_named(&persons[0], "Ann Moss"));
 }
 
 // Files in words, each after the agent that files it, and who stands behind which entity.
 fn are_answered(rt: &impl Abort, alloc: Global, case: &str, files: &[&str], asks: &[(&str, &str)]) {
-    let mut filed = Filed::new(alloc);
-    for words in files {
+    let (first, others) = files.split_first().expect(rt, "no file");
+    let mut filed = Filed::of(rt, alloc, *first);
+    for words in others {
         filed.state(rt, words);
     }
     for (ask, wanted) in asks {
@@ -72,32 +69,18 @@ fn a_majority_of_votes_or_of_the_board_is_followed(rt: HostRuntime) {
 
 #[test]
 fn an_indirect_interest_counts_for_nothing(rt: HostRuntime) {
-    for (directness, wanted) in [(Directness::Indirect, ""), (Directness::Direct, "p1")] {
-        let mut interest = votes(60);
-        interest.directness = directness;
-        let filed = over_a1(&rt, rt.alloc(), &[interest]);
-        for rec in ["e1", "a1"] {
-            answers(&rt, &filed, "directness", rec, wanted);
-        }
-    }
-}
-
-#[test]
-fn aliases_go_over_several_identifiers(rt: HostRuntime) {
     let alloc = rt.alloc();
-    for (id, wanted) in [("2", "p1"), ("3", "")] {
-        let mut filed = Filed::new(alloc);
-        filed.with(&rt, "e1", numbered(&rt, alloc, &[("X", "1")]));
-        filed.with(&rt, "a1", numbered(&rt, alloc, &[("X", "1"), ("Y", "2")]));
-        filed.with(&rt, "b1", numbered(&rt, alloc, &[("Y", id)]));
-        filed.records(&rt, &["p1"]);
-        filed.link(&rt, "b1", "p1", &[votes(100)]);
-        answers(&rt, &filed, id, "e1", wanted);
+    let (before, after) = FIRST.split_once(r#""share""#).expect(&rt, "no share");
+    for (directness, wanted) in [("direct", "p1"), ("indirect", ""), ("unknown", "p1")] {
+        let words = format!(in alloc;
+            r#"alder {before}"directOrIndirect":"{directness}","share"{after}"#
+        ).expect(&rt, "memory");
+        are_answered(&rt, alloc, directness, &[words.as_str()], &[("e1", wanted)]);
     }
 }
 
 // Cases by their names: files, and who stands behind which entity, on 2024-02-01 or another day.
-const CASES: [(&str, &[&str], &[(&str, &str)]); 16] = [
+const CASES: [(&str, &[&str], &[(&str, &str)]); 17] = [
     (
         "a loop is walked as target and as middle",
         &[
@@ -157,6 +140,14 @@ const CASES: [(&str, &[&str], &[(&str, &str)]); 16] = [
             "birch E s2 e1; P s3 p1; R s4 r9 e1<-p1 S5 in c2",
         ],
         &[("e1", "")],
+    ),
+    (
+        "aliases go over several identifiers",
+        &[
+            "alder E s1 e1 #X/1; E s2 a1 #X/1 #Y/2; E s3 b1 #Y/2; P s4 p1; R s5 r1 b1<-p1 V100",
+            "alder E s6 b2 #Y/3; P s7 q1; R s8 r2 b2<-q1 V100",
+        ],
+        &[("e1", "p1"), ("b2", "q1")],
     ),
     // By agent, then declaration, then record, and not in the order in which they are met.
     (

@@ -1,71 +1,66 @@
-//! Large shapes that a slow or endless walk would not come through, made of nodes and links by their
-//! numbers.
+//! Large shapes that a slow or endless walk would not come through.
 
-use crate::tests::filed::{
-    Filed, answers, company, name_of, numbered, person, shares, votes, walked,
-};
+use crate::tests::filed::{Filed, answers, walked};
 use crate::tests::notation::{day, node};
 use crate::tests::same;
-use bor_chains::{ListSource, persons_of};
+use std::alloc::Global;
+use std::process::Abort;
+
+// Who stands behind e0 of a file of alder's, by the walk alone.
+fn behind_e0(rt: &impl Abort, alloc: Global, words: &str) -> String {
+    let filed = Filed::of(rt, alloc, words);
+    let target = node(rt, alloc, "alder", "c1", "e0");
+    walked(rt, alloc, &filed.rows, day(rt, "2024-02-01"), &target)
+}
 
 // e0 is held by e1, which is held by e2, and so on; the last is held by p.
 #[test]
 fn a_chain_of_two_hundred(rt: HostRuntime) {
     let alloc = rt.alloc();
-    let mut filed = Filed::new(alloc);
-    filed.records(&rt, &["e0", "p"]);
+    let mut words = String::from_str(alloc, "alder P s p").expect(&rt, "memory");
     for i in 0..200_u32 {
-        let below = name_of(&rt, alloc, "e", i);
-        let above = name_of(&rt, alloc, "e", i + 1);
-        filed.with(&rt, above.as_str(), company(&rt, alloc));
-        filed.link(&rt, below.as_str(), above.as_str(), &[votes(51)]);
+        let next = i + 1;
+        write!(words, "; E s{i} e{i}; R t{i} r{i} e{i}<-e{next} V51").expect(&rt, "memory");
     }
-    filed.link(&rt, "e200", "p", &[votes(51)]);
-    let target = node(&rt, alloc, "alder", "c1", "e0");
-    let found = walked(&rt, alloc, &filed.rows, day(&rt, "2024-02-01"), &target);
+    words
+        .push_str("; E s200 e200; R t200 r200 e200<-p V51")
+        .expect(&rt, "memory");
+    let found = behind_e0(&rt, alloc, words.as_str());
     same(&rt, "chains", "e0", found.as_str(), "p");
 }
 
 #[test]
 fn a_star_of_two_hundred(rt: HostRuntime) {
     let alloc = rt.alloc();
-    let mut filed = Filed::new(alloc);
-    filed.records(&rt, &["e0"]);
+    let mut words = String::from_str(alloc, "alder E s e0").expect(&rt, "memory");
     for i in 0..200_u32 {
-        let holder = name_of(&rt, alloc, "p", i);
-        filed.with(&rt, holder.as_str(), person(&rt, alloc, "someone"));
-        filed.link(&rt, "e0", holder.as_str(), &[shares(1)]);
+        write!(words, "; P s{i} p{i}; R t{i} r{i} e0<-p{i} S1").expect(&rt, "memory");
     }
-    let mut source = ListSource::from_rows(alloc, &filed.rows, day(&rt, "2024-02-01")).expect(
-        &rt, "memory",
-    );
-    let target = node(&rt, alloc, "alder", "c1", "e0");
-    let lines = persons_of(alloc, &mut source, &target).expect(&rt, "a fault");
-    assert_eq!(rt; lines.len(), 200);
+    let found = behind_e0(&rt, alloc, words.as_str());
+    assert_eq!(rt; found.split(' ').count(), 200);
 }
 
 // Two entities a step, each of which holds both of the step below: 2^50 chains from p.
 #[test]
 fn a_ladder_of_many_chains(rt: HostRuntime) {
     let alloc = rt.alloc();
-    let mut filed = Filed::new(alloc);
-    filed.records(&rt, &["a0", "b0", "e0", "p"]);
-    filed.link(&rt, "e0", "a0", &[votes(60)]);
-    filed.link(&rt, "e0", "b0", &[votes(60)]);
-    for i in 0..49_u32 {
-        for above in ["a", "b"] {
-            let party = name_of(&rt, alloc, above, i + 1);
-            filed.with(&rt, party.as_str(), company(&rt, alloc));
-            for below in ["a", "b"] {
-                let subject = name_of(&rt, alloc, below, i);
-                filed.link(&rt, subject.as_str(), party.as_str(), &[votes(60)]);
-            }
-        }
+    let mut words = String::from_str(
+        alloc,
+        "alder E s e0; P t p; E s0 a0; E t0 b0; R u1 x1 e0<-a0 V60; R u2 x2 e0<-b0 V60",
+    )
+    .expect(&rt, "memory");
+    for i in 1..50_u32 {
+        let below = i - 1;
+        write!(
+            words,
+            "; E s{i} a{i}; E t{i} b{i}; R u{i}aa aa{i} a{below}<-a{i} V60; R u{i}ab ab{i} a{below}<-b{i} V60; R u{i}ba ba{i} b{below}<-a{i} V60; R u{i}bb bb{i} b{below}<-b{i} V60"
+        )
+        .expect(&rt, "memory");
     }
-    filed.link(&rt, "a49", "p", &[votes(60)]);
-    filed.link(&rt, "b49", "p", &[votes(60)]);
-    let target = node(&rt, alloc, "alder", "c1", "e0");
-    let found = walked(&rt, alloc, &filed.rows, day(&rt, "2024-02-01"), &target);
+    words
+        .push_str("; R u3 x3 a49<-p V60; R u4 x4 b49<-p V60")
+        .expect(&rt, "memory");
+    let found = behind_e0(&rt, alloc, words.as_str());
     same(&rt, "chains", "e0", found.as_str(), "p");
 }
 
@@ -73,15 +68,11 @@ fn a_ladder_of_many_chains(rt: HostRuntime) {
 #[test]
 fn a_ring_of_fifty_aliases(rt: HostRuntime) {
     let alloc = rt.alloc();
-    let mut filed = Filed::new(alloc);
+    let mut words = String::from_str(alloc, "alder P s p; R t r e25<-p S1").expect(&rt, "memory");
     for i in 0..50_u32 {
-        let rec = name_of(&rt, alloc, "e", i);
-        let own = name_of(&rt, alloc, "", i);
-        let next = name_of(&rt, alloc, "", (i + 1) % 50);
-        let numbers = [("X", own.as_str()), ("X", next.as_str())];
-        filed.with(&rt, rec.as_str(), numbered(&rt, alloc, &numbers));
+        let next = (i + 1) % 50;
+        write!(words, "; E s{i} e{i} #X/{i} #X/{next}").expect(&rt, "memory");
     }
-    filed.records(&rt, &["p"]);
-    filed.link(&rt, "e25", "p", &[shares(1)]);
+    let filed = Filed::of(&rt, alloc, words.as_str());
     answers(&rt, &filed, "a ring", "e0", "p");
 }

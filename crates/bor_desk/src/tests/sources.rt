@@ -1,16 +1,16 @@
-//! Sources of links that count, fail and lie.
+//! A source of links that counts what it is asked for, and fails.
 
 ghost use Rattle.std.specs.Prelude.{◌≡◌};
 ghost use Rattle.bor_records.specs.Promises.{counted};
 ghost use Rattle.bor_links.specs.Shown.{Shown};
 
-use crate::tests::filed::{Filed, name_of, numbered, over_a1, shares, votes};
+use crate::tests::filed::Filed;
 use crate::tests::notation::{day, node};
 use crate::tests::rounds::told;
 use crate::tests::same;
 use bor_chains::{ChainFault, Link, LinkSource, ListSource, Node, NodeInfo, persons_of};
 use bor_records::Row;
-use std::alloc::{AllocError, Global};
+use std::alloc::Global;
 use std::process::Abort;
 
 // Which call failed.
@@ -155,7 +155,8 @@ fn fails(rt: &impl Abort, alloc: Global, rows: &[Row], target: &Node, call: u64)
 #[test]
 fn a_fault_of_the_source_is_handed_on(rt: HostRuntime) {
     let alloc = rt.alloc();
-    let rows = over_a1(&rt, alloc, &[votes(60)]).rows;
+    let words = "alder E s1 e1; E s2 a1; P s3 p1; R s4 r1 a1<-p1 V60; R s5 r2 e1<-a1 S10";
+    let rows = Filed::of(&rt, alloc, words).rows;
     let target = node(&rt, alloc, "alder", "c1", "e1");
     let mut whole = source_of(&rt, alloc, &rows, 0);
     assert!(rt; count_behind(&rt, alloc, &mut whole, &target) == 1);
@@ -165,103 +166,16 @@ fn a_fault_of_the_source_is_handed_on(rt: HostRuntime) {
     }
 }
 
-// A source that answers each call with the same nodes: whatever is asked for is an entity, the same
-// as all of them, and held by each. It shows nothing.
-#[derive(Drop)]
-struct Lying {
-    alloc: Global,
-    nodes: Vec<Node>,
-}
-
-impl Lying {
-    fn copied(&self) -> Result<Vec<Node>, AllocError> {
-        let mut copied = Vec::new(self.alloc);
-        for _ in 0..2 {
-            for node in &self.nodes {
-                copied.push(node.copy(self.alloc)?)?;
-            }
-        }
-        Ok(copied)
-    }
-
-    fn held(&self, subject: &Node) -> Result<Vec<Link>, AllocError> {
-        let mut links = Vec::new(self.alloc);
-        for party in &self.nodes {
-            links.push(Link {
-                party: party.copy(self.alloc)?,
-                subject: subject.copy(self.alloc)?,
-                stake: true,
-                holding: true,
-            })?;
-        }
-        Ok(links)
-    }
-}
-
-impl LinkSource for Lying {
-    type Fault = AllocError;
-
-    ghost Meaning = { Shown };
-
-    ghost shown = { λ s. s };
-
-    ghost shows = { λ x s. ⊥ };
-
-    ghost is_clean = { λ x. ⊥ };
-
-    ghost fault_count = { λ x. 0 };
-
-    ghost may_tell = { λ f. Unit {0} };
-
-    ghost Lender = { Unit {0} };
-
-    ghost lender = { λ x. tt };
-
-    fn faults(&self) -> u64 {
-        0
-    }
-
-    fn node(&mut self, _node: &Node) -> Result<Option<NodeInfo>, AllocError> {
-        Ok(Some(NodeInfo::Entity { legal: true }))
-    }
-
-    fn aliases(&mut self, _node: &Node) -> Result<Vec<Node>, AllocError> {
-        Ok(Vec::new(self.alloc))
-    }
-
-    fn same(&mut self, _node: &Node) -> Result<Vec<Node>, AllocError> {
-        Ok(self.copied().unwrap_or(Vec::new(self.alloc)))
-    }
-
-    fn links_into(&mut self, node: &Node) -> Result<Vec<Link>, AllocError> {
-        Ok(self.held(node).unwrap_or(Vec::new(self.alloc)))
-    }
-}
-
-#[test]
-fn a_walk_over_a_lying_source_ends(rt: HostRuntime) {
-    let alloc = rt.alloc();
-    let target = node(&rt, alloc, "alder", "c1", "e1");
-    let mut nodes = Vec::new(alloc);
-    for rec in ["a1", "a2", "a3"] {
-        let node = node(&rt, alloc, "alder", "c1", rec);
-        nodes.push(node).expect(&rt, "memory");
-    }
-    let mut source = Lying { alloc, nodes };
-    assert!(rt; count_behind(&rt, alloc, &mut source, &target) == 0);
-}
-
 // A thousand entities under one identifier: the class is asked for once, and so are links into each.
 #[test]
 fn a_class_of_a_thousand_is_asked_for_once(rt: HostRuntime) {
     let alloc = rt.alloc();
-    let mut filed = Filed::new(alloc);
-    for i in 0..1000_u32 {
-        let rec = name_of(&rt, alloc, "e", i);
-        filed.with(&rt, rec.as_str(), numbered(&rt, alloc, &[("X", "1")]));
+    let mut words = String::from_str(alloc, "alder E s0 e0 #X/1").expect(&rt, "memory");
+    for i in 1..1000_u32 {
+        write!(words, "; E s{i} e{i} #X/1").expect(&rt, "memory");
     }
-    filed.records(&rt, &["p"]);
-    filed.link(&rt, "e999", "p", &[shares(1)]);
+    let mut filed = Filed::of(&rt, alloc, words.as_str());
+    filed.state(&rt, "alder P s p; R t r e999<-p S1");
     let target = node(&rt, alloc, "alder", "c1", "e0");
     let mut source = source_of(&rt, alloc, &filed.rows, 0);
     assert!(rt; count_behind(&rt, alloc, &mut source, &target) == 1);
@@ -272,11 +186,9 @@ fn a_class_of_a_thousand_is_asked_for_once(rt: HostRuntime) {
 #[test]
 fn links_are_asked_for_at_most_twice(rt: HostRuntime) {
     let alloc = rt.alloc();
-    let mut filed = Filed::new(alloc);
-    filed.state(
-        &rt,
-        "alder E s1 e1; E s2 a1; P s3 p1; R s4 x1 e1<-a1 V60; R s5 x2 a1<-e1 V60; R s6 x3 a1<-p1 V60",
-    );
+    let words =
+        "alder E s1 e1; E s2 a1; P s3 p1; R s4 x1 e1<-a1 V60; R s5 x2 a1<-e1 V60; R s6 x3 a1<-p1 V60";
+    let filed = Filed::of(&rt, alloc, words);
     let target = node(&rt, alloc, "alder", "c1", "e1");
     let mut source = source_of(&rt, alloc, &filed.rows, 0);
     assert!(rt; count_behind(&rt, alloc, &mut source, &target) == 1);

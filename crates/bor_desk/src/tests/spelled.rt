@@ -1,10 +1,7 @@
 //! Replies spelled out as JSON without spaces, each object's keys in byte order.
 
 use crate::{DeskReply, Refusal};
-use bods_read::{
-    Details, Directness, EntityKind, FreeText, Identifier, Interest, InterestKind, PersonKind,
-    Statement, Status,
-};
+use bods_read::{Details, FreeText, Identifier, Interest, Statement, Status};
 use bor_chains::{Node, PersonLine};
 use bor_machine::{FilingLine, Outward, State};
 use bor_records::Entry;
@@ -50,45 +47,6 @@ fn add_end(rt: &impl Abort, text: &mut String, end: &Option<Ident>) {
     }
 }
 
-fn entity_word(kind: EntityKind) -> &'static str {
-    match kind {
-        EntityKind::RegisteredEntity => "registeredEntity",
-        EntityKind::LegalEntity => "legalEntity",
-        EntityKind::Arrangement => "arrangement",
-        EntityKind::AnonymousEntity => "anonymousEntity",
-        EntityKind::UnknownEntity => "unknownEntity",
-        EntityKind::State => "state",
-        EntityKind::StateBody => "stateBody",
-        EntityKind::Other => "other",
-    }
-}
-
-fn person_word(kind: PersonKind) -> &'static str {
-    match kind {
-        PersonKind::KnownPerson => "knownPerson",
-        PersonKind::AnonymousPerson => "anonymousPerson",
-        PersonKind::UnknownPerson => "unknownPerson",
-        PersonKind::Other => "other",
-    }
-}
-
-fn interest_word(kind: InterestKind) -> &'static str {
-    match kind {
-        InterestKind::Shareholding => "shareholding",
-        InterestKind::VotingRights => "votingRights",
-        InterestKind::AppointmentOfBoard => "appointmentOfBoard",
-        InterestKind::Other => "other",
-    }
-}
-
-fn directness_word(directness: Directness) -> &'static str {
-    match directness {
-        Directness::Direct => "direct",
-        Directness::Indirect => "indirect",
-        Directness::Unknown => "unknown",
-    }
-}
-
 fn status_word(status: Option<Status>) -> &'static str {
     match status {
         Some(status) => status.as_str(),
@@ -114,8 +72,8 @@ fn add_share(rt: &impl Abort, text: &mut String, share: Option<Span>) {
 fn add_interests(rt: &impl Abort, text: &mut String, interests: &[Interest]) {
     for interest in interests {
         begin_item(rt, text);
-        let directness = directness_word(interest.directness);
-        let kind = interest_word(interest.kind);
+        let directness = interest.directness.as_str();
+        let kind = interest.kind.as_str();
         write!(text, r#"{{"directness":"{directness}","share":"#).expect(rt, "memory");
         add_share(rt, text, interest.share);
         write!(text, r#","type":"{kind}"}}"#).expect(rt, "memory");
@@ -139,12 +97,12 @@ fn add_details(rt: &impl Abort, text: &mut String, alloc: Global, details: &Deta
         } => {
             add(rt, text, r#"{"identifiers":["#);
             add_identifiers(rt, text, identifiers.as_slice());
-            let kind = entity_word(*kind);
+            let kind = kind.as_str();
             write!(text, r#"],"kind":"{kind}","name":"#).expect(rt, "memory");
             add_name(rt, text, alloc, name);
         }
         Details::Person { kind, name } => {
-            let kind = person_word(*kind);
+            let kind = kind.as_str();
             write!(text, r#"{{"kind":"{kind}","name":"#).expect(rt, "memory");
             add_name(rt, text, alloc, name);
         }
