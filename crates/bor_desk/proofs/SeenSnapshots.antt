@@ -1,10 +1,11 @@
 -- The snapshot of an agent's declaration is the same from the rows that the keep tells of it and from all that the viewer sees.
 use Rattle.std.proofs.Common.{◌≡◌, ℕ, ℤ, ◌+◌, Bool, true, false, List, [], ◌∷◌, ◌++◌, map, Option, Some, None, option_map, option_and_then, refl, sym, ap, ◌∙◌, cond}
-use Rattle.std.specs.Prelude.{◌&&◌, unwrap_or}
+use Rattle.std.specs.Prelude.{unwrap_or}
 use Rattle.std.specs.List.{filter, filter_map, last_or, cons_option}
 use Rattle.std.specs.Ordering.{nat_cmp}
 use Rattle.std.specs.Cmp.Lexicographic.{slice_cmp}
 use Rattle.std.specs.BTreeSet.{insert_key}
+use Rattle.std.proofs.lemmas.Bool.{and_parts}
 use Rattle.std.proofs.lemmas.List.{append-nil}
 use Rattle.std.proofs.lemmas.List.Elements.{filter-append}
 use Rattle.bor_terms.specs.Texts.{is_same}
@@ -106,14 +107,10 @@ by-visible viewer day agent (m ∷ ms) h =
 
 -- ---- the rows of one declaration
 
-of_first : (a b : Bool) → (a && b) ≡ true → a ≡ true
-of_first true b h = refl
-of_first false b h = absurd cc
-
 series-of : (declaration rec : List ℕ) (rows : List Row) → series declaration rec (of_declaration declaration rows) ≡ series declaration rec rows
 series-of declaration rec rows =
     filter-wider (λ r. is_of declaration rec r.statement) (λ row. is_same row.statement.declaration declaration)
-    (λ r h. of_first (is_same r.statement.declaration declaration) (is_same r.statement.rec rec) h) rows
+    (λ r h. (and_parts (is_same r.statement.declaration declaration) (is_same r.statement.rec rec) h).0) rows
 
 abbrev insert_rec : List (List ℕ) → Row → List (List ℕ)
 insert_rec recs r = insert_key (slice_cmp nat_cmp) recs r.statement.rec

@@ -8,7 +8,7 @@ use Rattle.bor_keep.specs.declared.fault.StoreFault.{StoreFault}
 use Rattle.bor_store_reads.specs.declared.fault.ReadError.{ReadError}
 use Rattle.bor_store_sql.specs.Shown.{ShowsIn}
 use Rattle.bor_store.specs.Telling.{tells, IsNextFiling}
-use Rattle.bor_store.proofs.Kept.{still_shows}
+use Rattle.bor_store_reads.proofs.Found.{still_shows}
 
 pub left_shown : (made : Result ℕ ReadError) (told : Result ℕ StoreFault) (count : ℕ) (r changed : Register) (old new : State) → told ≡ tells made
     → IfOk made (λ number. IsNextFiling number count changed new) → OnErr made (new.committed ≡ old.committed)

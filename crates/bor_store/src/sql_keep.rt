@@ -75,7 +75,7 @@ impl<S: Alter + Drop> SqlKeep<S> {
     }
 }
 
-#[tactic(auto, using(crate::proofs::Kept::still_kept, crate::proofs::Kept::still_shows, crate::proofs::Undamaged::undamaged_told))]
+#[tactic(auto, using(bor_store_reads::proofs::Found::still_shows, crate::proofs::Kept::still_kept, crate::proofs::Undamaged::undamaged_told))]
 impl<S: Alter + Drop> Keep for SqlKeep<S> {
     ghost shows = { λ k r. ShowsIn r (state S.Store k.conn) };
 

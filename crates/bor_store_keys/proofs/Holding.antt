@@ -1,5 +1,5 @@
 -- What was found stays so while what is shown stays.
-use Rattle.std.proofs.Common.{◌≡◌, ◌∙◌, Bool, true, false, cond, Option, Some, None, IfSome, Result, Ok, Err, IfOk, ℕ, List, sym, ap, refl, subst}
+use Rattle.std.proofs.Common.{◌≡◌, ◌∙◌, Bool, true, false, cond, Option, Some, None, ℕ, List, sym, ap, refl, subst}
 use Rattle.std.specs.declared.cmp.Ordering.{Ordering}
 use Rattle.std.specs.declared.cmp.Ordering.TheVariants.{Less, Equal, Greater}
 use Rattle.std.specs.Ordering.{is_eq, nat_cmp, ordering_then}
@@ -22,15 +22,6 @@ still_found (Some f) old new began kept h = λ clean r shows. h (began clean) r 
 -- what was found is what is told of each register that is shown
 pub of_found : (found : Option Found) (f : Found) (s t : State) → s ≡ t → found ≡ Some f → AreFound s found → Holds t (λ r. AreOf r f)
 of_found found f s t same is h = subst (λ o. AreFound t o) is (subst (λ u. AreFound u found) same h)
-
--- an answer in other words
-pub in_words : {X : Type 0} (o : Option X) (P Q : X → Type 0) → ((x : X) → P x → Q x) → IfSome o P → IfSome o Q
-in_words None P Q h p = tt
-in_words (Some x) P Q h p = h x p
-
-pub told_in_words : {X E : Type 0} (result : Result X E) (P Q : X → Type 0) → ((x : X) → P x → Q x) → IfOk result P → IfOk result Q
-told_in_words (Ok x) P Q h p = h x p
-told_in_words (Err e) P Q h p = tt
 
 -- ---- a map with one more key
 

@@ -1,7 +1,8 @@
 -- How a reply is read: its head has one empty line, at its end.
-use Rattle.std.proofs.Common.{◌≡◌, ℕ, zero, suc, ◌+◌, ◌/◌, ◌%◌, List, [], ◌∷◌, ◌++◌, length, Bool, true, false, cond, ◌&&◌, not, Option, Some, None, append_assoc, refl, sym, ap, ◌∙◌, arith}
+use Rattle.std.proofs.Common.{◌≡◌, ℕ, zero, suc, ◌+◌, ◌/◌, ◌%◌, List, [], ◌∷◌, ◌++◌, length, Bool, true, false, cond, not, Option, Some, None, append_assoc, refl, sym, ap, ◌∙◌, arith}
 use Rattle.std.specs.Prelude.{nat_eq, codes, decimal, ◌==◌, nat_lt}
 use Rattle.std.specs.Fmt.{digits, digits_onto, digit_glyph}
+use Rattle.std.proofs.lemmas.Bool.{and_parts}
 use Rattle.std.proofs.lemmas.Bool.Decides.{nat_tests}
 use Rattle.std.proofs.lemmas.List.Folds.{list_all-append}
 use Rattle.http.specs.StatusCode.{code_digits}
@@ -18,18 +19,12 @@ use Rattle.bor_wire_reply.proofs.Phrases.{one_line, phrase_plain}
 other : (b : ℕ) → not (b == 13) ≡ true → nat_eq 13 b ≡ false
 other b h = grind (arith, nat_tests)
 
--- a test of a byte and of those behind it
-both_true : (p q : Bool) → (p && q) ≡ true → (p ≡ true) × (q ≡ true)
-both_true true true h = (refl, refl)
-both_true true false h = absurd cc
-both_true false q h = absurd cc
-
 -- a mark that begins with a carriage return stands behind them
 pass : (mark bytes rest : List ℕ) → one_line bytes ≡ true → behind (13 ∷ mark) (bytes ++ rest) ≡ behind (13 ∷ mark) rest
 unfolding behind
 pass mark [] rest h = refl
 pass mark (b ∷ bytes) rest h =
-    let two = both_true (not (b == 13)) (one_line bytes) h in
+    let two = and_parts (not (b == 13)) (one_line bytes) h in
     rw (other b two.0) (pass mark bytes rest two.1)
 
 -- before the mark stand those bytes
@@ -37,7 +32,7 @@ stop : (bytes rest : List ℕ) → one_line bytes ≡ true → before (codes "\r
 unfolding before
 stop [] rest h = refl
 stop (b ∷ bytes) rest h =
-    let two = both_true (not (b == 13)) (one_line bytes) h in
+    let two = and_parts (not (b == 13)) (one_line bytes) h in
     rw (other b two.0) (ap (λ t. b ∷ t) (stop bytes rest two.1))
 
 -- ---- digits

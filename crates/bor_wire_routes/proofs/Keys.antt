@@ -4,6 +4,7 @@ use Rattle.std.specs.List.{ends_with, list_all}
 use Rattle.std.specs.Cmp.Lexicographic.{pointwise}
 use Rattle.std.proofs.Math.Seq.{drop-append_seam}
 use Rattle.std.proofs.lemmas.List.{drop_all}
+use Rattle.std.proofs.lemmas.Bool.{and_right}
 use Rattle.std.proofs.lemmas.Bool.Decides.{nat_tests}
 use Rattle.matchit.specs.Level.{IsText}
 use Rattle.matchit.specs.Rows.{RowsOf}
@@ -74,12 +75,8 @@ no_slash_last (a ∷ b ∷ xs) h =
     ∙ sym (ap (λ n. drop n (b ∷ xs)) (one_less (length xs))) in
     ap (pointwise nat_eq (47 ∷ [])) later ∙ no_slash_last (b ∷ xs) (no_slash_first a (b ∷ xs) h).1
 
-neither : (t : Bool) (c : Bool) → c ≡ false → (t && c) ≡ false
-neither true c e = e
-neither false c e = refl
-
 cuts-none : (xs : List ℕ) → has_slash xs ≡ false → cuts xs (47 ∷ []) ≡ false
-cuts-none xs h = neither (ltb 1 (length xs)) (ends_with nat_eq xs (47 ∷ [])) (no_slash_last xs h)
+cuts-none xs h = and_right (ltb 1 (length xs)) (ends_with nat_eq xs (47 ∷ [])) (no_slash_last xs h)
 
 cuts-slash : (b : ℕ) (key : List ℕ) → cuts (b ∷ (key ++ 47 ∷ [])) (47 ∷ []) ≡ true
 cuts-slash b key =

@@ -1,9 +1,10 @@
 use Rattle.std.proofs.Common.{ap}
+use Rattle.std.proofs.lemmas.Result.{IfOk-weaker}
 use Rattle.sqlite.specs.Held.{state}
-use Rattle.bor_store_keys.proofs.Holding.{of_found, told_in_words}
+use Rattle.bor_store_keys.proofs.Holding.{of_found}
 use Rattle.bor_store_keys.proofs.lookup.Lookup.placed.Goals as goal
 
 pub returns-in-Some : goal.returns-in-Some
 returns-in-Some g c =
     let of = of_found c.self.inside.found c.in-Some.found _ _ (ap (state g.S.Store) c.self.view_is) c.in-Some.is c.self.invariant in
-    told_in_words c.placed.result _ _ (λ found h n is clean r shows. h r n (of clean r shows) is) c.placed.ensures
+    IfOk-weaker c.placed.result _ _ (λ found h n is clean r shows. h r n (of clean r shows) is) c.placed.ensures
