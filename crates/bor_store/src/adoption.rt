@@ -8,6 +8,7 @@ ghost use Rattle.sqlite_schema.specs.Names.{same_name, column_named};
 ghost use Rattle.bor_register.specs.Register.{Register};
 ghost use Rattle.bor_store_sql.specs.Found.{Asked};
 ghost use Rattle.bor_store_sql.specs.Shown.{IsClean, ShowsIn};
+ghost use Rattle.bor_store_reads.specs.Answering.{ReadsOnly};
 ghost use Rattle.bor_store.specs.Opening.{AreVersions, IsFailure, IsFaithful, IsJudged, has_all, is_versioned, version_in, version_text};
 ghost use Rattle.bor_store.specs.declared.open_fault.OpenFault.TheVariants as faults;
 
@@ -137,9 +138,7 @@ fn judge(version: i64, is_whole: bool) -> Result<(), OpenFault>
 /// another table or column of a register is missing.
 pub fn examine<S: Alter>(conn: &mut Connection<S>) -> Result<(), OpenFault>
     requires { conn.old.in_transaction ≡ false }
-    ensures mode { conn.new.in_transaction ≡ false }
-    ensures began { IsClean (state S.Store conn.new) → IsClean (state S.Store conn.old) }
-    ensures kept { IsClean (state S.Store conn.new) → (state S.Store conn.new).committed ≡ (state S.Store conn.old).committed }
+    ensures reads { ReadsOnly (state S.Store conn.old) (state S.Store conn.new) }
     ensures bare { is_versioned (state S.Store conn.old).now.schema ≡ false → result ≡ Err faults.NoRegister }
     ensures other { (n : ℤ) → result ≡ Err (faults.OtherVersion n) → n ≢ pos 1 }
     ensures whole { OnOk result (IsTrue (has_all (state S.Store conn.old).now.schema)) }

@@ -6,7 +6,7 @@ ghost use Rattle.bor_register.specs.Limits.{filings_limit};
 ghost use Rattle.bor_register.specs.Register.{Register, is_enrolled, filings_of};
 ghost use Rattle.bor_store_sql.specs.Shown.{IsClean, ShowsIn};
 ghost use Rattle.bor_store_sql.specs.Changing.{added};
-ghost use Rattle.bor_store_reads.specs.Answering.{Answers, IsNoDamage};
+ghost use Rattle.bor_store_reads.specs.Answering.{Answers, IsNoDamage, ReadsOnly};
 ghost use Rattle.bor_store.specs.Telling.{IsNextFiling};
 
 use crate::forms::all_formed;
@@ -24,9 +24,7 @@ fn next_number<S: Alter>(
     agent: &AgentName,
 ) -> Result<u32, ReadError>
     requires { conn.old.in_transaction ≡ false }
-    ensures mode { conn.new.in_transaction ≡ false }
-    ensures began { IsClean (state S.Store conn.new) → IsClean (state S.Store conn.old) }
-    ensures kept { IsClean (state S.Store conn.new) → (state S.Store conn.new).committed ≡ (state S.Store conn.old).committed }
+    ensures reads { ReadsOnly (state S.Store conn.old) (state S.Store conn.new) }
     ensures number { Answers (state S.Store conn.old) (state S.Store conn.new) result (λ r number.
         number ≡ length (filings_of agent.now r.members) + 1) }
 {

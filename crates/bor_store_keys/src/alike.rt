@@ -10,8 +10,7 @@ ghost use Rattle.bor_links.specs.Shown.{is_like};
 ghost use Rattle.bor_links.specs.Signs.{by_identifier, sign_cmp, signs};
 ghost use Rattle.bor_store_keys.specs.Candidates.{IsAlike, IsAlikeIn};
 ghost use Rattle.bor_register.specs.Seen.{seen_at};
-ghost use Rattle.bor_store_sql.specs.Shown.{IsClean};
-ghost use Rattle.bor_store_reads.specs.Answering.{Answers};
+ghost use Rattle.bor_store_reads.specs.Answering.{Answers, ReadsOnly};
 ghost use Rattle.bor_store_keys.specs.Alike.{Expands, Follows};
 ghost use Rattle.bor_store_keys.specs.Viewed.{rows_seen, seen};
 
@@ -38,9 +37,7 @@ fn is_alike<S: Alter + Drop>(
     candidate: &Node,
 ) -> Result<bool, ReadError>
     requires { lookup.old.in_transaction ≡ false }
-    ensures mode { lookup.new.in_transaction ≡ false }
-    ensures began { IsClean (state S.Store lookup.new) → IsClean (state S.Store lookup.old) }
-    ensures kept { IsClean (state S.Store lookup.new) → (state S.Store lookup.new).committed ≡ (state S.Store lookup.old).committed }
+    ensures reads { ReadsOnly (state S.Store lookup.old) (state S.Store lookup.new) }
     ensures answer { Answers (state S.Store lookup.old) (state S.Store lookup.new) result (λ r alike.
         alike ≡ is_like one.now (node_at view.now.day candidate.now (rows_seen view.now r))) }
 {
@@ -60,9 +57,7 @@ fn add_if_alike<S: Alter + Drop>(
     candidate: &Node,
 ) -> Result<(), ReadError>
     requires { lookup.old.in_transaction ≡ false }
-    ensures mode { lookup.new.in_transaction ≡ false }
-    ensures began { IsClean (state S.Store lookup.new) → IsClean (state S.Store lookup.old) }
-    ensures kept { IsClean (state S.Store lookup.new) → (state S.Store lookup.new).committed ≡ (state S.Store lookup.old).committed }
+    ensures reads { ReadsOnly (state S.Store lookup.old) (state S.Store lookup.new) }
     ensures answer { Answers (state S.Store lookup.old) (state S.Store lookup.new) result (λ r _.
         Grown (IsAlike view.now.day (rows_seen view.now r) one.now candidate.now) class.old class.new) }
 {
@@ -86,9 +81,7 @@ fn add_alike<S: Alter + Drop>(
     candidates: &[Node],
 ) -> Result<(), ReadError>
     requires { lookup.old.in_transaction ≡ false }
-    ensures mode { lookup.new.in_transaction ≡ false }
-    ensures began { IsClean (state S.Store lookup.new) → IsClean (state S.Store lookup.old) }
-    ensures kept { IsClean (state S.Store lookup.new) → (state S.Store lookup.new).committed ≡ (state S.Store lookup.old).committed }
+    ensures reads { ReadsOnly (state S.Store lookup.old) (state S.Store lookup.new) }
     ensures answer { Answers (state S.Store lookup.old) (state S.Store lookup.new) result (λ r _.
         Grown (IsAlikeIn view.now.day (rows_seen view.now r) one.now candidates.now) class.old class.new) }
 {
@@ -109,9 +102,7 @@ fn add_signed<S: Alter + Drop>(
     sign: Sign,
 ) -> Result<(), ReadError>
     requires { lookup.old.in_transaction ≡ false }
-    ensures mode { lookup.new.in_transaction ≡ false }
-    ensures began { IsClean (state S.Store lookup.new) → IsClean (state S.Store lookup.old) }
-    ensures kept { IsClean (state S.Store lookup.new) → (state S.Store lookup.new).committed ≡ (state S.Store lookup.old).committed }
+    ensures reads { ReadsOnly (state S.Store lookup.old) (state S.Store lookup.new) }
     ensures answer { Answers (state S.Store lookup.old) (state S.Store lookup.new) result (λ r _.
         Expands view.now.day (rows_seen view.now r) one.now (sign ∷ []) class.old class.new (λ k. contains sign_cmp looked.old k) (λ k. contains sign_cmp looked.new k)) }
 {
@@ -135,9 +126,7 @@ fn add_identified<S: Alter + Drop>(
     identifiers: &[Identifier],
 ) -> Result<(), ReadError>
     requires { lookup.old.in_transaction ≡ false }
-    ensures mode { lookup.new.in_transaction ≡ false }
-    ensures began { IsClean (state S.Store lookup.new) → IsClean (state S.Store lookup.old) }
-    ensures kept { IsClean (state S.Store lookup.new) → (state S.Store lookup.new).committed ≡ (state S.Store lookup.old).committed }
+    ensures reads { ReadsOnly (state S.Store lookup.old) (state S.Store lookup.new) }
     ensures answer { Answers (state S.Store lookup.old) (state S.Store lookup.new) result (λ r _.
         Expands view.now.day (rows_seen view.now r) one.now (map by_identifier identifiers.now) class.old class.new (λ k. contains sign_cmp looked.old k) (λ k. contains sign_cmp looked.new k)) }
 {
@@ -158,9 +147,7 @@ fn add_signs<S: Alter + Drop>(
     one: &OpenNode,
 ) -> Result<(), ReadError>
     requires { lookup.old.in_transaction ≡ false }
-    ensures mode { lookup.new.in_transaction ≡ false }
-    ensures began { IsClean (state S.Store lookup.new) → IsClean (state S.Store lookup.old) }
-    ensures kept { IsClean (state S.Store lookup.new) → (state S.Store lookup.new).committed ≡ (state S.Store lookup.old).committed }
+    ensures reads { ReadsOnly (state S.Store lookup.old) (state S.Store lookup.new) }
     ensures answer { Answers (state S.Store lookup.old) (state S.Store lookup.new) result (λ r _.
         Expands view.now.day (rows_seen view.now r) one.now (signs one.now) class.old class.new (λ k. contains sign_cmp looked.old k) (λ k. contains sign_cmp looked.new k)) }
 {
@@ -187,9 +174,7 @@ fn add_aliases<S: Alter + Drop>(
     node: &Node,
 ) -> Result<(), ReadError>
     requires { lookup.old.in_transaction ≡ false }
-    ensures mode { lookup.new.in_transaction ≡ false }
-    ensures began { IsClean (state S.Store lookup.new) → IsClean (state S.Store lookup.old) }
-    ensures kept { IsClean (state S.Store lookup.new) → (state S.Store lookup.new).committed ≡ (state S.Store lookup.old).committed }
+    ensures reads { ReadsOnly (state S.Store lookup.old) (state S.Store lookup.new) }
     ensures answer { Answers (state S.Store lookup.old) (state S.Store lookup.new) result (λ r _.
         Follows (seen view.now r) node.now class.old class.new (λ k. contains sign_cmp looked.old k) (λ k. contains sign_cmp looked.new k)) }
 {
@@ -210,9 +195,7 @@ fn aliases_in<S: Alter + Drop>(
     node: &Node,
 ) -> Result<Vec<Node>, ReadError>
     requires { lookup.old.in_transaction ≡ false }
-    ensures mode { lookup.new.in_transaction ≡ false }
-    ensures began { IsClean (state S.Store lookup.new) → IsClean (state S.Store lookup.old) }
-    ensures kept { IsClean (state S.Store lookup.new) → (state S.Store lookup.new).committed ≡ (state S.Store lookup.old).committed }
+    ensures reads { ReadsOnly (state S.Store lookup.old) (state S.Store lookup.new) }
     ensures answer { Answers (state S.Store lookup.old) (state S.Store lookup.new) result (λ r nodes.
         AreAliases (seen view.now r) node.now nodes.items) }
 {
@@ -230,9 +213,7 @@ fn same_in<S: Alter + Drop>(
     node: &Node,
 ) -> Result<Vec<Node>, ReadError>
     requires { lookup.old.in_transaction ≡ false }
-    ensures mode { lookup.new.in_transaction ≡ false }
-    ensures began { IsClean (state S.Store lookup.new) → IsClean (state S.Store lookup.old) }
-    ensures kept { IsClean (state S.Store lookup.new) → (state S.Store lookup.new).committed ≡ (state S.Store lookup.old).committed }
+    ensures reads { ReadsOnly (state S.Store lookup.old) (state S.Store lookup.new) }
     ensures answer { Answers (state S.Store lookup.old) (state S.Store lookup.new) result (λ r nodes.
         AreSame (seen view.now r) node.now nodes.items) }
 {
@@ -256,9 +237,7 @@ fn aliases_told<S: Alter + Drop>(
     node: &Node,
 ) -> Result<Vec<Node>, ReadError>
     requires { lookup.old.in_transaction ≡ false }
-    ensures mode { lookup.new.in_transaction ≡ false }
-    ensures began { IsClean (state S.Store lookup.new) → IsClean (state S.Store lookup.old) }
-    ensures kept { IsClean (state S.Store lookup.new) → (state S.Store lookup.new).committed ≡ (state S.Store lookup.old).committed }
+    ensures reads { ReadsOnly (state S.Store lookup.old) (state S.Store lookup.new) }
     ensures answer { Answers (state S.Store lookup.old) (state S.Store lookup.new) result (λ r nodes.
         AreAliases (seen view.now r) node.now nodes.items) }
 {
@@ -278,9 +257,7 @@ pub fn read_aliases<S: Alter + Drop>(
     node: &Node,
 ) -> Result<Vec<Node>, ReadError>
     requires { lookup.old.in_transaction ≡ false }
-    ensures mode { lookup.new.in_transaction ≡ false }
-    ensures began { IsClean (state S.Store lookup.new) → IsClean (state S.Store lookup.old) }
-    ensures kept { IsClean (state S.Store lookup.new) → (state S.Store lookup.new).committed ≡ (state S.Store lookup.old).committed }
+    ensures reads { ReadsOnly (state S.Store lookup.old) (state S.Store lookup.new) }
     ensures answer { Answers (state S.Store lookup.old) (state S.Store lookup.new) result (λ r nodes.
         AreAliases (seen_at viewer.now day r) node.now nodes.items) }
 {
@@ -296,9 +273,7 @@ fn same_told<S: Alter + Drop>(
     node: &Node,
 ) -> Result<Vec<Node>, ReadError>
     requires { lookup.old.in_transaction ≡ false }
-    ensures mode { lookup.new.in_transaction ≡ false }
-    ensures began { IsClean (state S.Store lookup.new) → IsClean (state S.Store lookup.old) }
-    ensures kept { IsClean (state S.Store lookup.new) → (state S.Store lookup.new).committed ≡ (state S.Store lookup.old).committed }
+    ensures reads { ReadsOnly (state S.Store lookup.old) (state S.Store lookup.new) }
     ensures answer { Answers (state S.Store lookup.old) (state S.Store lookup.new) result (λ r nodes.
         AreSame (seen view.now r) node.now nodes.items) }
 {
@@ -320,9 +295,7 @@ pub fn read_same<S: Alter + Drop>(
     node: &Node,
 ) -> Result<Vec<Node>, ReadError>
     requires { lookup.old.in_transaction ≡ false }
-    ensures mode { lookup.new.in_transaction ≡ false }
-    ensures began { IsClean (state S.Store lookup.new) → IsClean (state S.Store lookup.old) }
-    ensures kept { IsClean (state S.Store lookup.new) → (state S.Store lookup.new).committed ≡ (state S.Store lookup.old).committed }
+    ensures reads { ReadsOnly (state S.Store lookup.old) (state S.Store lookup.new) }
     ensures answer { Answers (state S.Store lookup.old) (state S.Store lookup.new) result (λ r nodes.
         AreSame (seen_at viewer.now day r) node.now nodes.items) }
 {

@@ -5,8 +5,7 @@ ghost use Rattle.std.specs.List.{last_or};
 ghost use Rattle.sqlite.specs.Held.{state};
 ghost use Rattle.bor_links.specs.Series.{open_at};
 ghost use Rattle.bor_register.specs.Register.{filings_of};
-ghost use Rattle.bor_store_sql.specs.Shown.{IsClean};
-ghost use Rattle.bor_store_reads.specs.Answering.{Answers};
+ghost use Rattle.bor_store_reads.specs.Answering.{Answers, ReadsOnly};
 ghost use Rattle.bor_store_keys.specs.Latest.{bare_row, is_told, unless_closed};
 ghost use Rattle.bor_store_keys.specs.Viewed.{rows_seen};
 
@@ -30,9 +29,7 @@ fn is_told<S: Alter + Drop>(
     row: &StatementRow,
 ) -> Result<bool, ReadError>
     requires { lookup.old.in_transaction ≡ false }
-    ensures mode { lookup.new.in_transaction ≡ false }
-    ensures began { IsClean (state S.Store lookup.new) → IsClean (state S.Store lookup.old) }
-    ensures kept { IsClean (state S.Store lookup.new) → (state S.Store lookup.new).committed ≡ (state S.Store lookup.old).committed }
+    ensures reads { ReadsOnly (state S.Store lookup.old) (state S.Store lookup.new) }
     ensures answer { Answers (state S.Store lookup.old) (state S.Store lookup.new) result (λ r told.
         told ≡ is_told view.now agent.now (filings_of agent.now r.members) row.now) }
 {
@@ -51,9 +48,7 @@ fn last_told<S: Alter + Drop>(
     mut rows: Vec<StatementRow>,
 ) -> Result<Option<StatementRow>, ReadError>
     requires { lookup.old.in_transaction ≡ false }
-    ensures mode { lookup.new.in_transaction ≡ false }
-    ensures began { IsClean (state S.Store lookup.new) → IsClean (state S.Store lookup.old) }
-    ensures kept { IsClean (state S.Store lookup.new) → (state S.Store lookup.new).committed ≡ (state S.Store lookup.old).committed }
+    ensures reads { ReadsOnly (state S.Store lookup.old) (state S.Store lookup.new) }
     ensures answer { Answers (state S.Store lookup.old) (state S.Store lookup.new) result (λ r last.
         last ≡ last_or None (filter (is_told view.now agent.now (filings_of agent.now r.members)) rows.items)) }
 {
@@ -83,9 +78,7 @@ pub(crate) fn open_statement<S: Alter + Drop>(
     node: &Node,
 ) -> Result<Option<StatementRow>, ReadError>
     requires { lookup.old.in_transaction ≡ false }
-    ensures mode { lookup.new.in_transaction ≡ false }
-    ensures began { IsClean (state S.Store lookup.new) → IsClean (state S.Store lookup.old) }
-    ensures kept { IsClean (state S.Store lookup.new) → (state S.Store lookup.new).committed ≡ (state S.Store lookup.old).committed }
+    ensures reads { ReadsOnly (state S.Store lookup.old) (state S.Store lookup.new) }
     ensures answer { Answers (state S.Store lookup.old) (state S.Store lookup.new) result (λ r row.
         row ≡ option_map bare_row (open_at view.now.day node.now (rows_seen view.now r))) }
 {

@@ -8,8 +8,7 @@ ghost use Rattle.bor_links.specs.Rows.{is_entity_info, link_between, nodes_of};
 ghost use Rattle.bor_links.specs.Shown.{info_of};
 ghost use Rattle.bor_store_keys.specs.Candidates.{link_at, link_into};
 ghost use Rattle.bor_register.specs.Seen.{seen_at};
-ghost use Rattle.bor_store_sql.specs.Shown.{IsClean};
-ghost use Rattle.bor_store_reads.specs.Answering.{Answers};
+ghost use Rattle.bor_store_reads.specs.Answering.{Answers, ReadsOnly};
 ghost use Rattle.bor_store_keys.specs.Viewed.{rows_seen, seen};
 
 use crate::list::push_some;
@@ -39,9 +38,7 @@ fn link_between<S: Alter + Drop>(
     interests: &[Interest],
 ) -> Result<Option<Link>, ReadError>
     requires { lookup.old.in_transaction ≡ false }
-    ensures mode { lookup.new.in_transaction ≡ false }
-    ensures began { IsClean (state S.Store lookup.new) → IsClean (state S.Store lookup.old) }
-    ensures kept { IsClean (state S.Store lookup.new) → (state S.Store lookup.new).committed ≡ (state S.Store lookup.old).committed }
+    ensures reads { ReadsOnly (state S.Store lookup.old) (state S.Store lookup.new) }
     ensures answer { Answers (state S.Store lookup.old) (state S.Store lookup.new) result (λ r link.
         is_entity_info (info_of (seen view.now r) node.now) ≡ true
         → link ≡ only_into node.now (link_between (nodes_of view.now.day (rows_seen view.now r)) party subject interests.now)) }
@@ -69,9 +66,7 @@ fn link_into<S: Alter + Drop>(
     row: &Row,
 ) -> Result<Option<Link>, ReadError>
     requires { lookup.old.in_transaction ≡ false }
-    ensures mode { lookup.new.in_transaction ≡ false }
-    ensures began { IsClean (state S.Store lookup.new) → IsClean (state S.Store lookup.old) }
-    ensures kept { IsClean (state S.Store lookup.new) → (state S.Store lookup.new).committed ≡ (state S.Store lookup.old).committed }
+    ensures reads { ReadsOnly (state S.Store lookup.old) (state S.Store lookup.new) }
     ensures answer { Answers (state S.Store lookup.old) (state S.Store lookup.new) result (λ r link.
         is_entity_info (info_of (seen view.now r) node.now) ≡ true
         → link ≡ link_into view.now.day (rows_seen view.now r) node.now row.now) }
@@ -107,9 +102,7 @@ fn link_at<S: Alter + Drop>(
     rec: &Node,
 ) -> Result<Option<Link>, ReadError>
     requires { lookup.old.in_transaction ≡ false }
-    ensures mode { lookup.new.in_transaction ≡ false }
-    ensures began { IsClean (state S.Store lookup.new) → IsClean (state S.Store lookup.old) }
-    ensures kept { IsClean (state S.Store lookup.new) → (state S.Store lookup.new).committed ≡ (state S.Store lookup.old).committed }
+    ensures reads { ReadsOnly (state S.Store lookup.old) (state S.Store lookup.new) }
     ensures answer { Answers (state S.Store lookup.old) (state S.Store lookup.new) result (λ r link.
         is_entity_info (info_of (seen view.now r) node.now) ≡ true
         → link ≡ link_at view.now.day (rows_seen view.now r) node.now rec.now) }
@@ -129,9 +122,7 @@ fn links_of<S: Alter + Drop>(
     records: &[Node],
 ) -> Result<Vec<Link>, ReadError>
     requires { lookup.old.in_transaction ≡ false }
-    ensures mode { lookup.new.in_transaction ≡ false }
-    ensures began { IsClean (state S.Store lookup.new) → IsClean (state S.Store lookup.old) }
-    ensures kept { IsClean (state S.Store lookup.new) → (state S.Store lookup.new).committed ≡ (state S.Store lookup.old).committed }
+    ensures reads { ReadsOnly (state S.Store lookup.old) (state S.Store lookup.new) }
     ensures answer { Answers (state S.Store lookup.old) (state S.Store lookup.new) result (λ r links.
         is_entity_info (info_of (seen view.now r) node.now) ≡ true
         → links.items ≡ filter_map (link_at view.now.day (rows_seen view.now r) node.now) records.now) }
@@ -152,9 +143,7 @@ fn links_into<S: Alter + Drop>(
     node: &Node,
 ) -> Result<Vec<Link>, ReadError>
     requires { lookup.old.in_transaction ≡ false }
-    ensures mode { lookup.new.in_transaction ≡ false }
-    ensures began { IsClean (state S.Store lookup.new) → IsClean (state S.Store lookup.old) }
-    ensures kept { IsClean (state S.Store lookup.new) → (state S.Store lookup.new).committed ≡ (state S.Store lookup.old).committed }
+    ensures reads { ReadsOnly (state S.Store lookup.old) (state S.Store lookup.new) }
     ensures answer { Answers (state S.Store lookup.old) (state S.Store lookup.new) result (λ r links.
         AreLinksInto (seen view.now r) node.now links.items) }
 {
@@ -173,9 +162,7 @@ fn links_told<S: Alter + Drop>(
     node: &Node,
 ) -> Result<Vec<Link>, ReadError>
     requires { lookup.old.in_transaction ≡ false }
-    ensures mode { lookup.new.in_transaction ≡ false }
-    ensures began { IsClean (state S.Store lookup.new) → IsClean (state S.Store lookup.old) }
-    ensures kept { IsClean (state S.Store lookup.new) → (state S.Store lookup.new).committed ≡ (state S.Store lookup.old).committed }
+    ensures reads { ReadsOnly (state S.Store lookup.old) (state S.Store lookup.new) }
     ensures answer { Answers (state S.Store lookup.old) (state S.Store lookup.new) result (λ r links.
         AreLinksInto (seen view.now r) node.now links.items) }
 {
@@ -196,9 +183,7 @@ pub fn read_links_into<S: Alter + Drop>(
     node: &Node,
 ) -> Result<Vec<Link>, ReadError>
     requires { lookup.old.in_transaction ≡ false }
-    ensures mode { lookup.new.in_transaction ≡ false }
-    ensures began { IsClean (state S.Store lookup.new) → IsClean (state S.Store lookup.old) }
-    ensures kept { IsClean (state S.Store lookup.new) → (state S.Store lookup.new).committed ≡ (state S.Store lookup.old).committed }
+    ensures reads { ReadsOnly (state S.Store lookup.old) (state S.Store lookup.new) }
     ensures answer { Answers (state S.Store lookup.old) (state S.Store lookup.new) result (λ r links.
         AreLinksInto (seen_at viewer.now day r) node.now links.items) }
 {

@@ -8,12 +8,11 @@ ghost use Rattle.bor_links.specs.declared.node.OpenNode.{OpenNode};
 ghost use Rattle.bor_links.specs.ByKey.{node_at};
 ghost use Rattle.bor_links.specs.Series.{open_at};
 ghost use Rattle.bor_links.specs.Shown.{info_of};
-ghost use Rattle.bor_register.specs.Register.{Register, filings_of};
+ghost use Rattle.bor_register.specs.Register.{filings_of};
 ghost use Rattle.bor_register.specs.Rows.{visible};
 ghost use Rattle.bor_store_rows.specs.Placed.{bare, placed};
-ghost use Rattle.bor_store_sql.specs.Shown.{IsClean, ShowsIn};
 ghost use Rattle.bor_store_sql.specs.Selected.{identified_by, identifiers_at, in_record, in_series, interests_at, placed_of, standing_at, with_subject};
-ghost use Rattle.bor_store_reads.specs.Answering.{Answers};
+ghost use Rattle.bor_store_reads.specs.Answering.{Answers, ReadsOnly};
 ghost use Rattle.bor_store_reads.specs.Asking.{is_number_seen};
 ghost use Rattle.bor_store_keys.specs.Finding.{Holds};
 ghost use Rattle.bor_store_keys.specs.Signed.{record_standing};
@@ -95,9 +94,7 @@ impl<S: Alter + Drop> Lookup<S> {
     /// The register's day, as it is read.
     pub(crate) fn read_today(&mut self, alloc: Global) -> Result<Day, ReadError>
         requires { self.old.in_transaction ≡ false }
-        ensures mode { self.new.in_transaction ≡ false }
-        ensures began { IsClean (state S.Store self.new) → IsClean (state S.Store self.old) }
-        ensures kept { IsClean (state S.Store self.new) → (state S.Store self.new).committed ≡ (state S.Store self.old).committed }
+        ensures reads { ReadsOnly (state S.Store self.old) (state S.Store self.new) }
         ensures answer { Answers (state S.Store self.old) (state S.Store self.new) result (λ r day. day ≡ r.day) }
     {
         read_day(&mut self.conn, alloc)
@@ -112,9 +109,7 @@ impl<S: Alter + Drop> Lookup<S> {
         number: u32,
     ) -> Result<bool, ReadError>
         requires { self.old.in_transaction ≡ false }
-        ensures mode { self.new.in_transaction ≡ false }
-        ensures began { IsClean (state S.Store self.new) → IsClean (state S.Store self.old) }
-        ensures kept { IsClean (state S.Store self.new) → (state S.Store self.new).committed ≡ (state S.Store self.old).committed }
+        ensures reads { ReadsOnly (state S.Store self.old) (state S.Store self.new) }
         ensures answer { Answers (state S.Store self.old) (state S.Store self.new) result (λ r seen.
             seen ≡ is_number_seen view.now.viewer view.now.today agent.now (filings_of agent.now r.members) number) }
     {
@@ -135,9 +130,7 @@ impl<S: Alter + Drop> Lookup<S> {
         node: &Node,
     ) -> Result<Vec<StatementRow>, ReadError>
         requires { self.old.in_transaction ≡ false }
-        ensures mode { self.new.in_transaction ≡ false }
-        ensures began { IsClean (state S.Store self.new) → IsClean (state S.Store self.old) }
-        ensures kept { IsClean (state S.Store self.new) → (state S.Store self.new).committed ≡ (state S.Store self.old).committed }
+        ensures reads { ReadsOnly (state S.Store self.old) (state S.Store self.new) }
         ensures answer { Answers (state S.Store self.old) (state S.Store self.new) result (λ r rows.
             rows.items ≡ map bare (in_series node.now.declaration node.now.rec (placed_of node.now.agent r))) }
     {
@@ -157,9 +150,7 @@ impl<S: Alter + Drop> Lookup<S> {
         node: &Node,
     ) -> Result<Vec<StatementRow>, ReadError>
         requires { self.old.in_transaction ≡ false }
-        ensures mode { self.new.in_transaction ≡ false }
-        ensures began { IsClean (state S.Store self.new) → IsClean (state S.Store self.old) }
-        ensures kept { IsClean (state S.Store self.new) → (state S.Store self.new).committed ≡ (state S.Store self.old).committed }
+        ensures reads { ReadsOnly (state S.Store self.old) (state S.Store self.new) }
         ensures answer { Answers (state S.Store self.old) (state S.Store self.new) result (λ r rows.
             rows.items ≡ map bare (with_subject node.now.declaration node.now.rec (placed_of node.now.agent r))) }
     {
@@ -180,9 +171,7 @@ impl<S: Alter + Drop> Lookup<S> {
         rec: &str,
     ) -> Result<Vec<StatementRow>, ReadError>
         requires { self.old.in_transaction ≡ false }
-        ensures mode { self.new.in_transaction ≡ false }
-        ensures began { IsClean (state S.Store self.new) → IsClean (state S.Store self.old) }
-        ensures kept { IsClean (state S.Store self.new) → (state S.Store self.new).committed ≡ (state S.Store self.old).committed }
+        ensures reads { ReadsOnly (state S.Store self.old) (state S.Store self.new) }
         ensures answer { Answers (state S.Store self.old) (state S.Store self.new) result (λ r rows.
             rows.items ≡ map bare (in_record rec.now (placed_of agent.now r))) }
     {
@@ -197,9 +186,7 @@ impl<S: Alter + Drop> Lookup<S> {
         id: &str,
     ) -> Result<Vec<IdentifierRow>, ReadError>
         requires { self.old.in_transaction ≡ false }
-        ensures mode { self.new.in_transaction ≡ false }
-        ensures began { IsClean (state S.Store self.new) → IsClean (state S.Store self.old) }
-        ensures kept { IsClean (state S.Store self.new) → (state S.Store self.new).committed ≡ (state S.Store self.old).committed }
+        ensures reads { ReadsOnly (state S.Store self.old) (state S.Store self.new) }
         ensures answer { Answers (state S.Store self.old) (state S.Store self.new) result (λ r rows.
             rows.items ≡ identified_by scheme.now id.now r.members) }
     {
@@ -213,9 +200,7 @@ impl<S: Alter + Drop> Lookup<S> {
         at: &At,
     ) -> Result<Option<StatementRow>, ReadError>
         requires { self.old.in_transaction ≡ false }
-        ensures mode { self.new.in_transaction ≡ false }
-        ensures began { IsClean (state S.Store self.new) → IsClean (state S.Store self.old) }
-        ensures kept { IsClean (state S.Store self.new) → (state S.Store self.new).committed ≡ (state S.Store self.old).committed }
+        ensures reads { ReadsOnly (state S.Store self.old) (state S.Store self.new) }
         ensures answer { Answers (state S.Store self.old) (state S.Store self.new) result (λ r row.
             row ≡ option_map bare (slice_get (standing_at at.now r.members) 0)) }
     {
@@ -229,9 +214,7 @@ impl<S: Alter + Drop> Lookup<S> {
         at: &At,
     ) -> Result<Vec<InterestRow>, ReadError>
         requires { self.old.in_transaction ≡ false }
-        ensures mode { self.new.in_transaction ≡ false }
-        ensures began { IsClean (state S.Store self.new) → IsClean (state S.Store self.old) }
-        ensures kept { IsClean (state S.Store self.new) → (state S.Store self.new).committed ≡ (state S.Store self.old).committed }
+        ensures reads { ReadsOnly (state S.Store self.old) (state S.Store self.new) }
         ensures answer { Answers (state S.Store self.old) (state S.Store self.new) result (λ r rows.
             rows.items ≡ interests_at at.now r.members) }
     {
@@ -245,9 +228,7 @@ impl<S: Alter + Drop> Lookup<S> {
         at: &At,
     ) -> Result<Vec<IdentifierRow>, ReadError>
         requires { self.old.in_transaction ≡ false }
-        ensures mode { self.new.in_transaction ≡ false }
-        ensures began { IsClean (state S.Store self.new) → IsClean (state S.Store self.old) }
-        ensures kept { IsClean (state S.Store self.new) → (state S.Store self.new).committed ≡ (state S.Store self.old).committed }
+        ensures reads { ReadsOnly (state S.Store self.old) (state S.Store self.new) }
         ensures answer { Answers (state S.Store self.old) (state S.Store self.new) result (λ r rows.
             rows.items ≡ identifiers_at at.now r.members) }
     {
@@ -257,9 +238,7 @@ impl<S: Alter + Drop> Lookup<S> {
     // Whether there are more live statements than so many.
     fn has_more(&mut self, most: u32) -> Result<bool, ReadError>
         requires { self.old.in_transaction ≡ false }
-        ensures mode { self.new.in_transaction ≡ false }
-        ensures began { IsClean (state S.Store self.new) → IsClean (state S.Store self.old) }
-        ensures kept { IsClean (state S.Store self.new) → (state S.Store self.new).committed ≡ (state S.Store self.old).committed }
+        ensures reads { ReadsOnly (state S.Store self.old) (state S.Store self.new) }
         ensures answer { Answers (state S.Store self.old) (state S.Store self.new) result (λ r more.
             more ≡ not (nat_le (length (placed r.members)) most)) }
     {
@@ -269,9 +248,7 @@ impl<S: Alter + Drop> Lookup<S> {
     // All rows that the viewer sees on the register's day.
     fn visible(&mut self, alloc: Global, viewer: &AgentName) -> Result<Vec<Row>, ReadError>
         requires { self.old.in_transaction ≡ false }
-        ensures mode { self.new.in_transaction ≡ false }
-        ensures began { IsClean (state S.Store self.new) → IsClean (state S.Store self.old) }
-        ensures kept { IsClean (state S.Store self.new) → (state S.Store self.new).committed ≡ (state S.Store self.old).committed }
+        ensures reads { ReadsOnly (state S.Store self.old) (state S.Store self.new) }
         ensures answer { Answers (state S.Store self.old) (state S.Store self.new) result (λ r rows.
             rows.items ≡ visible viewer.now r.day r.members) }
     {
@@ -446,9 +423,7 @@ impl<S: Alter + Drop> Lookup<S> {
     fn list(&mut self, alloc: Global, view: &View, most: u32) -> Result<(), ReadError>
         requires mode { self.old.in_transaction ≡ false }
         requires today { Holds (state S.Store self.old) (λ r. view.now.today ≡ r.day) }
-        ensures mode { self.new.in_transaction ≡ false }
-        ensures began { IsClean (state S.Store self.new) → IsClean (state S.Store self.old) }
-        ensures kept { IsClean (state S.Store self.new) → (state S.Store self.new).committed ≡ (state S.Store self.old).committed }
+        ensures reads { ReadsOnly (state S.Store self.old) (state S.Store self.new) }
         ensures answer { Answers (state S.Store self.old) (state S.Store self.new) result (λ r _. Unit {0}) }
     {
         if self.has_more(most)? {
@@ -463,9 +438,7 @@ impl<S: Alter + Drop> Lookup<S> {
     /// that the viewer sees. Where memory is wanting for it, records are read one by one as before.
     pub(crate) fn list_where_many(&mut self, alloc: Global, view: &View) -> Result<(), ReadError>
         requires { self.old.in_transaction ≡ false }
-        ensures mode { self.new.in_transaction ≡ false }
-        ensures began { IsClean (state S.Store self.new) → IsClean (state S.Store self.old) }
-        ensures kept { IsClean (state S.Store self.new) → (state S.Store self.new).committed ≡ (state S.Store self.old).committed }
+        ensures reads { ReadsOnly (state S.Store self.old) (state S.Store self.new) }
         ensures answer { Answers (state S.Store self.old) (state S.Store self.new) result (λ r _. Unit {0}) }
     {
         let Some(most) = self.most(view) else {

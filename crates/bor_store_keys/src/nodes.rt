@@ -6,8 +6,7 @@ ghost use Rattle.bor_links.specs.ByKey.{node_at};
 ghost use Rattle.bor_links.specs.Rows.{is_entity_info, is_some_info, node_in};
 ghost use Rattle.bor_links.specs.Shown.{info_of};
 ghost use Rattle.bor_register.specs.Seen.{seen_at};
-ghost use Rattle.bor_store_sql.specs.Shown.{IsClean};
-ghost use Rattle.bor_store_reads.specs.Answering.{Answers};
+ghost use Rattle.bor_store_reads.specs.Answering.{Answers, ReadsOnly};
 ghost use Rattle.bor_store_keys.specs.Viewed.{rows_seen, seen};
 
 use crate::listed::node_listed;
@@ -40,9 +39,7 @@ fn node_read<S: Alter + Drop>(
     node: &Node,
 ) -> Result<Option<OpenNode>, ReadError>
     requires { lookup.old.in_transaction ≡ false }
-    ensures mode { lookup.new.in_transaction ≡ false }
-    ensures began { IsClean (state S.Store lookup.new) → IsClean (state S.Store lookup.old) }
-    ensures kept { IsClean (state S.Store lookup.new) → (state S.Store lookup.new).committed ≡ (state S.Store lookup.old).committed }
+    ensures reads { ReadsOnly (state S.Store lookup.old) (state S.Store lookup.new) }
     ensures answer { Answers (state S.Store lookup.old) (state S.Store lookup.new) result (λ r one.
         one ≡ node_at view.now.day node.now (rows_seen view.now r)) }
 {
@@ -60,9 +57,7 @@ pub(crate) fn node_in<S: Alter + Drop>(
     node: &Node,
 ) -> Result<Option<OpenNode>, ReadError>
     requires { lookup.old.in_transaction ≡ false }
-    ensures mode { lookup.new.in_transaction ≡ false }
-    ensures began { IsClean (state S.Store lookup.new) → IsClean (state S.Store lookup.old) }
-    ensures kept { IsClean (state S.Store lookup.new) → (state S.Store lookup.new).committed ≡ (state S.Store lookup.old).committed }
+    ensures reads { ReadsOnly (state S.Store lookup.old) (state S.Store lookup.new) }
     ensures answer { Answers (state S.Store lookup.old) (state S.Store lookup.new) result (λ r one.
         one ≡ node_at view.now.day node.now (rows_seen view.now r)) }
 {
@@ -80,9 +75,7 @@ fn info_read<S: Alter + Drop>(
     node: &Node,
 ) -> Result<Option<NodeInfo>, ReadError>
     requires { lookup.old.in_transaction ≡ false }
-    ensures mode { lookup.new.in_transaction ≡ false }
-    ensures began { IsClean (state S.Store lookup.new) → IsClean (state S.Store lookup.old) }
-    ensures kept { IsClean (state S.Store lookup.new) → (state S.Store lookup.new).committed ≡ (state S.Store lookup.old).committed }
+    ensures reads { ReadsOnly (state S.Store lookup.old) (state S.Store lookup.new) }
     ensures answer { Answers (state S.Store lookup.old) (state S.Store lookup.new) result (λ r info.
         info ≡ info_of (seen view.now r) node.now) }
 {
@@ -100,9 +93,7 @@ fn info_in<S: Alter + Drop>(
     node: &Node,
 ) -> Result<Option<NodeInfo>, ReadError>
     requires { lookup.old.in_transaction ≡ false }
-    ensures mode { lookup.new.in_transaction ≡ false }
-    ensures began { IsClean (state S.Store lookup.new) → IsClean (state S.Store lookup.old) }
-    ensures kept { IsClean (state S.Store lookup.new) → (state S.Store lookup.new).committed ≡ (state S.Store lookup.old).committed }
+    ensures reads { ReadsOnly (state S.Store lookup.old) (state S.Store lookup.new) }
     ensures answer { Answers (state S.Store lookup.old) (state S.Store lookup.new) result (λ r info.
         info ≡ info_of (seen view.now r) node.now) }
 {
@@ -120,9 +111,7 @@ pub(crate) fn is_entity<S: Alter + Drop>(
     node: &Node,
 ) -> Result<bool, ReadError>
     requires { lookup.old.in_transaction ≡ false }
-    ensures mode { lookup.new.in_transaction ≡ false }
-    ensures began { IsClean (state S.Store lookup.new) → IsClean (state S.Store lookup.old) }
-    ensures kept { IsClean (state S.Store lookup.new) → (state S.Store lookup.new).committed ≡ (state S.Store lookup.old).committed }
+    ensures reads { ReadsOnly (state S.Store lookup.old) (state S.Store lookup.new) }
     ensures answer { Answers (state S.Store lookup.old) (state S.Store lookup.new) result (λ r is.
         is ≡ is_entity_info (info_of (seen view.now r) node.now)) }
 {
@@ -140,9 +129,7 @@ pub(crate) fn is_node<S: Alter + Drop>(
     node: &Node,
 ) -> Result<bool, ReadError>
     requires { lookup.old.in_transaction ≡ false }
-    ensures mode { lookup.new.in_transaction ≡ false }
-    ensures began { IsClean (state S.Store lookup.new) → IsClean (state S.Store lookup.old) }
-    ensures kept { IsClean (state S.Store lookup.new) → (state S.Store lookup.new).committed ≡ (state S.Store lookup.old).committed }
+    ensures reads { ReadsOnly (state S.Store lookup.old) (state S.Store lookup.new) }
     ensures answer { Answers (state S.Store lookup.old) (state S.Store lookup.new) result (λ r is.
         is ≡ is_some_info (info_of (seen view.now r) node.now)) }
 {
@@ -157,9 +144,7 @@ fn info_told<S: Alter + Drop>(
     node: &Node,
 ) -> Result<Option<NodeInfo>, ReadError>
     requires { lookup.old.in_transaction ≡ false }
-    ensures mode { lookup.new.in_transaction ≡ false }
-    ensures began { IsClean (state S.Store lookup.new) → IsClean (state S.Store lookup.old) }
-    ensures kept { IsClean (state S.Store lookup.new) → (state S.Store lookup.new).committed ≡ (state S.Store lookup.old).committed }
+    ensures reads { ReadsOnly (state S.Store lookup.old) (state S.Store lookup.new) }
     ensures answer { Answers (state S.Store lookup.old) (state S.Store lookup.new) result (λ r info.
         info ≡ info_of (seen view.now r) node.now) }
 {
@@ -183,9 +168,7 @@ pub fn read_node<S: Alter + Drop>(
     node: &Node,
 ) -> Result<Option<NodeInfo>, ReadError>
     requires { lookup.old.in_transaction ≡ false }
-    ensures mode { lookup.new.in_transaction ≡ false }
-    ensures began { IsClean (state S.Store lookup.new) → IsClean (state S.Store lookup.old) }
-    ensures kept { IsClean (state S.Store lookup.new) → (state S.Store lookup.new).committed ≡ (state S.Store lookup.old).committed }
+    ensures reads { ReadsOnly (state S.Store lookup.old) (state S.Store lookup.new) }
     ensures answer { Answers (state S.Store lookup.old) (state S.Store lookup.new) result (λ r info.
         info ≡ info_of (seen_at viewer.now day r) node.now) }
 {

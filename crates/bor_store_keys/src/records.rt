@@ -5,8 +5,7 @@ ghost use Rattle.std.specs.List.{filter_map};
 ghost use Rattle.sqlite.specs.Held.{state};
 ghost use Rattle.bor_store_rows.specs.Placed.{placed};
 ghost use Rattle.bor_store_sql.specs.Selected.{in_record, placed_of, with_subject};
-ghost use Rattle.bor_store_sql.specs.Shown.{IsClean};
-ghost use Rattle.bor_store_reads.specs.Answering.{Answers};
+ghost use Rattle.bor_store_reads.specs.Answering.{Answers, ReadsOnly};
 ghost use Rattle.bor_store_keys.specs.Recorded.{CoverRecords, record_at};
 ghost use Rattle.bor_store_keys.specs.Signed.{record_standing, with_identifier, with_sign};
 
@@ -43,9 +42,7 @@ pub(crate) fn records_into<S: Alter + Drop>(
     node: &Node,
 ) -> Result<Vec<Node>, ReadError>
     requires { lookup.old.in_transaction ≡ false }
-    ensures mode { lookup.new.in_transaction ≡ false }
-    ensures began { IsClean (state S.Store lookup.new) → IsClean (state S.Store lookup.old) }
-    ensures kept { IsClean (state S.Store lookup.new) → (state S.Store lookup.new).committed ≡ (state S.Store lookup.old).committed }
+    ensures reads { ReadsOnly (state S.Store lookup.old) (state S.Store lookup.new) }
     ensures answer { Answers (state S.Store lookup.old) (state S.Store lookup.new) result (λ r records.
         CoverRecords (with_subject node.now.declaration node.now.rec (placed_of node.now.agent r)) records.items) }
 {
@@ -61,9 +58,7 @@ fn record_read<S: Alter + Drop>(
     at: &At,
 ) -> Result<Option<Node>, ReadError>
     requires { lookup.old.in_transaction ≡ false }
-    ensures mode { lookup.new.in_transaction ≡ false }
-    ensures began { IsClean (state S.Store lookup.new) → IsClean (state S.Store lookup.old) }
-    ensures kept { IsClean (state S.Store lookup.new) → (state S.Store lookup.new).committed ≡ (state S.Store lookup.old).committed }
+    ensures reads { ReadsOnly (state S.Store lookup.old) (state S.Store lookup.new) }
     ensures answer { Answers (state S.Store lookup.old) (state S.Store lookup.new) result (λ r one.
         one ≡ record_standing r.members at.now) }
 {
@@ -80,9 +75,7 @@ fn record_standing<S: Alter + Drop>(
     at: &At,
 ) -> Result<Option<Node>, ReadError>
     requires { lookup.old.in_transaction ≡ false }
-    ensures mode { lookup.new.in_transaction ≡ false }
-    ensures began { IsClean (state S.Store lookup.new) → IsClean (state S.Store lookup.old) }
-    ensures kept { IsClean (state S.Store lookup.new) → (state S.Store lookup.new).committed ≡ (state S.Store lookup.old).committed }
+    ensures reads { ReadsOnly (state S.Store lookup.old) (state S.Store lookup.new) }
     ensures answer { Answers (state S.Store lookup.old) (state S.Store lookup.new) result (λ r one.
         one ≡ record_standing r.members at.now) }
 {
@@ -99,9 +92,7 @@ fn records_standing<S: Alter + Drop>(
     rows: &[IdentifierRow],
 ) -> Result<Vec<Node>, ReadError>
     requires { lookup.old.in_transaction ≡ false }
-    ensures mode { lookup.new.in_transaction ≡ false }
-    ensures began { IsClean (state S.Store lookup.new) → IsClean (state S.Store lookup.old) }
-    ensures kept { IsClean (state S.Store lookup.new) → (state S.Store lookup.new).committed ≡ (state S.Store lookup.old).committed }
+    ensures reads { ReadsOnly (state S.Store lookup.old) (state S.Store lookup.new) }
     ensures answer { Answers (state S.Store lookup.old) (state S.Store lookup.new) result (λ r records.
         records.items ≡ filter_map (λ row. record_standing r.members row.at) rows.now) }
 {
@@ -121,9 +112,7 @@ fn records_identified<S: Alter + Drop>(
     id: &str,
 ) -> Result<Vec<Node>, ReadError>
     requires { lookup.old.in_transaction ≡ false }
-    ensures mode { lookup.new.in_transaction ≡ false }
-    ensures began { IsClean (state S.Store lookup.new) → IsClean (state S.Store lookup.old) }
-    ensures kept { IsClean (state S.Store lookup.new) → (state S.Store lookup.new).committed ≡ (state S.Store lookup.old).committed }
+    ensures reads { ReadsOnly (state S.Store lookup.old) (state S.Store lookup.new) }
     ensures answer { Answers (state S.Store lookup.old) (state S.Store lookup.new) result (λ r records.
         CoverRecords (with_identifier scheme.now id.now (placed r.members)) records.items) }
 {
@@ -140,9 +129,7 @@ fn records_named<S: Alter + Drop>(
     rec: &str,
 ) -> Result<Vec<Node>, ReadError>
     requires { lookup.old.in_transaction ≡ false }
-    ensures mode { lookup.new.in_transaction ≡ false }
-    ensures began { IsClean (state S.Store lookup.new) → IsClean (state S.Store lookup.old) }
-    ensures kept { IsClean (state S.Store lookup.new) → (state S.Store lookup.new).committed ≡ (state S.Store lookup.old).committed }
+    ensures reads { ReadsOnly (state S.Store lookup.old) (state S.Store lookup.new) }
     ensures answer { Answers (state S.Store lookup.old) (state S.Store lookup.new) result (λ r records.
         CoverRecords (in_record rec.now (placed_of agent.now r)) records.items) }
 {
@@ -158,9 +145,7 @@ pub(crate) fn records_with<S: Alter + Drop>(
     sign: &Sign,
 ) -> Result<Vec<Node>, ReadError>
     requires { lookup.old.in_transaction ≡ false }
-    ensures mode { lookup.new.in_transaction ≡ false }
-    ensures began { IsClean (state S.Store lookup.new) → IsClean (state S.Store lookup.old) }
-    ensures kept { IsClean (state S.Store lookup.new) → (state S.Store lookup.new).committed ≡ (state S.Store lookup.old).committed }
+    ensures reads { ReadsOnly (state S.Store lookup.old) (state S.Store lookup.new) }
     ensures answer { Answers (state S.Store lookup.old) (state S.Store lookup.new) result (λ r records.
         CoverRecords (with_sign sign.now r) records.items) }
 {

@@ -1,5 +1,5 @@
 -- What a read answers.
-use Rattle.std.specs.Prelude.{◌≢◌, Result, MatchResult}
+use Rattle.std.specs.Prelude.{◌≡◌, ◌≢◌, false, Result, MatchResult}
 use Rattle.sqlite.specs.State.{State}
 use Rattle.bor_register.specs.Register.{Register}
 use Rattle.bor_keep.specs.declared.fault.StoreFault.{StoreFault}
@@ -18,6 +18,13 @@ IsNoDamage error = error ≢ errors.Damaged
 abbrev pub of_row : RowFault → ReadError
 of_row row_faults.Memory = errors.Memory
 of_row row_faults.Damaged = errors.Damaged
+
+-- Reading changes nothing: no transaction is left open; a connection that ends clean began clean, and what was written
+-- stays as it was.
+pub record ReadsOnly (old new : State) : Type 0 where
+  pub mode : new.in_transaction ≡ false
+  pub began : IsClean new → IsClean old
+  pub kept : IsClean new → new.committed ≡ old.committed
 
 -- Where the connection ended clean and showed a register, this holds of an answer, and no error is of damage.
 abbrev pub Answers : {X : Type 0} → State → State → Result X ReadError → (Register → X → Type 0) → Type 0

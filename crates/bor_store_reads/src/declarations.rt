@@ -7,9 +7,8 @@ ghost use Rattle.bor_register.specs.Register.{filings_of};
 ghost use Rattle.bor_register.specs.Rows.{rows_of};
 ghost use Rattle.bor_store_rows.specs.Placed.{bare};
 ghost use Rattle.bor_store_rows.specs.Seen.{is_seen, row_placed};
-ghost use Rattle.bor_store_sql.specs.Shown.{IsClean};
 ghost use Rattle.bor_store_sql.specs.Selected.{identifiers_at, in_declaration, interests_at, placed_of};
-ghost use Rattle.bor_store_reads.specs.Answering.{Answers, IsNoDamage};
+ghost use Rattle.bor_store_reads.specs.Answering.{Answers, IsNoDamage, ReadsOnly};
 ghost use Rattle.bor_store_reads.specs.Asking.{part_identifiers, part_interests};
 
 use crate::fault::ReadError;
@@ -31,9 +30,7 @@ fn statements<S: Alter>(
     declaration: &Ident,
 ) -> Result<Vec<StatementRow>, ReadError>
     requires { conn.old.in_transaction ≡ false }
-    ensures mode { conn.new.in_transaction ≡ false }
-    ensures began { IsClean (state S.Store conn.new) → IsClean (state S.Store conn.old) }
-    ensures kept { IsClean (state S.Store conn.new) → (state S.Store conn.new).committed ≡ (state S.Store conn.old).committed }
+    ensures reads { ReadsOnly (state S.Store conn.old) (state S.Store conn.new) }
     ensures answer { Answers (state S.Store conn.old) (state S.Store conn.new) result (λ r rows.
         rows.items ≡ map bare (in_declaration declaration.now (placed_of agent.now r))) }
 {
@@ -50,9 +47,7 @@ pub fn interests_of_one<S: Alter>(
     at: &At,
 ) -> Result<Vec<InterestRow>, ReadError>
     requires { conn.old.in_transaction ≡ false }
-    ensures mode { conn.new.in_transaction ≡ false }
-    ensures began { IsClean (state S.Store conn.new) → IsClean (state S.Store conn.old) }
-    ensures kept { IsClean (state S.Store conn.new) → (state S.Store conn.new).committed ≡ (state S.Store conn.old).committed }
+    ensures reads { ReadsOnly (state S.Store conn.old) (state S.Store conn.new) }
     ensures answer { Answers (state S.Store conn.old) (state S.Store conn.new) result (λ r rows.
         rows.items ≡ interests_at at.now r.members) }
 {
@@ -69,9 +64,7 @@ fn interests_of_row<S: Alter>(
     row: &StatementRow,
 ) -> Result<Vec<InterestRow>, ReadError>
     requires { conn.old.in_transaction ≡ false }
-    ensures mode { conn.new.in_transaction ≡ false }
-    ensures began { IsClean (state S.Store conn.new) → IsClean (state S.Store conn.old) }
-    ensures kept { IsClean (state S.Store conn.new) → (state S.Store conn.new).committed ≡ (state S.Store conn.old).committed }
+    ensures reads { ReadsOnly (state S.Store conn.old) (state S.Store conn.new) }
     ensures answer { Answers (state S.Store conn.old) (state S.Store conn.new) result (λ r rows.
         rows.items ≡ part_interests row.now.part row.now.at r.members) }
 {
@@ -89,9 +82,7 @@ fn interests_of<S: Alter>(
     rows: &[StatementRow],
 ) -> Result<Vec<InterestRow>, ReadError>
     requires { conn.old.in_transaction ≡ false }
-    ensures mode { conn.new.in_transaction ≡ false }
-    ensures began { IsClean (state S.Store conn.new) → IsClean (state S.Store conn.old) }
-    ensures kept { IsClean (state S.Store conn.new) → (state S.Store conn.new).committed ≡ (state S.Store conn.old).committed }
+    ensures reads { ReadsOnly (state S.Store conn.old) (state S.Store conn.new) }
     ensures answer { Answers (state S.Store conn.old) (state S.Store conn.new) result (λ r interests.
         interests.items ≡ flat_map (λ row. part_interests row.part row.at r.members) rows.now) }
 {
@@ -110,9 +101,7 @@ pub fn identifiers_of_one<S: Alter>(
     at: &At,
 ) -> Result<Vec<IdentifierRow>, ReadError>
     requires { conn.old.in_transaction ≡ false }
-    ensures mode { conn.new.in_transaction ≡ false }
-    ensures began { IsClean (state S.Store conn.new) → IsClean (state S.Store conn.old) }
-    ensures kept { IsClean (state S.Store conn.new) → (state S.Store conn.new).committed ≡ (state S.Store conn.old).committed }
+    ensures reads { ReadsOnly (state S.Store conn.old) (state S.Store conn.new) }
     ensures answer { Answers (state S.Store conn.old) (state S.Store conn.new) result (λ r rows.
         rows.items ≡ identifiers_at at.now r.members) }
 {
@@ -129,9 +118,7 @@ fn identifiers_of_row<S: Alter>(
     row: &StatementRow,
 ) -> Result<Vec<IdentifierRow>, ReadError>
     requires { conn.old.in_transaction ≡ false }
-    ensures mode { conn.new.in_transaction ≡ false }
-    ensures began { IsClean (state S.Store conn.new) → IsClean (state S.Store conn.old) }
-    ensures kept { IsClean (state S.Store conn.new) → (state S.Store conn.new).committed ≡ (state S.Store conn.old).committed }
+    ensures reads { ReadsOnly (state S.Store conn.old) (state S.Store conn.new) }
     ensures answer { Answers (state S.Store conn.old) (state S.Store conn.new) result (λ r rows.
         rows.items ≡ part_identifiers row.now.part row.now.at r.members) }
 {
@@ -149,9 +136,7 @@ fn identifiers_of<S: Alter>(
     rows: &[StatementRow],
 ) -> Result<Vec<IdentifierRow>, ReadError>
     requires { conn.old.in_transaction ≡ false }
-    ensures mode { conn.new.in_transaction ≡ false }
-    ensures began { IsClean (state S.Store conn.new) → IsClean (state S.Store conn.old) }
-    ensures kept { IsClean (state S.Store conn.new) → (state S.Store conn.new).committed ≡ (state S.Store conn.old).committed }
+    ensures reads { ReadsOnly (state S.Store conn.old) (state S.Store conn.new) }
     ensures answer { Answers (state S.Store conn.old) (state S.Store conn.new) result (λ r identifiers.
         identifiers.items ≡ flat_map (λ row. part_identifiers row.part row.at r.members) rows.now) }
 {
@@ -171,9 +156,7 @@ fn placed<S: Alter>(
     declaration: &Ident,
 ) -> Result<Vec<Placed>, ReadError>
     requires { conn.old.in_transaction ≡ false }
-    ensures mode { conn.new.in_transaction ≡ false }
-    ensures began { IsClean (state S.Store conn.new) → IsClean (state S.Store conn.old) }
-    ensures kept { IsClean (state S.Store conn.new) → (state S.Store conn.new).committed ≡ (state S.Store conn.old).committed }
+    ensures reads { ReadsOnly (state S.Store conn.old) (state S.Store conn.new) }
     ensures answer { Answers (state S.Store conn.old) (state S.Store conn.new) result (λ r placed.
         placed.items ≡ in_declaration declaration.now (placed_of agent.now r)) }
 {
@@ -208,9 +191,7 @@ fn seen<S: Alter>(
     statements: Vec<Placed>,
 ) -> Result<Vec<Row>, ReadError>
     requires { conn.old.in_transaction ≡ false }
-    ensures mode { conn.new.in_transaction ≡ false }
-    ensures began { IsClean (state S.Store conn.new) → IsClean (state S.Store conn.old) }
-    ensures kept { IsClean (state S.Store conn.new) → (state S.Store conn.new).committed ≡ (state S.Store conn.old).committed }
+    ensures reads { ReadsOnly (state S.Store conn.old) (state S.Store conn.new) }
     ensures answer { Answers (state S.Store conn.old) (state S.Store conn.new) result (λ r rows.
         rows.items ≡ map row_placed (filter (is_seen viewer.now day agent.now (filings_of agent.now r.members)) statements.items)) }
 {
@@ -237,9 +218,7 @@ pub fn read_rows_of<S: Alter>(
     declaration: &Ident,
 ) -> Result<Vec<Row>, ReadError>
     requires { conn.old.in_transaction ≡ false }
-    ensures mode { conn.new.in_transaction ≡ false }
-    ensures began { IsClean (state S.Store conn.new) → IsClean (state S.Store conn.old) }
-    ensures kept { IsClean (state S.Store conn.new) → (state S.Store conn.new).committed ≡ (state S.Store conn.old).committed }
+    ensures reads { ReadsOnly (state S.Store conn.old) (state S.Store conn.new) }
     ensures answer { Answers (state S.Store conn.old) (state S.Store conn.new) result (λ r rows.
         rows.items ≡ rows_of viewer.now r.day agent.now declaration.now (filings_of agent.now r.members)) }
 {

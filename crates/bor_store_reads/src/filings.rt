@@ -5,8 +5,7 @@ ghost use Rattle.sqlite.specs.Held.{state};
 ghost use Rattle.bor_register.specs.Register.{filings_of, filing_keyed};
 ghost use Rattle.bor_register.specs.Publication.{line_of, filing_shown, has_bytes};
 ghost use Rattle.bor_store_rows.specs.Placed.{filing_row};
-ghost use Rattle.bor_store_sql.specs.Shown.{IsClean};
-ghost use Rattle.bor_store_reads.specs.Answering.{Answers};
+ghost use Rattle.bor_store_reads.specs.Answering.{Answers, ReadsOnly};
 
 use crate::fault::ReadError;
 use crate::register::read_day;
@@ -26,9 +25,7 @@ pub fn read_filing<S: Alter>(
     key: &LodgeKey,
 ) -> Result<Option<Filing>, ReadError>
     requires { conn.old.in_transaction ≡ false }
-    ensures mode { conn.new.in_transaction ≡ false }
-    ensures began { IsClean (state S.Store conn.new) → IsClean (state S.Store conn.old) }
-    ensures kept { IsClean (state S.Store conn.new) → (state S.Store conn.new).committed ≡ (state S.Store conn.old).committed }
+    ensures reads { ReadsOnly (state S.Store conn.old) (state S.Store conn.new) }
     ensures answer { Answers (state S.Store conn.old) (state S.Store conn.new) result (λ r filing.
         filing ≡ option_map filing_shown (filing_keyed key.now (filings_of agent.now r.members))) }
 {
@@ -43,9 +40,7 @@ fn found_line<S: Alter>(
     key: &LodgeKey,
 ) -> Result<Option<FilingRow>, ReadError>
     requires { conn.old.in_transaction ≡ false }
-    ensures mode { conn.new.in_transaction ≡ false }
-    ensures began { IsClean (state S.Store conn.new) → IsClean (state S.Store conn.old) }
-    ensures kept { IsClean (state S.Store conn.new) → (state S.Store conn.new).committed ≡ (state S.Store conn.old).committed }
+    ensures reads { ReadsOnly (state S.Store conn.old) (state S.Store conn.new) }
     ensures answer { Answers (state S.Store conn.old) (state S.Store conn.new) result (λ r row.
         row ≡ option_map (filing_row agent.now) (filing_keyed key.now (filings_of agent.now r.members))) }
 {
@@ -62,9 +57,7 @@ pub fn read_line<S: Alter>(
     key: &LodgeKey,
 ) -> Result<Option<FilingLine>, ReadError>
     requires { conn.old.in_transaction ≡ false }
-    ensures mode { conn.new.in_transaction ≡ false }
-    ensures began { IsClean (state S.Store conn.new) → IsClean (state S.Store conn.old) }
-    ensures kept { IsClean (state S.Store conn.new) → (state S.Store conn.new).committed ≡ (state S.Store conn.old).committed }
+    ensures reads { ReadsOnly (state S.Store conn.old) (state S.Store conn.new) }
     ensures answer { Answers (state S.Store conn.old) (state S.Store conn.new) result (λ r line.
         line ≡ option_map (line_of r.day) (filing_keyed key.now (filings_of agent.now r.members))) }
 {
@@ -83,9 +76,7 @@ pub fn has_file<S: Alter>(
     bytes: &[u8],
 ) -> Result<bool, ReadError>
     requires { conn.old.in_transaction ≡ false }
-    ensures mode { conn.new.in_transaction ≡ false }
-    ensures began { IsClean (state S.Store conn.new) → IsClean (state S.Store conn.old) }
-    ensures kept { IsClean (state S.Store conn.new) → (state S.Store conn.new).committed ≡ (state S.Store conn.old).committed }
+    ensures reads { ReadsOnly (state S.Store conn.old) (state S.Store conn.new) }
     ensures answer { Answers (state S.Store conn.old) (state S.Store conn.new) result (λ r has.
         has ≡ has_bytes bytes.now (filing_keyed key.now (filings_of agent.now r.members))) }
 {
@@ -99,9 +90,7 @@ fn found_last<S: Alter>(
     agent: &AgentName,
 ) -> Result<Option<FilingRow>, ReadError>
     requires { conn.old.in_transaction ≡ false }
-    ensures mode { conn.new.in_transaction ≡ false }
-    ensures began { IsClean (state S.Store conn.new) → IsClean (state S.Store conn.old) }
-    ensures kept { IsClean (state S.Store conn.new) → (state S.Store conn.new).committed ≡ (state S.Store conn.old).committed }
+    ensures reads { ReadsOnly (state S.Store conn.old) (state S.Store conn.new) }
     ensures answer { Answers (state S.Store conn.old) (state S.Store conn.new) result (λ r row.
         unwrap_or (option_map (λ f. f.number) row) 0 ≡ length (filings_of agent.now r.members)) }
 {
@@ -115,9 +104,7 @@ pub fn filing_count<S: Alter>(
     agent: &AgentName,
 ) -> Result<usize, ReadError>
     requires { conn.old.in_transaction ≡ false }
-    ensures mode { conn.new.in_transaction ≡ false }
-    ensures began { IsClean (state S.Store conn.new) → IsClean (state S.Store conn.old) }
-    ensures kept { IsClean (state S.Store conn.new) → (state S.Store conn.new).committed ≡ (state S.Store conn.old).committed }
+    ensures reads { ReadsOnly (state S.Store conn.old) (state S.Store conn.new) }
     ensures answer { Answers (state S.Store conn.old) (state S.Store conn.new) result (λ r count.
         count ≡ length (filings_of agent.now r.members)) }
 {
@@ -134,9 +121,7 @@ fn found_lines<S: Alter>(
     agent: &AgentName,
 ) -> Result<Vec<FilingRow>, ReadError>
     requires { conn.old.in_transaction ≡ false }
-    ensures mode { conn.new.in_transaction ≡ false }
-    ensures began { IsClean (state S.Store conn.new) → IsClean (state S.Store conn.old) }
-    ensures kept { IsClean (state S.Store conn.new) → (state S.Store conn.new).committed ≡ (state S.Store conn.old).committed }
+    ensures reads { ReadsOnly (state S.Store conn.old) (state S.Store conn.new) }
     ensures answer { Answers (state S.Store conn.old) (state S.Store conn.new) result (λ r rows.
         rows.items ≡ map (filing_row agent.now) (filings_of agent.now r.members)) }
 {
@@ -151,9 +136,7 @@ pub fn read_filings<S: Alter>(
     agent: &AgentName,
 ) -> Result<Vec<FilingLine>, ReadError>
     requires { conn.old.in_transaction ≡ false }
-    ensures mode { conn.new.in_transaction ≡ false }
-    ensures began { IsClean (state S.Store conn.new) → IsClean (state S.Store conn.old) }
-    ensures kept { IsClean (state S.Store conn.new) → (state S.Store conn.new).committed ≡ (state S.Store conn.old).committed }
+    ensures reads { ReadsOnly (state S.Store conn.old) (state S.Store conn.new) }
     ensures answer { Answers (state S.Store conn.old) (state S.Store conn.new) result (λ r lines.
         lines.items ≡ map (line_of r.day) (filings_of agent.now r.members)) }
 {

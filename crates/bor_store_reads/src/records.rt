@@ -3,9 +3,8 @@
 ghost use Rattle.std.specs.Prelude.{◌≡◌, false, map, option_map, slice_get};
 ghost use Rattle.sqlite.specs.Held.{state};
 ghost use Rattle.bor_store_rows.specs.Placed.{bare};
-ghost use Rattle.bor_store_sql.specs.Shown.{IsClean};
 ghost use Rattle.bor_store_sql.specs.Selected.{identified_by, in_record, in_series, placed_of, standing_at, with_subject};
-ghost use Rattle.bor_store_reads.specs.Answering.{Answers};
+ghost use Rattle.bor_store_reads.specs.Answering.{Answers, ReadsOnly};
 
 use crate::fault::ReadError;
 use crate::values::{all, first};
@@ -27,9 +26,7 @@ pub fn read_series<S: Alter>(
     rec: &Ident,
 ) -> Result<Vec<StatementRow>, ReadError>
     requires { conn.old.in_transaction ≡ false }
-    ensures mode { conn.new.in_transaction ≡ false }
-    ensures began { IsClean (state S.Store conn.new) → IsClean (state S.Store conn.old) }
-    ensures kept { IsClean (state S.Store conn.new) → (state S.Store conn.new).committed ≡ (state S.Store conn.old).committed }
+    ensures reads { ReadsOnly (state S.Store conn.old) (state S.Store conn.new) }
     ensures answer { Answers (state S.Store conn.old) (state S.Store conn.new) result (λ r rows.
         rows.items ≡ map bare (in_series declaration.now rec.now (placed_of agent.now r))) }
 {
@@ -48,9 +45,7 @@ pub fn read_record<S: Alter>(
     rec: &str,
 ) -> Result<Vec<StatementRow>, ReadError>
     requires { conn.old.in_transaction ≡ false }
-    ensures mode { conn.new.in_transaction ≡ false }
-    ensures began { IsClean (state S.Store conn.new) → IsClean (state S.Store conn.old) }
-    ensures kept { IsClean (state S.Store conn.new) → (state S.Store conn.new).committed ≡ (state S.Store conn.old).committed }
+    ensures reads { ReadsOnly (state S.Store conn.old) (state S.Store conn.new) }
     ensures answer { Answers (state S.Store conn.old) (state S.Store conn.new) result (λ r rows.
         rows.items ≡ map bare (in_record rec.now (placed_of agent.now r))) }
 {
@@ -67,9 +62,7 @@ pub fn read_subject<S: Alter>(
     rec: &Ident,
 ) -> Result<Vec<StatementRow>, ReadError>
     requires { conn.old.in_transaction ≡ false }
-    ensures mode { conn.new.in_transaction ≡ false }
-    ensures began { IsClean (state S.Store conn.new) → IsClean (state S.Store conn.old) }
-    ensures kept { IsClean (state S.Store conn.new) → (state S.Store conn.new).committed ≡ (state S.Store conn.old).committed }
+    ensures reads { ReadsOnly (state S.Store conn.old) (state S.Store conn.new) }
     ensures answer { Answers (state S.Store conn.old) (state S.Store conn.new) result (λ r rows.
         rows.items ≡ map bare (with_subject declaration.now rec.now (placed_of agent.now r))) }
 {
@@ -86,9 +79,7 @@ pub fn read_place<S: Alter>(
     at: &At,
 ) -> Result<Option<StatementRow>, ReadError>
     requires { conn.old.in_transaction ≡ false }
-    ensures mode { conn.new.in_transaction ≡ false }
-    ensures began { IsClean (state S.Store conn.new) → IsClean (state S.Store conn.old) }
-    ensures kept { IsClean (state S.Store conn.new) → (state S.Store conn.new).committed ≡ (state S.Store conn.old).committed }
+    ensures reads { ReadsOnly (state S.Store conn.old) (state S.Store conn.new) }
     ensures answer { Answers (state S.Store conn.old) (state S.Store conn.new) result (λ r row.
         row ≡ option_map bare (slice_get (standing_at at.now r.members) 0)) }
 {
@@ -107,9 +98,7 @@ pub fn read_identified<S: Alter>(
     id: &str,
 ) -> Result<Vec<IdentifierRow>, ReadError>
     requires { conn.old.in_transaction ≡ false }
-    ensures mode { conn.new.in_transaction ≡ false }
-    ensures began { IsClean (state S.Store conn.new) → IsClean (state S.Store conn.old) }
-    ensures kept { IsClean (state S.Store conn.new) → (state S.Store conn.new).committed ≡ (state S.Store conn.old).committed }
+    ensures reads { ReadsOnly (state S.Store conn.old) (state S.Store conn.new) }
     ensures answer { Answers (state S.Store conn.old) (state S.Store conn.new) result (λ r rows.
         rows.items ≡ identified_by scheme.now id.now r.members) }
 {

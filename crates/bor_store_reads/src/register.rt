@@ -3,8 +3,7 @@
 ghost use Rattle.std.specs.Prelude.{◌≡◌, false, Some};
 ghost use Rattle.sqlite.specs.Held.{state};
 ghost use Rattle.bor_store_rows.specs.Placed.{register_row};
-ghost use Rattle.bor_store_sql.specs.Shown.{IsClean};
-ghost use Rattle.bor_store_reads.specs.Answering.{Answers};
+ghost use Rattle.bor_store_reads.specs.Answering.{Answers, ReadsOnly};
 
 use crate::fault::ReadError;
 use crate::values::first;
@@ -19,9 +18,7 @@ fn found_register<S: Alter>(
     alloc: Global,
 ) -> Result<Option<RegisterRow>, ReadError>
     requires { conn.old.in_transaction ≡ false }
-    ensures mode { conn.new.in_transaction ≡ false }
-    ensures began { IsClean (state S.Store conn.new) → IsClean (state S.Store conn.old) }
-    ensures kept { IsClean (state S.Store conn.new) → (state S.Store conn.new).committed ≡ (state S.Store conn.old).committed }
+    ensures reads { ReadsOnly (state S.Store conn.old) (state S.Store conn.new) }
     ensures answer { Answers (state S.Store conn.old) (state S.Store conn.new) result (λ r row. row ≡ Some (register_row r)) }
 {
     first(alloc, all_register(conn))
@@ -33,9 +30,7 @@ pub(crate) fn read_register<S: Alter>(
     alloc: Global,
 ) -> Result<RegisterRow, ReadError>
     requires { conn.old.in_transaction ≡ false }
-    ensures mode { conn.new.in_transaction ≡ false }
-    ensures began { IsClean (state S.Store conn.new) → IsClean (state S.Store conn.old) }
-    ensures kept { IsClean (state S.Store conn.new) → (state S.Store conn.new).committed ≡ (state S.Store conn.old).committed }
+    ensures reads { ReadsOnly (state S.Store conn.old) (state S.Store conn.new) }
     ensures answer { Answers (state S.Store conn.old) (state S.Store conn.new) result (λ r row. row ≡ register_row r) }
 {
     match found_register(conn, alloc)? {
@@ -47,9 +42,7 @@ pub(crate) fn read_register<S: Alter>(
 /// The register's day.
 pub fn read_day<S: Alter>(conn: &mut Connection<S>, alloc: Global) -> Result<Day, ReadError>
     requires { conn.old.in_transaction ≡ false }
-    ensures mode { conn.new.in_transaction ≡ false }
-    ensures began { IsClean (state S.Store conn.new) → IsClean (state S.Store conn.old) }
-    ensures kept { IsClean (state S.Store conn.new) → (state S.Store conn.new).committed ≡ (state S.Store conn.old).committed }
+    ensures reads { ReadsOnly (state S.Store conn.old) (state S.Store conn.new) }
     ensures answer { Answers (state S.Store conn.old) (state S.Store conn.new) result (λ r day. day ≡ r.day) }
 {
     Ok(read_register(conn, alloc)?.day)

@@ -9,9 +9,8 @@ ghost use Rattle.bor_records.specs.Settling.{has_id};
 ghost use Rattle.bor_register.specs.Register.{filings_of};
 ghost use Rattle.bor_register.specs.Live.{live_of};
 ghost use Rattle.bor_store_rows.specs.Placed.{bare, filing_row};
-ghost use Rattle.bor_store_sql.specs.Shown.{IsClean};
 ghost use Rattle.bor_store_sql.specs.Selected.{in_series, numbered, placed_of};
-ghost use Rattle.bor_store_reads.specs.Answering.{Answers};
+ghost use Rattle.bor_store_reads.specs.Answering.{Answers, ReadsOnly};
 
 use crate::fault::ReadError;
 use crate::values::{any, first};
@@ -29,9 +28,7 @@ pub fn has_statement<S: Alter>(
     id: &Ident,
 ) -> Result<bool, ReadError>
     requires { conn.old.in_transaction ≡ false }
-    ensures mode { conn.new.in_transaction ≡ false }
-    ensures began { IsClean (state S.Store conn.new) → IsClean (state S.Store conn.old) }
-    ensures kept { IsClean (state S.Store conn.new) → (state S.Store conn.new).committed ≡ (state S.Store conn.old).committed }
+    ensures reads { ReadsOnly (state S.Store conn.old) (state S.Store conn.new) }
     ensures answer { Answers (state S.Store conn.old) (state S.Store conn.new) result (λ r has.
         has ≡ has_id id.now (live_of (filings_of agent.now r.members))) }
 {
@@ -47,9 +44,7 @@ pub(crate) fn found_statement<S: Alter>(
     rec: &Ident,
 ) -> Result<Option<StatementRow>, ReadError>
     requires { conn.old.in_transaction ≡ false }
-    ensures mode { conn.new.in_transaction ≡ false }
-    ensures began { IsClean (state S.Store conn.new) → IsClean (state S.Store conn.old) }
-    ensures kept { IsClean (state S.Store conn.new) → (state S.Store conn.new).committed ≡ (state S.Store conn.old).committed }
+    ensures reads { ReadsOnly (state S.Store conn.old) (state S.Store conn.new) }
     ensures answer { Answers (state S.Store conn.old) (state S.Store conn.new) result (λ r row.
         row ≡ option_map bare (last_or None (in_series declaration.now rec.now (placed_of agent.now r)))) }
 {
@@ -67,9 +62,7 @@ pub(crate) fn found_filing<S: Alter>(
     number: u32,
 ) -> Result<Option<FilingRow>, ReadError>
     requires { conn.old.in_transaction ≡ false }
-    ensures mode { conn.new.in_transaction ≡ false }
-    ensures began { IsClean (state S.Store conn.new) → IsClean (state S.Store conn.old) }
-    ensures kept { IsClean (state S.Store conn.new) → (state S.Store conn.new).committed ≡ (state S.Store conn.old).committed }
+    ensures reads { ReadsOnly (state S.Store conn.old) (state S.Store conn.new) }
     ensures answer { Answers (state S.Store conn.old) (state S.Store conn.new) result (λ r row.
         row ≡ option_map (filing_row agent.now) (slice_get (numbered number (filings_of agent.now r.members)) 0)) }
 {
@@ -86,9 +79,7 @@ pub fn read_last<S: Alter>(
     rec: &Ident,
 ) -> Result<Option<Last>, ReadError>
     requires { conn.old.in_transaction ≡ false }
-    ensures mode { conn.new.in_transaction ≡ false }
-    ensures began { IsClean (state S.Store conn.new) → IsClean (state S.Store conn.old) }
-    ensures kept { IsClean (state S.Store conn.new) → (state S.Store conn.new).committed ≡ (state S.Store conn.old).committed }
+    ensures reads { ReadsOnly (state S.Store conn.old) (state S.Store conn.new) }
     ensures answer { Answers (state S.Store conn.old) (state S.Store conn.new) result (λ r last.
         last ≡ last_of declaration.now rec.now (live_of (filings_of agent.now r.members))) }
 {

@@ -7,9 +7,8 @@ ghost use Rattle.bor_register.specs.Register.{filings_of};
 ghost use Rattle.bor_register.specs.Withdrawal.{has_successor};
 ghost use Rattle.bor_store_rows.specs.Placed.{bare};
 ghost use Rattle.bor_store_rows.specs.Seen.{is_later};
-ghost use Rattle.bor_store_sql.specs.Shown.{IsClean};
 ghost use Rattle.bor_store_sql.specs.Selected.{in_filing, in_series, placed_of};
-ghost use Rattle.bor_store_reads.specs.Answering.{Answers};
+ghost use Rattle.bor_store_reads.specs.Answering.{Answers, ReadsOnly};
 
 use crate::fault::ReadError;
 use crate::statements::found_statement;
@@ -28,9 +27,7 @@ fn found_statements<S: Alter>(
     number: u32,
 ) -> Result<Vec<StatementRow>, ReadError>
     requires { conn.old.in_transaction ≡ false }
-    ensures mode { conn.new.in_transaction ≡ false }
-    ensures began { IsClean (state S.Store conn.new) → IsClean (state S.Store conn.old) }
-    ensures kept { IsClean (state S.Store conn.new) → (state S.Store conn.new).committed ≡ (state S.Store conn.old).committed }
+    ensures reads { ReadsOnly (state S.Store conn.old) (state S.Store conn.new) }
     ensures answer { Answers (state S.Store conn.old) (state S.Store conn.new) result (λ r rows.
         rows.items ≡ map bare (in_filing number (placed_of agent.now r))) }
 {
@@ -46,9 +43,7 @@ fn is_followed<S: Alter>(
     row: &StatementRow,
 ) -> Result<bool, ReadError>
     requires { conn.old.in_transaction ≡ false }
-    ensures mode { conn.new.in_transaction ≡ false }
-    ensures began { IsClean (state S.Store conn.new) → IsClean (state S.Store conn.old) }
-    ensures kept { IsClean (state S.Store conn.new) → (state S.Store conn.new).committed ≡ (state S.Store conn.old).committed }
+    ensures reads { ReadsOnly (state S.Store conn.old) (state S.Store conn.new) }
     ensures answer { Answers (state S.Store conn.old) (state S.Store conn.new) result (λ r followed.
         followed ≡ is_later number (last_or None (in_series row.now.declaration row.now.rec (placed_of agent.now r)))) }
 {
@@ -67,9 +62,7 @@ fn any_followed<S: Alter>(
     rows: &[StatementRow],
 ) -> Result<bool, ReadError>
     requires { conn.old.in_transaction ≡ false }
-    ensures mode { conn.new.in_transaction ≡ false }
-    ensures began { IsClean (state S.Store conn.new) → IsClean (state S.Store conn.old) }
-    ensures kept { IsClean (state S.Store conn.new) → (state S.Store conn.new).committed ≡ (state S.Store conn.old).committed }
+    ensures reads { ReadsOnly (state S.Store conn.old) (state S.Store conn.new) }
     ensures answer { Answers (state S.Store conn.old) (state S.Store conn.new) result (λ r any.
         any ≡ list_any (λ row. is_later number (last_or None (in_series row.declaration row.rec (placed_of agent.now r)))) rows.now) }
 {
@@ -91,9 +84,7 @@ pub fn has_successor<S: Alter>(
     number: u32,
 ) -> Result<bool, ReadError>
     requires { conn.old.in_transaction ≡ false }
-    ensures mode { conn.new.in_transaction ≡ false }
-    ensures began { IsClean (state S.Store conn.new) → IsClean (state S.Store conn.old) }
-    ensures kept { IsClean (state S.Store conn.new) → (state S.Store conn.new).committed ≡ (state S.Store conn.old).committed }
+    ensures reads { ReadsOnly (state S.Store conn.old) (state S.Store conn.new) }
     ensures answer { Answers (state S.Store conn.old) (state S.Store conn.new) result (λ r has.
         has ≡ has_successor number (filings_of agent.now r.members)) }
 {

@@ -5,8 +5,7 @@ ghost use Rattle.std.specs.Prelude.{◌≡◌, false, length, map, nat_le, not};
 ghost use Rattle.std.specs.List.{flat_map};
 ghost use Rattle.sqlite.specs.Held.{state};
 ghost use Rattle.bor_store_rows.specs.Placed.{agent_row, bare, filing_lines, identifier_rows, interest_rows, placed, without_files};
-ghost use Rattle.bor_store_sql.specs.Shown.{IsClean};
-ghost use Rattle.bor_store_reads.specs.Answering.{Answers};
+ghost use Rattle.bor_store_reads.specs.Answering.{Answers, ReadsOnly};
 
 use crate::fault::ReadError;
 use crate::values::{all, any};
@@ -23,9 +22,7 @@ use std::alloc::Global;
 /// The rows of all agents, by name.
 fn agents<S: Alter>(conn: &mut Connection<S>, alloc: Global) -> Result<Vec<AgentRow>, ReadError>
     requires { conn.old.in_transaction ≡ false }
-    ensures mode { conn.new.in_transaction ≡ false }
-    ensures began { IsClean (state S.Store conn.new) → IsClean (state S.Store conn.old) }
-    ensures kept { IsClean (state S.Store conn.new) → (state S.Store conn.new).committed ≡ (state S.Store conn.old).committed }
+    ensures reads { ReadsOnly (state S.Store conn.old) (state S.Store conn.new) }
     ensures answer { Answers (state S.Store conn.old) (state S.Store conn.new) result (λ r rows.
         rows.items ≡ map agent_row r.members) }
 {
@@ -35,9 +32,7 @@ fn agents<S: Alter>(conn: &mut Connection<S>, alloc: Global) -> Result<Vec<Agent
 /// The rows of all filings without their files, by agent and number.
 fn filings<S: Alter>(conn: &mut Connection<S>, alloc: Global) -> Result<Vec<FilingRow>, ReadError>
     requires { conn.old.in_transaction ≡ false }
-    ensures mode { conn.new.in_transaction ≡ false }
-    ensures began { IsClean (state S.Store conn.new) → IsClean (state S.Store conn.old) }
-    ensures kept { IsClean (state S.Store conn.new) → (state S.Store conn.new).committed ≡ (state S.Store conn.old).committed }
+    ensures reads { ReadsOnly (state S.Store conn.old) (state S.Store conn.new) }
     ensures answer { Answers (state S.Store conn.old) (state S.Store conn.new) result (λ r rows.
         rows.items ≡ filing_lines r.members) }
 {
@@ -50,9 +45,7 @@ fn statements<S: Alter>(
     alloc: Global,
 ) -> Result<Vec<StatementRow>, ReadError>
     requires { conn.old.in_transaction ≡ false }
-    ensures mode { conn.new.in_transaction ≡ false }
-    ensures began { IsClean (state S.Store conn.new) → IsClean (state S.Store conn.old) }
-    ensures kept { IsClean (state S.Store conn.new) → (state S.Store conn.new).committed ≡ (state S.Store conn.old).committed }
+    ensures reads { ReadsOnly (state S.Store conn.old) (state S.Store conn.new) }
     ensures answer { Answers (state S.Store conn.old) (state S.Store conn.new) result (λ r rows.
         rows.items ≡ map bare (placed r.members)) }
 {
@@ -65,9 +58,7 @@ fn interests<S: Alter>(
     alloc: Global,
 ) -> Result<Vec<InterestRow>, ReadError>
     requires { conn.old.in_transaction ≡ false }
-    ensures mode { conn.new.in_transaction ≡ false }
-    ensures began { IsClean (state S.Store conn.new) → IsClean (state S.Store conn.old) }
-    ensures kept { IsClean (state S.Store conn.new) → (state S.Store conn.new).committed ≡ (state S.Store conn.old).committed }
+    ensures reads { ReadsOnly (state S.Store conn.old) (state S.Store conn.new) }
     ensures answer { Answers (state S.Store conn.old) (state S.Store conn.new) result (λ r rows.
         rows.items ≡ flat_map interest_rows (placed r.members)) }
 {
@@ -80,9 +71,7 @@ fn identifiers<S: Alter>(
     alloc: Global,
 ) -> Result<Vec<IdentifierRow>, ReadError>
     requires { conn.old.in_transaction ≡ false }
-    ensures mode { conn.new.in_transaction ≡ false }
-    ensures began { IsClean (state S.Store conn.new) → IsClean (state S.Store conn.old) }
-    ensures kept { IsClean (state S.Store conn.new) → (state S.Store conn.new).committed ≡ (state S.Store conn.old).committed }
+    ensures reads { ReadsOnly (state S.Store conn.old) (state S.Store conn.new) }
     ensures answer { Answers (state S.Store conn.old) (state S.Store conn.new) result (λ r rows.
         rows.items ≡ flat_map identifier_rows (placed r.members)) }
 {
@@ -92,9 +81,7 @@ fn identifiers<S: Alter>(
 /// All live statements, by agent, filing and place.
 fn placed<S: Alter>(conn: &mut Connection<S>, alloc: Global) -> Result<Vec<Placed>, ReadError>
     requires { conn.old.in_transaction ≡ false }
-    ensures mode { conn.new.in_transaction ≡ false }
-    ensures began { IsClean (state S.Store conn.new) → IsClean (state S.Store conn.old) }
-    ensures kept { IsClean (state S.Store conn.new) → (state S.Store conn.new).committed ≡ (state S.Store conn.old).committed }
+    ensures reads { ReadsOnly (state S.Store conn.old) (state S.Store conn.new) }
     ensures answer { Answers (state S.Store conn.old) (state S.Store conn.new) result (λ r statements.
         statements.items ≡ placed r.members) }
 {
@@ -112,9 +99,7 @@ fn placed<S: Alter>(conn: &mut Connection<S>, alloc: Global) -> Result<Vec<Place
 /// Whether there are more live statements than so many.
 pub fn has_more<S: Alter>(conn: &mut Connection<S>, most: u32) -> Result<bool, ReadError>
     requires { conn.old.in_transaction ≡ false }
-    ensures mode { conn.new.in_transaction ≡ false }
-    ensures began { IsClean (state S.Store conn.new) → IsClean (state S.Store conn.old) }
-    ensures kept { IsClean (state S.Store conn.new) → (state S.Store conn.new).committed ≡ (state S.Store conn.old).committed }
+    ensures reads { ReadsOnly (state S.Store conn.old) (state S.Store conn.new) }
     ensures answer { Answers (state S.Store conn.old) (state S.Store conn.new) result (λ r more.
         more ≡ not (nat_le (length (placed r.members)) most)) }
 {
@@ -127,9 +112,7 @@ pub(crate) fn members<S: Alter>(
     alloc: Global,
 ) -> Result<Vec<Member>, ReadError>
     requires { conn.old.in_transaction ≡ false }
-    ensures mode { conn.new.in_transaction ≡ false }
-    ensures began { IsClean (state S.Store conn.new) → IsClean (state S.Store conn.old) }
-    ensures kept { IsClean (state S.Store conn.new) → (state S.Store conn.new).committed ≡ (state S.Store conn.old).committed }
+    ensures reads { ReadsOnly (state S.Store conn.old) (state S.Store conn.new) }
     ensures answer { Answers (state S.Store conn.old) (state S.Store conn.new) result (λ r members.
         members.items ≡ without_files r.members) }
 {

@@ -20,8 +20,8 @@ returns-then-not-is_entity-clause-answer g c clean r shows =
 pub returns-clause-answer : goal.returns-clause-answer
 returns-clause-answer g c clean r shows =
     let view = c.args.view.now in
-    let read = c.add_signs.ensures.began clean in
-    let shown = still_shows r (state g.S.Store c.args.lookup.now) (state g.S.Store c.node_in.new.lookup) (c.node_in.ensures.kept read) shows in
+    let read = c.add_signs.ensures.reads.began clean in
+    let shown = still_shows r (state g.S.Store c.args.lookup.now) (state g.S.Store c.node_in.new.lookup) (c.node_in.ensures.reads.kept read) shows in
     answered c.add_signs.result _ _
     (λ _ h. follows_entity view.day (rows_seen view r) c.args.node.now c.in-Some.one (sym c.in-Some.is ∙ c.in_ok-one.ensures.answer read r shows) c.args.class.now c.add_signs.new.class
     (λ k. contains sign_cmp c.args.looked.now k) (λ k. contains sign_cmp c.add_signs.new.looked k) h (sym c.is_entity.ensures ∙ c.if-not-is_entity.false))

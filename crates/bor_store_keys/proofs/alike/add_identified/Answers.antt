@@ -20,11 +20,11 @@ loop-identifier-init g c = record {
 
 pub loop-identifier-preserved : goal.loop-identifier-preserved
 loop-identifier-preserved g c = record {
-  mode = c.add_signed.ensures.mode;
-  began = λ clean. c.loop-identifier.invariant.began (c.add_signed.ensures.began clean);
-  kept = λ clean. c.add_signed.ensures.kept clean ∙ c.loop-identifier.invariant.kept (c.add_signed.ensures.began clean);
+  mode = c.add_signed.ensures.reads.mode;
+  began = λ clean. c.loop-identifier.invariant.began (c.add_signed.ensures.reads.began clean);
+  kept = λ clean. c.add_signed.ensures.reads.kept clean ∙ c.loop-identifier.invariant.kept (c.add_signed.ensures.reads.began clean);
   expands = λ clean r shows.
-      (let began = c.add_signed.ensures.began clean in
+      (let began = c.add_signed.ensures.reads.began clean in
       let shown = still_shows r (state g.S.Store c.args.lookup.now) (state g.S.Store c.loop-identifier.lookup) (c.loop-identifier.invariant.kept began) shows in
       expands_identifier c.args.view.now.day (rows_seen c.args.view.now r) c.args.one.now c.args.identifiers.now c.loop-identifier.identifier-index c.identifier-item.result c.in_ok-sign.sign c.args.class.now c.loop-identifier.class c.add_signed.new.class
       (λ k. contains sign_cmp c.args.looked.now k) (λ k. contains sign_cmp c.loop-identifier.looked k) (λ k. contains sign_cmp c.add_signed.new.looked k) (omega arith)

@@ -18,8 +18,8 @@ returns-then-contains-clause-answer g c clean r shows =
 pub returns-clause-answer : goal.returns-clause-answer
 returns-clause-answer g c clean r shows =
     let view = c.args.view.now in
-    let read = c.add_alike.ensures.began clean in
-    let shown = still_shows r (state g.S.Store c.args.lookup.now) (state g.S.Store c.records_with.new.lookup) (c.records_with.ensures.kept read) shows in
+    let read = c.add_alike.ensures.reads.began clean in
+    let shown = still_shows r (state g.S.Store c.args.lookup.now) (state g.S.Store c.records_with.new.lookup) (c.records_with.ensures.reads.kept read) shows in
     let candidates = c.in_ok-candidates.candidates.items in
     expands_sign view.day (rows_seen view r) c.args.one.now c.args.sign candidates c.args.class.now c.add_alike.new.class (λ k. contains sign_cmp c.args.looked.now k) (λ k. contains sign_cmp c.insert.new.self k)
     (sign_covered view r shows.stored c.args.sign candidates (c.in_ok-candidates.ensures.answer read r shows))

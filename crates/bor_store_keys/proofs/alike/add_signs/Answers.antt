@@ -13,8 +13,8 @@ use Rattle.bor_store_keys.proofs.alike.add_signs.Goals as goal
 pub returns-clause-answer : goal.returns-clause-answer
 returns-clause-answer g c clean r shows =
     let view = c.args.view.now in
-    let read = c.add_identified.ensures.began clean in
-    let shown = still_shows r (state g.S.Store c.args.lookup.now) (state g.S.Store c.add_signed.new.lookup) (c.add_signed.ensures.kept read) shows in
+    let read = c.add_identified.ensures.reads.began clean in
+    let shown = still_shows r (state g.S.Store c.args.lookup.now) (state g.S.Store c.add_signed.new.lookup) (c.add_signed.ensures.reads.kept read) shows in
     answered c.add_identified.result _ _
     (λ _ h. expands_signs view.day (rows_seen view r) c.args.one.now c.in_ok-sign.sign c.args.class.now c.add_signed.new.class c.add_identified.new.class
     (λ k. contains sign_cmp c.args.looked.now k) (λ k. contains sign_cmp c.add_signed.new.looked k) (λ k. contains sign_cmp c.add_identified.new.looked k) c.in_ok-sign.ensures (c.in_ok-add_signed.ensures.answer read r shows)

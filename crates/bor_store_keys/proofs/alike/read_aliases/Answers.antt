@@ -9,8 +9,8 @@ use Rattle.bor_store_keys.proofs.alike.read_aliases.Goals as goal
 
 pub returns-clause-answer : goal.returns-clause-answer
 returns-clause-answer g c clean r shows =
-    let read = c.aliases_told.ensures.began clean in
-    let shown = still_shows r (state g.S.Store c.args.lookup.now) (state g.S.Store c.view_of.new.lookup) (c.view_of.ensures.kept read) shows in
+    let read = c.aliases_told.ensures.reads.began clean in
+    let shown = still_shows r (state g.S.Store c.args.lookup.now) (state g.S.Store c.view_of.new.lookup) (c.view_of.ensures.reads.kept read) shows in
     answered c.aliases_told.result _ _
     (λ nodes h. subst (λ (view : View). AreAliases (seen view r) c.args.node.now nodes.items) (c.in_ok-view.ensures.answer read r shows) h)
     (c.aliases_told.ensures.answer clean r shown)

@@ -21,11 +21,11 @@ loop-next-init g c = record {
 
 pub loop-next-preserved : goal.loop-next-preserved
 loop-next-preserved g c = record {
-  mode = c.add_aliases.ensures.mode;
-  began = λ clean. c.loop-next.invariant.began (c.add_aliases.ensures.began clean);
-  kept = λ clean. c.add_aliases.ensures.kept clean ∙ c.loop-next.invariant.kept (c.add_aliases.ensures.began clean);
+  mode = c.add_aliases.ensures.reads.mode;
+  began = λ clean. c.loop-next.invariant.began (c.add_aliases.ensures.reads.began clean);
+  kept = λ clean. c.add_aliases.ensures.reads.kept clean ∙ c.loop-next.invariant.kept (c.add_aliases.ensures.reads.began clean);
   gathered = λ clean r shows.
-      (let began = c.add_aliases.ensures.began clean in
+      (let began = c.add_aliases.ensures.reads.began clean in
       let shown = still_shows r (state g.S.Store c.args.lookup.now) (state g.S.Store c.loop-next.lookup) (c.loop-next.invariant.kept began) shows in
       gathered_more c.args.view.now.day (rows_seen c.args.view.now r) c.args.node.now c.loop-next.next c.in_ok-one.one c.loop-next.class c.add_aliases.new.class (λ k. contains sign_cmp c.loop-next.looked k) (λ k. contains sign_cmp c.add_aliases.new.looked k)
       (omega arith) c.in_ok-one.ensures (c.loop-next.invariant.gathered began r shows) (c.in_ok-add_aliases.ensures.answer clean r shown));

@@ -12,8 +12,8 @@ pub returns-in-Some-clause-answer : goal.returns-in-Some-clause-answer
 returns-in-Some-clause-answer g c clean r shows =
     let view = c.args.view.now in
     let n = c.args.node.now in
-    let began = c.last_told.ensures.began clean in
-    let shown = still_shows r (state g.S.Store c.args.lookup.now) (state g.S.Store c.series.new.self) (c.series.ensures.kept began) shows in
+    let began = c.last_told.ensures.reads.began clean in
+    let shown = still_shows r (state g.S.Store c.args.lookup.now) (state g.S.Store c.series.new.self) (c.series.ensures.reads.kept began) shows in
     c.unless_closed.ensures
     ∙ ap (option_and_then unless_closed) (sym c.in-Some.is ∙ c.in_ok-row.ensures.answer clean r shown
     ∙ ap (λ l. last_or None (filter (is_told view n.agent (filings_of n.agent r.members)) l)) (c.in_ok-rows.ensures.answer began r shows))
@@ -23,8 +23,8 @@ pub returns-in-None-clause-answer : goal.returns-in-None-clause-answer
 returns-in-None-clause-answer g c clean r shows =
     let view = c.args.view.now in
     let n = c.args.node.now in
-    let began = c.last_told.ensures.began clean in
-    let shown = still_shows r (state g.S.Store c.args.lookup.now) (state g.S.Store c.series.new.self) (c.series.ensures.kept began) shows in
+    let began = c.last_told.ensures.reads.began clean in
+    let shown = still_shows r (state g.S.Store c.args.lookup.now) (state g.S.Store c.series.new.self) (c.series.ensures.reads.kept began) shows in
     ap (option_and_then unless_closed) (sym c.in-None.is ∙ c.in_ok-row.ensures.answer clean r shown
     ∙ ap (λ l. last_or None (filter (is_told view n.agent (filings_of n.agent r.members)) l)) (c.in_ok-rows.ensures.answer began r shows))
     ∙ opened view n r shows.stored

@@ -18,10 +18,10 @@ returns-clause-answer g c clean r shows =
     let view = c.args.view.now in
     let n = c.args.node.now in
     let old = state g.S.Store c.args.lookup.now in
-    let read = c.links_of.ensures.began clean in
-    let asked = c.records_into.ensures.began read in
-    let shown_then = still_shows r old (state g.S.Store c.is_entity.new.lookup) (c.is_entity.ensures.kept asked) shows in
-    let shown = still_shows r (state g.S.Store c.is_entity.new.lookup) (state g.S.Store c.records_into.new.lookup) (c.records_into.ensures.kept read) shown_then in
+    let read = c.links_of.ensures.reads.began clean in
+    let asked = c.records_into.ensures.reads.began read in
+    let shown_then = still_shows r old (state g.S.Store c.is_entity.new.lookup) (c.is_entity.ensures.reads.kept asked) shows in
+    let shown = still_shows r (state g.S.Store c.is_entity.new.lookup) (state g.S.Store c.records_into.new.lookup) (c.records_into.ensures.reads.kept read) shown_then in
     let entity = sym (c.in_ok-is_entity.ensures.answer asked r shows) ∙ c.if-not-branch.false in
     let candidates = c.in_ok-records.records.items in
     answered c.links_of.result _ _

@@ -9,7 +9,7 @@ use Rattle.bor_store_keys.proofs.records.records_identified.Goals as goal
 
 pub returns-clause-answer : goal.returns-clause-answer
 returns-clause-answer g c clean r shows =
-    let read = c.records_standing.ensures.began clean in
-    let shown = still_shows r (state g.S.Store c.args.lookup.now) (state g.S.Store c.identified.new.self) (c.identified.ensures.kept read) shows in
+    let read = c.records_standing.ensures.reads.began clean in
+    let shown = still_shows r (state g.S.Store c.args.lookup.now) (state g.S.Store c.identified.new.self) (c.identified.ensures.reads.kept read) shows in
     identified_cover r shows.stored c.args.scheme.now c.args.id.now c.in_ok-rows.rows.items c.in_ok-records.records.items c.in_ok-once.field-0.items (c.in_ok-rows.ensures.answer read r shows)
     (c.in_ok-records.ensures.answer clean r shown ∙ ap (λ (rows : List IdentifierRow). filter_map (λ (row : IdentifierRow). record_standing r.members row.at) rows) c.deref.ensures.value) c.in_ok-once.ensures.same

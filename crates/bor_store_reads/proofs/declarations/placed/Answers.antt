@@ -17,10 +17,10 @@ pub returns-clause-answer : goal.returns-clause-answer
 returns-clause-answer g c clean r shows =
     let agent = c.args.agent.now in
     let declaration = c.args.declaration.now in
-    let third = c.identifiers_of.ensures.began clean in
-    let second = c.interests_of.ensures.began third in
-    let shown = still_shows r (state g.S.Store c.args.conn.now) (state g.S.Store c.statements.new.conn) (c.statements.ensures.kept second) shows in
-    let still = still_shows r (state g.S.Store c.statements.new.conn) (state g.S.Store c.interests_of.new.conn) (c.interests_of.ensures.kept third) shown in
+    let third = c.identifiers_of.ensures.reads.began clean in
+    let second = c.interests_of.ensures.reads.began third in
+    let shown = still_shows r (state g.S.Store c.args.conn.now) (state g.S.Store c.statements.new.conn) (c.statements.ensures.reads.kept second) shows in
+    let still = still_shows r (state g.S.Store c.statements.new.conn) (state g.S.Store c.interests_of.new.conn) (c.interests_of.ensures.reads.kept third) shown in
     let statements = c.in_ok-statements.ensures.answer second r shows in
     c.in_ok-joined.ensures (in_declaration declaration (placed_of agent r))
     (apart_filter (λ (p : Placed). is_same p.statement.declaration declaration) (placed_of agent r) (apart_by agent 1 (filings_of agent r.members) (own_numbered agent r.members shows.stored.numbered))) statements

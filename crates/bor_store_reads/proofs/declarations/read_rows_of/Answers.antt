@@ -14,10 +14,10 @@ returns-clause-answer g c clean r shows =
     let viewer = c.args.viewer.now in
     let agent = c.args.agent.now in
     let own = filings_of agent r.members in
-    let second = c.seen.ensures.began clean in
-    let first = c.placed.ensures.began second in
-    let shown = still_shows r (state g.S.Store c.args.conn.now) (state g.S.Store c.read_day.new.conn) (c.read_day.ensures.kept first) shows in
-    let still = still_shows r (state g.S.Store c.read_day.new.conn) (state g.S.Store c.placed.new.conn) (c.placed.ensures.kept second) shown in
+    let second = c.seen.ensures.reads.began clean in
+    let first = c.placed.ensures.reads.began second in
+    let shown = still_shows r (state g.S.Store c.args.conn.now) (state g.S.Store c.read_day.new.conn) (c.read_day.ensures.reads.kept first) shows in
+    let still = still_shows r (state g.S.Store c.read_day.new.conn) (state g.S.Store c.placed.new.conn) (c.placed.ensures.reads.kept second) shown in
     subst (λ l. MatchResult c.seen.result (λ rows. rows.items ≡ l) IsNoDamage)
     (ap₂ (λ d ps. map row_placed (filter (is_seen viewer d agent own) ps)) (c.in_ok-day.ensures.answer first r shows) (c.in_ok-statements.ensures.answer second r shown)
     ∙ sym (rows_of-placed viewer r.day agent c.args.declaration.now 1 own (own_numbered agent r.members shows.stored.numbered)))

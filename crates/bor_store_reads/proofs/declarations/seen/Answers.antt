@@ -24,15 +24,15 @@ loop-placed-preserved g c =
     let steps : into_iter_items c.loop-placed.placed-iterator ≡ c.in-Some.placed ∷ into_iter_items c.next.new.self = c.in-Some.ensures.steps.0 in
     record {
       whole = (let was = c.loop-placed.invariant.whole in let gone = c.in-Some.ensures.steps.1 in let short = ap length steps in omega arith);
-      mode = c.known_of.ensures.mode;
-      began = λ clean. c.loop-placed.invariant.began (c.known_of.ensures.began clean);
-      kept = λ clean. c.known_of.ensures.kept clean ∙ c.loop-placed.invariant.kept (c.known_of.ensures.began clean);
+      mode = c.known_of.ensures.reads.mode;
+      began = λ clean. c.loop-placed.invariant.began (c.known_of.ensures.reads.began clean);
+      kept = λ clean. c.known_of.ensures.reads.kept clean ∙ c.loop-placed.invariant.kept (c.known_of.ensures.reads.began clean);
       told = λ clean r shows.
-          (let began = c.known_of.ensures.began clean in
+          (let began = c.known_of.ensures.reads.began clean in
           let shown = still_shows r (state g.S.Store c.args.conn.now) (state g.S.Store c.loop-placed.conn) (c.loop-placed.invariant.kept began) shows in
           c.in_ok-known.ensures.answer clean r shown (c.loop-placed.invariant.told began r shows));
       found = λ clean r shows.
-          (let began = c.known_of.ensures.began clean in
+          (let began = c.known_of.ensures.reads.began clean in
           let own = filings_of c.args.agent.now r.members in
           let shown = still_shows r (state g.S.Store c.args.conn.now) (state g.S.Store c.loop-placed.conn) (c.loop-placed.invariant.kept began) shows in
           let known = c.in_ok-known.ensures.answer clean r shown (c.loop-placed.invariant.told began r shows) in

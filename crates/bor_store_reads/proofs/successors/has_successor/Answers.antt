@@ -15,8 +15,8 @@ pub returns-clause-answer : goal.returns-clause-answer
 returns-clause-answer g c clean r shows =
     let agent = c.args.agent.now in
     let number = c.args.number in
-    let began = c.any_followed.ensures.began clean in
-    let shown = still_shows r (state g.S.Store c.args.conn.now) (state g.S.Store c.found_statements.new.conn) (c.found_statements.ensures.kept began) shows in
+    let began = c.any_followed.ensures.reads.began clean in
+    let shown = still_shows r (state g.S.Store c.args.conn.now) (state g.S.Store c.found_statements.new.conn) (c.found_statements.ensures.reads.kept began) shows in
     subst (λ b. MatchResult c.any_followed.result (λ has. has ≡ b) IsNoDamage)
     (ap (list_any (λ (row : StatementRow). is_later number (last_or None (in_series row.declaration row.rec (placed_of agent r))))) (c.as_slice.ensures.value ∙ c.in_ok-rows.ensures.answer began r shows)
     ∙ followed_is agent number (filings_of agent r.members) (own_numbered agent r.members shows.stored.numbered))

@@ -14,9 +14,9 @@ returns-clause-reads g c =
     let told = c.told.ensures in
     record {
       kept = record {
-        began = λ clean. read.began (subst (λ k. IsClean (state g.S.Store k)) told.conn clean);
+        began = λ clean. read.reads.began (subst (λ k. IsClean (state g.S.Store k)) told.conn clean);
         same = λ clean r. subst (λ k. ShowsIn r (state g.S.Store c.args.self.now.conn) ↔ ShowsIn r (state g.S.Store k)) (sym told.conn)
-            (still_kept r (state g.S.Store c.args.self.now.conn) (state g.S.Store c.read_links_into-answer.new.lookup) (read.kept (subst (λ k. IsClean (state g.S.Store k)) told.conn clean)));
+            (still_kept r (state g.S.Store c.args.self.now.conn) (state g.S.Store c.read_links_into-answer.new.lookup) (read.reads.kept (subst (λ k. IsClean (state g.S.Store k)) told.conn clean)));
       };
       counts = told_count c.read_links_into-answer.result c.told.result c.args.self.now.faults c.told.new.self.faults told.told told.counts;
       told = told_fault c.told.result;
