@@ -5,7 +5,7 @@ ghost use Rattle.bor_records.specs.Promises.{Promised};
 ghost use Rattle.bor_register.specs.Register.{IsOrdered};
 ghost use Rattle.bor_wire_read.specs.Message.{request_limit};
 ghost use Rattle.bor_wire_read.specs.Reading.{TakesAtMost};
-ghost use Rattle.bor_wire.specs.Exchanges.{IsExchanged, OnRefusal, TellsRefusal, TellsUnavailable, read_faults, write_faults};
+ghost use Rattle.bor_wire.specs.Exchanges.{IsExchanged, OnRefusal, TellsRefusal, TellsUnavailable, WithoutReply, read_faults, write_faults};
 ghost use Rattle.bor_serve.specs.Limits.{rest_limit};
 
 use crate::timed::Timed;
@@ -33,6 +33,7 @@ pub fn serve_connection<C: Clock, K: Keep, R: Read, W: Write, S: Read + OpenStre
     ensures began { K.is_clean keep.new → K.is_clean keep.old }
     ensures exchanged { Promised K.shows K.is_clean keep.old keep.new (λ r. IsOrdered r.members →
         IsExchanged result (K.shows keep.new) r (R.remaining reader.old.inner) (W.contents writer.old.inner) (W.contents writer.new.inner)) }
+    ensures kept { Promised K.shows K.is_clean keep.old keep.new (λ r. WithoutReply result (K.shows keep.new r)) }
     ensures unavailable { TellsUnavailable result (W.contents writer.old.inner) (W.contents writer.new.inner) }
     ensures refused { OnRefusal (R.remaining reader.old.inner) (λ why.
         TellsRefusal result why (W.contents writer.old.inner) (W.contents writer.new.inner)) }
