@@ -1,8 +1,9 @@
 //! The operations of `bor_machine`, as the example of its first page calls them.
 
-use crate::tests::notation::{agent, day, key as read_key, token};
-use bor_machine::{Keep, ListKeep, LodgeFault, Lodged, State, advance, enrol, lodge};
-use bor_rows::FIRST;
+use crate::tests::notation::{agent, day, key as read_key, node, token};
+use bor_chains::LinkSource;
+use bor_machine::{Keep, KeepSource, ListKeep, LodgeFault, Lodged, State, advance, enrol, lodge};
+use bor_rows::{FIRST, body_of};
 use bor_terms::Day;
 use std::alloc::Global;
 use std::process::Abort;
@@ -60,4 +61,20 @@ fn the_example_of_the_root_page(rt: HostRuntime) {
     assert!(rt; told == Ok(new_draft(1, tomorrow)));
     assert!(rt; advance(&mut keep, tomorrow) == Ok(tomorrow));
     assert!(rt; published_count(&rt, &mut keep) == 1);
+}
+
+// Two companies with one number. No chain asks for aliases alone.
+#[test]
+fn a_keep_tells_aliases_as_a_source(rt: HostRuntime) {
+    let alloc = rt.alloc();
+    let today = day(&rt, "2024-02-01");
+    let mut keep = register(&rt, alloc);
+    let body = body_of(alloc, "E s1 e1 #X/1; E s2 a1 #X/1").expect(&rt, "no file");
+    let told = file(&rt, alloc, &mut keep, "f1", today, body.as_bytes());
+    assert!(rt; told.is_ok());
+    let alder = agent(&rt, alloc, "alder");
+    let mut source = KeepSource::new(&mut keep, &alder, today);
+    let e1 = node(&rt, alloc, "alder", "c1", "e1");
+    let aliases = source.aliases(&e1).expect(&rt, "a fault");
+    assert_eq!(rt; aliases.len(), 1);
 }
