@@ -15,14 +15,19 @@ fn the_example_of_the_root_page(rt: HostRuntime) -> Result<(), Fail> {
     Ok(())
 }
 
-// Whether the text of so many bytes is read, copied and given back.
+// Whether the text of so many bytes fits, and is read, copied and given back.
 fn is_kept<F: Form>(alloc: Global, length: usize) -> Result<bool, Fail> {
     let text = "a".repeat(alloc, length)?;
     let Some(read) = Text::<F>::read(alloc, text.as_str())? else {
         return Ok(false);
     };
     let copied = read.copy(alloc)?;
-    Ok(copied == read && copied.as_str() == text.as_str() && read.into_string()? == text)
+    Ok(
+        Text::<F>::fits(text.as_str())
+            && copied == read
+            && copied.as_str() == text.as_str()
+            && read.into_string()? == text,
+    )
 }
 
 #[test]
