@@ -1,29 +1,22 @@
--- The places of nodes by their signs, and the aliases that are found so.
-use Rattle.std.proofs.Common.{◌≡◌, ◌↔◌, ◌⊎◌, ◌+◌, ◌<◌, ◌++◌, ℕ, Bool, true, false, cond, Option, Some, None, List, [], ◌∷◌, Contains, take, length, get_or, map, sym, refl, ap, ◌∙◌, subst, inl, inr, arith, Vec, Global}
+-- The places of nodes by their signs.
+use Rattle.std.proofs.Common.{◌≡◌, ◌⊎◌, ◌+◌, ◌<◌, ◌++◌, ℕ, Bool, true, false, cond, Option, Some, None, List, [], ◌∷◌, Contains, take, length, get_or, map, sym, refl, ap, ◌∙◌, subst, inl, inr, arith, Vec, Global}
 use Rattle.std.specs.Prelude.{nat_lt}
 use Rattle.std.specs.Ordering.{is_eq}
-use Rattle.std.specs.List.{filter, slice_get, IsDistinct}
+use Rattle.std.specs.List.{slice_get}
 use Rattle.std.specs.BTreeMap.{BTreeMap, get}
 use Rattle.std.proofs.lemmas.Map.Views.{tells_apart}
-use Rattle.std.proofs.lemmas.List.Elements.{Contains-push, Contains-push_cases, Contains-append_left, Contains-append_right}
+use Rattle.std.proofs.lemmas.List.Elements.{Contains-push, Contains-push_cases, Contains-append_left}
 use Rattle.std.proofs.lemmas.List.{take_more, map-append}
 use Rattle.std.proofs.lemmas.Option.{same_Some, slice_get-get_or, slice_get_within, get_or_from_slice_get}
 use Rattle.std.proofs.lemmas.Bool.{ltb-true, ltb-false}
 use Rattle.bods_read.specs.declared.details.Identifier.{Identifier}
-use Rattle.bor_links.specs.declared.node.Node.{Node}
 use Rattle.bor_links.specs.declared.node.OpenNode.{OpenNode}
 use Rattle.bor_links.specs.declared.sign.Sign.{Sign}
-use Rattle.bor_links.specs.Nodes.{same_node}
-use Rattle.bor_links.specs.Shown.{Shown, listed_at, are_alike}
-use Rattle.bor_chains.specs.Listing.{aliases_to}
-use Rattle.bor_links.specs.Answers.{AreAliases}
 use Rattle.bor_chains.specs.Tables.{items_of}
 use Rattle.bor_links.specs.Signs.{sign_cmp, by_record, by_identifier, signs}
-use Rattle.bor_chains.specs.Likeness.{Stays, IsUnder, AreUnder, AreAll, alike_node, alike_at}
-use Rattle.bor_links.proofs.Found.{Contains-filter_map, Contains-from_filter_map, none, cases, Contains-filter, Contains-from_filter, Contains-map, Contains-from_map}
+use Rattle.bor_chains.specs.Likeness.{Stays, IsUnder, AreUnder}
+use Rattle.bor_links.proofs.Found.{none, cases}
 use Rattle.bor_links.proofs.Exact.{exact_sign}
-use Rattle.bor_links.proofs.Signs.{in_common}
-use Rattle.bor_chains.proofs.Lists.{aliases_told}
 
 abbrev pub under : BTreeMap Sign (Vec ℕ Global) → Sign → List ℕ
 under m k = items_of (λ v. v.items) (get sign_cmp m k)
@@ -95,72 +88,10 @@ nodes_more nodes n one was now lt is before stays these i x below at k h = elim 
     same : i ≡ n → x ≡ one
     same e = same_Some x one (sym at ∙ ap (λ (j : ℕ). slice_get nodes j) e ∙ slice_get-get_or nodes n one lt ∙ ap (λ (y : OpenNode). Some y) (sym is))
 
--- ---- found
-
-pub all_more : (ids : List Identifier) (n : ℕ) (d : Identifier) (key : Sign) (places : Sign → List ℕ) (was now : List ℕ) → n < length ids → key ≡ by_identifier (get_or ids n d)
-    → AreAll (map by_identifier (take n ids)) places was → now ≡ was ++ places key → AreAll (map by_identifier (take (n + 1) ids)) places now
-all_more ids n d key places was now lt is before e k i h at = subst (λ (xs : List ℕ). Contains xs i) (sym e)
-    (elim (Contains-push_cases (map by_identifier (take n ids)) (by_identifier (get_or ids n d)) k (subst (λ (ks : List Sign). Contains ks k) (identifiers_more ids n d lt) h)) [
-      | inl old ↦ Contains-append_left was (places key) i (before k i old at)
-      | inr q ↦ Contains-append_right was (places key) i (subst (λ (z : Sign). Contains (places z) i) (sym (is ∙ q)) at)
-    ])
-
-pub all_none : (places : Sign → List ℕ) (found : List ℕ) → AreAll [] places found
-all_none places found k i h at = absurd (none k h)
-
-pub kept_more : (a b c more : List ℕ) → c ≡ b ++ more → ((i : ℕ) → Contains a i → Contains b i) → (i : ℕ) → Contains a i → Contains c i
-kept_more a b c more e before i h = subst (λ (xs : List ℕ). Contains xs i) (sym e) (Contains-append_left b more i (before i h))
-
-pub all_signs : (x : OpenNode) (key : Sign) (places : Sign → List ℕ) (was now : List ℕ) → key ≡ by_record x.node → was ≡ [] ++ places key → ((i : ℕ) → Contains was i → Contains now i) → AreAll (map by_identifier x.identifiers) places now
-    → AreAll (signs x) places now
-all_signs x key places was now is e kept rest k i h at = elim (cases (by_record x.node) (map by_identifier x.identifiers) k h) [
-  | inl q ↦ kept i (subst (λ (xs : List ℕ). Contains xs i) (sym e) (subst (λ (z : Sign). Contains (places z) i) (sym (is ∙ q)) at))
-  | inr r ↦ rest k i r at
-]
-
--- ---- the aliases
+-- ---- the node at a place
 
 pub placed_in : (nodes : List OpenNode) (y : OpenNode) → Contains nodes y → (i : ℕ) × (i < length nodes) × (slice_get nodes i ≡ Some y)
 placed_in nodes y h = (h.0, h.1, slice_get-get_or nodes h.0 y h.1 ∙ ap (λ (z : OpenNode). Some z) h.2)
 
 pub in_place : (nodes : List OpenNode) (y : OpenNode) (i : ℕ) → slice_get nodes i ≡ Some y → Contains nodes y
 in_place nodes y i e = (i, slice_get_within nodes i y e, get_or_from_slice_get nodes i y y e)
-
-alike_is : (one : OpenNode) (o : Option OpenNode) (b : Node) → alike_node one o ≡ Some b → (y : OpenNode) × (o ≡ Some y) × (are_alike one y ≡ true) × (y.node ≡ b)
-alike_is one None b e = let z : None ≡ Some b = e in absurd cc
-alike_is one (Some y) b e = at (are_alike one y) refl e
-  where
-    at : (t : Bool) → are_alike one y ≡ t → cond t (Some y.node) None ≡ Some b → (z : OpenNode) × (Some y ≡ Some z) × (are_alike one z ≡ true) × (z.node ≡ b)
-    at true f k = (y, refl, f, same_Some y.node b k)
-    at false f k = let z : None ≡ Some b = k in absurd cc
-
-pub aliases_confirmed : (s : Shown) (n : Node) (one : OpenNode) (places : Sign → List ℕ) (found : List ℕ) (rough out : List Node) → listed_at s.nodes n ≡ Some one → IsDistinct same_node (map (λ x. x.node) s.nodes)
-    → AreUnder (length s.nodes) s.nodes places → AreAll (signs one) places found → rough ≡ alike_at s.nodes one found
-    → ((b : Node) → Contains out b ↔ Contains rough b) → IsDistinct same_node out → AreAliases s n out
-aliases_confirmed s n one places found rough out at d under_all all is same once = record {
-  each = λ b. ((λ h. (told.each b).0 (into b (subst (λ (bs : List Node). Contains bs b) is ((same b).0 h)))), (λ a. (same b).1 (subst (λ (bs : List Node). Contains bs b) (sym is) (from b ((told.each b).1 a)))));
-  once = once;
-}
-  where
-    told : AreAliases s n (aliases_to s.nodes (Some one))
-    told = subst (λ (o : Option OpenNode). AreAliases s n (aliases_to s.nodes o)) at (aliases_told s n d)
-
-    into : (b : Node) → Contains (alike_at s.nodes one found) b → Contains (aliases_to s.nodes (Some one)) b
-    into b h =
-        let p = Contains-from_filter_map (λ i. alike_node one (slice_get s.nodes i)) found b h in
-        let y = alike_is one (slice_get s.nodes p.0) b p.2 in
-        subst (λ (z : Node). Contains (aliases_to s.nodes (Some one)) z) y.3
-        (Contains-map (λ (x : OpenNode). x.node) (filter (λ x. are_alike one x) s.nodes) y.0 (Contains-filter (λ x. are_alike one x) s.nodes y.0 (in_place s.nodes y.0 p.0 y.1) y.2))
-
-    from : (b : Node) → Contains (aliases_to s.nodes (Some one)) b → Contains (alike_at s.nodes one found) b
-    from b h =
-        let m = Contains-from_map (λ (y : OpenNode). y.node) (filter (λ x. are_alike one x) s.nodes) b h in
-        let f = Contains-from_filter (λ x. are_alike one x) s.nodes m.0 m.1 in
-        let p = placed_in s.nodes m.0 f.0 in
-        let k = in_common one m.0 f.1 in
-        let i = all k.0 p.0 k.1 (under_all p.0 m.0 p.1 p.2 k.0 k.2) in
-        Contains-filter_map (λ j. alike_node one (slice_get s.nodes j)) found p.0 b i
-        (ap (λ (o : Option OpenNode). alike_node one o) p.2 ∙ ap (λ (t : Bool). cond t (Some (m.0).node) None) f.1 ∙ ap (λ (z : Node). Some z) m.2)
-
-pub no_aliases : (s : Shown) (n : Node) → IsDistinct same_node (map (λ x. x.node) s.nodes) → listed_at s.nodes n ≡ None → AreAliases s n []
-no_aliases s n d gone = subst (λ (o : Option OpenNode). AreAliases s n (aliases_to s.nodes o)) gone (aliases_told s n d)

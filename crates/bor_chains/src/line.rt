@@ -15,9 +15,11 @@ pub struct PersonLine {
     pub node: Node,
     /// The name that is shown.
     pub name: Option<FreeText>,
+    /// The least number of links of a chain from the person.
+    pub links: u64,
 }
 
-/// Two lines are compared by their nodes alone: of one source a node has one name.
+/// Two lines are compared by their nodes alone: in one report a node has one line.
 impl PartialEq for PersonLine {
     ghost eq = { same_line };
 

@@ -1,5 +1,5 @@
 -- The checks of the worked file and of files that are refused, and reports on the worked file.
-use Rattle.std.proofs.Common.{◌≡◌, ℕ, List, [], ◌∷◌, Option, Some, None, Contains, codes, true, refl, sym, ap, ◌∙◌, subst, inl, inr}
+use Rattle.std.proofs.Common.{◌≡◌, ◌≤◌, ℕ, List, [], ◌∷◌, Option, Some, None, Contains, codes, length, arith, true, refl, sym, ap, ◌∙◌, subst, inl, inr}
 use Rattle.std.specs.Fmt.{digits}
 use Rattle.std.specs.List.Sorted.{IsStrictlySortedBy}
 use Rattle.serde_json.proofs.OnLiterals.{serde_json_on_literals}
@@ -17,8 +17,8 @@ use Rattle.bor_links.specs.declared.node.Node.{Node}
 use Rattle.bor_links.specs.declared.node.NodeInfo.TheVariants.{Entity, Person}
 use Rattle.bor_links.specs.declared.node.Link.{Link}
 use Rattle.bor_chains.specs.declared.line.PersonLine.{PersonLine}
-use Rattle.bor_links.specs.Shown.{Shown, info_of}
-use Rattle.bor_chains.specs.Chains.{IsChain, IsJoinedBy, AreJoined}
+use Rattle.bor_links.specs.Shown.{Shown, IsPerson, info_of}
+use Rattle.bor_chains.specs.Chains.{IsChain, IsJoinedBy, IsLeast, AreJoined}
 use Rattle.bor_links.proofs.Found.{none, here, cases}
 use Rattle.bor_desk.specs.declared.refusal.Refusal.TheVariants.{NoEntity}
 use Rattle.bor_desk.specs.Refusals.{refusal_name}
@@ -104,18 +104,19 @@ unfolding refusal_name
 refusal = refl
 
 abbrev ann : PersonLine
-ann = record { node = p1; name = Some (codes "Ann Moss") }
+ann = record { node = p1; name = Some (codes "Ann Moss"); links = 1 }
 
-named : person_line ann ≡ codes "person\tcheck\tc1\tp1\t\"Ann Moss\"\n"
-unfolding serde_json_on_literals
+named : person_line ann ≡ codes "person\tcheck\tc1\tp1\t1\t\"Ann Moss\"\n"
+unfolding digits serde_json_on_literals
 named = refl
 
-unnamed : person_line (record ann { name = None }) ≡ codes "person\tcheck\tc1\tp1\tnull\n"
+unnamed : person_line (record ann { name = None }) ≡ codes "person\tcheck\tc1\tp1\t1\tnull\n"
+unfolding digits
 unnamed = refl
 
 -- a name's tab and line feed are escaped
-escaped : person_line (record ann { name = Some (codes "A\tB\n") }) ≡ codes "person\tcheck\tc1\tp1\t\"A\\tB\\n\"\n"
-unfolding serde_json_on_literals
+escaped : person_line (record ann { name = Some (codes "A\tB\n") }) ≡ codes "person\tcheck\tc1\tp1\t1\t\"A\\tB\\n\"\n"
+unfolding digits serde_json_on_literals
 escaped = refl
 
 only_link : (l : Link) → Contains worked.links l → held ≡ l
@@ -127,28 +128,33 @@ from_p1 n [] h = absurd h
 from_p1 n (l ∷ []) h = ap (λ (x : Link). x.party) (only_link l h.0) ∙ h.1
 from_p1 n (l ∷ k ∷ ls) h = ap (λ (x : Link). x.party) (only_link l h.0) ∙ h.1
 
-only_ann : (line : PersonLine) (ls : List Link) → IsJoinedBy worked e1 line ls → ann ≡ line
-only_ann line ls h =
-    let at = from_p1 line.node ls h.1 in
-    let known : Some (Person (Some (codes "Ann Moss"))) ≡ Some (Person line.name) = ap (info_of worked) at ∙ h.0 in
-    let name : Some (codes "Ann Moss") ≡ line.name = cc in
-    ap (λ (n : Node). let x : PersonLine = record { node = n; name = Some (codes "Ann Moss") } in x) at
-    ∙ ap (λ (m : Option (List ℕ)). let x : PersonLine = record { node = line.node; name = m } in x) name
+only_ann : (person : Node) (name : Option (List ℕ)) (ls : List Link) → IsJoinedBy worked e1 person name ls → (p1 ≡ person) × (Some (codes "Ann Moss") ≡ name)
+only_ann person name ls h =
+    let at = from_p1 person ls h.1 in
+    let known : Some (Person (Some (codes "Ann Moss"))) ≡ Some (Person name) = ap (info_of worked) at ∙ h.0 in (at, cc)
+
+-- one link, and no chain has none
+one_link : IsLeast worked e1 p1 1
+one_link = record { some = (held ∷ [], (here held [], refl, refl, ([], refl)), refl); none_fewer = at_least }
+  where
+    at_least : (ls : List Link) → IsChain worked p1 ls e1 → 1 ≤ length ls
+    at_least [] h = absurd h
+    at_least (l ∷ ls) h = omega arith
 
 joined : AreJoined worked e1 (ann ∷ [])
 unfolding IsStrictlySortedBy
 joined = record {
   each = λ line on. elim (cases ann [] line on) [
-    | inl e ↦ subst (λ (x : PersonLine). (ls : List Link) × IsJoinedBy worked e1 x ls) e (held ∷ [], (refl, (here held [], refl, refl, ([], refl))))
+    | inl e ↦ subst (λ (x : PersonLine). IsPerson worked x.node x.name × IsLeast worked e1 x.node x.links) e (refl, one_link)
     | inr n ↦ absurd (none line n)
   ];
-  every = λ line ls h. subst (λ (x : PersonLine). Contains (ann ∷ []) x) (only_ann line ls h) (here ann []);
+  every = λ person name ls h. let only = only_ann person name ls h in (ann, here ann [], only.0, only.1);
   sorted = (tt, tt);
 }
 
-worked_report : IsTextOf (step.chains_answer seen e1 worked_day) (answering (codes "entity\tcheck\tc1\te1\t2024-01-10\nperson\tcheck\tc1\tp1\t\"Ann Moss\"\npersons 1\n"))
+worked_report : IsTextOf (step.chains_answer seen e1 worked_day) (answering (codes "entity\tcheck\tc1\te1\t2024-01-10\nperson\tcheck\tc1\tp1\t1\t\"Ann Moss\"\npersons 1\n"))
 unfolding calendar digits serde_json_on_literals
-worked_report = subst (λ a. IsTextOf a (answering (codes "entity\tcheck\tc1\te1\t2024-01-10\nperson\tcheck\tc1\tp1\t\"Ann Moss\"\npersons 1\n"))) (sym reported) (record {
+worked_report = subst (λ a. IsTextOf a (answering (codes "entity\tcheck\tc1\te1\t2024-01-10\nperson\tcheck\tc1\tp1\t1\t\"Ann Moss\"\npersons 1\n"))) (sym reported) (record {
   date = codes "2024-01-10";
   spells = (refl, refl);
   persons = ann ∷ [];

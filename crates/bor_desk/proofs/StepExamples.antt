@@ -1,7 +1,6 @@
 -- Who asks decides first, and what is asked next: each refusal of the desk on an instance, and its place before the next one.
 use Rattle.std.proofs.Common.{◌≡◌, ℕ, ℤ, pos, List, [], Some, None, codes, refl}
 use Rattle.bor_register.specs.Register.{Register, empty_register, new_member, with_member, caller_of}
-use Rattle.bor_links.specs.declared.node.Node.{Node}
 use Rattle.bor_desk.specs.declared.request.Request.{Request}
 use Rattle.bor_desk.specs.declared.request.Request.TheVariants as ask
 use Rattle.bor_desk.specs.declared.refusal.Refusal.TheVariants.{NoAgent, NotRegistrar, NotAgent, NoSuchFiling, NoEntity, DayBack, NameTaken, TokenTaken}

@@ -301,7 +301,7 @@ unfolding reader calendar
 told_alone = refl
 
 -- 12: the report that it is told names birch's person, by way of the identifier
-bea_is_joined : IsJoinedBy seen e1_node (record { node = bp_node; name = Some (codes "Bea Pine") }) (lower ∷ upper ∷ [])
+bea_is_joined : IsJoinedBy seen e1_node bp_node (Some (codes "Bea Pine")) (lower ∷ upper ∷ [])
 bea_is_joined =
     let alias : Alias seen b1_node a1_node = record { one = entity_node b1_node (number_one ∷ []); two = entity_node a1_node (number_one ∷ []); one_is = refl; two_is = refl; alike = refl } in
     (refl, (there upper (lower ∷ []) lower (here lower []), refl, refl, (a1_node ∷ [], (alias, refl)), refl, (here upper (lower ∷ []), refl, refl, ([], refl))))

@@ -18,9 +18,9 @@ abbrev pub name_data : Option (List ℕ) → Data
 name_data None = null
 name_data (Some name) = string name
 
--- of a person the agent, the declaration, the record, and the name as a text of JSON
+-- of a person the agent, the declaration, the record, the least number of links, and the name as a text of JSON
 abbrev pub person_line : PersonLine → List ℕ
-person_line p = tabbed (codes "person") (p.node.agent ∷ p.node.declaration ∷ p.node.rec ∷ compact_text (name_data p.name) ∷ [])
+person_line p = tabbed (codes "person") (p.node.agent ∷ p.node.declaration ∷ p.node.rec ∷ decimal p.links ∷ compact_text (name_data p.name) ∷ [])
 
 abbrev pub person_lines : List PersonLine → List ℕ
 person_lines [] = []

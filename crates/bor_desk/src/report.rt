@@ -57,8 +57,12 @@ fn add_person(alloc: Global, text: &mut String, person: &PersonLine) -> Result<(
     let agent = person.node.agent.as_str();
     let declaration = person.node.declaration.as_str();
     let rec = person.node.rec.as_str();
+    let links = person.links;
     let name = name_text(alloc, &person.name)?;
-    writeln!(text, "person\t{agent}\t{declaration}\t{rec}\t{name}")
+    writeln!(
+        text,
+        "person\t{agent}\t{declaration}\t{rec}\t{links}\t{name}"
+    )
 }
 
 fn add_persons(alloc: Global, text: &mut String, persons: &[PersonLine]) -> Result<(), AllocError>

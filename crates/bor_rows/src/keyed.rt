@@ -15,11 +15,11 @@ pub const A_LINK_MOVES_WITH_ITS_LATEST_STATEMENT: [Row; 4] = [
     ),
     (
         "alder chains alder c1 a1",
-        r#"{"agent":"alder","date":"2024-02-01","declaration":"c1","persons":[{"agent":"alder","declaration":"c1","name":null,"record":"p1"}],"record":"a1"}"#,
+        r#"{"agent":"alder","date":"2024-02-01","declaration":"c1","persons":[{"agent":"alder","declaration":"c1","links":1,"name":null,"record":"p1"}],"record":"a1"}"#,
     ),
     (
         "birch chains alder c1 a1",
-        r#"{"agent":"alder","date":"2024-02-01","declaration":"c1","persons":[{"agent":"alder","declaration":"c1","name":null,"record":"p1"}],"record":"a1"}"#,
+        r#"{"agent":"alder","date":"2024-02-01","declaration":"c1","persons":[{"agent":"alder","declaration":"c1","links":1,"name":null,"record":"p1"}],"record":"a1"}"#,
     ),
 ];
 
@@ -31,7 +31,7 @@ pub const AN_IDENTIFIER_THAT_WAS_DROPPED_JOINS_NO_MORE: [Row; 3] = [
     ),
     (
         "alder chains alder c1 e1 2024-01-11",
-        r#"{"agent":"alder","date":"2024-01-11","declaration":"c1","persons":[{"agent":"alder","declaration":"c1","name":null,"record":"p1"}],"record":"e1"}"#,
+        r#"{"agent":"alder","date":"2024-01-11","declaration":"c1","persons":[{"agent":"alder","declaration":"c1","links":1,"name":null,"record":"p1"}],"record":"e1"}"#,
     ),
     (
         "alder chains alder c1 e1",
@@ -59,7 +59,7 @@ pub const A_PARTY_IS_OF_ITS_RELATIONSHIPS_DECLARATION: [Row; 7] = [
     ),
     (
         "alder chains alder c1 e1",
-        r#"{"agent":"alder","date":"2024-02-01","declaration":"c1","persons":[{"agent":"alder","declaration":"c1","name":null,"record":"p1"}],"record":"e1"}"#,
+        r#"{"agent":"alder","date":"2024-02-01","declaration":"c1","persons":[{"agent":"alder","declaration":"c1","links":1,"name":null,"record":"p1"}],"record":"e1"}"#,
     ),
     (
         "alder lodge f4 2024-02-01 P s5 p1 +closed",
@@ -87,11 +87,11 @@ pub const A_DRAFT_IN_THE_MIDDLE_JOINS_FOR_ITS_OWN_AGENT_ALONE: [Row; 6] = [
     ),
     (
         "birch chains alder c1 e1",
-        r#"{"agent":"alder","date":"2024-02-01","declaration":"c1","persons":[{"agent":"birch","declaration":"c9","name":null,"record":"bp"}],"record":"e1"}"#,
+        r#"{"agent":"alder","date":"2024-02-01","declaration":"c1","persons":[{"agent":"birch","declaration":"c9","links":2,"name":null,"record":"bp"}],"record":"e1"}"#,
     ),
     ("registrar day 2024-03-01", r#"{"day":"2024-03-01"}"#),
     (
         "alder chains alder c1 e1",
-        r#"{"agent":"alder","date":"2024-03-01","declaration":"c1","persons":[{"agent":"birch","declaration":"c9","name":null,"record":"bp"}],"record":"e1"}"#,
+        r#"{"agent":"alder","date":"2024-03-01","declaration":"c1","persons":[{"agent":"birch","declaration":"c9","links":2,"name":null,"record":"bp"}],"record":"e1"}"#,
     ),
 ];

@@ -9,7 +9,7 @@ pub const THE_FIRST_LODGING_IS_PUBLISHED_AND_TOLD: [Row; 3] = [
     ("alder lodge f1 2024-02-01 FIRST", PUBLISHED),
     (
         "alder chains alder c1 e1",
-        r#"{"agent":"alder","date":"2024-02-01","declaration":"c1","persons":[{"agent":"alder","declaration":"c1","name":"Ann Moss","record":"p1"}],"record":"e1"}"#,
+        r#"{"agent":"alder","date":"2024-02-01","declaration":"c1","persons":[{"agent":"alder","declaration":"c1","links":1,"name":"Ann Moss","record":"p1"}],"record":"e1"}"#,
     ),
     ("alder file f1", FIRST),
 ];

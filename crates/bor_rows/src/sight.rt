@@ -78,13 +78,13 @@ pub const A_DRAFT_JOINS_CHAINS_FOR_ITS_OWN_AGENT_ALONE: [Row; 6] = [
     (JOINING, DRAFT),
     (
         "alder chains alder c1 e1",
-        r#"{"agent":"alder","date":"2024-02-01","declaration":"c1","persons":[{"agent":"birch","declaration":"c9","name":null,"record":"bp"}],"record":"e1"}"#,
+        r#"{"agent":"alder","date":"2024-02-01","declaration":"c1","persons":[{"agent":"birch","declaration":"c9","links":2,"name":null,"record":"bp"}],"record":"e1"}"#,
     ),
     ("birch chains alder c1 e1", r#"{"refusal":"NoEntity"}"#),
     ("registrar day 2024-03-01", r#"{"day":"2024-03-01"}"#),
     (
         "birch chains alder c1 e1",
-        r#"{"agent":"alder","date":"2024-03-01","declaration":"c1","persons":[{"agent":"birch","declaration":"c9","name":null,"record":"bp"}],"record":"e1"}"#,
+        r#"{"agent":"alder","date":"2024-03-01","declaration":"c1","persons":[{"agent":"birch","declaration":"c9","links":2,"name":null,"record":"bp"}],"record":"e1"}"#,
     ),
 ];
 

@@ -44,7 +44,7 @@ pub const TOLD_TO_ALDER: [Row; 7] = [
     ),
     (
         "alder chains alder c1 e1",
-        r#"{"agent":"alder","date":"2024-02-01","declaration":"c1","persons":[{"agent":"birch","declaration":"c9","name":null,"record":"bp"}],"record":"e1"}"#,
+        r#"{"agent":"alder","date":"2024-02-01","declaration":"c1","persons":[{"agent":"birch","declaration":"c9","links":2,"name":null,"record":"bp"}],"record":"e1"}"#,
     ),
     (sight::JOINING, DRAFT),
 ];

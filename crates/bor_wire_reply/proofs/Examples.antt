@@ -75,9 +75,9 @@ no_filings = refl
 
 -- a person without a name
 pub one_person : chains_text (record { agent = codes "alder"; declaration = codes "c1"; rec = codes "e1" }) (pos 19754)
-    (record { node = record { agent = codes "birch"; declaration = codes "c9"; rec = codes "bp" }; name = None } ∷ [])
-    ≡ codes "{\"agent\":\"alder\",\"date\":\"2024-02-01\",\"declaration\":\"c1\",\"persons\":[{\"agent\":\"birch\",\"declaration\":\"c9\",\"name\":null,\"record\":\"bp\"}],\"record\":\"e1\"}"
-unfolding chains_text escape_byte day_text year_at month_at calendar
+    (record { node = record { agent = codes "birch"; declaration = codes "c9"; rec = codes "bp" }; name = None; links = 2 } ∷ [])
+    ≡ codes "{\"agent\":\"alder\",\"date\":\"2024-02-01\",\"declaration\":\"c1\",\"persons\":[{\"agent\":\"birch\",\"declaration\":\"c9\",\"links\":2,\"name\":null,\"record\":\"bp\"}],\"record\":\"e1\"}"
+unfolding digits chains_text escape_byte day_text year_at month_at calendar
 one_person = refl
 
 -- more than a quarter of the votes, and at most half

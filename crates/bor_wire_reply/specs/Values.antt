@@ -144,8 +144,9 @@ person_data p =
     object
     (member (codes "agent") (string p.node.agent)
     (member (codes "declaration") (string p.node.declaration)
+    (member (codes "links") (count_data p.links)
     (member (codes "name") (maybe_data string p.name)
-    (member (codes "record") (string p.node.rec) no_members))))
+    (member (codes "record") (string p.node.rec) no_members)))))
 
 -- the entity, the date, and the persons
 abbrev pub chains_data : Node → ℤ → List PersonLine → Data

@@ -15,6 +15,8 @@ impl Shown for PersonLine {
         out.begin_object()?;
         write_text(out, "agent", node.agent.as_str())?;
         write_text(out, "declaration", node.declaration.as_str())?;
+        out.key("links")?;
+        out.u64(self.links)?;
         out.key("name")?;
         write_maybe(out, &self.name)?;
         write_text(out, "record", node.rec.as_str())?;

@@ -23,7 +23,7 @@ const DAY: [(&str, &str); 11] = [
     ),
     (
         "GET /chains?agent=alder&declaration=c1&record=e1 HTTP/1.1\r\nHost: localhost\r\nAuthorization: Bearer alder-token-000001\r\n\r\n",
-        "HTTP/1.1 200 OK\r\nContent-Type: application/json\r\nContent-Length: 152\r\nConnection: close\r\n\r\n{\"agent\":\"alder\",\"date\":\"2024-02-01\",\"declaration\":\"c1\",\"persons\":[{\"agent\":\"birch\",\"declaration\":\"c9\",\"name\":\"Ben Birch\",\"record\":\"bp\"}],\"record\":\"e1\"}",
+        "HTTP/1.1 200 OK\r\nContent-Type: application/json\r\nContent-Length: 162\r\nConnection: close\r\n\r\n{\"agent\":\"alder\",\"date\":\"2024-02-01\",\"declaration\":\"c1\",\"persons\":[{\"agent\":\"birch\",\"declaration\":\"c9\",\"links\":2,\"name\":\"Ben Birch\",\"record\":\"bp\"}],\"record\":\"e1\"}",
     ),
     (
         "GET /chains?agent=alder&declaration=c1&record=e1 HTTP/1.1\r\nHost: localhost\r\nAuthorization: Bearer birch-token-000001\r\n\r\n",
@@ -35,7 +35,7 @@ const DAY: [(&str, &str); 11] = [
     ),
     (
         "GET /chains?agent=alder&declaration=c1&record=e1 HTTP/1.1\r\nHost: localhost\r\nAuthorization: Bearer birch-token-000001\r\n\r\n",
-        "HTTP/1.1 200 OK\r\nContent-Type: application/json\r\nContent-Length: 152\r\nConnection: close\r\n\r\n{\"agent\":\"alder\",\"date\":\"2024-03-01\",\"declaration\":\"c1\",\"persons\":[{\"agent\":\"birch\",\"declaration\":\"c9\",\"name\":\"Ben Birch\",\"record\":\"bp\"}],\"record\":\"e1\"}",
+        "HTTP/1.1 200 OK\r\nContent-Type: application/json\r\nContent-Length: 162\r\nConnection: close\r\n\r\n{\"agent\":\"alder\",\"date\":\"2024-03-01\",\"declaration\":\"c1\",\"persons\":[{\"agent\":\"birch\",\"declaration\":\"c9\",\"links\":2,\"name\":\"Ben Birch\",\"record\":\"bp\"}],\"record\":\"e1\"}",
     ),
     (
         "PUT /filings/more?due=2024-12-01 HTTP/1.1\r\nHost: localhost\r\nAuthorization: Bearer alder-token-000001\r\nContent-Length: 194\r\n\r\n[{\"statementId\":\"s4\",\"statementDate\":\"2024-01-10\",\"declarationSubject\":\"c1\",\"recordId\":\"e2\",\"recordType\":\"entity\",\"recordDetails\":{\"entityType\":{\"type\":\"registeredEntity\"},\"name\":\"Alder Barn\"}}]",

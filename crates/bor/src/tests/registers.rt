@@ -28,7 +28,7 @@ const NO_AGENT: &str =
     "HTTP/1.1 401 Unauthorized\r\nContent-Type: application/json\r\nContent-Length: 21\r\nWWW-Authenticate: Bearer\r\nConnection: close\r\n\r\n{\"refusal\":\"NoAgent\"}";
 
 const REPORT: &str =
-    "entity\talder\tc1\te1\t2024-02-01\nperson\talder\tc1\tp1\t\"Ann Moss\"\npersons 1\n";
+    "entity\talder\tc1\te1\t2024-02-01\nperson\talder\tc1\tp1\t1\t\"Ann Moss\"\npersons 1\n";
 
 // Writes the lodging of the first file into the file of this name.
 fn write_lodging(rt: &HostRuntime, name: &str) -> Result<(), Fail> {

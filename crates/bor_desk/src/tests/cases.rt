@@ -20,6 +20,7 @@ fn the_first_page_is_right(rt: HostRuntime) {
     let persons = persons_of(alloc, &mut source, &e1).expect(&rt, "no report");
     assert_eq!(rt; persons.len(), 1);
     assert_eq!(rt; persons[0].node.rec.as_str(), "p1");
+    assert_eq!(rt; persons[0].links, 2);
 }
 
 // Files in words, each after the agent that files it, and who stands behind which entity.
@@ -76,13 +77,13 @@ fn an_indirect_interest_counts_for_nothing(rt: HostRuntime) {
 }
 
 // Cases by their names: files, and who stands behind which entity, on 2024-02-01 or another day.
-const CASES: [(&str, &[&str], &[(&str, &str)]); 17] = [
+const CASES: [(&str, &[&str], &[(&str, &str)]); 19] = [
     (
         "a loop is walked as target and as middle",
         &[
             "alder E s1 e1; E s2 a1; P s3 p1; P s4 q1; P s5 r1; R s6 x1 e1<-a1 S10; R s7 x2 a1<-e1 V60; R s8 x3 e1<-p1 S5; R s9 x4 e1<-q1 V70; R s10 x5 a1<-r1 S5",
         ],
-        &[("e1", "p1 q1"), ("a1", "q1 r1")],
+        &[("e1", "p1:1 q1:1"), ("a1", "q1:2 r1:1")],
     ),
     // A chain may pass e1 on the way to e1, over one link twice.
     (
@@ -90,7 +91,7 @@ const CASES: [(&str, &[&str], &[(&str, &str)]); 17] = [
         &[
             "alder E s1 e1; E s2 a1; P s3 p1; R s4 x1 e1<-a1 V60; R s5 x2 a1<-e1 V60; R s6 x3 a1<-p1 V60",
         ],
-        &[("e1", "p1"), ("a1", "p1")],
+        &[("e1", "p1:2"), ("a1", "p1:1")],
     ),
     (
         "an arrangement is no link of a chain",
@@ -112,7 +113,7 @@ const CASES: [(&str, &[&str], &[(&str, &str)]); 17] = [
         &[
             "alder E s1 e1; P s2 p1; E s3 a1 arrangement #X/1; E s4 a2 #X/1; R s5 x1 a1<-p1 V100; R s6 x2 e1<-a2 S10",
         ],
-        &[("e1", "p1")],
+        &[("e1", "p1:2")],
     ),
     (
         "the alias of a link's party is legal, and the party is none",
@@ -143,7 +144,21 @@ const CASES: [(&str, &[&str], &[(&str, &str)]); 17] = [
             "alder E s1 e1 #X/1; E s2 a1 #X/1 #Y/2; E s3 b1 #Y/2; P s4 p1; R s5 r1 b1<-p1 V100",
             "alder E s6 b2 #Y/3; P s7 q1; R s8 r2 b2<-q1 V100",
         ],
-        &[("e1", "p1"), ("b2", "q1")],
+        &[("e1", "p1:1"), ("b2", "q1:1")],
+    ),
+    (
+        "a chain of three links",
+        &[
+            "alder E s1 e1; E s2 a1; E s3 b1; P s4 p1; R s5 r1 e1<-a1 S10; R s6 r2 a1<-b1 V60; R s7 r3 b1<-p1 V60",
+        ],
+        &[("e1", "p1:3")],
+    ),
+    (
+        "a shorter chain besides",
+        &[
+            "alder E s1 e1; E s2 a1; E s3 b1; P s4 p1; R s5 r1 e1<-a1 S10; R s6 r2 a1<-b1 V60; R s7 r3 b1<-p1 V60; R s8 r4 a1<-p1 V51",
+        ],
+        &[("e1", "p1:2")],
     ),
     // By agent, then declaration, then record, and not in the order in which they are met.
     (

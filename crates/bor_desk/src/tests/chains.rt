@@ -18,7 +18,7 @@ pub(super) const A_RECORD_OF_TWO_DECLARATIONS_IS_ONE_ENTITY: [Row; 4] = [
     ),
     (
         "birch chains alder c1 e1",
-        r#"{"agent":"alder","date":"2024-02-01","declaration":"c1","persons":[{"agent":"alder","declaration":"c1","name":null,"record":"p1"},{"agent":"alder","declaration":"c2","name":null,"record":"p1"}],"record":"e1"}"#,
+        r#"{"agent":"alder","date":"2024-02-01","declaration":"c1","persons":[{"agent":"alder","declaration":"c1","links":1,"name":null,"record":"p1"},{"agent":"alder","declaration":"c2","links":1,"name":null,"record":"p1"}],"record":"e1"}"#,
     ),
 ];
 
@@ -34,7 +34,7 @@ pub(super) const PERSONS_OF_SEVERAL_AGENTS_ARE_IN_ORDER: [Row; 5] = [
     ),
     (
         "birch chains alder c1 e1 2024-01-10",
-        r#"{"agent":"alder","date":"2024-01-10","declaration":"c1","persons":[{"agent":"alder","declaration":"c1","name":null,"record":"y"},{"agent":"alder","declaration":"c1","name":null,"record":"z"},{"agent":"birch","declaration":"c0","name":null,"record":"a"}],"record":"e1"}"#,
+        r#"{"agent":"alder","date":"2024-01-10","declaration":"c1","persons":[{"agent":"alder","declaration":"c1","links":1,"name":null,"record":"y"},{"agent":"alder","declaration":"c1","links":1,"name":null,"record":"z"},{"agent":"birch","declaration":"c0","links":1,"name":null,"record":"a"}],"record":"e1"}"#,
     ),
     (
         "birch chains alder c1 e1 2024-01-09",

@@ -14,7 +14,7 @@ const LODGED: [&str; 4] = [
 ];
 
 const NAMED: &str =
-    "entity\talder\tc1\te1\t2024-02-01\nperson\talder\tc1\tp1\t\"Ann Moss\"\npersons 1\n";
+    "entity\talder\tc1\te1\t2024-02-01\nperson\talder\tc1\tp1\t1\t\"Ann Moss\"\npersons 1\n";
 
 const NO_ENTITY: &str = "refused NoEntity\n";
 
@@ -39,13 +39,13 @@ const SHOWN: [(&str, &str, &str, &str); 10] = [
         "alder",
         "e4",
         "2024-02-01",
-        "entity\talder\tc1\te4\t2024-02-01\nperson\talder\tc1\tp4\t\"Ann \\\"A\\\\\\\" Möss\\t\"\npersons 1\n",
+        "entity\talder\tc1\te4\t2024-02-01\nperson\talder\tc1\tp4\t1\t\"Ann \\\"A\\\\\\\" Möss\\t\"\npersons 1\n",
     ),
     (
         "alder",
         "e5",
         "2024-02-01",
-        "entity\talder\tc1\te5\t2024-02-01\nperson\talder\tc1\tp5\tnull\npersons 1\n",
+        "entity\talder\tc1\te5\t2024-02-01\nperson\talder\tc1\tp5\t1\tnull\npersons 1\n",
     ),
 ];
 

@@ -26,7 +26,7 @@ fn a_chain_of_two_hundred(rt: HostRuntime) {
         .push_str("; E s200 e200; R t200 r200 e200<-p V51")
         .expect(&rt, "memory");
     let found = behind_e0(&rt, alloc, words.as_str());
-    same(&rt, "chains", "e0", found.as_str(), "p");
+    same(&rt, "chains", "e0", found.as_str(), "p:201");
 }
 
 #[test]
@@ -61,7 +61,7 @@ fn a_ladder_of_many_chains(rt: HostRuntime) {
         .push_str("; R u3 x3 a49<-p V60; R u4 x4 b49<-p V60")
         .expect(&rt, "memory");
     let found = behind_e0(&rt, alloc, words.as_str());
-    same(&rt, "chains", "e0", found.as_str(), "p");
+    same(&rt, "chains", "e0", found.as_str(), "p:51");
 }
 
 // Each shares an identifier with the next, and the last with the first.
@@ -74,5 +74,5 @@ fn a_ring_of_fifty_aliases(rt: HostRuntime) {
         write!(words, "; E s{i} e{i} #X/{i} #X/{next}").expect(&rt, "memory");
     }
     let filed = Filed::of(&rt, alloc, words.as_str());
-    answers(&rt, &filed, "a ring", "e0", "p");
+    answers(&rt, &filed, "a ring", "e0", "p:1");
 }

@@ -182,9 +182,10 @@ fn add_person(rt: &impl Abort, text: &mut String, alloc: Global, person: &Person
     begin_item(rt, text);
     let (agent, declaration) = (person.node.agent.as_str(), person.node.declaration.as_str());
     let rec = person.node.rec.as_str();
+    let links = person.links;
     write!(
         text,
-        r#"{{"agent":"{agent}","declaration":"{declaration}","name":"#
+        r#"{{"agent":"{agent}","declaration":"{declaration}","links":{links},"name":"#
     )
     .expect(rt, "memory");
     add_name(rt, text, alloc, &person.name);

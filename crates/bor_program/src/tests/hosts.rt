@@ -106,14 +106,14 @@ fn report_of<'a>(viewer: &'a str, date: &'a str) -> [&'a str; 13] {
 
 // The report on alder's entity on the register's day.
 const TODAY: &str =
-    "entity\talder\tc1\te1\t2024-02-01\nperson\talder\tc1\tp1\t\"Ann Moss\"\npersons 1\n";
+    "entity\talder\tc1\te1\t2024-02-01\nperson\talder\tc1\tp1\t1\t\"Ann Moss\"\npersons 1\n";
 
 #[test]
 fn a_report_is_of_its_date_and_else_of_the_registers_day(rt: HostRuntime) {
     let host = Machine::new(&rt);
     ends(&rt, &host, &REPORT, (0, TODAY, ""));
     let later =
-        "entity\talder\tc1\te1\t2024-02-20\nperson\talder\tc1\tp1\t\"Ann Moss\"\npersons 1\n";
+        "entity\talder\tc1\te1\t2024-02-20\nperson\talder\tc1\tp1\t1\t\"Ann Moss\"\npersons 1\n";
     let words = report_of("alder", "2024-02-20");
     ends(&rt, &host, &words, (0, later, ""));
     let words = report_of("alder", "2024-01-09");

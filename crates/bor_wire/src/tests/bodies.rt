@@ -48,7 +48,7 @@ fn a_snapshot_shows_all_details(rt: HostRuntime) {
 #[test]
 fn a_length_counts_bytes(rt: HostRuntime) {
     let text =
-        "HTTP/1.1 200 OK\r\nContent-Type: application/json\r\nContent-Length: 154\r\nConnection: close\r\n\r\n{\"agent\":\"alder\",\"date\":\"2024-02-01\",\"declaration\":\"c1\",\"persons\":[{\"agent\":\"alder\",\"declaration\":\"c1\",\"name\":\"李 \\\"娜\\\"\",\"record\":\"p2\"}],\"record\":\"e1\"}";
+        "HTTP/1.1 200 OK\r\nContent-Type: application/json\r\nContent-Length: 164\r\nConnection: close\r\n\r\n{\"agent\":\"alder\",\"date\":\"2024-02-01\",\"declaration\":\"c1\",\"persons\":[{\"agent\":\"alder\",\"declaration\":\"c1\",\"links\":1,\"name\":\"李 \\\"娜\\\"\",\"record\":\"p2\"}],\"record\":\"e1\"}";
     assert!(rt; is_told(&rt, rt.alloc(), "alder chains alder c1 e1", text.as_bytes()));
 }
 

@@ -6,7 +6,8 @@ use bor_wire_rows::Talk;
 use std::alloc::Global;
 use std::process::Abort;
 
-// The reply to alder that names these persons of alder's declaration c1 behind a record of it.
+// The reply to alder that names these persons of alder's declaration c1, each with its least number of
+// links, behind a record of it.
 fn naming(rt: &impl Abort, alloc: Global, rec: &str, persons: &str) -> String {
     let mut text = String::from_str(
         alloc,
@@ -14,12 +15,13 @@ fn naming(rt: &impl Abort, alloc: Global, rec: &str, persons: &str) -> String {
     )
     .expect(rt, "memory");
     for person in persons.split_whitespace() {
+        let (person, links) = person.split_once(':').expect(rt, "no number");
         if !text.ends_with("[") {
             text.push(',').expect(rt, "memory");
         }
         write!(
             text,
-            r#"{{"agent":"alder","declaration":"c1","name":null,"record":"{person}"}}"#
+            r#"{{"agent":"alder","declaration":"c1","links":{links},"name":null,"record":"{person}"}}"#
         )
         .expect(rt, "memory");
     }
@@ -45,17 +47,17 @@ fn behind(rt: &impl Abort, alloc: Global, file: &str, named: &[(&str, &str)]) {
 fn a_majority_of_votes_or_of_the_board_is_followed(rt: HostRuntime) {
     let alloc = rt.alloc();
     for (interests, persons) in [
-        (r#"V{"minimum":50,"exclusiveMinimum":true}"#, "p1"),
-        (r#"V{"exclusiveMinimum":50}"#, "p1"),
+        (r#"V{"minimum":50,"exclusiveMinimum":true}"#, "p1:2"),
+        (r#"V{"exclusiveMinimum":50}"#, "p1:2"),
         (r#"V{"exact":50}"#, ""),
         (r#"V{"minimum":50}"#, ""),
-        ("V60", "p1"),
+        ("V60", "p1:2"),
         ("S60", ""),
         ("B", ""),
-        ("B S1", "p1"),
+        ("B S1", "p1:2"),
         ("B S0", ""),
         ("B50 S1", ""),
-        ("B51 S1", "p1"),
+        ("B51 S1", "p1:2"),
     ] {
         let file = format!(in alloc;
             "E s1 e1; E s2 a1; P s3 p1; R s4 r1 a1<-p1 {interests}; R s5 r2 e1<-a1 S10"
@@ -70,7 +72,7 @@ fn a_loop_of_owners_is_walked(rt: HostRuntime) {
         &rt,
         rt.alloc(),
         "E s1 e1; E s2 a1; P s3 p1; P s4 q1; P s5 r1; R s6 x1 e1<-a1 S10; R s7 x2 a1<-e1 V60; R s8 x3 e1<-p1 S5; R s9 x4 e1<-q1 V70; R s10 x5 a1<-r1 S5",
-        &[("e1", "p1 q1"), ("a1", "q1 r1")],
+        &[("e1", "p1:1 q1:1"), ("a1", "q1:2 r1:1")],
     )
 }
 
@@ -80,7 +82,7 @@ fn an_arrangement_is_not_in_the_middle(rt: HostRuntime) {
         &rt,
         rt.alloc(),
         "E s1 e1; E s2 a1 arrangement; P s3 p1; R s4 r1 a1<-p1 V100; R s5 r2 e1<-a1 S10",
-        &[("e1", ""), ("a1", "p1")],
+        &[("e1", ""), ("a1", "p1:1")],
     )
 }
 

@@ -12,6 +12,8 @@ returns c =
     added c.in_ok-write_text.ensures (
     added c.in_ok-write_text-2.ensures (
     wrote c.in_ok-key.ensures (
+    wrote c.in_ok-u64.ensures (
+    wrote c.in_ok-key-2.ensures (
     added c.in_ok-write_maybe.ensures (
     added c.in_ok-write_text-3.ensures (
-    ended c.end_object.ensures)))))))
+    ended c.end_object.ensures)))))))))
