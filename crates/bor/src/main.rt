@@ -1,11 +1,11 @@
 //! `bor`, a register of beneficial ownership on the command line.
 #![tactic(auto)]
 
-#[cfg(test)]
-mod tests;
+mod host;
+mod setup;
 
-use bor_host::Host;
 use bor_program::{Failure, Status};
+use host::Host;
 use std::convert::AsStr;
 use std::env::{self, Env};
 use std::io::{self, ErrorKind, Read, Write};

@@ -1,7 +1,7 @@
 -- The text of an outcome.
 use Rattle.std.proofs.Common.{◌≡◌, inl, inr, Result, IfOk, IfErr, ℕ, ℤ, List, ◌++◌, Ok, Err, codes, refl, sym, ap, ◌∙◌, subst}
-use Rattle.bor_keep.specs.declared.fault.StoreFault.{StoreFault}
-use Rattle.bor_keep.specs.declared.fault.StoreFault.TheVariants.{Memory}
+use Rattle.bor_register.specs.declared.fault.StoreFault.{StoreFault}
+use Rattle.bor_register.specs.declared.fault.StoreFault.TheVariants.{Memory}
 use Rattle.bor_register.specs.declared.filing.Outward.{Outward}
 use Rattle.bor_register.specs.Register.{Register}
 use Rattle.bor_register.specs.Publication.{published}

@@ -11,7 +11,7 @@ use Rattle.bor_links.specs.Shown.{Shown, info_of, IsEntity}
 use Rattle.bor_links.specs.Rows.{is_entity_info, shown_of}
 use Rattle.bor_chains.specs.Chains.{AreJoined}
 use Rattle.bor_chains.specs.Promises.{chain_counted, OnNoEntity, OnSource}
-use Rattle.bor_keep.specs.declared.fault.StoreFault.{StoreFault}
+use Rattle.bor_register.specs.declared.fault.StoreFault.{StoreFault}
 use Rattle.bor_register.specs.Register.{Register}
 use Rattle.bor_register.specs.Seen.{seen_at}
 use Rattle.bor_machine.specs.declared.keep_source.KeepSource.{KeepSource}

@@ -13,7 +13,7 @@ use Rattle.bor_desk.specs.declared.request.Request.{Request}
 use Rattle.bor_desk.specs.declared.request.Request.TheVariants as ask
 use Rattle.bor_desk.specs.declared.reply.DeskReply.{DeskReply}
 use Rattle.bor_desk.specs.declared.reply.DeskReply.TheVariants as tell
-use Rattle.bor_keep.specs.declared.fault.StoreFault.{StoreFault}
+use Rattle.bor_register.specs.declared.fault.StoreFault.{StoreFault}
 use Rattle.bor_machine.specs.Outcomes.{ByStore}
 use Rattle.bor_desk.specs.declared.refusal.Refusal.TheVariants.{NoSuchFiling}
 use Rattle.bor_desk.specs.Step.{file_answer, step, agent_step, registrar_step}

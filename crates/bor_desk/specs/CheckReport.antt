@@ -1,7 +1,7 @@
 -- The text of a check: what the lodging of a file in a new register is answered, and what is published then.
 use Rattle.std.specs.Prelude.{◌≡◌, IfOk, IfErr, ℕ, List, [], ◌++◌, length, nat_lt, None, Result, Ok, Err, ℤ, pos, codes, if◌then◌else◌}
-use Rattle.bor_keep.specs.declared.fault.StoreFault.{StoreFault}
-use Rattle.bor_keep.specs.declared.fault.StoreFault.TheVariants.{Memory}
+use Rattle.bor_register.specs.declared.fault.StoreFault.{StoreFault}
+use Rattle.bor_register.specs.declared.fault.StoreFault.TheVariants.{Memory}
 use Rattle.bor_register.specs.Register.{Register, empty_register, new_member, with_member}
 use Rattle.bor_register.specs.Publication.{published}
 use Rattle.bor_machine.specs.declared.fault.LodgeFault.{LodgeFault}

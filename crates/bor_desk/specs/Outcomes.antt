@@ -4,7 +4,7 @@ use Rattle.bor_links.specs.declared.node.Node.{Node}
 use Rattle.bor_chains.specs.declared.line.PersonLine.{PersonLine}
 use Rattle.bor_links.specs.Shown.{Shown}
 use Rattle.bor_chains.specs.Chains.{AreJoined}
-use Rattle.bor_keep.specs.declared.fault.StoreFault.{StoreFault}
+use Rattle.bor_register.specs.declared.fault.StoreFault.{StoreFault}
 use Rattle.bor_register.specs.Register.{Register, IsOrdered}
 use Rattle.bor_machine.specs.Outcomes.{ByStore, IsFaultOf}
 use Rattle.bor_desk.specs.declared.request.Request.{Request}

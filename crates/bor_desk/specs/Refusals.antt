@@ -3,8 +3,8 @@ use Rattle.std.specs.Prelude.{◌≡◌, ℕ, List, Option, Some, None, codes}
 use Rattle.bods_read.specs.declared.fault.Field.{Field}
 use Rattle.bods_read.specs.Faults.{file_fault_word, file_fault_place, file_fault_field}
 use Rattle.bor_records.specs.Words.{fault_name}
-use Rattle.bor_keep.specs.declared.fault.StoreFault.{StoreFault}
-use Rattle.bor_keep.specs.declared.fault.StoreFault.TheVariants as stores
+use Rattle.bor_register.specs.declared.fault.StoreFault.{StoreFault}
+use Rattle.bor_register.specs.declared.fault.StoreFault.TheVariants as stores
 use Rattle.bor_machine.specs.declared.fault.LodgeFault.{LodgeFault}
 use Rattle.bor_machine.specs.declared.fault.LodgeFault.TheVariants as lodges
 use Rattle.bor_machine.specs.declared.fault.WithdrawFault.{WithdrawFault}

@@ -1,7 +1,7 @@
 //! The check of a file.
 
 ghost use Rattle.std.specs.Prelude.{◌≡◌, ◌++◌, codes, IfOk, IfErr};
-ghost use Rattle.bor_keep.specs.declared.fault.StoreFault.TheVariants.{Memory};
+ghost use Rattle.bor_register.specs.declared.fault.StoreFault.TheVariants.{Memory};
 ghost use Rattle.bor_desk.specs.Texts.{answering, accepted_line, outward_lines};
 ghost use Rattle.bor_desk.specs.CheckReport.{check_day, check_register, check_step, outcome_text, check_report, IsFaultTold};
 

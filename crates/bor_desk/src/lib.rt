@@ -35,8 +35,3 @@ pub use reply::DeskReply;
 pub use report::report_text;
 pub use request::Request;
 pub use text::Text;
-
-#[cfg(test)]
-mod example;
-#[cfg(test)]
-mod tests;

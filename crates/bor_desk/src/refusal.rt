@@ -1,7 +1,7 @@
 //! What is refused, and why.
 
 ghost use Rattle.std.specs.Prelude.{◌≡◌};
-ghost use Rattle.bor_keep.specs.declared.fault.StoreFault.TheVariants as stores;
+ghost use Rattle.bor_register.specs.declared.fault.StoreFault.TheVariants as stores;
 ghost use Rattle.bor_desk.specs.declared.refusal.DeskFault.TheVariants as faults;
 ghost use Rattle.bor_desk.specs.Refusals.{refusal_name, refusal_place, refusal_field, of_lodging, of_withdrawal, of_advance, of_enrolment, IsOfChains};
 

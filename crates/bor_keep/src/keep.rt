@@ -1,25 +1,24 @@
 //! What keeps a register, however it does.
 
 ghost use Rattle.std.specs.Prelude.{◌≡◌, ℕ, ◌+◌, ◌<◌, None, IfOk, [], ◌∷◌, ◌++◌, map, option_map, length, true, false};
-ghost use Rattle.bor_keep.specs.declared.fault.StoreFault.{StoreFault};
+ghost use Rattle.bor_register.specs.declared.fault.StoreFault.{StoreFault};
 ghost use Rattle.bor_register.specs.Limits.{filings_limit};
 ghost use Rattle.bor_register.specs.Register.{Register, caller_of, is_enrolled, is_taken, filings_of, with_filings, new_member, with_member, filing_keyed};
 ghost use Rattle.bor_register.specs.Publication.{published, line_of, filing_shown, has_bytes};
 ghost use Rattle.bor_register.specs.Live.{accepted, live_of, AreNew};
-ghost use Rattle.bor_register.specs.Rows.{rows_of, visible};
+ghost use Rattle.bor_register.specs.Rows.{rows_of};
 ghost use Rattle.bor_register.specs.Seen.{seen_at};
 ghost use Rattle.bor_register.specs.Withdrawal.{has_successor, with_withdrawn};
 ghost use Rattle.bor_records.specs.Admission.{last_of};
 ghost use Rattle.bor_records.specs.Settling.{has_id};
 ghost use Rattle.bor_records.specs.Promises.{Changes, Promised, Reads, Sure};
 ghost use Rattle.bor_links.specs.Shown.{info_of};
-ghost use Rattle.bor_links.specs.Answers.{AreAliases, AreSame, AreLinksInto};
+ghost use Rattle.bor_links.specs.Answers.{AreSame, AreLinksInto};
 
-use crate::fault::StoreFault;
 use bods_read::Statement;
 use bor_links::{Link, Node, NodeInfo};
 use bor_records::{Last, Row};
-use bor_register::{Caller, Filing, FilingLine, Outward};
+use bor_register::{Caller, Filing, FilingLine, Outward, StoreFault};
 use bor_terms::{AgentName, Day, Ident, LodgeKey, Token};
 
 /// A keep of a register.
@@ -125,13 +124,6 @@ pub trait Keep {
         ensures { Reads shows is_clean fault_count may_tell self.old self.new result (λ r rows.
             rows.items ≡ rows_of viewer.now r.day agent.now declaration.now (filings_of agent.now r.members)) };
 
-    /// The rows of all agents that the viewer sees: of its own live filings, and of the others'
-    /// published ones. They stand by agent, then in order of acceptance and of place. A viewer that
-    /// isn't enrolled sees what is published.
-    fn visible_rows(&mut self, viewer: &AgentName) -> Result<Vec<Row>, StoreFault>
-        ensures { Reads shows is_clean fault_count may_tell self.old self.new result (λ r rows.
-            rows.items ≡ visible viewer.now r.day r.members) };
-
     /// What a node is on a day by what the viewer sees, or `None` where it isn't open then. The day is
     /// any day; what the viewer sees goes by the register's.
     fn node(
@@ -142,17 +134,6 @@ pub trait Keep {
     ) -> Result<Option<NodeInfo>, StoreFault>
         ensures { Reads shows is_clean fault_count may_tell self.old self.new result (λ r info.
             info ≡ info_of (seen_at viewer.now day r) node.now) };
-
-    /// The nodes one alias away from a node on a day by what the viewer sees, each once and in any
-    /// order.
-    fn aliases(
-        &mut self,
-        viewer: &AgentName,
-        day: Day,
-        node: &Node,
-    ) -> Result<Vec<Node>, StoreFault>
-        ensures { Reads shows is_clean fault_count may_tell self.old self.new result (λ r nodes.
-            AreAliases (seen_at viewer.now day r) node.now nodes.items) };
 
     /// All nodes that stand for one entity with a node on a day by what the viewer sees, by finitely
     /// many aliases, each once and in any order. The node itself is one of them; where it isn't open,

@@ -25,13 +25,10 @@
 //! register is, and what is told of it, is `bor_register`'s.
 #![tactic(auto)]
 
-mod fault;
 mod keep;
 mod last_asked;
 mod list_keep;
-#[cfg(test)]
-mod tests;
 
-pub use fault::StoreFault;
+pub use bor_register::StoreFault;
 pub use keep::Keep;
 pub use list_keep::ListKeep;

@@ -1,12 +1,11 @@
 //! The register in memory.
 
 ghost use Rattle.std.specs.Prelude.{◌≡◌, ◌+◌, ◌%◌, ◌^◌, IfOk};
-ghost use Rattle.bor_links.specs.Answers.{AreAliases, AreLinksInto, AreSame};
+ghost use Rattle.bor_links.specs.Answers.{AreLinksInto, AreSame};
 ghost use Rattle.bor_links.specs.Shown.{info_of};
 ghost use Rattle.bor_register.specs.Register.{empty_register};
 ghost use Rattle.bor_register.specs.Seen.{seen_at};
 
-use crate::fault::StoreFault;
 use crate::keep::Keep;
 use crate::last_asked::LastAsked;
 use bods_read::Statement;
@@ -14,7 +13,7 @@ use bor_chains::{LinkSource, ListSource};
 use bor_links::{Link, Node, NodeInfo};
 use bor_records::{Last, Row};
 use bor_register::{
-    Caller, Filing, FilingLine, Member, Outward, all_lines, all_published, all_visible,
+    Caller, Filing, FilingLine, Member, Outward, StoreFault, all_lines, all_published, all_visible,
     any_live_has_id, caller_with, enrol_member, filing_under, is_enrolled, is_filed, is_succeeded,
     last_live, line_under, own_filings, push_filing, rows_seen, withdraw_of,
 };
@@ -115,21 +114,6 @@ impl ListKeep {
         told
     }
 
-    fn aliases_seen(
-        &mut self,
-        viewer: &AgentName,
-        day: Day,
-        node: &Node,
-    ) -> Result<Vec<Node>, AllocError>
-        ensures kept { self.new ≡ self.old }
-        ensures told { IfOk result (λ nodes. AreAliases (seen_at viewer.now day self.old.register) node.now nodes.items) }
-    {
-        let mut source = self.take_source(viewer, day)?;
-        let told = source.aliases(node);
-        self.put_source(viewer, day, source);
-        told
-    }
-
     fn same_seen(
         &mut self,
         viewer: &AgentName,
@@ -171,7 +155,7 @@ impl ListKeep {
 
 impl Keep for ListKeep {
     ghost use Rattle.std.specs.Prelude.{◌≡◌};
-    ghost use Rattle.bor_keep.specs.declared.fault.StoreFault.TheVariants.{Memory};
+    ghost use Rattle.bor_register.specs.declared.fault.StoreFault.TheVariants.{Memory};
 
     ghost shows = { λ k r. k.register ≡ r };
 
@@ -272,13 +256,6 @@ impl Keep for ListKeep {
         }
     }
 
-    fn visible_rows(&mut self, viewer: &AgentName) -> Result<Vec<Row>, StoreFault> {
-        match all_visible(self.alloc, viewer, self.day, &self.members) {
-            Ok(rows) => Ok(rows),
-            Err(_) => Err(self.want_of_memory()),
-        }
-    }
-
     fn node(
         &mut self,
         viewer: &AgentName,
@@ -287,18 +264,6 @@ impl Keep for ListKeep {
     ) -> Result<Option<NodeInfo>, StoreFault> {
         match self.node_seen(viewer, day, node) {
             Ok(info) => Ok(info),
-            Err(_) => Err(self.want_of_memory()),
-        }
-    }
-
-    fn aliases(
-        &mut self,
-        viewer: &AgentName,
-        day: Day,
-        node: &Node,
-    ) -> Result<Vec<Node>, StoreFault> {
-        match self.aliases_seen(viewer, day, node) {
-            Ok(nodes) => Ok(nodes),
             Err(_) => Err(self.want_of_memory()),
         }
     }

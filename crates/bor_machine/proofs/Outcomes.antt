@@ -1,7 +1,7 @@
 -- What follows from an operation's outcome.
 use Rattle.std.proofs.Common.{◌≡◌, Result, Ok, Err, sym, subst}
 use Rattle.std.specs.Prelude.{Option, Some, None}
-use Rattle.bor_keep.specs.declared.fault.StoreFault.{StoreFault}
+use Rattle.bor_register.specs.declared.fault.StoreFault.{StoreFault}
 use Rattle.bor_register.specs.Register.{Register}
 use Rattle.bor_machine.specs.Sight.{Outcome}
 use Rattle.bor_machine.specs.Outcomes.{ByStore, IsOutcome}

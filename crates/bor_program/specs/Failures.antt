@@ -1,8 +1,8 @@
 -- What is told of a failure.
 use Rattle.std.specs.Prelude.{◌≡◌, ◌⊎◌, ⊤, ℕ, List, [], ◌∷◌, ◌++◌, Option, codes, map}
 use Rattle.std.specs.Io.KnownBytes.{Appends, Keeps}
-use Rattle.bor_keep.specs.declared.fault.StoreFault.{StoreFault}
-use Rattle.bor_keep.specs.declared.fault.StoreFault.TheVariants.{Memory as WantOfMemory, Store as StoreFailed, Damaged}
+use Rattle.bor_register.specs.declared.fault.StoreFault.{StoreFault}
+use Rattle.bor_register.specs.declared.fault.StoreFault.TheVariants.{Memory as WantOfMemory, Store as StoreFailed, Damaged}
 use Rattle.bor_words.specs.declared.source.Source.{Source}
 use Rattle.bor_words.specs.declared.source.Source.TheVariants.{File}
 use Rattle.bor_words.specs.Asked.{name_of, source_text}

@@ -29,6 +29,3 @@ pub use host::{OpenRegister, Opened, Ports, Registers};
 pub use program::run;
 pub use report::report_on;
 pub use status::Status;
-
-#[cfg(test)]
-mod tests;

@@ -19,6 +19,7 @@
 #![tactic(auto)]
 
 mod caller;
+mod fault;
 mod filing;
 mod filings;
 pub mod laws;
@@ -30,6 +31,7 @@ mod statements;
 mod withdrawal;
 
 pub use caller::Caller;
+pub use fault::StoreFault;
 pub use filing::{AcceptedFiling, Filing, FilingLine, Outward, State};
 pub use filings::{all_lines, filing_under, is_filed, line_under};
 pub use live::{any_live_has_id, last_live};

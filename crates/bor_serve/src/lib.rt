@@ -25,6 +25,3 @@ pub use connection::serve_connection;
 pub use limits::Limits;
 pub use serving::{serve_on, serve_within};
 pub use timed::Timed;
-
-#[cfg(test)]
-mod tests;

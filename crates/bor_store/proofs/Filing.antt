@@ -4,7 +4,7 @@ use Rattle.std.specs.Prelude.{IfOk, IfErr, OnErr, ⊤}
 use Rattle.sqlite.specs.State.{State}
 use Rattle.bor_records.specs.Promises.{counted, left_by}
 use Rattle.bor_register.specs.Register.{Register}
-use Rattle.bor_keep.specs.declared.fault.StoreFault.{StoreFault}
+use Rattle.bor_register.specs.declared.fault.StoreFault.{StoreFault}
 use Rattle.bor_store_reads.specs.declared.fault.ReadError.{ReadError}
 use Rattle.bor_store_sql.specs.Shown.{ShowsIn}
 use Rattle.bor_store.specs.Telling.{tells, IsNextFiling}

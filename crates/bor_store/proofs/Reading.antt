@@ -2,7 +2,7 @@
 use Rattle.std.proofs.Common.{◌≡◌, ℕ, Result, Ok, Err, sym, subst, ap, ◌∙◌}
 use Rattle.std.specs.Prelude.{IfOk, IfErr, MatchResult, ⊤}
 use Rattle.bor_records.specs.Promises.{counted}
-use Rattle.bor_keep.specs.declared.fault.StoreFault.{StoreFault}
+use Rattle.bor_register.specs.declared.fault.StoreFault.{StoreFault}
 use Rattle.bor_store_reads.specs.declared.fault.ReadError.{ReadError}
 use Rattle.bor_store_reads.specs.Answering.{IsNoDamage}
 use Rattle.bor_store.specs.Telling.{tells}

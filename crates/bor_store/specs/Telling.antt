@@ -2,8 +2,8 @@
 use Rattle.std.specs.Prelude.{◌≡◌, ◌≢◌, ℕ, ◌+◌, Result, Ok, Err}
 use Rattle.sqlite.specs.State.{State}
 use Rattle.bor_register.specs.Register.{Register}
-use Rattle.bor_keep.specs.declared.fault.StoreFault.{StoreFault}
-use Rattle.bor_keep.specs.declared.fault.StoreFault.TheVariants as store_faults
+use Rattle.bor_register.specs.declared.fault.StoreFault.{StoreFault}
+use Rattle.bor_register.specs.declared.fault.StoreFault.TheVariants as store_faults
 use Rattle.bor_store_sql.specs.Shown.{ShowsIn}
 use Rattle.bor_store_reads.specs.declared.fault.ReadError.{ReadError}
 use Rattle.bor_store_reads.specs.Answering.{told_as}

@@ -16,6 +16,3 @@ pub use adoption::examine;
 pub use open_fault::OpenFault;
 pub use setup::set_up;
 pub use sql_keep::SqlKeep;
-
-#[cfg(test)]
-mod tests;

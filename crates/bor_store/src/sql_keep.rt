@@ -2,7 +2,7 @@
 
 ghost use Rattle.std.specs.Prelude.{◌≡◌, ⊤, ◌+◌, ◌<◌, ◌++◌, ◌∷◌, [], None, IfOk, IfErr, length, map, option_map, true, false, Result};
 ghost use Rattle.sqlite.specs.Held.{state};
-ghost use Rattle.bor_links.specs.Answers.{AreAliases, AreLinksInto, AreSame};
+ghost use Rattle.bor_links.specs.Answers.{AreLinksInto, AreSame};
 ghost use Rattle.bor_links.specs.Shown.{info_of};
 ghost use Rattle.bor_records.specs.Admission.{last_of};
 ghost use Rattle.bor_records.specs.Promises.{counted, Changes, Promised, Reads, Sure};
@@ -11,7 +11,7 @@ ghost use Rattle.bor_register.specs.Limits.{filings_limit};
 ghost use Rattle.bor_register.specs.Live.{accepted, live_of, AreNew};
 ghost use Rattle.bor_register.specs.Publication.{published, line_of, filing_shown, has_bytes};
 ghost use Rattle.bor_register.specs.Register.{caller_of, is_enrolled, is_taken, filings_of, with_filings, new_member, with_member, filing_keyed};
-ghost use Rattle.bor_register.specs.Rows.{rows_of, visible};
+ghost use Rattle.bor_register.specs.Rows.{rows_of};
 ghost use Rattle.bor_register.specs.Seen.{seen_at};
 ghost use Rattle.bor_register.specs.Withdrawal.{has_successor, with_withdrawn};
 ghost use Rattle.bor_store_sql.specs.Shown.{IsClean, ShowsIn};
@@ -19,15 +19,14 @@ ghost use Rattle.bor_store.specs.Telling.{tells, fails, TellsNoDamage};
 
 use crate::lodging::add_next_filing;
 use bods_read::Statement;
-use bor_keep::{Keep, StoreFault};
+use bor_keep::Keep;
 use bor_links::{Link, Node, NodeInfo};
 use bor_records::{Last, Row};
-use bor_register::{Caller, Filing, FilingLine, Outward};
-use bor_store_keys::{Lookup, read_aliases, read_links_into, read_node, read_same};
+use bor_register::{Caller, Filing, FilingLine, Outward, StoreFault};
+use bor_store_keys::{Lookup, read_links_into, read_node, read_same};
 use bor_store_reads::{
     ReadError, filing_count, has_agent, has_file, has_statement, has_successor, read_day,
-    read_filing, read_filings, read_last, read_line, read_published, read_rows_of, read_visible,
-    read_who,
+    read_filing, read_filings, read_last, read_line, read_published, read_rows_of, read_who,
 };
 use bor_store_sql::{add_agent, set_day, withdraw_filing};
 use bor_terms::{AgentName, Day, Ident, LodgeKey, Token};
@@ -218,15 +217,6 @@ impl<S: Alter + Drop> Keep for SqlKeep<S> {
         self.told(answer)
     }
 
-    fn visible_rows(&mut self, viewer: &AgentName) -> Result<Vec<Row>, StoreFault>
-        ensures reads { let keep = ⟦<SqlKeep<S> as Keep>⟧ in Reads keep.shows keep.is_clean keep.fault_count keep.may_tell self.old self.new result (λ r rows.
-            rows.items ≡ visible viewer.now r.day r.members) }
-        ensures undamaged { let keep = ⟦<SqlKeep<S> as Keep>⟧ in Promised keep.shows keep.is_clean self.old self.new (λ r. IfErr result TellsNoDamage) }
-    {
-        let answer = read_visible(self.conn.connection(), self.alloc, viewer);
-        self.told(answer)
-    }
-
     fn node(
         &mut self,
         viewer: &AgentName,
@@ -238,20 +228,6 @@ impl<S: Alter + Drop> Keep for SqlKeep<S> {
         ensures undamaged { let keep = ⟦<SqlKeep<S> as Keep>⟧ in Promised keep.shows keep.is_clean self.old self.new (λ r. IfErr result TellsNoDamage) }
     {
         let answer = read_node(&mut self.conn, self.alloc, viewer, day, node);
-        self.told(answer)
-    }
-
-    fn aliases(
-        &mut self,
-        viewer: &AgentName,
-        day: Day,
-        node: &Node,
-    ) -> Result<Vec<Node>, StoreFault>
-        ensures reads { let keep = ⟦<SqlKeep<S> as Keep>⟧ in Reads keep.shows keep.is_clean keep.fault_count keep.may_tell self.old self.new result (λ r nodes.
-            AreAliases (seen_at viewer.now day r) node.now nodes.items) }
-        ensures undamaged { let keep = ⟦<SqlKeep<S> as Keep>⟧ in Promised keep.shows keep.is_clean self.old self.new (λ r. IfErr result TellsNoDamage) }
-    {
-        let answer = read_aliases(&mut self.conn, self.alloc, viewer, day, node);
         self.told(answer)
     }
 

@@ -1,14 +1,10 @@
 -- Nodes that stand for one entity, sign by sign.
-use Rattle.std.proofs.Common.{◌≡◌, ◌⊎◌, ◌+◌, ◌<◌, ◌++◌, ◌&&◌, ◌||◌, not, ℕ, ℤ, Bool, true, false, cond, Option, Some, None, option_and_then, List, [], ◌∷◌, Contains, map, take, length, get_or, refl, sym, ap, ◌∙◌, subst, inl, inr, arith, append-nil, append_assoc}
-use Rattle.std.specs.List.{IsDistinct}
+use Rattle.std.proofs.Common.{◌≡◌, ◌⊎◌, ◌+◌, ◌<◌, ◌++◌, ℕ, ℤ, Bool, true, false, cond, Option, Some, None, option_and_then, List, [], ◌∷◌, Contains, map, take, length, get_or, refl, sym, ap, ◌∙◌, subst, inl, inr, arith, append-nil, append_assoc}
 use Rattle.std.specs.Ordering.{is_eq}
-use Rattle.std.proofs.lemmas.Bool.{and_parts}
 use Rattle.std.proofs.lemmas.Option.{same_Some}
 use Rattle.std.proofs.lemmas.List.{take-append-le}
 use Rattle.std.proofs.lemmas.List.Elements.{Contains-get_or, Contains-append_left, Contains-append_right, Contains-append_cases}
 use Rattle.std.proofs.lemmas.Map.Views.{tells_apart}
-use Rattle.bor_terms.specs.Texts.{is_same}
-use Rattle.bor_terms.proofs.Texts.{same_refl}
 use Rattle.bods_read.specs.declared.details.Details.{Details}
 use Rattle.bods_read.specs.declared.details.Details.TheVariants as details
 use Rattle.bods_read.specs.declared.details.Identifier.{Identifier}
@@ -18,23 +14,18 @@ use Rattle.bor_links.specs.declared.node.Node.{Node}
 use Rattle.bor_links.specs.declared.node.OpenNode.{OpenNode}
 use Rattle.bor_links.specs.declared.sign.Sign.{Sign}
 use Rattle.bor_links.specs.Aliases.{Alias}
-use Rattle.bor_links.specs.Answers.{AreAliases}
 use Rattle.bor_links.specs.ByKey.{node_at}
 use Rattle.bor_links.specs.Growth.{Grown}
-use Rattle.bor_links.specs.Nodes.{same_node}
-use Rattle.bor_links.specs.Orders.{node_equiv}
 use Rattle.bor_links.specs.Rows.{node_in, node_with, nodes_of, shown_of}
 use Rattle.bor_links.specs.Series.{open_at, series_of}
-use Rattle.bor_links.specs.Shown.{Shown, listed_at, is_entity, is_like, are_alike, same_record, share_identifier}
+use Rattle.bor_links.specs.Shown.{Shown, listed_at, is_entity, is_like, are_alike}
 use Rattle.bor_links.specs.Signs.{by_identifier, by_record, sign_cmp, signs}
 use Rattle.bor_links.proofs.ByKey.{alias_by_key, listed_by_key, open_at_in, open_row_at, open_row_is}
 use Rattle.bor_links.proofs.Exact.{exact_sign}
 use Rattle.bor_links.proofs.Found.{none, here, Contains-from_filter_map}
 use Rattle.bor_links.proofs.Growth.{grown_cases, Contains-take_more}
-use Rattle.bor_links.proofs.Listed.{found_is}
 use Rattle.bor_links.proofs.Reached.{AreGathered}
 use Rattle.bor_links.proofs.Sames.{same_more}
-use Rattle.bor_links.proofs.Signs.{in_common}
 use Rattle.bor_chains.specs.Classes.{HasSign}
 use Rattle.bor_chains.proofs.Classes.{common_alike, one_of}
 use Rattle.bor_chains.proofs.Signs.{identifiers_more}
@@ -188,59 +179,6 @@ module _ (day : ℤ) (rows : List Row) (node : Node) where
       looked = λ y k at has. x.looked k (subst (λ (z : OpenNode). Contains (signs z) k) (sym (same_Some one y (is ∙ sym (listed_by_key day node rows) ∙ at))) has.1);
       fresh = λ k h. elim (x.fresh k h) [ inl before ↦ inl before | inr own ↦ inr (found entity k own.0 own.1) ];
     }
-
--- ---- the aliases of one node
-
-unlike : (e s a b : Bool) → (e && e && ((a && (b && false)) || s && false)) ≡ false
-unlike false s a b = refl
-unlike true true true true = refl
-unlike true true true false = refl
-unlike true true false b = refl
-unlike true false true true = refl
-unlike true false true false = refl
-unlike true false false b = refl
-
--- no node is an alias of itself
-self_unlike : (x : OpenNode) → are_alike x x ≡ false
-self_unlike x =
-    let e : Bool = is_entity x.info in
-    let s : Bool = share_identifier x.identifiers x.identifiers in
-    let a : Bool = is_same x.node.agent x.node.agent in
-    let b : Bool = is_same x.node.rec x.node.rec in
-    ap (λ d. e && e && ((a && (b && not d)) || s && not (same_node x.node x.node))) (same_refl x.node.declaration)
-    ∙ ap (λ t. e && e && ((a && (b && false)) || s && not t)) (node_equiv.refl x.node)
-    ∙ unlike e s a b
-
-no_alias_of_itself : (s : Shown) (a : Node) → Alias s a a → ⊥
-no_alias_of_itself s a h =
-    let one : h.one ≡ h.two = same_Some h.one h.two (sym h.one_is ∙ h.two_is) in
-    let no : true ≡ false = sym h.alike ∙ ap (λ (x : OpenNode). are_alike x h.two) one ∙ self_unlike h.two in cc
-
--- two aliases are entities with a sign in common
-shared : (s : Shown) (a b : Node) (l : Alias s a b) → (k : Sign) × HasSign l.one k × HasSign l.two k
-shared s a b l =
-    let k = in_common l.one l.two l.alike in
-    let ea = and_parts (is_entity l.one.info && is_entity l.two.info) (same_record l.one.node l.two.node || share_identifier l.one.identifiers l.two.identifiers && not (same_node l.one.node l.two.node)) l.alike in
-    let es = and_parts (is_entity l.one.info) (is_entity l.two.info) ea.0 in
-    (k.0, (es.0, k.1), (es.1, k.2))
-
-pub aliases_followed : (s : Shown) (node : Node) (old new out : List Node) (was now : Sign → Bool) → old ≡ [] → ((k : Sign) → was k ≡ false) → Follows s node old new was now → out ≡ new → IsDistinct same_node out → AreAliases s node out
-aliases_followed s node old new out was now empty unseen x is once = record {
-  each = λ b. ((λ h. x.each b (subst (λ (ns : List Node). Contains ns b) (is ∙ x.begins ∙ ap (λ (ns : List Node). ns ++ x.rest) empty) h)), (λ l. subst (λ (ns : List Node). Contains ns b) (sym is) (reach b l)));
-  once = once;
-}
-  where
-    reach : (b : Node) → Alias s node b → Contains new b
-    reach b l =
-        let two = found_is s.nodes b l.two l.two_is in
-        let k = shared s node b l in
-        elim (x.fresh k.0 (x.looked l.one k.0 l.one_is k.1)) [
-          | inl o ↦ absurd (let no : false ≡ true = sym (unseen k.0) ∙ o in cc)
-          | inr f ↦ elim (f l.two (subst (λ (m : Node). listed_at s.nodes m ≡ Some l.two) (sym two.1) l.two_is) k.2) [
-            | inl e ↦ absurd (no_alias_of_itself s node (subst (λ (m : Node). Alias s node m) (sym two.1 ∙ e) l))
-            | inr h ↦ subst (λ (m : Node). Contains new m) two.1 h
-          ]
-        ]
 
 -- ---- one node after the other
 

@@ -3,7 +3,7 @@
 ghost use Rattle.std.specs.Prelude.{◌≡◌, ◌∷◌, [], false, map};
 ghost use Rattle.std.specs.BTreeSet.{contains};
 ghost use Rattle.sqlite.specs.Held.{state};
-ghost use Rattle.bor_links.specs.Answers.{AreAliases, AreSame};
+ghost use Rattle.bor_links.specs.Answers.{AreSame};
 ghost use Rattle.bor_links.specs.ByKey.{node_at};
 ghost use Rattle.bor_links.specs.Growth.{Grown};
 ghost use Rattle.bor_links.specs.Shown.{is_like};
@@ -14,7 +14,7 @@ ghost use Rattle.bor_store_reads.specs.Answering.{Answers, ReadsOnly};
 ghost use Rattle.bor_store_keys.specs.Alike.{Expands, Follows};
 ghost use Rattle.bor_store_keys.specs.Viewed.{rows_seen, seen};
 
-use crate::listed::{aliases_listed, same_listed};
+use crate::listed::same_listed;
 use crate::lookup::Lookup;
 use crate::nodes::node_in;
 use crate::records::records_with;
@@ -187,24 +187,6 @@ fn add_aliases<S: Alter + Drop>(
     add_signs(lookup, alloc, view, class, looked, &one)
 }
 
-// The nodes one alias away from a node, each once.
-fn aliases_in<S: Alter + Drop>(
-    lookup: &mut Lookup<S>,
-    alloc: Global,
-    view: &View,
-    node: &Node,
-) -> Result<Vec<Node>, ReadError>
-    requires { lookup.old.in_transaction ≡ false }
-    ensures reads { ReadsOnly (state S.Store lookup.old) (state S.Store lookup.new) }
-    ensures answer { Answers (state S.Store lookup.old) (state S.Store lookup.new) result (λ r nodes.
-        AreAliases (seen view.now r) node.now nodes.items) }
-{
-    let mut class = Class::new(alloc);
-    let mut looked = BTreeSet::new(alloc);
-    add_aliases(lookup, alloc, view, &mut class, &mut looked, node)?;
-    Ok(class.into_nodes())
-}
-
 // All nodes that stand for one entity with a node, each once. Each sign of them is looked up once.
 fn same_in<S: Alter + Drop>(
     lookup: &mut Lookup<S>,
@@ -227,42 +209,6 @@ fn same_in<S: Alter + Drop>(
         next += 1;
     }
     Ok(class.into_nodes())
-}
-
-// The nodes one alias away from a node, of the lists where all was read.
-fn aliases_told<S: Alter + Drop>(
-    lookup: &mut Lookup<S>,
-    alloc: Global,
-    view: &View,
-    node: &Node,
-) -> Result<Vec<Node>, ReadError>
-    requires { lookup.old.in_transaction ≡ false }
-    ensures reads { ReadsOnly (state S.Store lookup.old) (state S.Store lookup.new) }
-    ensures answer { Answers (state S.Store lookup.old) (state S.Store lookup.new) result (λ r nodes.
-        AreAliases (seen view.now r) node.now nodes.items) }
-{
-    lookup.list_where_many(alloc, view)?;
-    match lookup.take_lists(view) {
-        Some(lists) => aliases_listed(lookup, view, lists, node),
-        None => aliases_in(lookup, alloc, view, node),
-    }
-}
-
-/// The nodes one alias away from a node on a day, of what the viewer sees, each once and in any order.
-pub fn read_aliases<S: Alter + Drop>(
-    lookup: &mut Lookup<S>,
-    alloc: Global,
-    viewer: &AgentName,
-    day: Day,
-    node: &Node,
-) -> Result<Vec<Node>, ReadError>
-    requires { lookup.old.in_transaction ≡ false }
-    ensures reads { ReadsOnly (state S.Store lookup.old) (state S.Store lookup.new) }
-    ensures answer { Answers (state S.Store lookup.old) (state S.Store lookup.new) result (λ r nodes.
-        AreAliases (seen_at viewer.now day r) node.now nodes.items) }
-{
-    let view = view_of(lookup, alloc, viewer, day)?;
-    aliases_told(lookup, alloc, &view, node)
 }
 
 // All nodes that stand for one entity with a node, of the lists where all was read.

@@ -21,7 +21,7 @@ mod records;
 mod view;
 mod views;
 
-pub use alike::{read_aliases, read_same};
+pub use alike::read_same;
 pub use links::read_links_into;
 pub use lookup::Lookup;
 pub use nodes::read_node;

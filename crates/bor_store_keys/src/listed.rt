@@ -2,7 +2,7 @@
 
 ghost use Rattle.std.specs.Prelude.{◌≡◌};
 ghost use Rattle.sqlite.specs.Held.{state};
-ghost use Rattle.bor_links.specs.Answers.{AreAliases, AreLinksInto, AreSame};
+ghost use Rattle.bor_links.specs.Answers.{AreLinksInto, AreSame};
 ghost use Rattle.bor_links.specs.Shown.{info_of};
 ghost use Rattle.bor_store_reads.specs.Answering.{Answers};
 ghost use Rattle.bor_store_keys.specs.Finding.{Holds};
@@ -27,22 +27,6 @@ pub(crate) fn node_listed<S: Alter + Drop>(
     ensures answer { Answers (state S.Store lookup.old) (state S.Store lookup.new) result (λ r info. info ≡ info_of (seen view.now r) node.now) }
 {
     let told = lists.node(node);
-    lookup.put_lists(view, lists);
-    Ok(told?)
-}
-
-/// The nodes one alias away from a node. The lists are put back.
-pub(crate) fn aliases_listed<S: Alter + Drop>(
-    lookup: &mut Lookup<S>,
-    view: &View,
-    mut lists: ListSource,
-    node: &Node,
-) -> Result<Vec<Node>, ReadError>
-    requires { Holds (state S.Store lookup.old) (λ r. lists.shown ≡ seen view.now r) }
-    ensures kept { lookup.new ≡ lookup.old }
-    ensures answer { Answers (state S.Store lookup.old) (state S.Store lookup.new) result (λ r nodes. AreAliases (seen view.now r) node.now nodes.items) }
-{
-    let told = lists.aliases(node);
     lookup.put_lists(view, lists);
     Ok(told?)
 }

@@ -3,7 +3,7 @@
 ghost use Rattle.std.specs.Prelude.{◌≡◌};
 ghost use Rattle.bor_store_reads.specs.declared.fault.ReadError.TheVariants as errors;
 
-use bor_keep::StoreFault;
+use bor_register::StoreFault;
 use bor_store_rows::RowFault;
 use sqlite::{Error, ErrorCode};
 use std::alloc::{AllocError, AllocFailed};

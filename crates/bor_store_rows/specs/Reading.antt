@@ -1,19 +1,12 @@
 -- Reading a row of a table.
 use Rattle.std.specs.Prelude.{◌≡◌, ℕ, ◌+◌, Result, MatchResult}
 use Rattle.sqlite.specs.Order.{Row, column}
-use Rattle.bor_keep.specs.declared.fault.StoreFault.{StoreFault}
-use Rattle.bor_keep.specs.declared.fault.StoreFault.TheVariants as store_faults
 use Rattle.bor_store_rows.specs.declared.fault.RowFault.{RowFault}
 use Rattle.bor_store_rows.specs.declared.fault.RowFault.TheVariants as faults
 
 -- the value is read, or memory is wanting
 abbrev pub IsRead : {X : Type 0} → Result X RowFault → X → Type 0
 IsRead result x = MatchResult result (λ y. y ≡ x) (λ fault. fault ≡ faults.Memory)
-
--- what a keep tells of a row that is not read
-abbrev pub told_as : RowFault → StoreFault
-told_as faults.Memory = store_faults.Memory
-told_as faults.Damaged = store_faults.Damaged
 
 -- from this column on, a row has these four
 abbrev pub HasFour : Row → ℕ → Row → Type 0

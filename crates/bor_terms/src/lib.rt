@@ -22,8 +22,6 @@ mod ident;
 mod listed;
 mod lodge_key;
 mod span;
-#[cfg(test)]
-mod tests;
 mod text;
 mod token;
 

@@ -30,6 +30,3 @@ pub use bor_wire_reply::{UNAVAILABLE, render};
 pub use bor_wire_spell::{Asking, parse};
 pub use outcome::{Outcome, exchange};
 pub use replies::{Reply, replay};
-
-#[cfg(test)]
-mod tests;

@@ -31,6 +31,3 @@ pub use counted::Counted;
 pub use fault::{Name, Path, Refusal, WireFault};
 pub use request::{RawRequest, read_request};
 pub use sending::send;
-
-#[cfg(test)]
-mod tests;

@@ -1,7 +1,7 @@
 -- Laws of replies.
 use Rattle.std.specs.Prelude.{◌≡◌, ℕ, nat_eq, List, [], ◌∷◌, length, drop, if◌then◌else◌, codes, decimal}
 use Rattle.std.specs.List.{starts_with}
-use Rattle.bor_keep.specs.declared.fault.StoreFault.{StoreFault}
+use Rattle.bor_register.specs.declared.fault.StoreFault.{StoreFault}
 use Rattle.bor_desk.specs.declared.reply.DeskReply.TheVariants as tell
 use Rattle.bor_wire_reply.specs.Replies.{Said, answered, status_of, body_of, bytes_of}
 

@@ -1,0 +1,7 @@
+use Rattle.bor.proofs.setup.set_up_on.Goals as goal
+
+pub returns : goal.returns
+returns g c = λ is_new clean.
+    let made_clean = c.in_ok-register.ensures.began clean in
+    let bare = c.is_bare-is_new.ensures is_new (c.in_ok-set_up.ensures.began made_clean) in
+    (c.in_ok-register.ensures.shows clean _).0 (c.in_ok-set_up.ensures.made made_clean bare)

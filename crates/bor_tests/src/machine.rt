@@ -1,0 +1,96 @@
+//! A machine of registers in memory, and a register that has no memory for replies.
+
+ghost use Rattle.std.specs.Prelude.{IfErr};
+ghost use Rattle.bor_program.specs.Failures.{IsOpeningOf};
+
+use crate::clients::{Queue, Ticking};
+use bor_desk::Text;
+use bor_machine::{Keep, ListKeep, StoreFault};
+use bor_program::{Failure, OpenRegister, Opened, Ports, Registers};
+use bor_serve::serve_on;
+use bor_terms::{Day, Token};
+use bor_wire::Reply;
+use bor_words::Report;
+use std::alloc::{AllocError, Global};
+
+/// A machine in each of whose files there is a new register, unless memory is wanting. Nobody connects to
+/// its ports.
+#[derive(Clone, Copy)]
+pub(crate) struct Machine {
+    pub(crate) alloc: Global,
+    pub(crate) is_starved: bool,
+}
+
+// A register of 2024-02-01 with no agents.
+fn new_register(alloc: Global, path: &str) -> Result<ListKeep, Failure<'_>>
+    ensures { IfErr result (IsOpeningOf path.entry) }
+{
+    match (
+        Token::read(alloc, "registrar-token-0001")?,
+        Day::read("2024-02-01"),
+    ) {
+        (Some(registrar), Some(day)) => Ok(ListKeep::new(alloc, registrar, day)),
+        _ => Err(Failure::NoRegister(path)),
+    }
+}
+
+impl Registers for Machine {
+    type Register = ListKeep;
+
+    fn open<'a>(&self, path: &'a str) -> Result<ListKeep, Failure<'a>> {
+        if self.is_starved {
+            return Err(Failure::Memory);
+        }
+        new_register(self.alloc, path)
+    }
+
+    fn open_or_set_up<'a>(
+        &self,
+        _path: &'a str,
+        registrar: &Token,
+        day: Day,
+    ) -> Result<Opened<ListKeep>, Failure<'a>> {
+        if self.is_starved {
+            return Err(Failure::Memory);
+        }
+        Ok(Opened {
+            register: ListKeep::new(self.alloc, registrar.copy(self.alloc)?, day),
+            is_new: true,
+        })
+    }
+
+    fn close(&self, _register: ListKeep) {}
+}
+
+impl Ports for Machine {
+    type Listener = Queue<'static>;
+
+    fn listen(&self, _port: u16) -> Option<Queue<'static>> {
+        Some(Queue::new(&[]))
+    }
+
+    fn serve(&self, register: &mut ListKeep, listener: &Queue<'static>, connections: u32) -> u8 {
+        let clock = Ticking::new(Some(1));
+        serve_on(&(clock, self.alloc), register, listener, connections)
+    }
+}
+
+/// A register for whose replies there is no memory.
+#[derive(Drop)]
+pub(crate) struct Starved {
+    pub(crate) list: ListKeep,
+}
+
+impl OpenRegister for Starved {
+    ghost shows = { λ k r. (⟦<ListKeep as Keep>⟧).shows k.list r };
+
+    ghost is_clean = { λ k. (⟦<ListKeep as Keep>⟧).is_clean k.list };
+
+    fn replay(&mut self, _alloc: Global, _inputs: &[Vec<u8>]) -> Result<Vec<Reply>, AllocError> {
+        Err(AllocError)
+    }
+
+    fn report(&mut self, _alloc: Global, _asked: &Report<'_>) -> Result<Text, StoreFault> {
+        Err(StoreFault::Memory)
+    }
+}
