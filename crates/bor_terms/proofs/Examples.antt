@@ -9,6 +9,7 @@ use Rattle.bor_terms.specs.Points.{at_least, above, at_most, below, points, has_
 use Rattle.bor_terms.specs.Shown.{shown}
 use Rattle.bor_terms.specs.Span.{range}
 use Rattle.bor_terms.specs.Day.{day_of, has_marks, digits_day, pair_at, number_of, day_text, year_at, month_at}
+use Rattle.bor_terms.specs.Period.{end_of, is_month, month_end, month_start, start_of, year_end, year_of, year_start}
 use Rattle.bor_terms.specs.Texts.{is_agent_name, is_lodge_key, is_ident, is_token, is_below}
 
 -- ---- points
@@ -196,3 +197,13 @@ not_below = refl
 pub first_day : day_of (codes "2000-01-01") ≡ Some (pos 10957)
 unfolding calendar
 first_day = refl
+
+-- ---- the first and the last day of what is named
+
+starts : map start_of (codes "2024-02-01" ∷ codes "2024-02" ∷ codes "2024" ∷ codes "2024-02-30" ∷ codes "2024-13" ∷ codes "2024-2" ∷ codes "2024-02-" ∷ []) ≡ Some (pos 19754) ∷ Some (pos 19754) ∷ Some (pos 19723) ∷ None ∷ None ∷ None ∷ None ∷ []
+unfolding start_of is_month month_start year_start year_of day_of has_marks digits_day pair_at number_of days_from_civil day_count days_of_years days_of_months
+starts = refl
+
+ends : map end_of (codes "2024-02-01T09:00:00Z" ∷ codes "2024-02" ∷ codes "2023-02" ∷ codes "2024" ∷ codes "2024-02-30" ∷ codes "20240" ∷ []) ≡ Some (pos 19754) ∷ Some (pos 19782) ∷ Some (pos 19416) ∷ Some (pos 20088) ∷ None ∷ None ∷ []
+unfolding end_of is_month month_end year_end year_of day_of has_marks digits_day pair_at number_of days_from_civil day_count days_of_years days_of_months
+ends = refl

@@ -3,3 +3,4 @@ pub mod Day
 pub mod Points
 pub mod Span
 pub mod Shown
+pub mod Period

@@ -106,7 +106,7 @@ fn digit(byte: u8) -> Option<u8>
 }
 
 #[tactic(auto, unfolding(crate::specs::Day::pair_at))]
-fn pair_at(bytes: &[u8], i: usize) -> Option<u8>
+pub(crate) fn pair_at(bytes: &[u8], i: usize) -> Option<u8>
     requires { i + 2 ≤ length bytes.now }
     ensures value { result ≡ pair_at bytes.now i }
     ensures small { IfSome result (λ n. n < 100) }
@@ -117,7 +117,7 @@ fn pair_at(bytes: &[u8], i: usize) -> Option<u8>
 }
 
 #[tactic(auto, unfolding(crate::specs::Day::number_of))]
-fn of_civil(year: u16, month: u8, day: u8) -> Option<Day>
+pub(crate) fn of_civil(year: u16, month: u8, day: u8) -> Option<Day>
     requires year { year < 10000 }
     requires month { month < 100 }
     requires day { day < 100 }

@@ -21,6 +21,7 @@ mod day;
 mod ident;
 mod listed;
 mod lodge_key;
+mod period;
 mod span;
 mod text;
 mod token;
