@@ -7,14 +7,14 @@ from pathlib import Path
 from lib.checking import DB, ENROLMENT, LODGED, LODGING, REPORT, begun, changed, check, ended, exchange
 from lib.checking import failed, is_so, replied, report, rows_of, write
 from lib.notation import request_of
-from lib.program import REGISTER, SECONDS, TOP, Ended
+from lib.program import REGISTER, SECONDS, TOP, Ended, free_port
 from lib.replies import replies_in
 
 NO_TOKEN = ("raw GET /filings HTTP/1.1\\r\\n\\r\\n", "401 NoToken")
 TEXT = b"This is a text, and longer than the head of a database would be: it has more than a hundred bytes.\n" * 2
 DAY_FILES = TOP / "examples" / "day"
 NOBODY = 65_534
-# The columns of a register's six tables.
+# The columns of a register's seven tables.
 LOOSE = """
 CREATE TABLE register (one, version, day, registrar);
 CREATE TABLE agent (name, token);
@@ -22,7 +22,8 @@ CREATE TABLE filing (agent, number, lodge_key, due, withdrawn, bytes);
 CREATE TABLE statement (agent, filing, place, id, day, declaration, rec, kind, status, sub_kind, name, subject, party);
 CREATE TABLE interest (agent, filing, place, item, kind, directness, low, low_open, high, high_open);
 CREATE TABLE identifier (agent, filing, place, item, scheme, id);
-INSERT INTO register VALUES (1, 1, 19754, 'registrar-token-0001');
+CREATE TABLE period (agent, filing, place, item, starts, ends);
+INSERT INTO register VALUES (1, 2, 19754, 'registrar-token-0001');
 """
 
 
@@ -30,6 +31,11 @@ def opening(bor, folder, path):
     """An exchange of one request over the file, which needs no agent."""
     write(folder, "none.http", request_of(NO_TOKEN[0]))
     return bor.run(["exchange", "--db", path, *REGISTER, "none.http"], folder)
+
+
+def served(bor, folder, path):
+    """A server of no connections over the file."""
+    return bor.run(["serve", "--db", path, "--port", str(free_port()), "--connections", "0"], folder)
 
 
 # ---- a register that stays
@@ -98,6 +104,7 @@ def a_file_that_is_no_database_stays(bor, folder):
     write(folder, "text.db", TEXT)
     failed(report(bor, folder, db="text.db"), "store failed")
     failed(opening(bor, folder, "text.db"), "store failed")
+    failed(served(bor, folder, "text.db"), "store failed")
     is_so(Path(folder, "text.db").read_bytes() == TEXT, "the file has changed")
 
 
@@ -120,7 +127,8 @@ def a_file_that_may_not_be_written_is_told(bor, folder):
     Path(folder).chmod(0o777)
     before = Path(folder, DB).read_bytes()
     seen = ["--viewer", "alder", "--agent", "alder", "--declaration", "c1", "--record", "e1"]
-    for words in (["report", "--db", DB, *seen], ["exchange", "--db", DB, *REGISTER, "none.http"]):
+    asked = [["report", *seen], ["exchange", *REGISTER, "none.http"], ["migrate"]]
+    for words in ([command, "--db", DB, *words] for command, *words in asked):
         failed(as_nobody(bor, folder, words), "store failed")
     is_so(Path(folder, DB).read_bytes() == before, "the file has changed")
 
@@ -141,11 +149,12 @@ def as_nobody(bor, folder, words):
 
 
 def told_of(bor, folder, sql, reported, exchanged):
-    """A new file in which the SQL was run is told so by a report, and by an exchange."""
+    """A new file in which the SQL was run is told so by a report and a server, and by an exchange."""
     path = "other.db"
     Path(folder, path).unlink(missing_ok=True)
     changed(folder, sql, path)
     failed(report(bor, folder, db=path), reported)
+    failed(served(bor, folder, path), reported)
     if exchanged:
         failed(opening(bor, folder, path), exchanged)
     else:
@@ -154,13 +163,14 @@ def told_of(bor, folder, sql, reported, exchanged):
 
 
 NONE, TAKEN = "no register in other.db", "other.db is not free for a register"
-SEVEN = "register of version 7 in other.db"
+ONE, SEVEN = "register of version 1 in other.db", "register of version 7 in other.db"
 VERSIONS = "CREATE TABLE Register (VERSION, One); INSERT INTO Register (One, VERSION) VALUES "
 FOREIGN = [
     ("CREATE TABLE agents (name TEXT) STRICT", NONE, None),
     ("CREATE TABLE agent (name TEXT) STRICT", NONE, TAKEN),
     ("CREATE TABLE agent (age INTEGER) STRICT", NONE, TAKEN),
     ("CREATE TABLE IDENTIFIER (name TEXT) STRICT", NONE, TAKEN),
+    ("CREATE TABLE Period (name TEXT) STRICT", NONE, TAKEN),
     ("CREATE VIEW Filing AS SELECT 1 AS number", NONE, TAKEN),
     ("CREATE VIEW register AS SELECT 1 AS one, 1 AS version", NONE, TAKEN),
     ("CREATE TABLE t (a INTEGER) STRICT; CREATE INDEX Filing_Line ON t (a)", NONE, TAKEN),
@@ -169,7 +179,8 @@ FOREIGN = [
     ("CREATE TABLE register (one INTEGER, version INTEGER) STRICT; INSERT INTO register VALUES (1, 7)", SEVEN, SEVEN),
     (VERSIONS + "(1, 7)", SEVEN, SEVEN),
     (VERSIONS + "(5, -1)", "register of version -1 in other.db", "register of version -1 in other.db"),
-    (VERSIONS + "(1, 1)", NONE, TAKEN),
+    (VERSIONS + "(1, 1)", ONE, ONE),
+    (VERSIONS + "(1, 2)", NONE, TAKEN),
     (VERSIONS + "(1, 7), (2, 7)", NONE, TAKEN),
     (VERSIONS + "(1, NULL)", NONE, TAKEN),
     (VERSIONS + "(1, 'seven')", NONE, TAKEN),
@@ -186,9 +197,12 @@ def files_of_other_programs_are_told(bor, folder):
 # What is done to a register's own tables, and what is told then.
 SPOILED = [
     ("UPDATE register SET version = 7", SEVEN, SEVEN),
+    ("UPDATE register SET version = 1", ONE, ONE),
     ("DELETE FROM register", NONE, TAKEN),
     ("ALTER TABLE interest DROP COLUMN high_open", NONE, TAKEN),
     ("DROP TABLE identifier", NONE, TAKEN),
+    ("ALTER TABLE period DROP COLUMN ends", NONE, TAKEN),
+    ("DROP TABLE period", NONE, TAKEN),
 ]
 
 
@@ -207,9 +221,9 @@ def registers_that_lack_something_are_told(bor, folder):
 @check
 def tables_are_known_by_their_columns(bor, folder):
     """tables are known by their columns, not by their order or by the case of their letters"""
-    names = "identifier Agent interest statement filing register".split()
-    made = {line.split()[2].lower(): line for line in LOOSE.strip().splitlines()[:6]}
-    tables = [made[name.lower()] for name in names] + LOOSE.strip().splitlines()[6:]
+    names = "period identifier Agent interest statement filing register".split()
+    made = {line.split()[2].lower(): line for line in LOOSE.strip().splitlines()[:7]}
+    tables = [made[name.lower()] for name in names] + LOOSE.strip().splitlines()[7:]
     ordered = "\n".join(tables)
     agents = made["agent"]
     for other, is_known in (

@@ -104,6 +104,27 @@ def a_client_that_ends_is_not_waited_for(bor, folder):
 
 
 @check
+def a_client_that_goes_away_holds_nobody_up(bor, folder):
+    """a client that closes its socket behind half a request is a failed connection at most, and the next one is served"""
+    server = served(bor, folder, 2, LODGED)
+    with server.connect() as client:
+        client.sendall(b"GET /fil")
+    is_told(server.ask(request_of("alder filings")), FILINGS)
+    status, errors = server.end()
+    is_so(status in (0, 3) and errors == b"", f"the server ended as {(status, errors)}")
+
+
+@check
+def a_server_listens_on_one_address(bor, folder):
+    """a server listens on 127.0.0.1 alone, and not on the machine's other addresses"""
+    server = served(bor, folder, 1, LODGED)
+    with socket.socket() as client:
+        is_so(client.connect_ex(("127.0.0.2", server.port)) != 0, "it listens on 127.0.0.2 too")
+    is_told(server.ask(request_of("alder filings")), FILINGS)
+    has_ended(server)
+
+
+@check
 def a_refusal_reaches_a_client_that_is_still_sending(bor, folder):
     """a refusal reaches a client that is still sending"""
     server = served(bor, folder, 2)

@@ -12,12 +12,14 @@ from lib.replies import reply_of
 LISTED = "filing 1 published\n1\tentity\tnew\tc1\te1\n2\tperson\tnew\tc1\tp1\n3\trelationship\tnew\tc1\tr1\n"
 TAKEN = (ENROLMENT, "409 NameTaken")
 HELP = [["--help"], ["help"], ["-h"], ["check", "-h"], ["exchange", "--help"], ["help", "check"], ["serve", "-h"]]
+HELP += [["migrate", "--help"]]
 # The commands with their words, as they are asked for.
 COMMANDS = {
     "check": ["[FILE]"],
     "exchange": ["--db <PATH>", "--registrar <TOKEN>", "--day <DAY>", "<FILE>..."],
     "serve": ["--db <PATH>", "--port <PORT>", "--connections <COUNT>"],
     "report": ["--viewer <AGENT>", "--agent <AGENT>", "--declaration <IDENT>", "--record <IDENT>", "--date <DAY>"],
+    "migrate": ["--db <PATH>", "version 1 to version 2"],
 }
 
 
@@ -158,6 +160,7 @@ def commands(bor, folder):
         ["exchange", "--db", DB, *REGISTER, name],
         ["report", "--db", DB, *seen],
         ["serve", "--db", DB, "--port", "PORT", "--connections", "0"],
+        ["migrate", "--db", DB],
     ]
 
 

@@ -20,7 +20,7 @@ NAMED = (
 # ---- what stands in the tables
 
 FIRST_ROWS = {
-    "register": [(1, 1, 19754, "registrar-token-0001")],
+    "register": [(1, 2, 19754, "registrar-token-0001")],
     "agent": [("alder", "alder-token-000001")],
     "filing": [("alder", 1, "f1", 19754, 0, first_file())],
     "statement": [
@@ -30,6 +30,7 @@ FIRST_ROWS = {
     ],
     "interest": [("alder", 1, 3, 1, "votingRights", "unknown", 100, 0, 100, 0)],
     "identifier": [],
+    "period": [],
 }
 COLUMNS = {
     "register": "one, version, day, registrar",
@@ -38,16 +39,32 @@ COLUMNS = {
     "statement": "agent, filing, place, id, day, declaration, rec, kind, status, sub_kind, name, subject, party",
     "interest": "agent, filing, place, item, kind, directness, low, low_open, high, high_open",
     "identifier": "agent, filing, place, item, scheme, id",
+    "period": "agent, filing, place, item, starts, ends",
 }
 
 
 @check
 def the_first_lodging_stands_in_the_tables(bor, folder):
-    """the first lodging stands in six tables, its days as their numbers"""
+    """the first lodging stands in seven tables, its days as their numbers"""
     begun(bor, folder, LODGED)
     for table, wanted in FIRST_ROWS.items():
         rows = sorted(rows_of(folder, f"SELECT {COLUMNS[table]} FROM {table}"), key=lambda row: row[:3])
         is_so(rows == wanted, f"{table} has {rows!r:.400}")
+
+
+DATED = (
+    'alder lodge f1 2024-02-01 E s1 e1; R s2 r1 e1<-p1 V60,"endDate":"2024" V60,"endDate":2024 '
+    'S1,"startDate":"2024-02" B,"startDate":"2024-01-15","endDate":"2024-01-15T09:00:00Z"; P s3 p1'
+)
+
+
+@check
+def a_period_stands_where_a_date_can_be_read(bor, folder):
+    """an interest has a row of days where one of its dates can be read"""
+    begun(bor, folder, (DATED, "201 F(1, published, 2024-02-01)"))
+    rows = rows_of(folder, f"SELECT {COLUMNS['period']} FROM period ORDER BY item")
+    wanted = [(1, None, 20088), (3, 19754, None), (4, 19737, 19737)]
+    is_so(rows == [("alder", 1, 2, *days) for days in wanted], f"period has {rows}")
 
 
 IN_ORDER = [
@@ -58,20 +75,23 @@ IN_ORDER = [
     ("alder lodge k3 2024-02-01 E s1 e1", "201 F(3, published, 2024-02-01)"),
 ]
 JOINING = [
-    ("alder lodge g1 2024-03-01 E s1 e1; E s2 a1 #GB-COH/00000001; R s3 r1 e1<-a1 S10", "201 F(1, draft, 2024-03-01)"),
+    (
+        'alder lodge g1 2024-03-01 E s1 e1; E s2 a1 #GB-COH/00000001; R s3 r1 e1<-a1 S10,"startDate":"2024"',
+        "201 F(1, draft, 2024-03-01)",
+    ),
     ("alder withdraw g1", "200 F(1, withdrawn, 2024-03-01)"),
 ]
 
 
 @check
 def a_withdrawn_filing_leaves_no_rows(bor, folder):
-    """a withdrawn filing leaves its line and file, and no statement, interest or identifier"""
+    """a withdrawn filing leaves its line and file, and no statement, interest, identifier or period"""
     for place, rows in enumerate((IN_ORDER, JOINING)):
         db = f"{place}.db"
         exchange(bor, folder, [("registrar enrol alder alder-token-000001", '201 {"agent":"alder"}'), *rows], db)
         withdrawn = rows_of(folder, "SELECT number FROM filing WHERE withdrawn = 1 AND length(bytes) > 0", db)
         is_so(withdrawn, "no filing is withdrawn, or its bytes are gone")
-        for table in ("statement", "interest", "identifier"):
+        for table in ("statement", "interest", "identifier", "period"):
             left = f"SELECT * FROM {table} JOIN filing ON (filing.agent, number) = ({table}.agent, {table}.filing)"
             left = rows_of(folder, f"{left} WHERE withdrawn = 1", db)
             is_so(not left, f"{table} has {left!r:.200}")
@@ -96,6 +116,8 @@ DAMAGE = [
     ("UPDATE interest SET high = NULL", CHAINS),
     ("UPDATE interest SET low = NULL", CHAINS),
     ("UPDATE interest SET low_open = 2", "alder published"),
+    ("INSERT INTO period VALUES ('alder', 1, 3, 1, 99999999, NULL)", SNAPSHOT),
+    ("INSERT INTO period VALUES ('alder', 1, 3, 1, NULL, -99999999)", CHAINS),
     ("UPDATE filing SET due = -99999999", "alder filings"),
     ("UPDATE filing SET withdrawn = 7", FILE),
     ("UPDATE register SET day = 99999999", "alder filings"),
@@ -148,7 +170,7 @@ def a_missing_row_is_in_no_report(bor, folder):
 
 ALDERS = """
 INSERT INTO agent VALUES ('alder', 'alder-token-000001');
-INSERT INTO filing VALUES ('alder', 1, 'f1', 19754, 0, x'00');
+INSERT INTO filing VALUES ('alder', 1, 'f1', 19754, 0, x'5B5D');
 INSERT INTO statement VALUES
     ('alder', 1, 1, 's1', 19732, 'c1', 'e1', 'entity', 'new', 'registeredEntity', 'Alder Ltd', NULL, NULL);
 """
@@ -160,6 +182,7 @@ ORPHANS = [
     ('birch', 1, 1, 's9', 19732, 'c1', 'e9', 'person', 'new', 'knownPerson', NULL, NULL, NULL)""",
     "INSERT INTO interest VALUES ('alder', 0, 1, 1, 'votingRights', 'direct', NULL, NULL, NULL, NULL)",
     "INSERT INTO identifier VALUES ('alder', 1, 7, 1, 'X', '1')",
+    "INSERT INTO period VALUES ('alder', 1, 1, 1, NULL, 19754)",
     "INSERT INTO filing VALUES ('birch', 1, 'f1', 19754, 0, x'00')",
 ]
 TWO_OF_ONE_KEY = "INSERT INTO filing VALUES ('alder', 1, 'f1', 19754, 1, x'01')"
@@ -170,6 +193,7 @@ SHOWN = (
 )
 ASKED = [
     FILINGS,
+    ("alder file f1", "200 []"),
     (
         "alder published",
         '200 [{"agent":"alder","due":"2024-02-01","statements":[{"date":"2024-01-10","declaration":"c1",'
@@ -250,7 +274,7 @@ def a_new_register_is_ready(bor, folder):
     ran = bor.exchange([request_of("raw GET /filings HTTP/1.1\\r\\n\\r\\n")], folder, DB)
     is_so(ran.status == 1, ran.told())
     rows = rows_of(folder, f"SELECT {COLUMNS['register']} FROM register")
-    is_so(rows == [(1, 1, 19754, REGISTER[1])], f"register has {rows}")
-    for table in ("agent", "filing", "statement", "interest", "identifier"):
+    is_so(rows == [(1, 2, 19754, REGISTER[1])], f"register has {rows}")
+    for table in ("agent", "filing", "statement", "interest", "identifier", "period"):
         is_so(rows_of(folder, f"SELECT * FROM {table}") == [], f"{table} has rows")
     ended(report(bor, folder), 1, "refused NoEntity\n")

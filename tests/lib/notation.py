@@ -57,12 +57,15 @@ def unescaped(text):
 
 
 def interest(word):
-    kind, share = KINDS[word[0]], word[1:]
-    if not share:
-        return f'{{"type":"{kind}"}}'
-    if not share.startswith("{"):
+    """A kind, then a number or the share as it stands, then a comma and more members as they stand."""
+    found = re.fullmatch(r"([VSB])(\{[^}]*\}|[^,]*)(,.+)?", word)
+    if not found:
+        raise Unread(f"no interest: {word}")
+    kind, share, members = KINDS[found[1]], found[2], found[3] or ""
+    if share and not share.startswith("{"):
         share = f'{{"exact":{share}}}'
-    return f'{{"type":"{kind}","share":{share}}}'
+    told = f',"share":{share}' if share else ""
+    return f'{{"type":"{kind}"{told}{members}}}'
 
 
 def entity_details(words):

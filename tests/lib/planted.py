@@ -30,33 +30,61 @@ class OpenHalfIsNone(Planted):
 class IndirectCounts(Planted):
     """An indirect interest counts."""
 
-    def counts(self, interest):
-        return interest.kind != "other"
+    def counts(self, interest, date):
+        return interest.kind != "other" and self.is_within(interest, date)
+
+
+class EndedCounts(Planted):
+    """An interest that has ended still counts."""
+
+    def is_within(self, interest, date):
+        return (interest.starts or date) <= date
+
+
+class UnbegunCounts(Planted):
+    """An interest that has not begun counts."""
+
+    def is_within(self, interest, date):
+        return date <= (interest.ends or date)
+
+
+class EndIsLeftOut(Planted):
+    """An interest doesn't count on its last day."""
+
+    def is_within(self, interest, date):
+        return super().is_within(interest, date) and date != interest.ends
+
+
+class CountsToday(Planted):
+    """Whether an interest has ended is asked of the register's day, whatever the date."""
+
+    def is_within(self, interest, date):
+        return super().is_within(interest, self.day)
 
 
 class SharesAreVotes(Planted):
     """A majority of the shares is a stake."""
 
-    def is_stake(self, interests):
-        shares = [it for it in interests if self.counts(it) and it.kind == "shareholding"]
-        return super().is_stake(interests) or any(self.is_majority(it.points) for it in shares)
+    def is_stake(self, interests, date):
+        shares = [it for it in interests if self.counts(it, date) and it.kind == "shareholding"]
+        return super().is_stake(interests, date) or any(self.is_majority(it.points) for it in shares)
 
 
 class BoardAloneIsStake(Planted):
     """A right to appoint the board needs no share beside it."""
 
-    def is_stake(self, interests):
-        board = [it for it in interests if self.counts(it) and it.kind == "appointmentOfBoard"]
+    def is_stake(self, interests, date):
+        board = [it for it in interests if self.counts(it, date) and it.kind == "appointmentOfBoard"]
         appoints = any(it.share is None or self.is_majority(it.points) for it in board)
-        return super().is_stake(interests) or appoints
+        return super().is_stake(interests, date) or appoints
 
 
 class BoardNeedsItsShare(Planted):
     """A right to appoint the board with no share is no majority of the board."""
 
-    def is_stake(self, interests):
+    def is_stake(self, interests, date):
         kept = [it for it in interests if it.kind != "appointmentOfBoard" or it.share is not None]
-        return super().is_stake(kept)
+        return super().is_stake(kept, date)
 
 
 # ---- chains
@@ -370,6 +398,10 @@ PLANTED = [
     HalfCounts,
     OpenHalfIsNone,
     IndirectCounts,
+    EndedCounts,
+    UnbegunCounts,
+    EndIsLeftOut,
+    CountsToday,
     SharesAreVotes,
     BoardAloneIsStake,
     BoardNeedsItsShare,

@@ -29,6 +29,9 @@ ABOUT_A_HALF = [
     {"minimum": 51},
     {"minimum": 50, "exclusiveMinimum": False},
 ]
+# Days, months and years about those that are asked for, and texts that are none.
+STARTS = ["2024-01-12", "2024-01-13T08:00:00Z", "2024-02", "2024-02-03", "2023", "2025", "2024-1", 2024]
+ENDS = ["2024-01-10", "2024-01-12", "2024-01", "2024-02-01T23:00:00Z", "2024-02", "2023", "2024", "2024-02-30", 2024]
 TYPES = ["votingRights"] * 7 + ["shareholding"] * 3 + ["appointmentOfBoard"] * 4 + ["trustee"]
 # What a spoiled statement says of one of its members.
 SPOILED = [
@@ -69,6 +72,16 @@ def interest(rng):
         told["share"] = share(rng)
     if rng.random() < 0.15:
         told["directOrIndirect"] = rng.choice(["direct", "indirect", "unknown"])
+    return told | dates(rng)
+
+
+def dates(rng):
+    """The dates of an interest, which mostly has none."""
+    told = {}
+    if rng.random() < 0.15:
+        told["startDate"] = rng.choice(STARTS)
+    if rng.random() < 0.25:
+        told["endDate"] = rng.choice(ENDS)
     return told
 
 
@@ -86,7 +99,8 @@ def entity_details(rng):
 def relationship_details(rng):
     interests = [interest(rng) for _ in range(rng.choice([1, 1, 2, 2, 3]))]
     if rng.random() < 0.3:
-        interests.insert(0, {"type": "votingRights", "share": {"exact": rng.choice([51, 60, 100])}})
+        majority = {"type": "votingRights", "share": {"exact": rng.choice([51, 60, 100])}}
+        interests.insert(0, majority | dates(rng))
     told = {
         "subject": rng.choice(ENTITIES),
         "interestedParty": rng.choice(ENTITIES * 3 + PERSONS * 2),

@@ -26,12 +26,14 @@ class Refused(Exception):
 
 @dataclass
 class Interest:
-    """An interest; its points are the half percents that meet every bound of its share."""
+    """An interest; its points are the half percents that meet every bound of its share, its ends days."""
 
     kind: str
     directness: str
     points: frozenset
     share: object
+    starts: object
+    ends: object
 
 
 @dataclass
@@ -72,6 +74,32 @@ def day_of(value):
     if not 1 <= month <= 12 or not 1 <= day <= lengths[month - 1]:
         return None
     return value[:DAY_LENGTH]
+
+
+def month_of(value):
+    """The year and the month that a text of exactly YYYY-MM names."""
+    return value if len(value) == 7 and day_of(f"{value}-01") else None
+
+
+def year_of(value):
+    return value if len(value) == 4 and day_of(f"{value}-01-01") else None
+
+
+def start_of(value):
+    """The first day of the day, the month or the year that a text names."""
+    if not isinstance(value, str):
+        return None
+    names = [value, f"{month_of(value)}-01", f"{year_of(value)}-01-01"]
+    return next((day_of(name) for name in names if day_of(name)), None)
+
+
+def end_of(value):
+    """The last day of what a text names, of a month the last of the days from the 28th on."""
+    if not isinstance(value, str):
+        return None
+    month = month_of(value)
+    names = [value, *[f"{month}-{day}" for day in (31, 30, 29, 28)], f"{year_of(value)}-12-31"]
+    return next((day_of(name) for name in names if day_of(name)), None)
 
 
 def required(members, name, place, value_of):
@@ -162,13 +190,14 @@ def interest_of(value, place):
         raise Refused("Bad", "interests", place)
     kind = one_of(NAMED)(value.get("type")) or "other"
     directness = one_of(["direct", "indirect"])(value.get("directOrIndirect")) or "unknown"
+    dates = start_of(value.get("startDate")), end_of(value.get("endDate"))
     share = value.get("share") if kind != "other" else None
     if share is None:
-        return Interest(kind, directness, frozenset(range(201)), None)
+        return Interest(kind, directness, frozenset(range(201)), None, *dates)
     if not isinstance(share, dict):
         raise Refused("Bad", "share", place)
     points = points_of(share, place)
-    return Interest(kind, directness, points, share_shown(points))
+    return Interest(kind, directness, points, share_shown(points), *dates)
 
 
 # ---- details

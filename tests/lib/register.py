@@ -198,17 +198,21 @@ class Register:
 
     # ---- stakes and holdings (UK Companies Act 2006, Schedule 1A, paragraph 18)
 
-    def counts(self, interest):
-        return interest.kind != "other" and interest.directness != "indirect"
+    def counts(self, interest, date):
+        return interest.kind != "other" and interest.directness != "indirect" and self.is_within(interest, date)
+
+    def is_within(self, interest, date):
+        """Whether the date lies within the interest's dates; days are texts of ten letters, in order."""
+        return (interest.starts or date) <= date <= (interest.ends or date)
 
     def is_majority(self, points):
         return all(half > 100 for half in points)
 
-    def is_holding(self, interests):
-        return any(max(it.points) > 0 for it in interests if self.counts(it))
+    def is_holding(self, interests, date):
+        return any(max(it.points) > 0 for it in interests if self.counts(it, date))
 
-    def is_stake(self, interests):
-        counting = [it for it in interests if self.counts(it)]
+    def is_stake(self, interests, date):
+        counting = [it for it in interests if self.counts(it, date)]
         if any(it.kind == "votingRights" and self.is_majority(it.points) for it in counting):
             return True
         board = [it for it in counting if it.kind == "appointmentOfBoard"]
@@ -223,17 +227,17 @@ class Register:
         if (viewer, date) not in self.graphs:
             rows = self.latest(self.visible(viewer), date)
             nodes = {node: it for node, it in rows.items() if it.type != "relationship"}
-            links = [self.link(node, it, nodes) for node, it in rows.items() if it.type == "relationship"]
+            links = [self.link(node, it, nodes, date) for node, it in rows.items() if it.type == "relationship"]
             links = [link for link in links if link]
             self.graphs[viewer, date] = nodes, links, self.classes(nodes)
         return self.graphs[viewer, date]
 
-    def link(self, node, it, nodes):
+    def link(self, node, it, nodes, date):
         subject = self.end_of(node, it.details["subject"], nodes)
         party = self.end_of(node, it.details["interestedParty"], nodes)
         if not subject or not party or nodes[subject].type != "entity":
             return None
-        return Link(subject, party, self.is_stake(it.interests), self.is_holding(it.interests))
+        return Link(subject, party, self.is_stake(it.interests, date), self.is_holding(it.interests, date))
 
     def end_of(self, node, record, nodes):
         end = (node[0], node[1], record)

@@ -31,6 +31,7 @@ use Rattle.bods_read.specs.Faults.{fault_word, file_fault_word}
 use Rattle.bods_read.specs.Words.{type_word, type_worded, status_word, status_worded, entity_word, entity_worded, person_word, person_worded, interest_word, interest_worded, directness_word, directness_worded, field_word}
 use Rattle.bods_read.specs.Member.{member, ident_in, day_in, type_in, status_in, object_in, end_in, items_in}
 use Rattle.bods_read.specs.Share.{percent_lines, percent_in, percent_lines_at, percent_at, exclusive_lines_at, exclusive_at, share_bounds, members_of, member_lines, range_lines, range_of}
+use Rattle.bor_terms.specs.Period.{end_of, is_month, month_end, month_start, start_of, year_end, year_of, year_start}
 use Rattle.bods_read.specs.Interests.{share_lines, share_of, interest_object_lines, interest_lines, interest_of, interests_lines, interests_of}
 use Rattle.bods_read.specs.Details.{identifier, identifier_in, identifiers_of, entity_lines, entity_of, person_of, relationship_lines, relationship_of}
 use Rattle.bods_read.specs.Statement.{statement_object_lines, statement_lines, statement_of}
@@ -38,7 +39,7 @@ use Rattle.bods_read.specs.File.{reading, value_of, reading_of, faults, statemen
 
 -- what is opened to compute a reading
 unfoldable pub reader : ⊤
-unfolding is_utf8 chars encode serde_json_on_literals is_ident pair_at number_of has_marks digits_day day_of points shown type_word type_worded status_word status_worded entity_word entity_worded person_word person_worded interest_word interest_worded directness_word directness_worded field_word member ident_in day_in type_in status_in object_in end_in items_in percent_lines percent_in percent_lines_at percent_at exclusive_lines_at exclusive_at share_bounds members_of member_lines range_lines range_of share_lines share_of interest_object_lines interest_lines interest_of interests_lines interests_of identifier_in identifiers_of entity_lines entity_of person_of relationship_lines relationship_of statement_object_lines statement_lines statement_of reading value_of reading_of faults statements
+unfolding is_utf8 chars encode serde_json_on_literals is_ident pair_at number_of has_marks digits_day day_of points shown type_word type_worded status_word status_worded entity_word entity_worded person_word person_worded interest_word interest_worded directness_word directness_worded field_word member ident_in day_in type_in status_in object_in end_in items_in percent_lines percent_in percent_lines_at percent_at exclusive_lines_at exclusive_at share_bounds members_of member_lines range_lines range_of share_lines share_of interest_object_lines interest_lines interest_of interests_lines interests_of start_of end_of is_month month_start month_end year_start year_end year_of identifier_in identifiers_of entity_lines entity_of person_of relationship_lines relationship_of statement_object_lines statement_lines statement_of reading value_of reading_of faults statements
 reader = tt
 
 -- ---- words and limits
@@ -444,11 +445,19 @@ identifiers_kept : details_read (reading (identifiers_as (codes "7,null,{},[],{\
 unfolding reader
 identifiers_kept = refl
 
+-- days of an interest: a day, a month, a year; what is no readable text is passed over
+periods_read : details_read (reading (relationship_with (codes "\"subject\":\"e1\",\"interestedParty\":{},\"interests\":[{\"startDate\":\"2024-02-01\",\"endDate\":\"2024-02\"},{\"startDate\":\"2024\",\"endDate\":2024},{\"startDate\":\"2024-02-30\",\"endDate\":null}]")))
+    ≡ Ok (Relationship (Some (codes "e1")) None (record { kind = interests.Other; directness = directness.Unknown; share = None; starts = start_of (codes "2024-02-01"); ends = end_of (codes "2024-02") }
+    ∷ record { kind = interests.Other; directness = directness.Unknown; share = None; starts = start_of (codes "2024"); ends = None }
+    ∷ record { kind = interests.Other; directness = directness.Unknown; share = None; starts = None; ends = None } ∷ []) ∷ [])
+unfolding reader
+periods_read = refl
+
 -- an object at an end names no record; interests come in order, and shares of other types aren't read
 relationship_read : details_read (reading (relationship_with (codes "\"subject\":\"e1\",\"interestedParty\":{\"reason\":\"noBeneficialOwners\"},\"interests\":[{\"type\":\"seniorManagingOfficial\",\"share\":{\"exact\":25.5}},{\"type\":\"shareholding\",\"directOrIndirect\":\"direct\",\"share\":{\"exact\":5}},{\"type\":\"appointmentOfBoard\",\"directOrIndirect\":\"indirect\"}]")))
-    ≡ Ok (Relationship (Some (codes "e1")) None (record { kind = interests.Other; directness = directness.Unknown; share = None }
-    ∷ record { kind = interests.Shareholding; directness = directness.Direct; share = Some (range 5 false 5 false) }
-    ∷ record { kind = interests.AppointmentOfBoard; directness = directness.Indirect; share = None } ∷ []) ∷ [])
+    ≡ Ok (Relationship (Some (codes "e1")) None (record { kind = interests.Other; directness = directness.Unknown; share = None; starts = None; ends = None }
+    ∷ record { kind = interests.Shareholding; directness = directness.Direct; share = Some (range 5 false 5 false); starts = None; ends = None }
+    ∷ record { kind = interests.AppointmentOfBoard; directness = directness.Indirect; share = None; starts = None; ends = None } ∷ []) ∷ [])
 unfolding reader
 relationship_read = refl
 
@@ -543,6 +552,8 @@ worked_statements =
         kind = interests.VotingRights;
         directness = directness.Unknown;
         share = Some (record { low = 100; low_open = false; high = 100; high_open = false });
+        starts = None;
+        ends = None;
       } ∷ []);
     } ∷ []
 

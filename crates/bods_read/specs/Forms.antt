@@ -28,8 +28,11 @@ pub record IsShare (share : Range) : Type 0 where
   pub high : share.high ≤ 100
   pub points : HasPoints share
 
-abbrev pub IsFormedInterest : Interest → Type 0
-IsFormedInterest i = IfSome i.share IsShare
+-- an interest
+pub record IsFormedInterest (i : Interest) : Type 0 where
+  pub share : IfSome i.share IsShare
+  pub starts : IfSome i.starts IsDay
+  pub ends : IfSome i.ends IsDay
 
 -- an entity
 pub record IsFormedEntity (name : Option (List ℕ)) (identifiers : List Identifier) : Type 0 where

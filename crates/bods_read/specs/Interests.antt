@@ -1,6 +1,7 @@
 -- The interests of a relationship (BODS 0.4, interests; this register's profile).
-use Rattle.std.specs.Prelude.{List, [], ◌∷◌, Bool, true, false, map, Option, Some, None, option_and_then, is_some, codes, if◌then◌else◌}
+use Rattle.std.specs.Prelude.{List, [], ◌∷◌, Bool, true, false, map, Option, Some, None, option_and_then, is_some, codes, if◌then◌else◌, ℤ}
 use Rattle.serde_json.specs.Data.{Data}
+use Rattle.bor_terms.specs.Period.{end_of, start_of}
 use Rattle.bor_terms.specs.Span.{Range}
 use Rattle.bods_read.specs.declared.fault.Field.TheVariants.{Interests, Share as TheShare}
 use Rattle.bods_read.specs.declared.fault.Fault.{Fault}
@@ -15,6 +16,15 @@ use Rattle.bods_read.specs.Member.{member, object_in, text_at, array, array_item
 use Rattle.bods_read.specs.Share.{range_lines, range_of}
 
 -- ---- an interest
+
+-- the first day on which it counts (BODS 0.4, startDate); what is no text, or names no day, month or
+-- year, counts as absent (this register's profile)
+abbrev pub starts_in : Data → Option ℤ
+starts_in d = option_and_then start_of (text_at (codes "startDate") d)
+
+-- the last day on which it counts (BODS 0.4, endDate)
+abbrev pub ends_in : Data → Option ℤ
+ends_in d = option_and_then end_of (text_at (codes "endDate") d)
 
 -- the kind is the type (BODS 0.4)
 abbrev pub interest_kind : Data → InterestKind
@@ -59,6 +69,8 @@ interest_of d = record {
   kind = interest_kind d;
   directness = directness_of d;
   share = share_of (interest_kind d) d;
+  starts = starts_in d;
+  ends = ends_in d;
 }
 
 -- ---- the interests

@@ -3,7 +3,7 @@
 ghost use Rattle.std.specs.Prelude.{◌≡◌};
 ghost use Rattle.bods_read.specs.Words.{interest_word, directness_word};
 
-use bor_terms::Span;
+use bor_terms::{Day, Span};
 
 /// What kind of interest it is. BODS has more kinds, which play no part in a chain.
 #[derive(Clone, Copy, Debug, PartialEq, Eq)]
@@ -60,4 +60,8 @@ pub struct Interest {
     pub directness: Directness,
     /// The share in percent; it is read for the three named kinds alone.
     pub share: Option<Span>,
+    /// The first day on which it counts; `None` where none is said.
+    pub starts: Option<Day>,
+    /// The last day on which it counts; `None` where none is said.
+    pub ends: Option<Day>,
 }

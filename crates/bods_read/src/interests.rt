@@ -4,14 +4,14 @@ ghost use Rattle.std.specs.Prelude.{◌≡◌, Some, None, map, option_map};
 ghost use Rattle.serde_json.specs.View.{view};
 ghost use Rattle.bods_read.specs.Outcome.{Gives, outcome};
 ghost use Rattle.bods_read.specs.Words.{interest_worded, directness_worded};
-ghost use Rattle.bods_read.specs.Interests.{is_named, share_lines, share_of, interest_object_lines, interest_lines, interest_of, each_lines, interests_lines, interests_of};
+ghost use Rattle.bods_read.specs.Interests.{is_named, starts_in, ends_in, share_lines, share_of, interest_object_lines, interest_lines, interest_of, each_lines, interests_lines, interests_of};
 
 use crate::fault::{Fault, Field};
 use crate::interest::{Directness, Interest, InterestKind};
 use crate::member::{array, member, text_at};
 use crate::share::range;
 use crate::trouble::Trouble;
-use bor_terms::{Listed, Span};
+use bor_terms::{Day, Listed, Span};
 use serde_json::Value;
 use std::alloc::Global;
 
@@ -64,6 +64,20 @@ fn share(kind: InterestKind, interest: &Value) -> Result<Option<Span>, Trouble>
     }
 }
 
+// What is no text, or names no day, month or year, counts as absent.
+fn starts(interest: &Value) -> Option<Day>
+    ensures { result ≡ starts_in (view interest.now) }
+{
+    Day::read_start(text_at(interest, "startDate")?)
+}
+
+// The same of its end.
+fn ends(interest: &Value) -> Option<Day>
+    ensures { result ≡ ends_in (view interest.now) }
+{
+    Day::read_end(text_at(interest, "endDate")?)
+}
+
 #[tactic(auto, using(crate::proofs::InterestRead::interest_rules))]
 fn of_object(value: &Value) -> Result<Interest, Trouble>
     ensures { Gives (λ i. i) result (outcome (interest_object_lines (view value.now)) (interest_of (view value.now))) }
@@ -71,10 +85,14 @@ fn of_object(value: &Value) -> Result<Interest, Trouble>
     let kind = kind_worded(text_at(value, "type"));
     let directness = directness_worded(text_at(value, "directOrIndirect"));
     let share = share(kind, value)?;
+    let starts = starts(value);
+    let ends = ends(value);
     Ok(Interest {
         kind,
         directness,
         share,
+        starts,
+        ends,
     })
 }
 
@@ -98,11 +116,15 @@ fn each(alloc: Global, values: &[Value]) -> Result<Vec<Interest>, Trouble>
             kind,
             directness,
             share,
+            starts,
+            ends,
         } = interest(value)?;
         interests.push(Interest {
             kind,
             directness,
             share,
+            starts,
+            ends,
         })?;
     }
     Ok(interests)

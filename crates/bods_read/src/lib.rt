@@ -19,7 +19,7 @@
 //! absent, unknown members are passed over, and unknown kinds are read as `Other`.
 //!
 //! Left out: fractions of a percent, statements without a date, and all that the members of
-//! [`Statement`] do not name, the dates of an interest among them.
+//! [`Statement`] do not name.
 #![tactic(auto)]
 
 mod details;

@@ -8,7 +8,7 @@ use crate::setup::set_up_on;
 use bor_machine::Keep;
 use bor_program::{Failure, Opened, Ports, Registers};
 use bor_serve::serve_on;
-use bor_store::{OpenFault, SqlKeep};
+use bor_store::{OpenFault, SqlKeep, migrate};
 use bor_terms::{Day, Token};
 use sqlite::{Connection, File, FileStore};
 use std::fs;
@@ -32,12 +32,8 @@ impl Registers for Host<'_> {
     type Register = SqlKeep<FileStore<File>>;
 
     fn open<'a>(&self, path: &'a str) -> Result<SqlKeep<FileStore<File>>, Failure<'a>> {
-        match is_vacant(self.rt, path) {
-            Ok(true) => Err(Failure::NoRegister(path)),
-            Ok(false) => told_of(path, SqlKeep::open(self.rt, path)),
-            Err(error) if error.kind() == ErrorKind::OutOfMemory => Err(Failure::Memory),
-            Err(_) => Err(Failure::Store),
-        }
+        find(self.rt, path)?;
+        told_of(path, SqlKeep::open(self.rt, path))
     }
 
     fn open_or_set_up<'a>(
@@ -54,6 +50,11 @@ impl Registers for Host<'_> {
             Err(OpenFault::NoRegister) => told_of(path, set_up_in(self.rt, path, registrar, day)),
             Err(fault) => Err(failure_of(path, fault)),
         }
+    }
+
+    fn migrate<'a>(&self, path: &'a str) -> Result<(), Failure<'a>> {
+        find(self.rt, path)?;
+        told_of(path, migrate_in(self.rt, path))
     }
 
     fn close(&self, register: SqlKeep<FileStore<File>>) {
@@ -75,6 +76,18 @@ impl Ports for Host<'_> {
         connections: u32,
     ) -> u8 {
         serve_on(self.rt, register, listener, connections)
+    }
+}
+
+// Looks whether the file of this name may have a register.
+fn find<'a>(rt: &HostRuntime, path: &'a str) -> Result<(), Failure<'a>>
+    ensures { IfErr result (IsOpeningOf path.entry) }
+{
+    match is_vacant(rt, path) {
+        Ok(true) => Err(Failure::NoRegister(path)),
+        Ok(false) => Ok(()),
+        Err(error) if error.kind() == ErrorKind::OutOfMemory => Err(Failure::Memory),
+        Err(_) => Err(Failure::Store),
     }
 }
 
@@ -105,6 +118,14 @@ fn set_up_in(
     set_up_on(rt.alloc(), conn, registrar, day)
 }
 
+// Moves the register in the file of this name to the tables of this program, and closes the file.
+fn migrate_in(rt: &HostRuntime, path: &str) -> Result<(), OpenFault> {
+    let mut conn = Connection::open(rt, path)?;
+    let migrated = migrate(&mut conn, rt.alloc());
+    let _ = conn.close();
+    migrated
+}
+
 // What was opened, or the failure of opening the file of this name.
 fn told_of<T>(path: &str, opened: Result<T, OpenFault>) -> Result<T, Failure<'_>>
     ensures ok { IfOk result (λ register. opened ≡ Ok register) }
@@ -125,6 +146,6 @@ fn failure_of(path: &str, fault: OpenFault) -> Failure<'_>
         OpenFault::OtherVersion(version) => Failure::OtherVersion(path, version),
         OpenFault::Taken => Failure::Taken(path),
         OpenFault::Memory => Failure::Memory,
-        OpenFault::Store => Failure::Store,
+        OpenFault::Damaged | OpenFault::Store => Failure::Store,
     }
 }

@@ -1,5 +1,5 @@
 -- Maps beside lists.
-use Rattle.std.proofs.Common.{◌≡◌, ◌⊎◌, ◌+◌, ◌<◌, ◌&&◌, ℕ, Bool, true, false, cond, Option, Some, None, IsSome, option_map, List, ◌∷◌, drop, length, get_or, Contains, [], ◌++◌, ◌≢◌, nat_eq, sym, refl, ap, subst, inl, inr, arith, ◌∙◌, Bor, Vec, Global}
+use Rattle.std.proofs.Common.{ℤ, ◌≡◌, ◌⊎◌, ◌+◌, ◌<◌, ◌&&◌, ℕ, Bool, true, false, cond, Option, Some, None, IsSome, option_map, List, ◌∷◌, drop, length, get_or, Contains, [], ◌++◌, ◌≢◌, nat_eq, sym, refl, ap, subst, inl, inr, arith, ◌∙◌, Bor, Vec, Global}
 use Rattle.std.specs.Prelude.{nat_lt}
 use Rattle.std.specs.List.{slice_get, filter_map}
 use Rattle.std.specs.Ordering.{is_eq}
@@ -35,8 +35,8 @@ link_is n (Some k) l e = at (same_node k.subject n) refl e
     at false f q = let z : None ≡ Some l = q in absurd cc
 
 -- a link is made where its subject is listed
-subject_listed : (nodes : List OpenNode) (r : Row) (l : Link) → link_in nodes r ≡ Some l → IsSome (listed_at nodes l.subject)
-subject_listed nodes r l h = by r.statement.details h
+subject_listed : (day : ℤ) (nodes : List OpenNode) (r : Row) (l : Link) → link_in day nodes r ≡ Some l → IsSome (listed_at nodes l.subject)
+subject_listed day nodes r l h = by r.statement.details h
   where
     no_link : None ≡ Some l → IsSome (listed_at nodes l.subject)
     no_link e = absurd cc
@@ -46,13 +46,13 @@ subject_listed nodes r l h = by r.statement.details h
     entity (Some x) e = refl
 
     between : (subject party : Node) (interests : List Interest) (t : Bool) → (is_entity_info (info_in nodes subject) && is_some_info (info_in nodes party)) ≡ t
-        → cond t (Some (record { party = party; subject = subject; stake = is_stake interests; holding = is_holding interests })) None ≡ Some l → IsSome (listed_at nodes l.subject)
+        → cond t (Some (record { party = party; subject = subject; stake = is_stake day interests; holding = is_holding day interests })) None ≡ Some l → IsSome (listed_at nodes l.subject)
     between subject party interests true f e =
         subst (λ (m : Node). IsSome (listed_at nodes m)) (ap (λ (k : Link). k.subject) (same_Some _ l e))
         (entity (listed_at nodes subject) (and_parts (is_entity_info (info_in nodes subject)) (is_some_info (info_in nodes party)) f).0)
     between subject party interests false f e = no_link e
 
-    by : (d : Details) → link_with nodes r d ≡ Some l → IsSome (listed_at nodes l.subject)
+    by : (d : Details) → link_with day nodes r d ≡ Some l → IsSome (listed_at nodes l.subject)
     by (details.Entity kind name identifiers) e = no_link e
     by (details.Person kind name) e = no_link e
     by (details.Relationship None party interests) e = no_link e
@@ -150,10 +150,10 @@ below_is n None h = absurd h
 below_is n (Some i) h = (i, refl, h)
 
 -- a link's subject is listed, so it has a place
-pub subject_placed : (nodes : List OpenNode) (rows : List Row) (place_of : Node → Option ℕ) → ArePlaces nodes place_of → (l : Link) → Contains (filter_map (link_in nodes) rows) l → IsBelow (length nodes) (place_of l.subject)
-subject_placed nodes rows place_of are l h =
-    let p = Contains-from_filter_map (link_in nodes) rows l h in
-    by (place_of l.subject) (are l.subject) (subject_listed nodes p.0 l p.2)
+pub subject_placed : (day : ℤ) (nodes : List OpenNode) (rows : List Row) (place_of : Node → Option ℕ) → ArePlaces nodes place_of → (l : Link) → Contains (filter_map (link_in day nodes) rows) l → IsBelow (length nodes) (place_of l.subject)
+subject_placed day nodes rows place_of are l h =
+    let p = Contains-from_filter_map (link_in day nodes) rows l h in
+    by (place_of l.subject) (are l.subject) (subject_listed day nodes p.0 l p.2)
   where
     by : (o : Option ℕ) → placed nodes o ≡ listed_at nodes l.subject → IsSome (listed_at nodes l.subject) → IsBelow (length nodes) o
     by None e some = let no : IsSome {T = OpenNode} None = subst (λ (x : Option OpenNode). IsSome x) (sym e) some in absurd cc

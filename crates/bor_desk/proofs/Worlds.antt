@@ -157,6 +157,8 @@ exactly_of kind percent = record {
   kind = kind;
   directness = directness.Unknown;
   share = Some (record { low = percent; low_open = false; high = percent; high_open = false });
+  starts = None;
+  ends = None;
 }
 
 -- the status that the file leaves out

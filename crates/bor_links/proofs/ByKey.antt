@@ -182,20 +182,20 @@ listed_by_key day n rows = listed_found day n rows ∙ ap (λ (o : Option Row). 
 
 -- a link is made by the latest statement of an open series
 pub link_found : (day : ℤ) (rows : List Row) (l : Link) → Contains (links_of day rows) l
-    → (r : Row) × Contains rows r × (open_at day (series_of r) rows ≡ Some r) × (link_in (nodes_of day rows) r ≡ Some l)
+    → (r : Row) × Contains rows r × (open_at day (series_of r) rows ≡ Some r) × (link_in day (nodes_of day rows) r ≡ Some l)
 link_found day rows l h =
-    let m = Contains-from_filter_map (link_in (nodes_of day rows)) (open_rows day rows) l h in
+    let m = Contains-from_filter_map (link_in day (nodes_of day rows)) (open_rows day rows) l h in
     (m.0, (open_row_is day rows m.0 m.1).0, open_row_at day rows m.0 m.1, m.2)
 
-pub link_made : (day : ℤ) (n : Node) (rows : List Row) (r : Row) (l : Link) → open_at day n rows ≡ Some r → link_in (nodes_of day rows) r ≡ Some l → Contains (links_of day rows) l
-link_made day n rows r l at made = Contains-filter_map (link_in (nodes_of day rows)) (open_rows day rows) r l (open_at_in day n rows r at).0 made
+pub link_made : (day : ℤ) (n : Node) (rows : List Row) (r : Row) (l : Link) → open_at day n rows ≡ Some r → link_in day (nodes_of day rows) r ≡ Some l → Contains (links_of day rows) l
+link_made day n rows r l at made = Contains-filter_map (link_in day (nodes_of day rows)) (open_rows day rows) r l (open_at_in day n rows r at).0 made
 
 pub links_by_candidates : LinksAreReadByCandidates
 links_by_candidates day rows candidates n links cover told l = (
   (λ h. let m = (told l).0 h in (link_made day (m.0).key rows (m.0).row l (m.0).latest (m.0).made, m.1)),
   (λ h.
       let f = link_found day rows l h.0 in
-      (told l).1 (record { key = series_of f.0; row = f.0; candidate = cover f.0 (nodes_of day rows) l f.1 f.3 h.1; latest = f.2; made = f.3 }, h.1)),
+      (told l).1 (record { key = series_of f.0; row = f.0; candidate = cover day f.0 (nodes_of day rows) l f.1 f.3 h.1; latest = f.2; made = f.3 }, h.1)),
 )
 
 -- ---- aliases by key

@@ -1,5 +1,5 @@
 -- Every majority stake is a holding.
-use Rattle.std.proofs.Common.{◌≡◌, ◌<◌, arith, ◌&&◌, ◌||◌, ℕ, Bool, true, false, List, [], ◌∷◌, refl, sym, ap, ◌∙◌}
+use Rattle.std.proofs.Common.{◌≡◌, ◌<◌, arith, ◌&&◌, ◌||◌, ℕ, ℤ, Bool, true, false, List, [], ◌∷◌, refl, sym, ap, ◌∙◌}
 use Rattle.std.specs.Prelude.{nat_lt}
 use Rattle.std.specs.List.{list_all, list_any, AllByRecursion}
 use Rattle.std.proofs.lemmas.Bool.{and_parts, ltb-true, lt-ltb}
@@ -23,12 +23,12 @@ last_of true true c e = e
 last_of true false c e = absurd cc
 last_of false b c e = absurd cc
 
-majority_holds : (i : Interest) → HasPointsOfShare i → is_voting_majority i ≡ true → (counts i && may_be_above_zero i) ≡ true
-majority_holds i p e =
-    both (counts i) (is_vote i.kind) (is_above_half i) (may_be_above_zero i) e (some_above (share_points i.share) p (last_of (counts i) (is_vote i.kind) (is_above_half i) e))
+majority_holds : (day : ℤ) (i : Interest) → HasPointsOfShare i → is_voting_majority day i ≡ true → (counts day i && may_be_above_zero i) ≡ true
+majority_holds day i p e =
+    both (counts day i) (is_vote i.kind) (is_above_half i) (may_be_above_zero i) e (some_above (share_points i.share) p (last_of (counts day i) (is_vote i.kind) (is_above_half i) e))
 
-member_holds : (i : Interest) → is_membership i ≡ true → (counts i && may_be_above_zero i) ≡ true
-member_holds i e = both (counts i) (is_share_or_vote i.kind) (may_be_above_zero i) (may_be_above_zero i) e (last_of (counts i) (is_share_or_vote i.kind) (may_be_above_zero i) e)
+member_holds : (day : ℤ) (i : Interest) → is_membership day i ≡ true → (counts day i && may_be_above_zero i) ≡ true
+member_holds day i e = both (counts day i) (is_share_or_vote i.kind) (may_be_above_zero i) (may_be_above_zero i) e (last_of (counts day i) (is_share_or_vote i.kind) (may_be_above_zero i) e)
 
 -- one that passes a test passes a weaker one
 weaker : (p q : Interest → Bool) (P : Interest → Type 0) → ((i : Interest) → P i → p i ≡ true → q i ≡ true) → (interests : List Interest) → AllByRecursion P interests
@@ -44,14 +44,14 @@ weaker p q P so (i ∷ rest) all e = at (weaker p q P so rest all.1) (p i) refl
     at more true k = ap (λ (b : Bool). b || list_any q rest) (so i all.0 k)
     at more false k = ap (λ (b : Bool). q i || b) (more (ap (λ (b : Bool). b || list_any p rest) (sym k) ∙ e)) ∙ or_right (q i)
 
-pub stake_holds : (interests : List Interest) → AllByRecursion HasPointsOfShare interests → is_stake interests ≡ true → is_holding interests ≡ true
-stake_holds interests all e = by (list_any is_voting_majority interests) refl
+pub stake_holds : (day : ℤ) (interests : List Interest) → AllByRecursion HasPointsOfShare interests → is_stake day interests ≡ true → is_holding day interests ≡ true
+stake_holds day interests all e = by (list_any (is_voting_majority day) interests) refl
   where
-    member : (list_any is_board_majority interests && list_any is_membership interests) ≡ true → is_holding interests ≡ true
+    member : (list_any (is_board_majority day) interests && list_any (is_membership day) interests) ≡ true → is_holding day interests ≡ true
     member k =
-        weaker is_membership (λ i. counts i && may_be_above_zero i) HasPointsOfShare (λ i p t. member_holds i t) interests all
-        (and_parts (list_any is_board_majority interests) (list_any is_membership interests) k).1
+        weaker (is_membership day) (λ i. counts day i && may_be_above_zero i) HasPointsOfShare (λ i p t. member_holds day i t) interests all
+        (and_parts (list_any (is_board_majority day) interests) (list_any (is_membership day) interests) k).1
 
-    by : (t : Bool) → list_any is_voting_majority interests ≡ t → is_holding interests ≡ true
-    by true k = weaker is_voting_majority (λ i. counts i && may_be_above_zero i) HasPointsOfShare majority_holds interests all k
-    by false k = member (ap (λ (b : Bool). b || (list_any is_board_majority interests && list_any is_membership interests)) (sym k) ∙ e)
+    by : (t : Bool) → list_any (is_voting_majority day) interests ≡ t → is_holding day interests ≡ true
+    by true k = weaker (is_voting_majority day) (λ i. counts day i && may_be_above_zero i) HasPointsOfShare (majority_holds day) interests all k
+    by false k = member (ap (λ (b : Bool). b || (list_any (is_board_majority day) interests && list_any (is_membership day) interests)) (sym k) ∙ e)

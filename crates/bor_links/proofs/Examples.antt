@@ -1,6 +1,6 @@
 -- The definitions, tried: interests that are a stake or a holding and interests that aren't, rows on
 -- days, and nodes that are aliases.
-use Rattle.std.proofs.Common.{◌≡◌, ℕ, pos, Bool, true, false, Option, Some, None, List, [], ◌∷◌, codes, refl, map}
+use Rattle.std.proofs.Common.{◌≡◌, ℕ, ℤ, pos, Bool, true, false, Option, Some, None, List, [], ◌∷◌, codes, refl, map}
 use Rattle.bor_terms.specs.Points.{points}
 use Rattle.bor_terms.specs.Span.{Range, range}
 use Rattle.bods_read.specs.declared.interest.Interest.{Interest}
@@ -27,8 +27,11 @@ use Rattle.bor_links.specs.Rows.{is_legal_kind, shown_of}
 
 -- ---- stakes and holdings
 
+abbrev a_day : ℤ
+a_day = pos 19754
+
 abbrev of_kind : InterestKind → Option Range → Interest
-of_kind kind share = record { kind = kind; directness = Unknown; share = share }
+of_kind kind share = record { kind = kind; directness = Unknown; share = share; starts = None; ends = None }
 
 abbrev exactly : ℕ → Option Range
 exactly percent = Some (range percent false percent false)
@@ -43,25 +46,25 @@ abbrev board : Option Range → Interest
 board share = of_kind AppointmentOfBoard share
 
 -- half of the votes is no majority: exactly 50, from 50; above 50; from 51
-majorities : map is_stake
+majorities : map (is_stake a_day)
     ((votes (exactly 50) ∷ []) ∷ (votes (Some (range 50 false 100 false)) ∷ []) ∷ (votes (Some (range 50 true 100 false)) ∷ []) ∷ (votes (Some (range 51 false 100 false)) ∷ []) ∷ [])
     ≡ false ∷ false ∷ true ∷ true ∷ []
 unfolding points
 majorities = refl
 
 -- a majority of the shares is no majority stake, and neither is a vote of an unknown size
-other_majorities : map is_stake ((shares (exactly 100) ∷ []) ∷ (votes None ∷ []) ∷ (of_kind Other (exactly 100) ∷ []) ∷ []) ≡ false ∷ false ∷ false ∷ []
+other_majorities : map (is_stake a_day) ((shares (exactly 100) ∷ []) ∷ (votes None ∷ []) ∷ (of_kind Other (exactly 100) ∷ []) ∷ []) ≡ false ∷ false ∷ false ∷ []
 unfolding points
 other_majorities = refl
 
 -- two halves aren't added up
-not_added : is_stake (votes (exactly 40) ∷ votes (exactly 40) ∷ []) ≡ false
+not_added : is_stake a_day (votes (exactly 40) ∷ votes (exactly 40) ∷ []) ≡ false
 unfolding points
 not_added = refl
 
 -- a right to appoint a majority of the board: alone; of a member with 1 percent of the shares, and with
 -- 0 percent; of half of the board; of 51 percent of it; of a member by votes
-boards : map is_stake (
+boards : map (is_stake a_day) (
     (board None ∷ [])
     ∷ (board None ∷ shares (exactly 1) ∷ [])
     ∷ (board None ∷ shares (exactly 0) ∷ [])
@@ -74,12 +77,12 @@ unfolding points
 boards = refl
 
 -- a share of the board that says nothing of its size is no majority; a right with no share is one
-board_shares : map is_stake ((board None ∷ shares (exactly 1) ∷ []) ∷ (board (Some (range 0 false 100 false)) ∷ shares (exactly 1) ∷ []) ∷ []) ≡ true ∷ false ∷ []
+board_shares : map (is_stake a_day) ((board None ∷ shares (exactly 1) ∷ []) ∷ (board (Some (range 0 false 100 false)) ∷ shares (exactly 1) ∷ []) ∷ []) ≡ true ∷ false ∷ []
 unfolding points
 board_shares = refl
 
 -- of any size above nothing: none; exactly 0; below 1; up to 1; unknown; a seat on the board; another kind
-holdings : map is_holding (
+holdings : map (is_holding a_day) (
     []
     ∷ (shares (exactly 0) ∷ [])
     ∷ (shares (Some (range 0 false 1 true)) ∷ [])
@@ -96,19 +99,31 @@ holdings = refl
 abbrev indirectly : Interest → Interest
 indirectly i = record i { directness = Indirect }
 
-indirect_holding : is_holding (indirectly (votes (exactly 100)) ∷ []) ≡ false
+indirect_holding : is_holding a_day (indirectly (votes (exactly 100)) ∷ []) ≡ false
 unfolding points
 indirect_holding = refl
 
-indirect_stakes : map is_stake
+indirect_stakes : map (is_stake a_day)
     ((indirectly (votes (exactly 100)) ∷ []) ∷ (indirectly (board None) ∷ shares (exactly 1) ∷ []) ∷ (board None ∷ indirectly (shares (exactly 1)) ∷ []) ∷ [])
     ≡ false ∷ false ∷ false ∷ []
 unfolding points
 indirect_stakes = refl
 
-direct_stake : is_stake (record (votes (exactly 51)) { directness = Direct } ∷ []) ≡ true
+direct_stake : is_stake a_day (record (votes (exactly 51)) { directness = Direct } ∷ []) ≡ true
 unfolding points
 direct_stake = refl
+
+-- an interest that runs from a day to a day: before the first, on it, on the last, after it; a start after the end; no days
+abbrev running : Option ℤ → Option ℤ → List Interest
+running starts ends = record (votes (exactly 100)) { starts = starts; ends = ends } ∷ []
+
+periods : map (λ day. is_stake day (running (Some (pos 10)) (Some (pos 20)))) (pos 9 ∷ pos 10 ∷ pos 20 ∷ pos 21 ∷ []) ≡ false ∷ true ∷ true ∷ false ∷ []
+unfolding points
+periods = refl
+
+no_periods : map (λ is. is_holding (pos 15) is) (running (Some (pos 16)) (Some (pos 14)) ∷ running None None ∷ running (Some (pos 16)) None ∷ running None (Some (pos 14)) ∷ []) ≡ false ∷ true ∷ false ∷ false ∷ []
+unfolding points
+no_periods = refl
 
 -- ---- legal entities
 

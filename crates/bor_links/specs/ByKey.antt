@@ -32,11 +32,11 @@ pub record IsMade (day : ℤ) (rows : List Row) (candidates : List Node) (l : Li
   pub row : Row
   pub candidate : Contains candidates key
   pub latest : open_at day key rows ≡ Some row
-  pub made : link_in (nodes_of day rows) row ≡ Some l
+  pub made : link_in day (nodes_of day rows) row ≡ Some l
 
--- the candidates have the series of each row that, were it the latest, would make a link into the node
+-- the candidates have the series of each row that, were it the latest, would make a link into the node on some day
 abbrev pub CoverLinks : List Row → List Node → Node → Type 0
-CoverLinks rows candidates n = (r : Row) (nodes : List OpenNode) (l : Link) → Contains rows r → link_in nodes r ≡ Some l → l.subject ≡ n → Contains candidates (series_of r)
+CoverLinks rows candidates n = (day : ℤ) (r : Row) (nodes : List OpenNode) (l : Link) → Contains rows r → link_in day nodes r ≡ Some l → l.subject ≡ n → Contains candidates (series_of r)
 
 -- the candidates have the series of each row that, were it the latest, would be alike
 abbrev pub CoverAliases : List Row → List Node → OpenNode → Type 0

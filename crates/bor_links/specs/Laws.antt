@@ -53,4 +53,4 @@ NodesAreDistinct = (day : ℤ) (rows : List Row) → IsDistinct same_node (map (
 
 -- the interests of a majority stake are a holding
 abbrev pub EveryStakeIsAHolding : Type 0
-EveryStakeIsAHolding = (interests : List Interest) → AllByRecursion HasPointsOfShare interests → is_stake interests ≡ true → is_holding interests ≡ true
+EveryStakeIsAHolding = (day : ℤ) (interests : List Interest) → AllByRecursion HasPointsOfShare interests → is_stake day interests ≡ true → is_holding day interests ≡ true

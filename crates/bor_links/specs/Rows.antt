@@ -60,26 +60,26 @@ is_some_info (Some info) = true
 abbrev pub beside : Row → List ℕ → Node
 beside r rec = record { agent = r.agent; declaration = r.statement.declaration; rec = rec }
 
--- a link where the subject is an open entity and the party an open entity or person
-abbrev pub link_between : List OpenNode → Node → Node → List Interest → Option Link
-link_between nodes party subject interests =
-    if is_entity_info (info_in nodes subject) && is_some_info (info_in nodes party) then Some (record { party = party; subject = subject; stake = is_stake interests; holding = is_holding interests })
+-- a link on a day, where the subject is an open entity and the party an open entity or person
+abbrev pub link_between : ℤ → List OpenNode → Node → Node → List Interest → Option Link
+link_between day nodes party subject interests =
+    if is_entity_info (info_in nodes subject) && is_some_info (info_in nodes party) then Some (record { party = party; subject = subject; stake = is_stake day interests; holding = is_holding day interests })
     else None
 
 -- the link that a relationship's details make; an end that names no record makes none
-abbrev pub link_with : List OpenNode → Row → Details → Option Link
-link_with nodes r (details.Entity kind name identifiers) = None
-link_with nodes r (details.Person kind name) = None
-link_with nodes r (details.Relationship None party interests) = None
-link_with nodes r (details.Relationship (Some subject) None interests) = None
-link_with nodes r (details.Relationship (Some subject) (Some party) interests) = link_between nodes (beside r party) (beside r subject) interests
+abbrev pub link_with : ℤ → List OpenNode → Row → Details → Option Link
+link_with day nodes r (details.Entity kind name identifiers) = None
+link_with day nodes r (details.Person kind name) = None
+link_with day nodes r (details.Relationship None party interests) = None
+link_with day nodes r (details.Relationship (Some subject) None interests) = None
+link_with day nodes r (details.Relationship (Some subject) (Some party) interests) = link_between day nodes (beside r party) (beside r subject) interests
 
-abbrev pub link_in : List OpenNode → Row → Option Link
-link_in nodes r = link_with nodes r r.statement.details
+abbrev pub link_in : ℤ → List OpenNode → Row → Option Link
+link_in day nodes r = link_with day nodes r r.statement.details
 
 -- the open relationships between two of them, of one declaration
 abbrev pub links_of : ℤ → List Row → List Link
-links_of day rows = filter_map (link_in (nodes_of day rows)) (open_rows day rows)
+links_of day rows = filter_map (link_in day (nodes_of day rows)) (open_rows day rows)
 
 -- the nodes and links of the rows on the day
 abbrev pub shown_of : ℤ → List Row → Shown

@@ -2,7 +2,7 @@
 //! and which entities are one (UK Companies Act 2006, Schedule 1A, paragraph 18; BODS 0.4).
 //!
 //! A node is an open record of an entity or a person, a link an open relationship between two of
-//! them, with what its interests are:
+//! them, with what its interests are on the day:
 //!
 //! ```
 //! // e1 and a1 have one number of one scheme; `votes` are 60 percent of the votes.
@@ -10,8 +10,8 @@
 //! let e1 = node_of(alloc, latest[0])?.ok_or("no node")?;
 //! let a1 = node_of(alloc, latest[1])?.ok_or("no node")?;
 //! assert!(rt; e1.is_alias(&a1));
-//! assert!(rt; stake_of(&votes));
-//! assert!(rt; holding_of(&votes));
+//! assert!(rt; stake_of(&votes, day));
+//! assert!(rt; holding_of(&votes, day));
 //! ```
 //!
 //! What is listed of all rows, and what a source may answer of one node, stands in `specs/`. `laws`

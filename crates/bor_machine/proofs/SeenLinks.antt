@@ -39,24 +39,24 @@ nodes_in (r ∷ rows) = ap (λ (xs : List OpenNode). cons_option (node_in r) xs)
 nodes_seen : (day : ℤ) (rows : List Row) → nodes_of day (map unnumbered rows) ≡ nodes_of day rows
 nodes_seen day rows = ap (λ (xs : List Row). filter_map node_in xs) (open_seen day rows) ∙ nodes_in (open_rows day rows)
 
-link_seen : (nodes : List OpenNode) (r : Row) (d : Details) → link_with nodes (unnumbered r) d ≡ link_with nodes r d
-link_seen nodes r (details.Entity kind name identifiers) = refl
-link_seen nodes r (details.Person kind name) = refl
-link_seen nodes r (details.Relationship None party interests) = refl
-link_seen nodes r (details.Relationship (Some subject) None interests) = refl
-link_seen nodes r (details.Relationship (Some subject) (Some party) interests) = refl
+link_seen : (day : ℤ) (nodes : List OpenNode) (r : Row) (d : Details) → link_with day nodes (unnumbered r) d ≡ link_with day nodes r d
+link_seen day nodes r (details.Entity kind name identifiers) = refl
+link_seen day nodes r (details.Person kind name) = refl
+link_seen day nodes r (details.Relationship None party interests) = refl
+link_seen day nodes r (details.Relationship (Some subject) None interests) = refl
+link_seen day nodes r (details.Relationship (Some subject) (Some party) interests) = refl
 
-links_in : (nodes : List OpenNode) (rows : List Row) → filter_map (link_in nodes) (map unnumbered rows) ≡ filter_map (link_in nodes) rows
-links_in nodes [] = refl
-links_in nodes (r ∷ rows) =
-    ap (λ (o : Option Link). cons_option o (filter_map (link_in nodes) (map unnumbered rows))) (link_seen nodes r r.statement.details)
-    ∙ ap (λ (xs : List Link). cons_option (link_in nodes r) xs) (links_in nodes rows)
+links_in : (day : ℤ) (nodes : List OpenNode) (rows : List Row) → filter_map (link_in day nodes) (map unnumbered rows) ≡ filter_map (link_in day nodes) rows
+links_in day nodes [] = refl
+links_in day nodes (r ∷ rows) =
+    ap (λ (o : Option Link). cons_option o (filter_map (link_in day nodes) (map unnumbered rows))) (link_seen day nodes r r.statement.details)
+    ∙ ap (λ (xs : List Link). cons_option (link_in day nodes r) xs) (links_in day nodes rows)
 
 links_seen : (day : ℤ) (rows : List Row) → links_of day (map unnumbered rows) ≡ links_of day rows
 links_seen day rows =
-    ap (λ (nodes : List OpenNode). filter_map (link_in nodes) (open_rows day (map unnumbered rows))) (nodes_seen day rows)
-    ∙ ap (λ (xs : List Row). filter_map (link_in (nodes_of day rows)) xs) (open_seen day rows)
-    ∙ links_in (nodes_of day rows) (open_rows day rows)
+    ap (λ (nodes : List OpenNode). filter_map (link_in day nodes) (open_rows day (map unnumbered rows))) (nodes_seen day rows)
+    ∙ ap (λ (xs : List Row). filter_map (link_in day (nodes_of day rows)) xs) (open_seen day rows)
+    ∙ links_in day (nodes_of day rows) (open_rows day rows)
 
 shown-seen : (day : ℤ) (rows : List Row) → shown_of day (map unnumbered rows) ≡ shown_of day rows
 shown-seen day rows =

@@ -3,10 +3,11 @@ use Rattle.std.proofs.Common.{◌≡◌, ◌≢◌, ◌∙◌, ℕ, List, [], Op
 use Rattle.std.specs.Io.KnownBytes.{Appends, Keeps}
 use Rattle.std.specs.Result.{is_err}
 use Rattle.bor_desk.specs.CheckReport.{check_report}
+use Rattle.bor_desk.specs.declared.text.Text.{Text}
 use Rattle.clap.specs.declared.error.kind.ErrorKind.{ErrorKind}
 use Rattle.clap.specs.declared.error.kind.ErrorKind.TheVariants.{DisplayHelp, OutOfMemory}
 use Rattle.bor_program.specs.declared.status.Status.{Status}
-use Rattle.bor_program.specs.Program.{EndsReport, IsReportedOrCutOff}
+use Rattle.bor_program.specs.Program.{EndsReport, EndsText, IsReportedOrCutOff}
 use Rattle.bor_program.specs.Streams.{AppendsPart, TakesAtMostPart, part_read}
 
 -- what holds of every value holds of the one that is there
@@ -33,10 +34,15 @@ kept_as before after last same h = subst (λ (o : Option (List ℕ)). Keeps befo
 pub part_as : (before after last : Option (List ℕ)) (bytes : List ℕ) → last ≡ after → AppendsPart before after bytes → AppendsPart before last bytes
 part_as before after last bytes same h = subst (λ (o : Option (List ℕ)). AppendsPart before o bytes) (sym same) h
 
--- the same, of a report on any bytes
+-- an end that failed, after a front of a text
+pub ends_cut : {F : Type 0} (text : Text) (before after : Option (List ℕ)) (end : Result Status F) → is_err end ≡ true → AppendsPart before after text.bytes
+    → EndsText text before after end
+ends_cut text before after (Err failure) e h = h
+ends_cut text before after (Ok status) e h = cc
+
+-- the same, of a report on any bytes, before it was begun
 pub cut_one : {F : Type 0} (bytes : List ℕ) (known : Option (List ℕ)) (end : Result Status F) → is_err end ≡ true → EndsReport bytes known known end
-cut_one bytes known (Err failure) e = part_none known known (check_report bytes).bytes (keeps_same known)
-cut_one bytes known (Ok status) e = cc
+cut_one bytes known end e = ends_cut (check_report bytes) known known end e (part_none known known (check_report bytes).bytes (keeps_same known))
 
 -- a check that failed before it wrote
 pub cut_of : {F : Type 0} (o known : Option (List ℕ)) (end : Result Status F) → is_err end ≡ true → IfSome o (λ bytes. EndsReport (part_read bytes) known known end)

@@ -1,5 +1,5 @@
 -- Which failures were met by a command over a register in a file.
-use Rattle.std.proofs.Common.{◌≡◌, ◌⊎◌, ℕ, List, [], Option, inl, inr, refl}
+use Rattle.std.proofs.Common.{◌≡◌, ◌⊎◌, ℕ, List, [], Bool, Option, arith, false, inl, inr, refl, true}
 use Rattle.std.specs.Borrow.{Bor}
 use Rattle.std.specs.Io.KnownBytes.{Keeps}
 use Rattle.bor_register.specs.declared.fault.StoreFault.{StoreFault}
@@ -10,7 +10,7 @@ use Rattle.bor_program.specs.Failures.{IsMetIn, IsMetListening, IsMetOnKeep, IsO
 use Rattle.bor_program.specs.Performing.{FailsToOpen}
 use Rattle.bor_desk.specs.CheckReport.{check_report}
 use Rattle.bor_desk.specs.declared.text.Text.{Text as Written}
-use Rattle.bor_program.specs.Program.{IsWrittenOrCutOff}
+use Rattle.bor_program.specs.Program.{IsWrittenOrCutOff, report_status}
 use Rattle.bor_program.specs.Streams.{AppendsPart}
 use Rattle.bor_program.proofs.Ends.{keeps_same, part_none}
 use Rattle.clap.specs.Words.{Text}
@@ -89,6 +89,11 @@ met_closed before after Store e = cc
 met_closed before after Unlistening e = cc
 
 -- ---- texts that were cut off
+
+-- a text that was written ends with no failure
+pub no_failure : (refused : Bool) → 3 ≡ report_status refused → ⊥
+no_failure true e = absurd (omega (arith, e))
+no_failure false e = absurd (omega (arith, e))
 
 -- nothing was written
 pub no_text : (before after : Option (List ℕ)) (status : ℕ) → status ≡ 3 → Keeps before after → (text : Written) × IsWrittenOrCutOff text before after status

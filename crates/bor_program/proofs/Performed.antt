@@ -6,12 +6,12 @@ use Rattle.bor_register.specs.Register.{Register}
 use Rattle.bor_serve.specs.Serving.{has_failed}
 use Rattle.bor_desk.specs.declared.text.Text.{Text}
 use Rattle.bor_words.specs.declared.command.Command.{Command}
-use Rattle.bor_words.specs.declared.command.Command.TheVariants.{Check, Exchange, Serve, Report}
+use Rattle.bor_words.specs.declared.command.Command.TheVariants.{Check, Exchange, Serve, Report, Migrate}
 use Rattle.bor_words.specs.declared.serve.Serve.{Serve as Asked}
 use Rattle.bor_words.specs.declared.source.Source.{Source}
 use Rattle.bor_words.specs.Asked.{EntersCheck, IsAsked, IsCommand, name_of}
 use Rattle.bor_words.specs.Words.{Entered, entered_by, file_at}
-use Rattle.bor_program.specs.Performing.{Checks, Known, Performs, Serves, TellsRefusal}
+use Rattle.bor_program.specs.Performing.{Checks, Known, Performs, Serves, TellsRefusal, migrated}
 use Rattle.bor_program.specs.Program.{IsWrittenOrCutOff, report_status}
 use Rattle.bor_program.specs.Streams.{TakesAtMostPart}
 use Rattle.bor_program.specs.Words.{AsksForCheck}
@@ -38,6 +38,7 @@ checked shows is_clean (Check source) entered input rest output printed errors t
 checked shows is_clean (Exchange asked) entered input rest output printed errors told status h e p = absurd (no_rows _ h.0 e.0 h.1)
 checked shows is_clean (Serve asked) entered input rest output printed errors told status h e p = absurd (no_rows _ h.0 e.1 h.1)
 checked shows is_clean (Report asked) entered input rest output printed errors told status h e p = absurd (no_rows _ h.0 e.2 h.1)
+checked shows is_clean (Migrate asked) entered input rest output printed errors told status h e p = absurd (no_rows _ h.0 e.3 h.1)
 
 -- where a file is named, standard input is left alone
 pub unread : {K : Type 0} (shows : K → Register → Type 0) (is_clean : K → Type 0) (asked : Command) (entered : Entered) (input rest output printed errors told : Known) (status : ℕ) → IsAsked entered asked → IsSome (file_at entered)
@@ -46,6 +47,7 @@ unread shows is_clean (Check source) entered input rest output printed errors to
 unread shows is_clean (Exchange asked) entered input rest output printed errors told status h named p = p.0
 unread shows is_clean (Serve asked) entered input rest output printed errors told status h named p = p.0
 unread shows is_clean (Report asked) entered input rest output printed errors told status h named p = p.0
+unread shows is_clean (Migrate asked) entered input rest output printed errors told status h named p = p.0
 
 pub took : {K : Type 0} (shows : K → Register → Type 0) (is_clean : K → Type 0) (asked : Command) (input rest output printed errors told : Known) (status : ℕ)
     → Performs shows is_clean asked input rest output printed errors told status → TakesAtMostPart input rest
@@ -53,6 +55,7 @@ took shows is_clean (Check source) input rest output printed errors told status 
 took shows is_clean (Exchange asked) input rest output printed errors told status p = took_none input rest p.0
 took shows is_clean (Serve asked) input rest output printed errors told status p = took_none input rest p.0
 took shows is_clean (Report asked) input rest output printed errors told status p = took_none input rest p.0
+took shows is_clean (Migrate asked) input rest output printed errors told status p = took_none input rest p.0
 
 -- where no check is asked for, standard input is left alone
 pub untaken : {K : Type 0} (shows : K → Register → Type 0) (is_clean : K → Type 0) (asked : Command) (words : List (List ℕ)) (input rest output printed errors told : Known) (status : ℕ) → IsCommand words
@@ -61,6 +64,7 @@ untaken shows is_clean (Check source) words input rest output printed errors tol
 untaken shows is_clean (Exchange asked) words input rest output printed errors told status ok h unasked p = p.0
 untaken shows is_clean (Serve asked) words input rest output printed errors told status ok h unasked p = p.0
 untaken shows is_clean (Report asked) words input rest output printed errors told status ok h unasked p = p.0
+untaken shows is_clean (Migrate asked) words input rest output printed errors told status ok h unasked p = p.0
 
 pub unheard : {K : Type 0} (shows : K → Register → Type 0) (is_clean : K → Type 0) (asked : Command) (input rest output printed errors told : Known) (status : ℕ) → status ≤ 1
     → Performs shows is_clean asked input rest output printed errors told status → Keeps errors told
@@ -72,6 +76,7 @@ unheard shows is_clean (Serve asked) input rest output printed errors told statu
   | inr (inr h) ↦ h.2.silent
 ]
 unheard shows is_clean (Report asked) input rest output printed errors told status le p = p.1.silent le
+unheard shows is_clean (Migrate asked) input rest output printed errors told status le p = p.1.silent le
 
 -- ---- statuses
 
@@ -123,6 +128,7 @@ one_refusal shows is_clean (Exchange asked) input rest output printed errors tol
 ]
 one_refusal shows is_clean (Serve asked) input rest output printed errors told p = absurd (no_one 1 (serves_end _ _ asked _ _ _ _ _ p.1) refl)
 one_refusal shows is_clean (Report asked) input rest output printed errors told p = text_refuses p.1.text.0 output printed p.1.text.1
+one_refusal shows is_clean (Migrate asked) input rest output printed errors told p = text_refuses migrated output printed p.1.text
 
 two_fault : {K : Type 0} (shows : K → Register → Type 0) (is_clean : K → Type 0) (asked : Command) (input rest output printed errors told : Known)
     → Performs shows is_clean asked input rest output printed errors told 2 → ⊥
@@ -133,6 +139,7 @@ two_fault shows is_clean (Exchange asked) input rest output printed errors told 
 ]
 two_fault shows is_clean (Serve asked) input rest output printed errors told p = no_two 2 (serves_end _ _ asked _ _ _ _ _ p.1) refl
 two_fault shows is_clean (Report asked) input rest output printed errors told p = text_unusual p.1.text.0 output printed p.1.text.1
+two_fault shows is_clean (Migrate asked) input rest output printed errors told p = text_unusual migrated output printed p.1.text
 
 -- status 1 stands for a refusal
 pub refusal : {K : Type 0} (shows : K → Register → Type 0) (is_clean : K → Type 0) (asked : Command) (input rest output printed errors told : Known) (status : ℕ) → status ≡ 1

@@ -120,7 +120,7 @@ pub record IsMetListening (before after : Option (List ℕ)) (failure : Failure)
   pub cause : IsOfListening failure
   pub output : LeavesOutput before after failure
 
--- a failure of opening the register in the file of this name, of its store, or of standard output, and no other was met
+-- a failure of opening or moving the register in the file of this name, of its store, or of standard output, and no other was met
 pub record IsMetIn (path : Bor Text) (before after : Option (List ℕ)) (failure : Failure) : Type 0 where
   pub cause : IsOpeningOf path failure ⊎ (failure ≡ Unwritable)
   pub output : LeavesOutput before after failure

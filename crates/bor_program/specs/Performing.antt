@@ -4,6 +4,7 @@ use Rattle.std.specs.Io.KnownBytes.{Appends, Keeps}
 use Rattle.std.specs.Borrow.{Bor}
 use Rattle.bor_records.specs.Promises.{Kept}
 use Rattle.bor_register.specs.Register.{Register, empty_register}
+use Rattle.bor_desk.specs.Texts.{answering}
 use Rattle.bor_desk.specs.declared.text.Text.{Text}
 use Rattle.bor_wire.specs.declared.replies.Reply.{Reply}
 use Rattle.bor_serve.specs.Serving.{IsServed}
@@ -11,6 +12,7 @@ use Rattle.clap.specs.Words.{Text as Words}
 use Rattle.bor_words.specs.declared.command.Command.{Command}
 use Rattle.bor_words.specs.declared.command.Command.TheVariants as command
 use Rattle.bor_words.specs.declared.exchange.Exchange.{Exchange}
+use Rattle.bor_words.specs.declared.migrate.Migrate.{Migrate}
 use Rattle.bor_words.specs.declared.report.Report.{Report}
 use Rattle.bor_words.specs.declared.serve.Serve.{Serve}
 use Rattle.bor_words.specs.declared.source.Source.{Source}
@@ -91,6 +93,16 @@ pub record Reports {K : Type 0} (shows : K → Register → Type 0) (is_clean : 
   pub silent : status ≤ 1 → Keeps errors told
   pub line : status ≡ 3 → IsTold (IsMetIn asked.db output printed) errors told
 
+-- the text that tells the version to which a register was moved
+abbrev pub migrated : Text
+migrated = answering (codes "version 2" ++ 10 ∷ [])
+
+-- the version is printed, or the line of a failure
+pub record Migrates (asked : Migrate) (output printed errors told : Known) (status : ℕ) : Type 0 where
+  pub text : IsWrittenOrCutOff migrated output printed status
+  pub silent : status ≤ 1 → Keeps errors told
+  pub line : status ≡ 3 → IsTold (IsMetIn asked.db output printed) errors told
+
 -- What the command does, over whatever registers are opened; but for a check it leaves standard input alone.
 abbrev pub Performs : {K : Type 0} → (K → Register → Type 0) → (K → Type 0) → Command → Known → Known → Known → Known → Known → Known → ℕ → Type 0
 Performs shows is_clean (command.Check source) input rest output printed errors told status =
@@ -101,6 +113,8 @@ Performs shows is_clean (command.Serve asked) input rest output printed errors t
     Keeps input rest × Serves shows is_clean asked output printed errors told status
 Performs shows is_clean (command.Report asked) input rest output printed errors told status =
     Keeps input rest × Reports shows is_clean asked output printed errors told status
+Performs shows is_clean (command.Migrate asked) input rest output printed errors told status =
+    Keeps input rest × Migrates asked output printed errors told status
 
 -- ---- what status 1 stands for
 

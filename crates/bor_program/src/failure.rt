@@ -21,7 +21,7 @@ pub enum Failure<'a> {
     Unreadable(Source<'a>),
     /// There is no register in the file of this name.
     NoRegister(&'a str),
-    /// The register in the file of this name is of this version, which isn't 1.
+    /// The register in the file of this name is of this version, which isn't that of the program's tables.
     OtherVersion(&'a str, i64),
     /// The file of this name has tables of another program, with names of a register's.
     Taken(&'a str),

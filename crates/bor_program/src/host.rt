@@ -89,6 +89,11 @@ pub trait Registers {
             → Self.Register.shows opened.register (empty_register registrar.now day)) }
         ensures err { IfErr result (IsOpeningOf path.entry) };
 
+    /// Moves the register in the file of this name to the tables of this program; one that has them stays
+    /// as it is. Where there is no register, none is made.
+    fn migrate<'a>(&self, path: &'a str) -> Result<(), Failure<'a>>
+        ensures { IfErr result (IsOpeningOf path.entry) };
+
     /// Closes the register, so that its file has all of it without the log beside it, as far as that can
     /// be done. Nothing that was answered is lost where it can't.
     fn close(&self, register: Self::Register);

@@ -17,6 +17,7 @@ mod exchange;
 mod failure;
 mod host;
 mod inputs;
+mod migrate;
 mod output;
 mod program;
 mod report;

@@ -16,6 +16,7 @@ use crate::check::check;
 use crate::exchange::exchange;
 use crate::failure::Failure;
 use crate::host::Ports;
+use crate::migrate::migrate;
 use crate::output::write_text;
 use crate::report::report;
 use crate::serve::serve;
@@ -126,6 +127,7 @@ fn perform<R: Files + AllocGlobal, H: Ports, I: Read, O: Write, E: Write>(
         Command::Exchange(asked) => exchange(rt, host, asked, output, errors),
         Command::Serve(asked) => serve(rt.alloc(), host, asked, output, errors),
         Command::Report(asked) => report(rt.alloc(), host, &asked, output, errors),
+        Command::Migrate(asked) => migrate(host, asked, output, errors),
     }
 }
 

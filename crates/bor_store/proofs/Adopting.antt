@@ -1,30 +1,38 @@
 -- What the version's query finds, and that the tables of a register are all there.
-use Rattle.std.proofs.Common.{◌≡◌, pos, true, List, [], ◌∷◌, codes, Vec, Option, Some, None, Result, Ok, Err, IfOk, refl, sym, subst}
+use Rattle.std.proofs.Common.{◌≡◌, ℤ, pos, Bool, true, false, ◌&&◌, List, [], ◌∷◌, ◌++◌, codes, Vec, Option, Some, None, Result, Ok, Err, IfOk, refl, sym, subst}
+use Rattle.std.specs.List.{list_all}
+use Rattle.std.proofs.Math.Bool.{and-true}
 use Rattle.std.specs.declared.alloc.Global.{Global}
 use Rattle.sqlite_tied.specs.Compute.{everything}
-use Rattle.sqlite.specs.declared.types.Value.TheVariants.{Int}
+use Rattle.sqlite.specs.declared.types.Value.TheVariants.{Int, Null}
 use Rattle.sqlite.specs.Command.{Command}
 use Rattle.sqlite.specs.Listing.{understood}
 use Rattle.sqlite.specs.Order.{Row}
-use Rattle.sqlite.specs.Query.{Query}
+use Rattle.sqlite.specs.Program.{overlay}
+use Rattle.sqlite.specs.Query.{IsAnswer, Query}
 use Rattle.sqlite.specs.Clock.{timed}
 use Rattle.sqlite.specs.Given.{Returns}
 use Rattle.sqlite.specs.State.{State, Shown, ShowsRows}
 use Rattle.sqlite.specs.declared.error.Error.{Error}
 use Rattle.sqlite_schema.specs.declared.command.Returning.{Returning}
+use Rattle.sqlite.specs.Table.{Table}
 use Rattle.sqlite.specs.Term.{col}
+use Rattle.sqlite.proofs.Callers.{reads_as}
 use Rattle.sqlite_schema.specs.Names.{same_name}
 use Rattle.bor_register.specs.Register.{Register}
-use Rattle.bor_store_texts.specs.Meanings.{Asks}
+use Rattle.bor_store_texts.specs.Meanings.{Asks, AsksIn}
 use Rattle.bor_store_texts.specs.Queries.{table_query, shows_rows}
-use Rattle.bor_store_texts.specs.Tables.{keep_schema}
-use Rattle.bor_store_rows.specs.Encoding.{register_columns}
+use Rattle.bor_store_texts.specs.Tables.{first_schema, keep_schema}
+use Rattle.bor_store_rows.specs.Encoding.{versioned_columns}
+use Rattle.bor_store_rows.specs.Placed.{register_row}
+use Rattle.bor_store_rows.specs.declared.rows.RegisterRow.{RegisterRow}
 use Rattle.bor_store_sql.specs.Found.{IsQuery}
-use Rattle.bor_store_sql.specs.Shown.{ShowsIn}
+use Rattle.bor_store_sql.specs.Kept.{Keeps}
+use Rattle.bor_store_sql.specs.Shown.{HasFirst, ShowsFirst, ShowsIn, first_contents}
 use Rattle.bor_store_sql.proofs.Finding.{Shows, answers, has_now}
 use Rattle.bor_store_sql.proofs.Picking.{picked_rows}
 use Rattle.bor_store_sql.proofs.Plain.{understood_never}
-use Rattle.bor_store.specs.Opening.{is_versioned, has_all, version_text, AreVersions}
+use Rattle.bor_store.specs.Opening.{is_versioned, has_all, has_first, is_period_used, version_text, AreVersions}
 
 abbrev version_query : Query
 version_query = table_query 0 ([]) (col 1 2 ∷ []) ([])
@@ -35,6 +43,10 @@ version_command = shows_rows version_query (codes "version" ∷ [])
 version_is : Asks version_text version_command
 unfolding understood everything
 version_is = (refl, (refl, refl), refl)
+
+version_first_is : AsksIn first_schema version_text version_command
+unfolding understood everything
+version_first_is = (refl, (refl, refl), refl)
 
 pub version_asks : IsQuery version_text
 unfolding everything
@@ -54,12 +66,24 @@ module _ (old new : State) where
   versions_told (Ok rows) h = versions_of rows.items h
   versions_told (Err error) h = tt
 
-module _ (r : Register) (old new : State) (shows : ShowsIn r old) (rows : List Row) where
-  pub version_found : Shows version_text [] old new rows → rows ≡ (Int (pos 1) ∷ []) ∷ []
-  version_found h =
-      picked_rows 0 refl version_query.filter [] version_query.project version_query.order (λ id x. refl) register_columns (λ r. Int (pos 1) ∷ []) (λ x. true) (λ x. refl) (r ∷ []) old.now.trees (register_columns r ∷ []) rows refl
-      (has_now r old new shows h.0).register (λ id x. refl) (λ x. refl) (answers r old new shows h.0 version_text [] version_query _ version_is rows h.1) (λ a b. ⊥)
-      (λ a b lt. absurd lt) (tt, tt)
+-- the one row of a version tells it
+picked : (version : ℤ) (row : RegisterRow) (old : State) (rows : List Row) → Keeps (versioned_columns version row ∷ []) (old.now.trees 0) → IsAnswer version_query (overlay old.now.trees []) [] rows → rows ≡ (Int version ∷ []) ∷ []
+picked version row old rows kept answer =
+    picked_rows 0 refl version_query.filter [] version_query.project version_query.order (λ id x. refl) (versioned_columns version) (λ r. Int version ∷ []) (λ x. true) (λ x. refl) (row ∷ []) old.now.trees (versioned_columns version row ∷ []) rows refl
+    kept (λ id x. refl) (λ x. refl) answer (λ a b. ⊥) (λ a b lt. absurd lt) (tt, tt)
+
+module _ (r : Register) (old new : State) (rows : List Row) where
+  pub version_found : ShowsIn r old → Shows version_text [] old new rows → rows ≡ (Int (pos 2) ∷ []) ∷ []
+  version_found shows h = picked (pos 2) (register_row r) old rows (has_now r old new shows h.0).register (answers r old new shows h.0 version_text [] version_query _ version_is rows h.1)
+
+  -- version 1
+  pub first_found : ShowsFirst r old → Shows version_text [] old new rows → rows ≡ (Int (pos 1) ∷ []) ∷ []
+  first_found shows h =
+      let has = subst (HasFirst (first_contents r)) (sym h.0) shows.has in
+      picked (pos 1) (register_row r) old rows has.register
+      ((reads_as version_text [] old new first_schema has.schema version_command version_first_is.0 version_first_is.1 version_first_is.2 rows h.1).answer Null)
+
+-- ---- which tables there are
 
 pub keep_is_versioned : is_versioned keep_schema ≡ true
 unfolding same_name
@@ -68,3 +92,24 @@ keep_is_versioned = refl
 pub keep_has_all : has_all keep_schema ≡ true
 unfolding same_name
 keep_has_all = refl
+
+pub first_is_versioned : is_versioned first_schema ≡ true
+unfolding same_name
+first_is_versioned = refl
+
+pub first_has_first : has_first first_schema ≡ true
+unfolding same_name
+first_has_first = refl
+
+pub first_is_free : is_period_used first_schema ≡ false
+unfolding same_name
+first_is_free = refl
+
+-- one table more
+pub one_table_more : (p : Table → Bool) (xs : List Table) (y : Table) → list_all p (xs ++ y ∷ []) ≡ (list_all p xs && p y)
+one_table_more p [] y = and-true (p y)
+one_table_more p (x ∷ xs) y = go (p x) (one_table_more p xs y)
+  where
+    go : (b : Bool) → list_all p (xs ++ y ∷ []) ≡ (list_all p xs && p y) → (b && list_all p (xs ++ y ∷ [])) ≡ ((b && list_all p xs) && p y)
+    go true e = e
+    go false e = refl

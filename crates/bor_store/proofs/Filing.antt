@@ -1,13 +1,13 @@
--- What the addition of a filing leaves and tells.
+-- What a change leaves and tells.
 use Rattle.std.proofs.Common.{◌≡◌, ℕ, Result, Ok, Err, sym, subst, refl, ◌∙◌, ap}
-use Rattle.std.specs.Prelude.{IfOk, IfErr, OnErr, ⊤}
+use Rattle.std.specs.Prelude.{IfOk, IfErr, OnErr, OnOk, ⊤}
 use Rattle.sqlite.specs.State.{State}
 use Rattle.bor_records.specs.Promises.{counted, left_by}
 use Rattle.bor_register.specs.Register.{Register}
 use Rattle.bor_register.specs.declared.fault.StoreFault.{StoreFault}
 use Rattle.bor_store_reads.specs.declared.fault.ReadError.{ReadError}
 use Rattle.bor_store_sql.specs.Shown.{ShowsIn}
-use Rattle.bor_store.specs.Telling.{tells, IsNextFiling}
+use Rattle.bor_store.specs.Telling.{fails, tells, IsNextFiling}
 use Rattle.bor_store_reads.proofs.Found.{still_shows}
 
 pub left_shown : (made : Result ℕ ReadError) (told : Result ℕ StoreFault) (count : ℕ) (r changed : Register) (old new : State) → told ≡ tells made
@@ -25,6 +25,20 @@ counted_same (Err error) n = refl
 pub counted_told : (made : Result ℕ ReadError) (told : Result ℕ StoreFault) (n m : ℕ) → told ≡ tells made → m ≡ counted made n → m ≡ counted told n
 counted_told made told n m e is = is ∙ counted_same made n ∙ ap (λ (t : Result ℕ StoreFault). counted t n) (sym e)
 
-pub any_fault : (told : Result ℕ StoreFault) → IfErr told (λ fault. ⊤)
-any_fault (Ok number) = tt
+pub any_fault : {X : Type 0} (told : Result X StoreFault) → IfErr told (λ fault. ⊤)
+any_fault (Ok x) = tt
 any_fault (Err fault) = tt
+
+-- ---- of a change but the addition of a filing
+
+-- what was made, or what was there where a fault is answered
+pub change_left : {X E : Type 0} (made : Result X E) (told : Result X StoreFault) (r changed : Register) (old new : State) → fails made told
+    → OnOk made (ShowsIn changed new) → OnErr made (new.committed ≡ old.committed) → ShowsIn r old → ShowsIn (left_by told changed r) new
+change_left {X} (Ok x) told r changed old new fails shown kept shows =
+    subst (λ (t : Result X StoreFault). ShowsIn (left_by t changed r) new) (sym fails) shown
+change_left {X} (Err error) told r changed old new fails shown kept shows =
+    subst (λ (t : Result X StoreFault). ShowsIn (left_by t changed r) new) (sym fails.1) (still_shows r old new kept shows)
+
+pub counted_failed : {X E : Type 0} (made : Result X E) (told : Result X StoreFault) (n m : ℕ) → fails made told → m ≡ counted made n → m ≡ counted told n
+counted_failed {X} (Ok x) told n m fails is = is ∙ ap (λ (t : Result X StoreFault). counted t n) (sym fails)
+counted_failed {X} (Err error) told n m fails is = is ∙ ap (λ (t : Result X StoreFault). counted t n) (sym fails.1)

@@ -5,3 +5,11 @@ pub mod Adopting
 pub mod Undamaged
 pub mod Reading
 pub mod Judging
+pub mod Gathering
+pub mod Lines
+pub mod Legals
+pub mod Either
+pub mod Owned
+pub mod Saying
+pub mod Moving
+pub mod SettledFits

@@ -1,5 +1,5 @@
 -- What a register may be set up beside, and which tables are taken for one.
-use Rattle.std.specs.Prelude.{◌≡◌, ◌≢◌, ◌⊎◌, ℕ, ℤ, pos, Bool, false, ◌||◌, ◌&&◌, List, [], ◌∷◌, ◌++◌, map, is_some, codes, Option, Some, None, Result, Ok, Err, IsErrAnd, IsTrue}
+use Rattle.std.specs.Prelude.{◌≡◌, ◌≢◌, ◌⊎◌, ℕ, ℤ, Bool, false, ◌||◌, ◌&&◌, List, [], ◌∷◌, ◌++◌, map, is_some, codes, Option, Some, None, Result, Ok, Err, IsErrAnd, IsTrue}
 use Rattle.std.specs.List.{list_any, list_all}
 use Rattle.sqlite.specs.Held.{Held, state}
 use Rattle.sqlite.specs.Order.{Row, column}
@@ -10,7 +10,8 @@ use Rattle.sqlite.specs.Table.{Table}
 use Rattle.sqlite.specs.declared.types.Value.{Value}
 use Rattle.sqlite.specs.declared.types.Value.TheVariants.{Int}
 use Rattle.sqlite_schema.specs.Names.{same_name, table_named, index_named, view_named, column_named}
-use Rattle.bor_store_texts.specs.Tables.{keep_schema, record_index, subject_index, identifier_index, line_index}
+use Rattle.bor_store_rows.specs.Encoding.{first_version, tables_version}
+use Rattle.bor_store_texts.specs.Tables.{first_schema, keep_schema, period_table, record_index, subject_index, identifier_index, line_index}
 use Rattle.bor_store.specs.declared.open_fault.OpenFault.{OpenFault}
 use Rattle.bor_store.specs.declared.open_fault.OpenFault.TheVariants as faults
 
@@ -45,9 +46,21 @@ has_table schema name columns = list_any (λ table. same_name table.name name &&
 abbrev pub is_versioned : Schema → Bool
 is_versioned schema = has_table schema (codes "register") (codes "one" ∷ codes "version" ∷ [])
 
+-- there are tables of the names of these, with all their columns
+abbrev pub has_tables : Schema → List Table → Bool
+has_tables schema tables = list_all (λ wanted. has_table schema wanted.name (map (λ c. c.name) wanted.columns)) tables
+
 -- there are all tables of a register, with all their columns
 abbrev pub has_all : Schema → Bool
-has_all schema = list_all (λ wanted. has_table schema wanted.name (map (λ c. c.name) wanted.columns)) keep_schema.tables
+has_all schema = has_tables schema keep_schema.tables
+
+-- there are all tables of a register of version 1
+abbrev pub has_first : Schema → Bool
+has_first schema = has_tables schema first_schema.tables
+
+-- a table, an index or a view has the name of the table that version 2 has beside those of version 1
+abbrev pub is_period_used : Schema → Bool
+is_period_used schema = is_used schema period_table.name
 
 -- ---- the version
 
@@ -69,18 +82,26 @@ version_in [] = None
 version_in (row ∷ []) = whole_number (column row 0)
 version_in (row ∷ other ∷ more) = None
 
--- what is answered where the rows of the versions are these: tables are taken in version 1 alone, with all of their columns
+-- what is answered where the rows of the versions are these: tables of version 2 are taken, with all of their columns, and no others
 abbrev pub Judges : {X : Type 0} → Schema → List Row → Result X OpenFault → Type 0
-Judges schema rows (Ok x) = (version_in rows ≡ Some (pos 1)) × IsTrue (has_all schema)
-Judges schema rows (Err (faults.OtherVersion n)) = (version_in rows ≡ Some n) × (n ≢ pos 1)
-Judges schema rows (Err faults.NoRegister) = (version_in rows ≡ None) ⊎ ((version_in rows ≡ Some (pos 1)) × (has_all schema ≡ false))
+Judges schema rows (Ok x) = (version_in rows ≡ Some tables_version) × IsTrue (has_all schema)
+Judges schema rows (Err (faults.OtherVersion n)) = (version_in rows ≡ Some n) × (n ≢ tables_version)
+Judges schema rows (Err faults.NoRegister) = (version_in rows ≡ None) ⊎ ((version_in rows ≡ Some tables_version) × (has_all schema ≡ false))
 Judges schema rows (Err _) = ⊥
 
--- The answer of whether a connection has a register: memory is wanting or the store failed, or there is no version to ask for, or it is what the rows of the versions make it.
-abbrev pub IsJudged : {X : Type 0} → State → Result X OpenFault → Type 0
-IsJudged s result =
+-- An answer on a connection's tables: memory is wanting or the store failed, or there is no version to ask for, or it is what the rows of the versions make it.
+abbrev pub IsToldBy : {X : Type 0} → (Schema → List Row → Result X OpenFault → Type 0) → State → Result X OpenFault → Type 0
+IsToldBy tells s result =
     IsErrAnd result IsFailure
-    ⊎ (((is_versioned s.now.schema ≡ false) × (result ≡ Err faults.NoRegister)) ⊎ ((rows : List Row) × AreVersions s rows × Judges s.now.schema rows result))
+    ⊎ (((is_versioned s.now.schema ≡ false) × (result ≡ Err faults.NoRegister)) ⊎ ((rows : List Row) × AreVersions s rows × tells s.now.schema rows result))
+
+-- the answer of whether a connection has a register
+abbrev pub IsJudged : {X : Type 0} → State → Result X OpenFault → Type 0
+IsJudged s result = IsToldBy (λ schema rows answer. Judges schema rows answer) s result
+
+-- tables of version 1 are refused as such, or memory is wanting or the store failed
+abbrev pub RefusesFirst : {X : Type 0} → Result X OpenFault → Type 0
+RefusesFirst result = IsErrAnd result (λ fault. IsFailure fault ⊎ (fault ≡ faults.OtherVersion first_version))
 
 -- the disk of each such store returns what was written, as that of a store in memory does
 abbrev pub IsFaithful : {S : Type 0} → Ghosts S → Type 0

@@ -1,26 +1,28 @@
 //! What takes the tables of a store for a register.
 
-ghost use Rattle.std.specs.Prelude.{◌≡◌, ◌≢◌, ◌⊎◌, ◌↔◌, ℤ, pos, false, [], Some, None, Err, IfOk, IfErr, OnOk, MatchResult, IsTrue, ◌&&◌, is_some};
+ghost use Rattle.std.specs.Prelude.{◌≡◌, ◌≢◌, ◌⊎◌, ◌↔◌, ℤ, false, [], Some, None, Err, IfOk, IfErr, OnOk, MatchResult, IsTrue, ◌&&◌, is_some};
 ghost use Rattle.std.specs.List.{list_all, list_any};
 ghost use Rattle.sqlite.specs.Held.{state};
 ghost use Rattle.sqlite.specs.State.{HasCleanDisk};
 ghost use Rattle.sqlite_schema.specs.Names.{same_name, column_named};
 ghost use Rattle.bor_register.specs.Register.{Register};
+ghost use Rattle.bor_store_rows.specs.Encoding.{tables_version};
 ghost use Rattle.bor_store_sql.specs.Found.{Asked};
-ghost use Rattle.bor_store_sql.specs.Shown.{IsClean, ShowsIn};
+ghost use Rattle.bor_store_sql.specs.Shown.{IsClean, ShowsFirst, ShowsIn};
 ghost use Rattle.bor_store_reads.specs.Answering.{ReadsOnly};
-ghost use Rattle.bor_store.specs.Opening.{AreVersions, IsFailure, IsFaithful, IsJudged, has_all, is_versioned, version_in, version_text};
+ghost use Rattle.bor_store.specs.Opening.{AreVersions, IsFailure, IsFaithful, IsJudged, RefusesFirst, has_all, has_first, is_versioned, version_in, version_text};
 ghost use Rattle.bor_store.specs.declared.open_fault.OpenFault.TheVariants as faults;
 
 use crate::open_fault::OpenFault;
 use crate::sql_keep::SqlKeep;
 use bor_store_keys::Lookup;
+use bor_store_texts::changes::VERSION;
 use sqlite::{Alter, Connection, Error, ErrorCode, File, FileStore, Row};
 use sqlite_schema::schema::{Schema, Table};
 use std::alloc::Global;
 
-// The version of the tables.
-const VERSION: &str = "SELECT version FROM register";
+// Asks for the version of the tables.
+const VERSIONS: &str = "SELECT version FROM register";
 
 const FILING: [&str; 6] = ["agent", "number", "lodge_key", "due", "withdrawn", "bytes"];
 
@@ -55,6 +57,8 @@ const INTEREST: [&str; 10] = [
 
 const IDENTIFIER: [&str; 6] = ["agent", "filing", "place", "item", "scheme", "id"];
 
+const PERIOD: [&str; 6] = ["agent", "filing", "place", "item", "starts", "ends"];
+
 // Whether the table has all these columns.
 fn has_columns(table: &Table, columns: &[&str]) -> bool
     ensures { result ≡ list_all (λ column. is_some (column_named table.now column.now)) columns.now }
@@ -72,16 +76,16 @@ fn has_table(schema: &Schema, name: &str, columns: &[&str]) -> bool
         && has_columns(table, columns))
 }
 
-// Whether there are the columns that tell a version.
-fn is_versioned(schema: &Schema) -> bool
+/// Whether there are the columns that tell a version.
+pub(crate) fn is_versioned(schema: &Schema) -> bool
     ensures { result ≡ is_versioned schema.now }
 {
     has_table(schema, "register", &["one", "version"])
 }
 
-// Whether there are all tables of a register, with all their columns.
-fn has_all(schema: &Schema) -> bool
-    ensures { result ≡ has_all schema.now }
+/// Whether there are all tables of a register of version 1, with all their columns.
+pub(crate) fn has_first(schema: &Schema) -> bool
+    ensures { result ≡ has_first schema.now }
 {
     has_table(schema, "register", &["one", "version", "day", "registrar"])
         && has_table(schema, "agent", &["name", "token"])
@@ -91,18 +95,26 @@ fn has_all(schema: &Schema) -> bool
         && has_table(schema, "identifier", &IDENTIFIER)
 }
 
-fn version_rows<S: Alter>(conn: &mut Connection<S>) -> Result<Vec<Row>, Error>
+/// Whether there are all tables of a register, with all their columns.
+pub(crate) fn has_all(schema: &Schema) -> bool
+    ensures { result ≡ has_all schema.now }
+{
+    has_first(schema) && has_table(schema, "period", &PERIOD)
+}
+
+/// The versions that the table `register` tells, a row each.
+pub(crate) fn version_rows<S: Alter>(conn: &mut Connection<S>) -> Result<Vec<Row>, Error>
     requires { conn.old.in_transaction ≡ false }
     ensures mode { conn.new.in_transaction ≡ false }
     ensures asked { Asked version_text [] (state S.Store conn.old) (state S.Store conn.new) result }
     ensures versions { HasCleanDisk (state S.Store conn.new) → IfOk result (λ rows. AreVersions (state S.Store conn.old) rows.items) }
 {
     let _settled = conn.is_autocommit();
-    conn.query_all(VERSION, &[])
+    conn.query_all(VERSIONS, &[])
 }
 
-// The whole version that the one row has.
-fn version_in(rows: &[Row]) -> Result<i64, OpenFault>
+/// The whole version that the one row has.
+pub(crate) fn version_in(rows: &[Row]) -> Result<i64, OpenFault>
     ensures { MatchResult result (λ version. version_in rows.now ≡ Some version)
         (λ fault. IsFailure fault ⊎ ((fault ≡ faults.NoRegister) × (version_in rows.now ≡ None))) }
 {
@@ -118,10 +130,10 @@ fn version_in(rows: &[Row]) -> Result<i64, OpenFault>
 
 // Whether a version is that of these tables, which may have all columns or not.
 fn judge(version: i64, is_whole: bool) -> Result<(), OpenFault>
-    ensures { MatchResult result (λ _. (version ≡ pos 1) × IsTrue is_whole)
-        (λ fault. ((fault ≡ faults.OtherVersion version) × (version ≢ pos 1)) ⊎ ((fault ≡ faults.NoRegister) × (version ≡ pos 1) × (is_whole ≡ false))) }
+    ensures { MatchResult result (λ _. (version ≡ tables_version) × IsTrue is_whole)
+        (λ fault. ((fault ≡ faults.OtherVersion version) × (version ≢ tables_version)) ⊎ ((fault ≡ faults.NoRegister) × (version ≡ tables_version) × (is_whole ≡ false))) }
 {
-    if version != 1 {
+    if version != VERSION {
         return Err(OpenFault::OtherVersion(version));
     }
     if is_whole {
@@ -134,16 +146,18 @@ fn judge(version: i64, is_whole: bool) -> Result<(), OpenFault>
 /// Whether the tables of a connection are those of a register, as [`SqlKeep::adopt`] asks; the
 /// connection stays as it is. No transaction may be open. First [`OpenFault::NoRegister`] comes where
 /// there is no table `register` with the columns `one` and `version`, or not exactly one row in it,
-/// with a whole version; then [`OpenFault::OtherVersion`] where that isn't 1; then `NoRegister` where
+/// with a whole version; then [`OpenFault::OtherVersion`] where that isn't 2; then `NoRegister` where
 /// another table or column of a register is missing.
 pub fn examine<S: Alter>(conn: &mut Connection<S>) -> Result<(), OpenFault>
     requires { conn.old.in_transaction ≡ false }
     ensures reads { ReadsOnly (state S.Store conn.old) (state S.Store conn.new) }
     ensures bare { is_versioned (state S.Store conn.old).now.schema ≡ false → result ≡ Err faults.NoRegister }
-    ensures other { (n : ℤ) → result ≡ Err (faults.OtherVersion n) → n ≢ pos 1 }
+    ensures other { (n : ℤ) → result ≡ Err (faults.OtherVersion n) → n ≢ tables_version }
     ensures whole { OnOk result (IsTrue (has_all (state S.Store conn.old).now.schema)) }
     ensures judged { HasCleanDisk (state S.Store conn.new) → IsJudged (state S.Store conn.old) result }
     ensures shown { HasCleanDisk (state S.Store conn.new) → IsTrue (state S.Store conn.old).is_open → (r : Register) → ShowsIn r (state S.Store conn.old) → IfErr result IsFailure }
+    ensures first { HasCleanDisk (state S.Store conn.new) → IsTrue (state S.Store conn.old).is_open
+        → (r : Register) → ShowsFirst r (state S.Store conn.old) → RefusesFirst result }
 {
     let _settled = conn.is_autocommit();
     if !is_versioned(conn.schema()) {
@@ -160,16 +174,18 @@ impl<S: Alter + Drop> SqlKeep<S> {
     /// otherwise the connection is dropped, and the tables are as they were. First
     /// [`OpenFault::NoRegister`] comes where there is no table `register` with the columns `one` and
     /// `version`, or not exactly one row in it, with a whole version; then
-    /// [`OpenFault::OtherVersion`] where that isn't 1; then `NoRegister` where another table or column
+    /// [`OpenFault::OtherVersion`] where that isn't 2; then `NoRegister` where another table or column
     /// of a register is missing.
     pub fn adopt(alloc: Global, conn: Connection<S>) -> Result<SqlKeep<S>, OpenFault>
         requires { conn.in_transaction ≡ false }
         ensures bare { is_versioned (state S.Store conn).now.schema ≡ false → result ≡ Err faults.NoRegister }
-        ensures other { (n : ℤ) → result ≡ Err (faults.OtherVersion n) → n ≢ pos 1 }
+        ensures other { (n : ℤ) → result ≡ Err (faults.OtherVersion n) → n ≢ tables_version }
         ensures whole { IfOk result (λ k. IsTrue (has_all (state S.Store conn).now.schema)) }
         ensures adopted { IfOk result (λ k. HasCleanDisk (state S.Store k.conn) → IsJudged (state S.Store conn) result) }
         ensures refused { IsFaithful S.Store → IsJudged (state S.Store conn) result }
         ensures shown { IsFaithful S.Store → IsTrue (state S.Store conn).is_open → (r : Register) → ShowsIn r (state S.Store conn) → IfErr result IsFailure }
+        ensures first { IsFaithful S.Store → IsTrue (state S.Store conn).is_open
+            → (r : Register) → ShowsFirst r (state S.Store conn) → RefusesFirst result }
         ensures began { IfOk result (λ k. IsClean (state S.Store k.conn) → IsClean (state S.Store conn)) }
         ensures shows { IfOk result (λ k. IsClean (state S.Store k.conn) → (r : Register) → ShowsIn r (state S.Store conn) ↔ ShowsIn r (state S.Store k.conn)) }
         ensures unfaulted { IfOk result (λ k. k.faults ≡ 0) }

@@ -1,11 +1,12 @@
 //! That the values of statements have their forms, as the types of their parts tell.
 
 ghost use Rattle.std.specs.Prelude.{All};
-ghost use Rattle.bods_read.specs.Forms.{IsFormedStatement, IsFormedDetails, IsFormedInterest, IsFormedIdentifier, IsIdent, IsFreeText};
+ghost use Rattle.bods_read.specs.Forms.{IsFormedStatement, IsFormedDetails, IsFormedInterest, IsFormedIdentifier, IsIdent, IsFreeText, IsShare};
+ghost use Rattle.bor_terms.specs.Day.{IsDay};
 ghost use Rattle.std.specs.Prelude.{IfSome};
 
 use bods_read::{Details, FreeText, Identifier, Interest, Statement};
-use bor_terms::Ident;
+use bor_terms::{Day, Ident, Span};
 
 fn ident_formed(ident: &Ident)
     ensures { IsIdent ident.now }
@@ -34,13 +35,29 @@ fn identifiers_formed(identifiers: &[Identifier])
     }
 }
 
-fn interest_formed(interest: &Interest)
-    ensures { IsFormedInterest interest.now }
+fn share_formed(share: Option<Span>)
+    ensures { IfSome share IsShare }
 {
-    if let Some(share) = interest.share {
+    if let Some(share) = share {
         let _high = share.high();
         let _above = share.above_half();
     }
+}
+
+fn day_formed(day: Option<Day>)
+    ensures { IfSome day IsDay }
+{
+    if let Some(day) = day {
+        let _number = day.number();
+    }
+}
+
+fn interest_formed(interest: &Interest)
+    ensures { IsFormedInterest interest.now }
+{
+    share_formed(interest.share);
+    day_formed(interest.starts);
+    day_formed(interest.ends);
 }
 
 fn interests_formed(interests: &[Interest])

@@ -2,17 +2,22 @@
 //!
 //! [`SqlKeep`] keeps a register as `bor_keep` says of each keep, over a connection to a store in
 //! memory or in a file. What it shows is what the last commit left (`bor_store_sql`): a change that is
-//! answered `Ok` is in the file, and a fault leaves the file as it was.
+//! answered `Ok` is in the file, and a fault leaves the file as it was. The tables are of version 2;
+//! [`migrate`] moves those of version 1, which have nothing of the days of interests.
 #![tactic(auto)]
 
 mod adoption;
+mod days;
+mod files;
 mod forms;
 mod lodging;
+mod migration;
 mod open_fault;
 mod setup;
 mod sql_keep;
 
 pub use adoption::examine;
+pub use migration::migrate;
 pub use open_fault::OpenFault;
 pub use setup::set_up;
 pub use sql_keep::SqlKeep;

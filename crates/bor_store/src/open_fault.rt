@@ -2,24 +2,32 @@
 
 ghost use Rattle.bor_store.specs.Opening.{IsFailure};
 
+use bor_store_reads::ReadError;
 use sqlite::{Error, ErrorCode};
 use std::alloc::AllocError;
 use thiserror::Error as ThisError;
 
-/// Why a register was not set up, or the tables of a store were not taken for one.
+/// Why a register was not set up, or the tables of a store were not taken for one or not moved to
+/// version 2.
 #[derive(Clone, Copy, Debug, PartialEq, Eq, ThisError)]
 pub enum OpenFault {
     /// A table or a column of a register is missing, or the table `register` doesn't have exactly one
     /// row with a whole version. The tables are as they were.
     #[error("no register")]
     NoRegister,
-    /// The table `register` has this version, which isn't 1. The tables are as they were.
+    /// The table `register` has this version, which isn't 2, nor 1 where tables were to be moved.
+    /// The tables are as they were.
     #[error("register of version {0}")]
     OtherVersion(i64),
-    /// Where a register was to be set up, a table, an index or a view has a name of a register's. The
-    /// store is as it was.
+    /// Where a register was to be set up, a table, an index or a view has a name of a register's; where
+    /// tables of version 1 were to be moved, the name `period`. The store is as it was.
     #[error("not free for a register")]
     Taken,
+    /// Where tables of version 1 were to be moved, the reader refuses the file of a live filing, or what it
+    /// is read to isn't what the tables have of the filing, or a row of a filing has a value of no form.
+    /// The tables are as they were.
+    #[error("the register is damaged")]
+    Damaged,
     /// Memory was wanting. The last commit stays.
     #[error("out of memory")]
     Memory,
@@ -43,6 +51,21 @@ impl From<Error> for OpenFault {
         match error {
             Error::SqliteFailure(ErrorCode::OutOfMemory) => OpenFault::Memory,
             _ => OpenFault::Store,
+        }
+    }
+}
+
+impl From<ReadError> for OpenFault {
+    ghost use Rattle.std.specs.Prelude.{◌≡◌};
+    ghost use Rattle.bor_store.specs.Migrating.{of_read};
+
+    ghost from_gives = { λ error fault. fault ≡ of_read error };
+
+    fn from(error: ReadError) -> Self {
+        match error {
+            ReadError::Memory => OpenFault::Memory,
+            ReadError::Store => OpenFault::Store,
+            ReadError::Damaged => OpenFault::Damaged,
         }
     }
 }

@@ -16,21 +16,22 @@ use sqlite::{Alter, Connection};
 use sqlite_schema::schema::Schema;
 
 // The names of a register's tables and indexes.
-const NAMES: [&str; 10] = [
+const NAMES: [&str; 11] = [
     "register",
     "agent",
     "filing",
     "statement",
     "interest",
     "identifier",
+    "period",
     "statement_record",
     "statement_subject",
     "identifier_id",
     "filing_line",
 ];
 
-// Whether a table, an index or a view has the name, but for the case of ASCII letters.
-fn is_used(schema: &Schema, name: &str) -> bool
+/// Whether a table, an index or a view has the name, but for the case of ASCII letters.
+pub(crate) fn is_used(schema: &Schema, name: &str) -> bool
     ensures { result ≡ is_used schema.now name.now }
 {
     let name = name.as_bytes();

@@ -36,8 +36,8 @@ record IsFrom (nodes : List OpenNode) (r : Row) (l : Link) : Type 0 where
   into : is_into l.subject r.agent r.statement ≡ true
   entity : is_entity_info (info_in nodes l.subject) ≡ true
 
-from_between : (nodes : List OpenNode) (r : Row) (party subject : List ℕ) (interests : List Interest) (l : Link) → names subject r.statement.details ≡ true → link_between nodes (beside r party) (beside r subject) interests ≡ Some l → IsFrom nodes r l
-from_between nodes r party subject interests l named h = at (is_entity_info (info_in nodes (beside r subject))) refl (is_some_info (info_in nodes (beside r party))) h
+from_between : (day : ℤ) (nodes : List OpenNode) (r : Row) (party subject : List ℕ) (interests : List Interest) (l : Link) → names subject r.statement.details ≡ true → link_between day nodes (beside r party) (beside r subject) interests ≡ Some l → IsFrom nodes r l
+from_between day nodes r party subject interests l named h = at (is_entity_info (info_in nodes (beside r subject))) refl (is_some_info (info_in nodes (beside r party))) h
   where
     told : (k : Link) → k.subject ≡ beside r subject → is_entity_info (info_in nodes (beside r subject)) ≡ true → k ≡ l → IsFrom nodes r l
     told k s e same =
@@ -49,20 +49,20 @@ from_between nodes r party subject interests l named h = at (is_entity_info (inf
           entity = subst (λ (n : Node). is_entity_info (info_in nodes n) ≡ true) (sym s) e;
         })
 
-    at : (a : Bool) → is_entity_info (info_in nodes (beside r subject)) ≡ a → (b : Bool) → cond (a && b) (Some (record { party = beside r party; subject = beside r subject; stake = is_stake interests; holding = is_holding interests })) None ≡ Some l → IsFrom nodes r l
+    at : (a : Bool) → is_entity_info (info_in nodes (beside r subject)) ≡ a → (b : Bool) → cond (a && b) (Some (record { party = beside r party; subject = beside r subject; stake = is_stake day interests; holding = is_holding day interests })) None ≡ Some l → IsFrom nodes r l
     at true e true k = told _ refl e (same_Some _ l k)
     at true e false k = let no : None ≡ Some l = k in absurd cc
     at false e b k = let no : None ≡ Some l = k in absurd cc
 
-from_details : (nodes : List OpenNode) (r : Row) (d : Details) (l : Link) → r.statement.details ≡ d → link_with nodes r d ≡ Some l → IsFrom nodes r l
-from_details nodes r (details.Entity kind name identifiers) l e h = let no : None ≡ Some l = h in absurd cc
-from_details nodes r (details.Person kind name) l e h = let no : None ≡ Some l = h in absurd cc
-from_details nodes r (details.Relationship None party interests) l e h = let no : None ≡ Some l = h in absurd cc
-from_details nodes r (details.Relationship (Some subject) None interests) l e h = let no : None ≡ Some l = h in absurd cc
-from_details nodes r (details.Relationship (Some subject) (Some party) interests) l e h = from_between nodes r party subject interests l (ap (names subject) e ∙ is_same-of subject subject refl) h
+from_details : (day : ℤ) (nodes : List OpenNode) (r : Row) (d : Details) (l : Link) → r.statement.details ≡ d → link_with day nodes r d ≡ Some l → IsFrom nodes r l
+from_details day nodes r (details.Entity kind name identifiers) l e h = let no : None ≡ Some l = h in absurd cc
+from_details day nodes r (details.Person kind name) l e h = let no : None ≡ Some l = h in absurd cc
+from_details day nodes r (details.Relationship None party interests) l e h = let no : None ≡ Some l = h in absurd cc
+from_details day nodes r (details.Relationship (Some subject) None interests) l e h = let no : None ≡ Some l = h in absurd cc
+from_details day nodes r (details.Relationship (Some subject) (Some party) interests) l e h = from_between day nodes r party subject interests l (ap (names subject) e ∙ is_same-of subject subject refl) h
 
-from_row : (nodes : List OpenNode) (r : Row) (l : Link) → link_in nodes r ≡ Some l → IsFrom nodes r l
-from_row nodes r l h = from_details nodes r r.statement.details l refl h
+from_row : (day : ℤ) (nodes : List OpenNode) (r : Row) (l : Link) → link_in day nodes r ≡ Some l → IsFrom nodes r l
+from_row day nodes r l h = from_details day nodes r r.statement.details l refl h
 
 only : (n : Node) (o : Option Link) (l : Link) → only_into n o ≡ Some l → (o ≡ Some l) × (l.subject ≡ n)
 only n None l h = let no : None ≡ Some l = h in absurd cc
@@ -80,14 +80,14 @@ pub links_told : (day : ℤ) (rows : List Row) (n : Node) (candidates : List Nod
 links_told day rows n candidates links e cover = links_by_candidates day rows candidates n links covers (λ l. ((λ h. made l (subst (λ (ls : List Link). Contains ls l) e h)), (λ h. subst (λ (ls : List Link). Contains ls l) (sym e) (there l h.0 h.1))))
   where
     covers : CoverLinks rows candidates n
-    covers r nodes l h is s = cover r h (subst (λ (m : Node). is_into m r.agent r.statement ≡ true) s (from_row nodes r l is).into)
+    covers day r nodes l h is s = cover r h (subst (λ (m : Node). is_into m r.agent r.statement ≡ true) s (from_row day nodes r l is).into)
 
     made : (l : Link) → Contains (filter_map (link_at day rows n) candidates) l → IsMade day rows candidates l × (l.subject ≡ n)
     made l h = let k = Contains-from_filter_map (link_at day rows n) candidates l h in at k.0 k.1 (open_at day k.0 rows) refl k.2
       where
         at : (k : Node) → Contains candidates k → (o : Option Row) → open_at day k rows ≡ o → option_and_then (link_into day rows n) o ≡ Some l → IsMade day rows candidates l × (l.subject ≡ n)
         at k c None is j = let no : None ≡ Some l = j in absurd cc
-        at k c (Some r) is j = let m = only n (link_in (nodes_of day rows) r) l j in (record { key = k; row = r; candidate = c; latest = is; made = m.0 }, m.1)
+        at k c (Some r) is j = let m = only n (link_in day (nodes_of day rows) r) l j in (record { key = k; row = r; candidate = c; latest = is; made = m.0 }, m.1)
 
     there : (l : Link) → IsMade day rows candidates l → l.subject ≡ n → Contains (filter_map (link_at day rows n) candidates) l
     there l m s = Contains-filter_map (link_at day rows n) candidates m.key l m.candidate
@@ -98,24 +98,24 @@ pub no_links : (day : ℤ) (rows : List Row) (n : Node) (links : List Link) → 
 no_links day rows n links e gone l = (
   (λ h. absurd (none l (subst (λ (ls : List Link). Contains ls l) e h))),
   (λ h.
-      let m = Contains-from_filter_map (link_in (nodes_of day rows)) (open_rows day rows) l h.0 in
-      let is = subst (λ (k : Node). is_entity_info (info_in (nodes_of day rows) k) ≡ true) h.1 (from_row (nodes_of day rows) m.0 l m.2).entity in
+      let m = Contains-from_filter_map (link_in day (nodes_of day rows)) (open_rows day rows) l h.0 in
+      let is = subst (λ (k : Node). is_entity_info (info_in (nodes_of day rows) k) ≡ true) h.1 (from_row day (nodes_of day rows) m.0 l m.2).entity in
       absurd (let no : true ≡ false = sym is ∙ gone in cc)),
 )
 
-pub link_is : (nodes : List OpenNode) (n party subject : Node) (interests : List Interest) (stake holding : Bool) → same_node subject n ≡ true → is_entity_info (info_in nodes n) ≡ true → is_some_info (info_in nodes party) ≡ true
-    → stake ≡ is_stake interests → holding ≡ is_holding interests → Some (record { party = party; subject = subject; stake = stake; holding = holding }) ≡ only_into n (link_between nodes party subject interests)
-link_is nodes n party subject interests stake holding same entity known s h = sym (ap (only_into n) made ∙ only_made n l (same_node_is subject n same) ∙ ap (λ (k : Link). Some k) is)
+pub link_is : (day : ℤ) (nodes : List OpenNode) (n party subject : Node) (interests : List Interest) (stake holding : Bool) → same_node subject n ≡ true → is_entity_info (info_in nodes n) ≡ true → is_some_info (info_in nodes party) ≡ true
+    → stake ≡ is_stake day interests → holding ≡ is_holding day interests → Some (record { party = party; subject = subject; stake = stake; holding = holding }) ≡ only_into n (link_between day nodes party subject interests)
+link_is day nodes n party subject interests stake holding same entity known s h = sym (ap (only_into n) made ∙ only_made n l (same_node_is subject n same) ∙ ap (λ (k : Link). Some k) is)
   where
     l : Link
-    l = record { party = party; subject = subject; stake = is_stake interests; holding = is_holding interests }
+    l = record { party = party; subject = subject; stake = is_stake day interests; holding = is_holding day interests }
 
-    made : link_between nodes party subject interests ≡ Some l
+    made : link_between day nodes party subject interests ≡ Some l
     made = ap (λ (b : Bool). cond b (Some l) None) (and_from (is_entity_info (info_in nodes subject)) (is_some_info (info_in nodes party)) (ap (λ (m : Node). is_entity_info (info_in nodes m)) (same_node_is subject n same) ∙ entity) known)
 
     is : l ≡ record { party = party; subject = subject; stake = stake; holding = holding }
     is =
-        ap (λ (b : Bool). let k : Link = record { party = party; subject = subject; stake = b; holding = is_holding interests } in k) (sym s)
+        ap (λ (b : Bool). let k : Link = record { party = party; subject = subject; stake = b; holding = is_holding day interests } in k) (sym s)
         ∙ ap (λ (b : Bool). let k : Link = record { party = party; subject = subject; stake = stake; holding = b } in k) (sym h)
 
 -- ---- a candidate more

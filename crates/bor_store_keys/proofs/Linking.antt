@@ -1,5 +1,5 @@
 -- The link that a record makes, and those of some records one after the other.
-use Rattle.std.proofs.Common.{◌≡◌, ◌&&◌, ◌<◌, ◌+◌, ◌++◌, ℕ, List, [], ◌∷◌, Bool, true, false, Option, Some, None, length, drop, get_or, append-nil, append_assoc, refl, sym, ap, ◌∙◌}
+use Rattle.std.proofs.Common.{ℤ, ◌≡◌, ◌&&◌, ◌<◌, ◌+◌, ◌++◌, ℕ, List, [], ◌∷◌, Bool, true, false, Option, Some, None, length, drop, get_or, append-nil, append_assoc, refl, sym, ap, ◌∙◌}
 use Rattle.std.specs.Prelude.{if◌then◌else◌}
 use Rattle.std.specs.List.{cons_option, filter_map}
 use Rattle.std.proofs.lemmas.List.{at_drop_more}
@@ -12,20 +12,20 @@ use Rattle.bor_links.specs.Rows.{is_entity_info, is_some_info, link_between}
 use Rattle.bor_links.specs.Shown.{info_in}
 use Rattle.bor_links.specs.Stakes.{is_holding, is_stake}
 
-module _ (nodes : List OpenNode) (n party subject : Node) (interests : List Interest) where
+module _ (day : ℤ) (nodes : List OpenNode) (n party subject : Node) (interests : List Interest) where
   -- there is none where the subject is another node
-  pub no_link_elsewhere : same_node subject n ≡ false → None ≡ only_into n (link_between nodes party subject interests)
+  pub no_link_elsewhere : same_node subject n ≡ false → None ≡ only_into n (link_between day nodes party subject interests)
   no_link_elsewhere other = go (is_entity_info (info_in nodes subject) && is_some_info (info_in nodes party))
     where
-      go : (b : Bool) → None ≡ only_into n (if b then Some (record { party = party; subject = subject; stake = is_stake interests; holding = is_holding interests }) else None)
+      go : (b : Bool) → None ≡ only_into n (if b then Some (record { party = party; subject = subject; stake = is_stake day interests; holding = is_holding day interests }) else None)
       go true = rw other refl
       go false = refl
 
   -- nor where the party isn't open
-  pub no_link_of_none : is_some_info (info_in nodes party) ≡ false → None ≡ only_into n (link_between nodes party subject interests)
+  pub no_link_of_none : is_some_info (info_in nodes party) ≡ false → None ≡ only_into n (link_between day nodes party subject interests)
   no_link_of_none gone = rw gone (go (is_entity_info (info_in nodes subject)))
     where
-      go : (b : Bool) → None ≡ only_into n (if b && false then Some (record { party = party; subject = subject; stake = is_stake interests; holding = is_holding interests }) else None)
+      go : (b : Bool) → None ≡ only_into n (if b && false then Some (record { party = party; subject = subject; stake = is_stake day interests; holding = is_holding day interests }) else None)
       go true = refl
       go false = refl
 

@@ -23,9 +23,8 @@ use Rattle.bor_store_rows.specs.Stored.{AllNumbered, IsStored}
 use Rattle.bor_store_rows.proofs.Apart.{all_apart}
 use Rattle.bor_store_rows.proofs.SeenPlaced.{rows_in-placed, visible_placed, filter_same, filters_swap}
 use Rattle.bor_store_sql.specs.Selected.{in_series, placed_of}
-use Rattle.bor_store_reads.proofs.Declared.{IsAlone, each_alone}
 use Rattle.bor_store_reads.proofs.FoundFilings.{own_numbered}
-use Rattle.bor_store_reads.proofs.FoundStatements.{own_placed}
+use Rattle.bor_store_sql.proofs.Alone.{IsAlone, each_alone, own_placed}
 use Rattle.bor_register.proofs.OneAgent.{one_agent}
 
 -- ---- an agent's own statements

@@ -28,8 +28,7 @@ use Rattle.bor_store_rows.specs.Seen.{row_placed}
 use Rattle.bor_store_rows.specs.Stored.{IsStored}
 use Rattle.bor_store_rows.proofs.Apart.{all_apart}
 use Rattle.bor_store_sql.specs.Selected.{identified_by, in_record, placed_of}
-use Rattle.bor_store_reads.proofs.Declared.{IsAlone, each_alone}
-use Rattle.bor_store_reads.proofs.FoundStatements.{own_placed}
+use Rattle.bor_store_sql.proofs.Alone.{IsAlone, each_alone, own_placed}
 use Rattle.bor_store_keys.specs.Recorded.{CoverRecords, record_at, record_of}
 use Rattle.bor_store_keys.specs.Signed.{CoverSign, record_standing, with_identifier, with_sign}
 use Rattle.bor_store_keys.specs.Viewed.{rows_seen}

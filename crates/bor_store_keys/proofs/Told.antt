@@ -14,7 +14,7 @@ use Rattle.bor_store_rows.specs.Placed.{bare, with_lists, placed, interest_rows,
 use Rattle.bor_store_rows.specs.Seen.{row_placed}
 use Rattle.bor_store_rows.specs.Stored.{IsStored}
 use Rattle.bor_store_rows.proofs.Joins.{back}
-use Rattle.bor_store_reads.proofs.Declared.{IsAlone}
+use Rattle.bor_store_sql.proofs.Alone.{IsAlone}
 use Rattle.bor_store_keys.specs.declared.view.View.{View}
 use Rattle.bor_store_keys.specs.Latest.{bare_row, listed_row}
 use Rattle.bor_store_keys.specs.Viewed.{rows_seen}

@@ -27,7 +27,7 @@ is_into n agent s = is_same agent n.agent && (is_same s.declaration n.declaratio
 
 -- the link into the node that a row makes, were it the latest of its series
 abbrev pub link_into : ℤ → List Row → Node → Row → Option Link
-link_into day rows n r = only_into n (link_in (nodes_of day rows) r)
+link_into day rows n r = only_into n (link_in day (nodes_of day rows) r)
 
 -- the link into the node that a series makes
 abbrev pub link_at : ℤ → List Row → Node → Node → Option Link

@@ -41,7 +41,7 @@ fn link_between<S: Alter + Drop>(
     ensures reads { ReadsOnly (state S.Store lookup.old) (state S.Store lookup.new) }
     ensures answer { Answers (state S.Store lookup.old) (state S.Store lookup.new) result (λ r link.
         is_entity_info (info_of (seen view.now r) node.now) ≡ true
-        → link ≡ only_into node.now (link_between (nodes_of view.now.day (rows_seen view.now r)) party subject interests.now)) }
+        → link ≡ only_into node.now (link_between view.now.day (nodes_of view.now.day (rows_seen view.now r)) party subject interests.now)) }
 {
     if subject != *node {
         return Ok(None);
@@ -52,8 +52,8 @@ fn link_between<S: Alter + Drop>(
     Ok(Some(Link {
         party,
         subject,
-        stake: stake_of(interests),
-        holding: holding_of(interests),
+        stake: stake_of(interests, view.day),
+        holding: holding_of(interests, view.day),
     }))
 }
 

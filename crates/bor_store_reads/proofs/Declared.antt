@@ -1,13 +1,12 @@
 -- The statements of a declaration with their lists, and which of them a viewer sees.
 use Rattle.std.proofs.Common.{◌≡◌, ℕ, ℤ, ◌+◌, ◌<◌, List, [], ◌∷◌, ◌++◌, map, append-nil, append_assoc, Bool, true, false, cond, Option, Some, None, option_map, refl, sym, ap, ap₂, ◌∙◌, slice_get, arith}
 use Rattle.std.specs.Prelude.{All, ◌==◌, ◌&&◌, ◌||◌, filter, if◌then◌else◌}
-use Rattle.std.specs.List.{AllByRecursion, flat_map, list_any}
+use Rattle.std.specs.List.{flat_map, list_any}
 use Rattle.std.proofs.lemmas.Bool.Decides.{nat_tests}
-use Rattle.std.proofs.lemmas.List.Elements.{All-nil, All-cons, All-head, All-tail, All-filter}
+use Rattle.std.proofs.lemmas.List.Elements.{All-head, All-tail, All-filter}
 use Rattle.std.proofs.lemmas.List.Folds.{flat_map-map}
 use Rattle.std.proofs.lemmas.Option.{none-some, same_Some}
 use Rattle.bor_terms.specs.Texts.{is_same}
-use Rattle.bor_terms.proofs.Texts.{same_sym, same_refl}
 use Rattle.bods_read.specs.declared.details.Details.{Details}
 use Rattle.bods_read.specs.declared.details.Details.TheVariants as details
 use Rattle.bor_register.specs.declared.filing.AcceptedFiling.{AcceptedFiling}
@@ -19,44 +18,16 @@ use Rattle.bor_store_rows.specs.declared.rows.FilingRow.{FilingRow}
 use Rattle.bor_store_rows.specs.declared.rows.Part.{Part}
 use Rattle.bor_store_rows.specs.declared.rows.Placed.{Placed}
 use Rattle.bor_store_rows.specs.declared.rows.StatementRow.{StatementRow}
-use Rattle.bor_store_rows.specs.Placed.{bare, filing_row, identifier_rows, identifiers_from, identifiers_of, interest_rows, interests_from, interests_of, part_of, placed, same_place, AreApart}
+use Rattle.bor_store_rows.specs.Placed.{bare, filing_row, identifier_rows, identifiers_from, identifiers_of, interest_rows, interests_from, interests_of, part_of, placed}
 use Rattle.bor_records.specs.declared.row.Row.{Row}
 use Rattle.bor_store_rows.specs.Seen.{is_line_visible, row_placed}
 use Rattle.bor_store_rows.specs.Stored.{AreNumbered, IsStored}
-use Rattle.bor_store_rows.proofs.Numbers.{same_number, other_number}
-use Rattle.bor_store_rows.proofs.Apart.{all_apart}
+use Rattle.bor_store_rows.proofs.Numbers.{other_number}
 use Rattle.bor_store_sql.specs.Selected.{in_declaration, numbered, placed_of}
+use Rattle.bor_store_sql.proofs.Alone.{IsAlone, own_alone_at}
 use Rattle.bor_store_reads.specs.Asking.{is_number_seen, part_identifiers, part_interests}
-use Rattle.bor_store_reads.proofs.FoundStatements.{own_placed}
 
 -- ---- the lists of one statement
-
-number_turned : (n m : ℕ) → (n == m) ≡ (m == n)
-number_turned n m = grind (arith, nat_tests)
-
-same_itself : (at : At) → same_place at at ≡ true
-same_itself at = rw (same_refl at.agent, same_number at.filing, same_number at.place) refl
-
-place_turned : (a b : At) → same_place a b ≡ same_place b a
-place_turned a b = rw (same_sym a.agent b.agent, number_turned a.filing b.filing, number_turned a.place b.place) refl
-
--- the statement alone stands at its place
-abbrev pub IsAlone : List Placed → Placed → Type 0
-IsAlone ps p = filter (λ (q : Placed). same_place q.at p.at) ps ≡ p ∷ []
-
-none_at : (at : At) (ps : List Placed) → AllByRecursion (λ (q : Placed). same_place q.at at ≡ false) ps → filter (λ (q : Placed). same_place q.at at) ps ≡ []
-none_at at [] h = refl
-none_at at (p ∷ ps) h = rw h.0 (none_at at ps h.1)
-
-still_alone : (p : Placed) (ps qs : List Placed) → AllByRecursion (λ (q : Placed). same_place q.at p.at ≡ false) qs → All (IsAlone ps) qs → All (IsAlone (p ∷ ps)) qs
-still_alone p ps [] off h = All-nil (IsAlone (p ∷ ps))
-still_alone p ps (q ∷ qs) off h =
-    All-cons (IsAlone (p ∷ ps)) q qs (rw (place_turned p.at q.at ∙ off.0) (All-head (IsAlone ps) q qs h)) (still_alone p ps qs off.1 (All-tail (IsAlone ps) q qs h))
-
-pub each_alone : (ps : List Placed) → AreApart ps → All (IsAlone ps) ps
-each_alone [] h = All-nil (IsAlone [])
-each_alone (p ∷ ps) h =
-    All-cons (IsAlone (p ∷ ps)) p ps (rw (same_itself p.at) (ap (λ l. p ∷ l) (none_at p.at ps h.0))) (still_alone p ps ps h.0 (each_alone ps h.1))
 
 -- the lists that are found statement by statement, each by its row, are those of the statements
 module _ {Y : Type 0} (rows : Placed → List Y) (of_row : Part → At → List Member → List Y)
@@ -70,8 +41,7 @@ module _ {Y : Type 0} (rows : Placed → List Y) (of_row : Part → At → List 
   lists_of agent declaration r stored =
       flat_map-map (λ (row : StatementRow). of_row row.part row.at r.members) bare (in_declaration declaration (placed_of agent r))
       ∙ lists_are r.members (in_declaration declaration (placed_of agent r))
-      (All-filter (λ (p : Placed). is_same p.statement.declaration declaration) (IsAlone (placed r.members)) (placed_of agent r)
-      (own_placed (IsAlone (placed r.members)) agent r.members (each_alone (placed r.members) (all_apart r.members stored.ordered stored.numbered))))
+      (All-filter (λ (p : Placed). is_same p.statement.declaration declaration) (IsAlone (placed r.members)) (placed_of agent r) (own_alone_at agent r stored))
 
 -- a relationship's interests, and no others' are there
 interests_are : (ms : List Member) (p : Placed) → IsAlone (placed ms) p → part_interests (part_of p.statement.details) p.at ms ≡ interest_rows p

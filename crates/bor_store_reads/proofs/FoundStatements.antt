@@ -1,6 +1,6 @@
 -- An agent's live statements, as they are found by identifier and by record.
-use Rattle.std.proofs.Common.{◌≡◌, ℕ, ℤ, pos, ◌+◌, ◌≤◌, List, [], ◌∷◌, ◌++◌, map, length, not, Bool, true, false, Option, Some, None, option_map, refl, sym, ap, ap₂, subst, ◌∙◌, slice_get, arith}
-use Rattle.std.specs.Prelude.{All, IfSome, ◌==◌, ◌||◌, if◌then◌else◌}
+use Rattle.std.proofs.Common.{◌≡◌, ℕ, ℤ, pos, ◌+◌, ◌≤◌, List, [], ◌∷◌, ◌++◌, map, length, not, Bool, Option, Some, None, option_map, refl, sym, ap, ap₂, subst, ◌∙◌, slice_get, arith}
+use Rattle.std.specs.Prelude.{All, IfSome, ◌==◌, ◌||◌}
 use Rattle.std.specs.List.{list_any, last_or, AllByRecursion}
 use Rattle.std.proofs.lemmas.List.{map-append}
 use Rattle.std.proofs.lemmas.List.Elements.{All-nil, All-cons, All-append, All-filter}
@@ -8,7 +8,6 @@ use Rattle.std.proofs.lemmas.List.Folds.{list_any-append}
 use Rattle.std.proofs.lemmas.Option.{none-some, same_Some}
 use Rattle.sqlite_keyed.proofs.ListLemmas.{filter-map, all_weaker}
 use Rattle.bor_terms.specs.Texts.{is_same}
-use Rattle.bor_terms.proofs.Texts.{same_is}
 use Rattle.bods_read.specs.Words.{type_of}
 use Rattle.bods_read.specs.declared.details.Details.{Details}
 use Rattle.bods_read.specs.declared.details.Details.TheVariants as details
@@ -16,15 +15,14 @@ use Rattle.bods_read.specs.declared.statement.Statement.{Statement}
 use Rattle.bor_records.specs.Admission.{Live, is_of, known_of, last_of}
 use Rattle.bor_records.specs.Settling.{as_live, has_id}
 use Rattle.bor_register.specs.declared.filing.AcceptedFiling.{AcceptedFiling}
-use Rattle.bor_register.specs.declared.member.Member.{Member}
-use Rattle.bor_register.specs.Register.{Register, filings_of}
+use Rattle.bor_register.specs.Register.{Register}
 use Rattle.bor_register.specs.Live.{live_of}
 use Rattle.bor_register.specs.Withdrawal.{has_successor}
 use Rattle.bor_register.proofs.LiveStatements.{has_id-live_of}
 use Rattle.bor_store_rows.specs.declared.rows.FilingRow.{FilingRow}
 use Rattle.bor_store_rows.specs.declared.rows.Placed.{Placed}
 use Rattle.bor_store_rows.specs.declared.rows.StatementRow.{StatementRow}
-use Rattle.bor_store_rows.specs.Placed.{bare, part_of, filing_row, placed_from, placed_by, placed}
+use Rattle.bor_store_rows.specs.Placed.{bare, part_of, filing_row, placed_from, placed_by}
 use Rattle.bor_store_rows.specs.RowForms.{IsFormedPlaced}
 use Rattle.bor_store_rows.specs.Stored.{AreNumbered, IsStored}
 use Rattle.bor_store_rows.proofs.BySeries.{last_map, any_map}
@@ -33,8 +31,8 @@ use Rattle.bor_store_rows.proofs.Successors.{successor_is}
 use Rattle.bor_store_rows.proofs.Formed.{placed_formed}
 use Rattle.bor_store_sql.specs.Selected.{numbered, in_filing, placed_of, in_series, identified, place_columns}
 use Rattle.bor_store_rows.specs.Seen.{known_at, type_of_part, is_later}
+use Rattle.bor_store_sql.proofs.Alone.{own_placed}
 use Rattle.bor_store_reads.proofs.Found.{any_left}
-use Rattle.bor_store_reads.proofs.Lists.{all_front, all_back}
 use Rattle.bor_store_reads.proofs.LastOnes.{of_last}
 
 -- ---- tests of statements
@@ -52,14 +50,6 @@ pub any_identified : (id agent : List ℕ) (fs : List AcceptedFiling) → not (l
 any_identified id agent fs = any_left place_columns (λ (p : Placed). is_same p.statement.id id) (placed_by agent fs) ∙ any_by (λ s. is_same s.id id) agent fs ∙ sym (has_id-live_of id fs)
 
 -- ---- forms
-
-pub own_placed : (P : Placed → Type 0) (agent : List ℕ) (ms : List Member) → All P (placed ms) → All P (placed_by agent (filings_of agent ms))
-own_placed P agent [] h = h
-own_placed P agent (m ∷ ms) h = go (is_same m.name agent) refl (own_placed P agent ms (all_back P (placed_by m.name m.filings) (placed ms) h))
-  where
-    go : (b : Bool) → is_same m.name agent ≡ b → All P (placed_by agent (filings_of agent ms)) → All P (placed_by agent (if b then m.filings else filings_of agent ms))
-    go true e more = subst (λ a. All P (placed_by a m.filings)) (same_is m.name agent e) (all_front P (placed_by m.name m.filings) (placed ms) h)
-    go false e more = more
 
 pub own_formed : (agent : List ℕ) (r : Register) → IsStored r → All IsFormedPlaced (placed_of agent r)
 own_formed agent r stored = own_placed IsFormedPlaced agent r.members (placed_formed r stored)

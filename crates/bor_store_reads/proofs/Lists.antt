@@ -1,5 +1,5 @@
 -- Lists, and what holds of all their elements.
-use Rattle.std.proofs.Common.{List, [], ◌∷◌, ◌++◌, map, take, reverse, sym, subst}
+use Rattle.std.proofs.Common.{List, [], ◌∷◌, map, take, reverse, sym, subst}
 use Rattle.std.proofs.lemmas.List.{reverse-append}
 use Rattle.std.specs.Prelude.{All}
 use Rattle.std.proofs.lemmas.List.Elements.{All-nil, All-cons, All-head, All-tail, All-append, All-take}
@@ -20,11 +20,3 @@ all_turned P (x ∷ xs) h =
 -- the last of them, alone
 pub all_taken : {X : Type 0} (P : X → Type 0) (xs : List X) → All P xs → All P (take 1 (reverse xs))
 all_taken P xs h = All-take P 1 (reverse xs) (all_turned P xs h)
-
-pub all_front : {X : Type 0} (P : X → Type 0) (xs ys : List X) → All P (xs ++ ys) → All P xs
-all_front P [] ys h = All-nil P
-all_front P (x ∷ xs) ys h = All-cons P x xs (All-head P x (xs ++ ys) h) (all_front P xs ys (All-tail P x (xs ++ ys) h))
-
-pub all_back : {X : Type 0} (P : X → Type 0) (xs ys : List X) → All P (xs ++ ys) → All P ys
-all_back P [] ys h = h
-all_back P (x ∷ xs) ys h = all_back P xs ys (All-tail P x (xs ++ ys) h)

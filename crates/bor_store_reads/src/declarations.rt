@@ -5,7 +5,7 @@ ghost use Rattle.std.specs.List.{flat_map};
 ghost use Rattle.sqlite.specs.Held.{state};
 ghost use Rattle.bor_register.specs.Register.{filings_of};
 ghost use Rattle.bor_register.specs.Rows.{rows_of};
-ghost use Rattle.bor_store_rows.specs.Placed.{bare};
+ghost use Rattle.bor_store_rows.specs.Placed.{bare, line_of, period_rows};
 ghost use Rattle.bor_store_rows.specs.Seen.{is_seen, row_placed};
 ghost use Rattle.bor_store_sql.specs.Selected.{identifiers_at, in_declaration, interests_at, placed_of};
 ghost use Rattle.bor_store_reads.specs.Answering.{Answers, IsNoDamage, ReadsOnly};
@@ -16,8 +16,14 @@ use crate::known::{Known, known_of};
 use crate::register::read_day;
 use crate::values::all;
 use bor_records::Row;
-use bor_store_rows::{At, IdentifierRow, InterestRow, Part, Placed, StatementRow, joined};
-use bor_store_sql::{identifiers_of_statement, interests_of_statement, statements_of_declaration};
+use bor_store_rows::{
+    At, IdentifierRow, InterestLine, InterestRow, Part, PeriodRow, Placed, StatementRow, joined,
+    with_periods,
+};
+use bor_store_sql::{
+    identifiers_of_statement, interests_of_statement, periods_of_statement,
+    statements_of_declaration,
+};
 use bor_terms::{AgentName, Day, Ident};
 use sqlite::{Alter, Connection};
 use std::alloc::Global;
@@ -40,6 +46,40 @@ fn statements<S: Alter>(
     )
 }
 
+/// The interests of the statement at this place, without their days.
+fn lines_of_one<S: Alter>(
+    conn: &mut Connection<S>,
+    alloc: Global,
+    at: &At,
+) -> Result<Vec<InterestLine>, ReadError>
+    requires { conn.old.in_transaction ≡ false }
+    ensures reads { ReadsOnly (state S.Store conn.old) (state S.Store conn.new) }
+    ensures answer { Answers (state S.Store conn.old) (state S.Store conn.new) result (λ r rows.
+        rows.items ≡ map line_of (interests_at at.now r.members)) }
+{
+    all(
+        alloc,
+        interests_of_statement(conn, at.agent.as_str(), at.filing, at.place),
+    )
+}
+
+/// The days of the interests of the statement at this place.
+fn periods_of_one<S: Alter>(
+    conn: &mut Connection<S>,
+    alloc: Global,
+    at: &At,
+) -> Result<Vec<PeriodRow>, ReadError>
+    requires { conn.old.in_transaction ≡ false }
+    ensures reads { ReadsOnly (state S.Store conn.old) (state S.Store conn.new) }
+    ensures answer { Answers (state S.Store conn.old) (state S.Store conn.new) result (λ r rows.
+        rows.items ≡ flat_map period_rows (interests_at at.now r.members)) }
+{
+    all(
+        alloc,
+        periods_of_statement(conn, at.agent.as_str(), at.filing, at.place),
+    )
+}
+
 /// The interests of the statement at this place.
 pub fn interests_of_one<S: Alter>(
     conn: &mut Connection<S>,
@@ -51,10 +91,9 @@ pub fn interests_of_one<S: Alter>(
     ensures answer { Answers (state S.Store conn.old) (state S.Store conn.new) result (λ r rows.
         rows.items ≡ interests_at at.now r.members) }
 {
-    all(
-        alloc,
-        interests_of_statement(conn, at.agent.as_str(), at.filing, at.place),
-    )
+    let lines = lines_of_one(conn, alloc, at)?;
+    let periods = periods_of_one(conn, alloc, at)?;
+    Ok(with_periods(alloc, lines, periods.as_slice())?)
 }
 
 /// The interests of the statement of this row. A relationship alone has any, so none are asked for of another.

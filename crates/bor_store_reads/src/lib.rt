@@ -2,8 +2,9 @@
 //!
 //! Each read but those of all rows (`read_visible`, `read_published`, `has_more`) asks by key for the rows
 //! that it needs. Where the connection shows a register (`bor_store_sql`), the answer is what the trait
-//! `Keep` of `bor_keep` says of that register, or memory or the store failed: [`ReadError::Damaged`] is
-//! never answered of such tables (`specs/Answering`).
+//! `Keep` of `bor_keep` says of that register, or, of `read_visible` and the reads of single rows, the rows
+//! that a definition names; or memory or the store failed: [`ReadError::Damaged`] is never answered of such
+//! tables (`specs/Answering`).
 #![tactic(auto)]
 
 mod agents;

@@ -4,17 +4,19 @@
 ghost use Rattle.std.specs.Prelude.{◌≡◌, false, length, map, nat_le, not};
 ghost use Rattle.std.specs.List.{flat_map};
 ghost use Rattle.sqlite.specs.Held.{state};
-ghost use Rattle.bor_store_rows.specs.Placed.{agent_row, bare, filing_lines, identifier_rows, interest_rows, placed, without_files};
+ghost use Rattle.bor_store_rows.specs.Placed.{agent_row, bare, filing_lines, identifier_rows, interest_rows, line_of, period_rows, placed, without_files};
 ghost use Rattle.bor_store_reads.specs.Answering.{Answers, ReadsOnly};
 
 use crate::fault::ReadError;
 use crate::values::{all, any};
 use bor_register::Member;
 use bor_store_rows::{
-    AgentRow, FilingRow, IdentifierRow, InterestRow, Placed, StatementRow, joined, members_of,
+    AgentRow, FilingRow, IdentifierRow, InterestLine, InterestRow, PeriodRow, Placed, StatementRow,
+    joined, members_of, with_periods,
 };
 use bor_store_sql::{
-    all_agents, all_filings, all_identifiers, all_interests, all_statements, more_statements,
+    all_agents, all_filings, all_identifiers, all_interests, all_periods, all_statements,
+    more_statements,
 };
 use sqlite::{Alter, Connection};
 use std::alloc::Global;
@@ -52,7 +54,30 @@ fn statements<S: Alter>(
     all(alloc, all_statements(conn))
 }
 
-/// The rows of all interests, by the place of their statement.
+/// The rows of all interests without their days, by the place of their statement.
+fn interest_lines<S: Alter>(
+    conn: &mut Connection<S>,
+    alloc: Global,
+) -> Result<Vec<InterestLine>, ReadError>
+    requires { conn.old.in_transaction ≡ false }
+    ensures reads { ReadsOnly (state S.Store conn.old) (state S.Store conn.new) }
+    ensures answer { Answers (state S.Store conn.old) (state S.Store conn.new) result (λ r rows.
+        rows.items ≡ map line_of (flat_map interest_rows (placed r.members))) }
+{
+    all(alloc, all_interests(conn))
+}
+
+/// The rows of the days of all interests, by the place of their statement.
+fn periods<S: Alter>(conn: &mut Connection<S>, alloc: Global) -> Result<Vec<PeriodRow>, ReadError>
+    requires { conn.old.in_transaction ≡ false }
+    ensures reads { ReadsOnly (state S.Store conn.old) (state S.Store conn.new) }
+    ensures answer { Answers (state S.Store conn.old) (state S.Store conn.new) result (λ r rows.
+        rows.items ≡ flat_map period_rows (flat_map interest_rows (placed r.members))) }
+{
+    all(alloc, all_periods(conn))
+}
+
+/// All interests, by the place of their statement.
 fn interests<S: Alter>(
     conn: &mut Connection<S>,
     alloc: Global,
@@ -62,7 +87,9 @@ fn interests<S: Alter>(
     ensures answer { Answers (state S.Store conn.old) (state S.Store conn.new) result (λ r rows.
         rows.items ≡ flat_map interest_rows (placed r.members)) }
 {
-    all(alloc, all_interests(conn))
+    let lines = interest_lines(conn, alloc)?;
+    let periods = periods(conn, alloc)?;
+    Ok(with_periods(alloc, lines, periods.as_slice())?)
 }
 
 /// The rows of all identifiers, by the place of their statement.

@@ -44,8 +44,8 @@ holding = record {
   rec = codes "r1";
   status = Some New;
   details = Relationship (Some (codes "e1")) (Some (codes "p1"))
-      (record { kind = VotingRights; directness = Direct; share = Some (record { low = 25; low_open = true; high = 50; high_open = false }) }
-      ∷ record { kind = Other; directness = Unknown; share = None } ∷ []);
+      (record { kind = VotingRights; directness = Direct; share = Some (record { low = 25; low_open = true; high = 50; high_open = false }); starts = Some (pos 19754); ends = None }
+      ∷ record { kind = Other; directness = Unknown; share = None; starts = None; ends = None } ∷ []);
 }
 
 lodged : AcceptedFiling
@@ -65,7 +65,7 @@ kept = record {
 -- ---- its tables
 
 -- one, version, day, registrar
-register_row : (contents kept).register ≡ (Int (pos 1) ∷ Int (pos 1) ∷ Int (pos 19754) ∷ Text (codes "registrar-token-1") ∷ []) ∷ []
+register_row : (contents kept).register ≡ (Int (pos 1) ∷ Int (pos 2) ∷ Int (pos 19754) ∷ Text (codes "registrar-token-1") ∷ []) ∷ []
 unfolding kept
 register_row = refl
 
@@ -97,6 +97,11 @@ interest_rows : (contents kept).interests ≡
     ∷ (Text (codes "alder") ∷ Int (pos 1) ∷ Int (pos 3) ∷ Int (pos 2) ∷ Text (codes "other") ∷ Text (codes "unknown") ∷ Null ∷ Null ∷ Null ∷ Null ∷ []) ∷ []
 unfolding kept lodged withdrawn company owner holding interest_word directness_word
 interest_rows = refl
+
+-- agent, filing, place, item, starts, ends; of the interest with a day alone
+period_rows : (contents kept).periods ≡ (Text (codes "alder") ∷ Int (pos 1) ∷ Int (pos 3) ∷ Int (pos 1) ∷ Int (pos 19754) ∷ Null ∷ []) ∷ []
+unfolding kept lodged withdrawn company owner holding
+period_rows = refl
 
 -- agent, filing, place, item, scheme, id
 identifier_rows : (contents kept).identifiers ≡ (Text (codes "alder") ∷ Int (pos 1) ∷ Int (pos 1) ∷ Int (pos 1) ∷ Text (codes "GB-COH") ∷ Text (codes "01234567") ∷ []) ∷ []

@@ -1,5 +1,5 @@
 -- The rows of a stored register have their forms.
-use Rattle.std.proofs.Common.{◌≡◌, ℕ, ◌+◌, ◌<◌, ◌≤◌, ◌^◌, List, [], ◌∷◌, map, length, true, arith}
+use Rattle.std.proofs.Common.{◌≡◌, ℕ, ℤ, Option, Some, None, ◌+◌, ◌<◌, ◌≤◌, ◌^◌, List, [], ◌∷◌, map, length, true, arith}
 use Rattle.std.specs.Prelude.{All}
 use Rattle.std.specs.List.{flat_map}
 use Rattle.std.proofs.lemmas.List.Elements.{All-nil, All-cons, All-head, All-tail, All-append}
@@ -16,8 +16,11 @@ use Rattle.bor_register.specs.declared.filing.AcceptedFiling.{AcceptedFiling}
 use Rattle.bor_register.specs.declared.member.Member.{Member}
 use Rattle.bor_store_rows.specs.declared.places.At.{At}
 use Rattle.bor_store_rows.specs.declared.rows.Placed.{Placed}
-use Rattle.bor_store_rows.specs.Placed.{register_row, agent_row, filing_row, filing_lines, bare, part_of, interests_of, identifiers_of, interest_rows, identifier_rows, interests_from, identifiers_from, placed_from, placed_by, placed}
-use Rattle.bor_store_rows.specs.RowForms.{IsFormedRegisterRow, IsFormedAgentRow, IsFormedFilingRow, IsFormedAt, IsFormedPart, IsFormedStatementRow, IsFormedInterestRow, IsFormedIdentifierRow, IsFormedPlaced}
+use Rattle.bor_store_rows.specs.Placed.{register_row, agent_row, filing_row, filing_lines, bare, line_of, period_of, period_rows, if_said, part_of, interests_of, identifiers_of, interest_rows, identifier_rows, interests_from, identifiers_from, placed_from, placed_by, placed}
+use Rattle.bor_store_rows.specs.RowForms.{IsFormedRegisterRow, IsFormedAgentRow, IsFormedFilingRow, IsFormedAt, IsFormedPart, IsFormedStatementRow, IsFormedInterestLine, IsFormedPeriodRow, IsFormedInterestRow, IsFormedIdentifierRow, IsFormedPlaced}
+use Rattle.bor_store_rows.specs.declared.rows.InterestLine.{InterestLine}
+use Rattle.bor_store_rows.specs.declared.rows.InterestRow.{InterestRow}
+use Rattle.bor_store_rows.specs.declared.rows.PeriodRow.{PeriodRow}
 use Rattle.bor_store_rows.specs.Stored.{IsCounted, AreCounted, IsStored}
 
 pub register_formed : (r : Register) → IsFormed r → IsFormedRegisterRow (register_row r)
@@ -148,3 +151,28 @@ pub all_identifiers_formed : (ps : List Placed) → All IsFormedPlaced ps → Al
 all_identifiers_formed [] h = All-nil IsFormedIdentifierRow
 all_identifiers_formed (p ∷ ps) h =
     All-append IsFormedIdentifierRow (identifier_rows p) (flat_map identifier_rows ps) (identifier_rows_formed p (All-head IsFormedPlaced p ps h)) (all_identifiers_formed ps (All-tail IsFormedPlaced p ps h))
+
+-- ---- interests and their days
+
+pub line_formed : (i : InterestRow) → IsFormedInterestRow i → IsFormedInterestLine (line_of i)
+line_formed i h = record { at = h.at; item = h.item; share = h.interest.share }
+
+period_formed : (i : InterestRow) → IsFormedInterestRow i → IsFormedPeriodRow (period_of i)
+period_formed i h = record { at = h.at; item = h.item; starts = h.interest.starts; ends = h.interest.ends }
+
+periods_formed : (i : InterestRow) → IsFormedInterestRow i → All IsFormedPeriodRow (period_rows i)
+periods_formed i h = go i.interest.starts i.interest.ends
+  where
+    go : (starts ends : Option ℤ) → All IsFormedPeriodRow (if_said (period_of i) starts ends)
+    go None None = All-nil IsFormedPeriodRow
+    go None (Some end) = All-cons IsFormedPeriodRow (period_of i) [] (period_formed i h) (All-nil IsFormedPeriodRow)
+    go (Some start) ends = All-cons IsFormedPeriodRow (period_of i) [] (period_formed i h) (All-nil IsFormedPeriodRow)
+
+pub all_lines_formed : (is : List InterestRow) → All IsFormedInterestRow is → All IsFormedInterestLine (map line_of is)
+all_lines_formed [] h = All-nil IsFormedInterestLine
+all_lines_formed (i ∷ is) h = All-cons IsFormedInterestLine (line_of i) (map line_of is) (line_formed i (All-head IsFormedInterestRow i is h)) (all_lines_formed is (All-tail IsFormedInterestRow i is h))
+
+pub all_periods_formed : (is : List InterestRow) → All IsFormedInterestRow is → All IsFormedPeriodRow (flat_map period_rows is)
+all_periods_formed [] h = All-nil IsFormedPeriodRow
+all_periods_formed (i ∷ is) h =
+    All-append IsFormedPeriodRow (period_rows i) (flat_map period_rows is) (periods_formed i (All-head IsFormedInterestRow i is h)) (all_periods_formed is (All-tail IsFormedInterestRow i is h))

@@ -47,18 +47,18 @@ later_after number p agent n (g ∷ gs) low numbered =
 
 -- ---- the statements of a filing
 
-own_filing : (agent : List ℕ) (number place : ℕ) (ss : List Statement) → filter (λ (p : Placed). p.at.filing == number) (placed_from agent number place ss) ≡ placed_from agent number place ss
+pub own_filing : (agent : List ℕ) (number place : ℕ) (ss : List Statement) → filter (λ (p : Placed). p.at.filing == number) (placed_from agent number place ss) ≡ placed_from agent number place ss
 own_filing agent number place [] = refl
 own_filing agent number place (s ∷ ss) = rw (same_number number) (ap (λ l. record { at = record { agent = agent; filing = number; place = place }; statement = s } ∷ l) (own_filing agent number (place + 1) ss))
 
-other_filing : (agent : List ℕ) (number filing place : ℕ) (ss : List Statement) → (filing == number) ≡ false → filter (λ (p : Placed). p.at.filing == number) (placed_from agent filing place ss) ≡ []
+pub other_filing : (agent : List ℕ) (number filing place : ℕ) (ss : List Statement) → (filing == number) ≡ false → filter (λ (p : Placed). p.at.filing == number) (placed_from agent filing place ss) ≡ []
 other_filing agent number filing place [] e = refl
 other_filing agent number filing place (s ∷ ss) e = rw e (other_filing agent number filing (place + 1) ss e)
 
 differs : (n m : ℕ) → n < m → (m == n) ≡ false
 differs n m low = grind (arith, nat_tests)
 
-none_filed : (agent : List ℕ) (number n : ℕ) (gs : List AcceptedFiling) → number < n → AreNumbered n gs → filter (λ (p : Placed). p.at.filing == number) (placed_by agent gs) ≡ []
+pub none_filed : (agent : List ℕ) (number n : ℕ) (gs : List AcceptedFiling) → number < n → AreNumbered n gs → filter (λ (p : Placed). p.at.filing == number) (placed_by agent gs) ≡ []
 none_filed agent number n [] low numbered = refl
 none_filed agent number n (g ∷ gs) low numbered =
     filter-append (λ (p : Placed). p.at.filing == number) (placed_from agent g.number 1 g.statements) (placed_by agent gs)
@@ -74,7 +74,7 @@ any_statement h agent number place (s ∷ ss) = ap (λ b. h s || b) (any_stateme
 abbrev succeeded : List ℕ → ℕ → List AcceptedFiling → Bool
 succeeded agent number fs = list_any (λ p. list_any (after number p) (placed_by agent fs)) (filter (λ (p : Placed). p.at.filing == number) (placed_by agent fs))
 
-is_number : (n m : ℕ) → (n == m) ≡ true → n ≡ m
+pub is_number : (n m : ℕ) → (n == m) ≡ true → n ≡ m
 is_number n m e = grind (arith, nat_tests)
 
 own_succeeded : (agent : List ℕ) (f : AcceptedFiling) (fs : List AcceptedFiling) (n : ℕ) → f.number < n → AreNumbered n fs → list_any (shares_record f) fs ≡ succeeded agent f.number (f ∷ fs)

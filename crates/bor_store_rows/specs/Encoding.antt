@@ -1,5 +1,5 @@
--- A register as rows of the six tables, column by column. Numbers, days and percents are integers, truth values are 0 and 1, texts are as they are, and the kinds are the words of BODS 0.4.
-use Rattle.std.specs.Prelude.{ℕ, pos, Bool, if◌then◌else◌, List, [], ◌∷◌, ◌++◌, map, Option, Some, None, option_map}
+-- A register as rows of the seven tables, column by column. Numbers, days and percents are integers, truth values are 0 and 1, texts are as they are, and the kinds are the words of BODS 0.4.
+use Rattle.std.specs.Prelude.{ℕ, ℤ, pos, Bool, if◌then◌else◌, List, [], ◌∷◌, ◌++◌, map, Option, Some, None, option_map}
 use Rattle.std.specs.List.{flat_map}
 use Rattle.sqlite.specs.declared.types.Value.{Value}
 use Rattle.sqlite.specs.declared.types.Value.TheVariants.{Null, Int, Text, Blob}
@@ -18,8 +18,10 @@ use Rattle.bor_store_rows.specs.declared.rows.Part.{Part}
 use Rattle.bor_store_rows.specs.declared.rows.Part.TheVariants as part
 use Rattle.bor_store_rows.specs.declared.rows.StatementRow.{StatementRow}
 use Rattle.bor_store_rows.specs.declared.rows.InterestRow.{InterestRow}
+use Rattle.bor_store_rows.specs.declared.rows.InterestLine.{InterestLine}
+use Rattle.bor_store_rows.specs.declared.rows.PeriodRow.{PeriodRow}
 use Rattle.bor_store_rows.specs.declared.rows.IdentifierRow.{IdentifierRow}
-use Rattle.bor_store_rows.specs.Placed.{register_row, agent_row, bare, interest_rows, identifier_rows, placed}
+use Rattle.bor_store_rows.specs.Placed.{register_row, agent_row, bare, line_of, interest_rows, period_rows, identifier_rows, placed}
 
 -- ---- values
 
@@ -30,11 +32,25 @@ abbrev pub or_null : Option (List ℕ) → Value
 or_null None = Null
 or_null (Some text) = Text text
 
+-- ---- the versions of the tables
+
+-- the version of these tables
+abbrev pub tables_version : ℤ
+tables_version = pos 2
+
+-- the version before it, of tables without the days of interests
+abbrev pub first_version : ℤ
+first_version = pos 1
+
 -- ---- the columns of a row
 
 -- register: one, version, day, registrar
+abbrev pub versioned_columns : ℤ → RegisterRow → Row
+versioned_columns version r = Int (pos 1) ∷ Int version ∷ Int r.day ∷ Text r.registrar ∷ []
+
+-- the same in the version of these tables
 abbrev pub register_row_columns : RegisterRow → Row
-register_row_columns r = Int (pos 1) ∷ Int (pos 1) ∷ Int r.day ∷ Text r.registrar ∷ []
+register_row_columns r = versioned_columns tables_version r
 
 abbrev pub register_columns : Register → Row
 register_columns r = register_row_columns (register_row r)
@@ -74,11 +90,24 @@ abbrev pub share_columns : Option Range → Row
 share_columns None = Null ∷ Null ∷ Null ∷ Null ∷ []
 share_columns (Some s) = Int (pos s.low) ∷ truth s.low_open ∷ Int (pos s.high) ∷ truth s.high_open ∷ []
 
--- interest: agent, filing, place, item, kind, directness, and the four above
+-- interest: agent, filing, place, item, kind, directness, and the four above; the days are in period
+abbrev pub interest_line_columns : InterestLine → Row
+interest_line_columns i =
+    Text i.at.agent ∷ Int (pos i.at.filing) ∷ Int (pos i.at.place) ∷ Int (pos i.item) ∷ Text (interest_word i.kind)
+    ∷ Text (directness_word i.directness) ∷ share_columns i.share
+
 abbrev pub interest_columns : InterestRow → Row
-interest_columns i =
-    Text i.at.agent ∷ Int (pos i.at.filing) ∷ Int (pos i.at.place) ∷ Int (pos i.item) ∷ Text (interest_word i.interest.kind)
-    ∷ Text (directness_word i.interest.directness) ∷ share_columns i.interest.share
+interest_columns i = interest_line_columns (line_of i)
+
+-- period: starts, ends
+abbrev pub day_or_null : Option ℤ → Value
+day_or_null None = Null
+day_or_null (Some day) = Int day
+
+-- period: agent, filing, place, item, starts, ends
+abbrev pub period_columns : PeriodRow → Row
+period_columns p =
+    Text p.at.agent ∷ Int (pos p.at.filing) ∷ Int (pos p.at.place) ∷ Int (pos p.item) ∷ day_or_null p.starts ∷ day_or_null p.ends ∷ []
 
 -- identifier: agent, filing, place, item, scheme, id
 abbrev pub identifier_columns : IdentifierRow → Row
@@ -91,16 +120,17 @@ abbrev pub filing_rows : List Member → List Row
 filing_rows [] = []
 filing_rows (m ∷ ms) = map (filing_columns m.name) m.filings ++ filing_rows ms
 
--- what the six tables have
+-- what the seven tables have
 pub record Contents : Type 0 where
   pub register : List Row
   pub agents : List Row
   pub filings : List Row
   pub statements : List Row
   pub interests : List Row
+  pub periods : List Row
   pub identifiers : List Row
 
--- One row for the register, one for each agent, for each filing, for each statement of a filing, and for each interest and each identifier of a statement. A withdrawn filing has no statements.
+-- One row for the register, one for each agent, for each filing, for each statement of a filing, for each interest, each interest with a day, and each identifier of a statement. A withdrawn filing has no statements.
 abbrev pub contents : Register → Contents
 contents r = record {
   register = register_columns r ∷ [];
@@ -108,6 +138,7 @@ contents r = record {
   filings = filing_rows r.members;
   statements = map (λ p. statement_columns (bare p)) (placed r.members);
   interests = flat_map (λ p. map interest_columns (interest_rows p)) (placed r.members);
+  periods = flat_map (λ p. flat_map (λ i. map period_columns (period_rows i)) (interest_rows p)) (placed r.members);
   identifiers = flat_map (λ p. map identifier_columns (identifier_rows p)) (placed r.members);
 }
 

@@ -1,5 +1,5 @@
 -- What the tables have of a register, row by row with each value of its type: its day and the registrar's token, agents, filings, and statements with where they stand.
-use Rattle.std.specs.Prelude.{◌≡◌, ℕ, ◌+◌, List, [], ◌∷◌, ◌++◌, map, ◌==◌, ◌&&◌, Bool, false}
+use Rattle.std.specs.Prelude.{◌≡◌, ℕ, ℤ, Option, Some, None, ◌+◌, List, [], ◌∷◌, ◌++◌, map, ◌==◌, ◌&&◌, Bool, false}
 use Rattle.std.specs.List.{AllByRecursion}
 use Rattle.bor_terms.specs.Texts.{is_same}
 use Rattle.bods_read.specs.declared.statement.Statement.{Statement}
@@ -19,6 +19,8 @@ use Rattle.bor_store_rows.specs.declared.rows.Part.{Part}
 use Rattle.bor_store_rows.specs.declared.rows.Part.TheVariants as part
 use Rattle.bor_store_rows.specs.declared.rows.StatementRow.{StatementRow}
 use Rattle.bor_store_rows.specs.declared.rows.InterestRow.{InterestRow}
+use Rattle.bor_store_rows.specs.declared.rows.InterestLine.{InterestLine}
+use Rattle.bor_store_rows.specs.declared.rows.PeriodRow.{PeriodRow}
 use Rattle.bor_store_rows.specs.declared.rows.IdentifierRow.{IdentifierRow}
 
 abbrev pub register_row : Register → RegisterRow
@@ -81,13 +83,47 @@ abbrev pub identifiers_from : At → ℕ → List Identifier → List Identifier
 identifiers_from at item [] = []
 identifiers_from at item (i ∷ is) = record { at = at; item = item; identifier = i } ∷ identifiers_from at (item + 1) is
 
--- its rows in the table interest
+-- its interests, each with where it stands
 abbrev pub interest_rows : Placed → List InterestRow
 interest_rows p = interests_from p.at 1 (interests_of p.statement.details)
 
 -- its rows in the table identifier
 abbrev pub identifier_rows : Placed → List IdentifierRow
 identifier_rows p = identifiers_from p.at 1 (identifiers_of p.statement.details)
+
+-- an interest's row in the table interest
+abbrev pub line_of : InterestRow → InterestLine
+line_of i = record { at = i.at; item = i.item; kind = i.interest.kind; directness = i.interest.directness; share = i.interest.share }
+
+-- the row, where one of the days is there
+abbrev pub if_said : PeriodRow → Option ℤ → Option ℤ → List PeriodRow
+if_said p None None = []
+if_said p None (Some end) = p ∷ []
+if_said p (Some start) ends = p ∷ []
+
+abbrev pub period_of : InterestRow → PeriodRow
+period_of i = record { at = i.at; item = i.item; starts = i.interest.starts; ends = i.interest.ends }
+
+-- its rows in the table period: one where it has a day, else none
+abbrev pub period_rows : InterestRow → List PeriodRow
+period_rows i = if_said (period_of i) i.interest.starts i.interest.ends
+
+-- whether an interest is another, by place and item
+abbrev pub same_interest : At → ℕ → At → ℕ → Bool
+same_interest a m b n = m == n && same_place a b
+
+-- none of the periods is of the interest
+abbrev pub Misses : InterestRow → List PeriodRow → Type 0
+Misses i ps = AllByRecursion (λ p. same_interest p.at p.item i.at i.item ≡ false) ps
+
+-- no two are the same interest
+abbrev pub AreSeveral : List InterestRow → Type 0
+AreSeveral [] = Unit {0}
+AreSeveral (i ∷ is) = AllByRecursion (λ j. same_interest j.at j.item i.at i.item ≡ false) is × AreSeveral is
+
+-- where the row is an interest's and the periods are its own and then those of others, this holds of the interest and of the others
+abbrev pub OfNext : InterestLine → List PeriodRow → (InterestRow → List PeriodRow → Type 0) → Type 0
+OfNext line periods P = (i : InterestRow) (others : List PeriodRow) → line ≡ line_of i → periods ≡ period_rows i ++ others → Misses i others → P i others
 
 -- ---- and back
 

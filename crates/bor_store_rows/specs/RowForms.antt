@@ -2,7 +2,7 @@
 use Rattle.std.specs.Prelude.{◌≡◌, ◌<◌, ◌^◌, IfSome, true}
 use Rattle.bor_terms.specs.Day.{IsDay}
 use Rattle.bor_terms.specs.Texts.{is_agent_name, is_lodge_key, is_token}
-use Rattle.bods_read.specs.Forms.{IsFreeText, IsIdent, IsFormedIdentifier, IsFormedInterest, IsFormedStatement}
+use Rattle.bods_read.specs.Forms.{IsFreeText, IsIdent, IsShare, IsFormedIdentifier, IsFormedInterest, IsFormedStatement}
 use Rattle.bor_register.specs.declared.filing.Filing.{Filing}
 use Rattle.bor_store_rows.specs.declared.places.At.{At}
 use Rattle.bor_store_rows.specs.declared.rows.RegisterRow.{RegisterRow}
@@ -13,6 +13,8 @@ use Rattle.bor_store_rows.specs.declared.rows.Part.TheVariants.{Entity, Person, 
 use Rattle.bor_store_rows.specs.declared.rows.StatementRow.{StatementRow}
 use Rattle.bor_store_rows.specs.declared.rows.Placed.{Placed}
 use Rattle.bor_store_rows.specs.declared.rows.InterestRow.{InterestRow}
+use Rattle.bor_store_rows.specs.declared.rows.InterestLine.{InterestLine}
+use Rattle.bor_store_rows.specs.declared.rows.PeriodRow.{PeriodRow}
 use Rattle.bor_store_rows.specs.declared.rows.IdentifierRow.{IdentifierRow}
 use Rattle.bor_store_rows.specs.Stored.{IsCounted}
 
@@ -52,6 +54,17 @@ pub record IsFormedStatementRow (s : StatementRow) : Type 0 where
   pub declaration : IsIdent s.declaration
   pub rec : IsIdent s.rec
   pub part : IsFormedPart s.part
+
+pub record IsFormedInterestLine (i : InterestLine) : Type 0 where
+  pub at : IsFormedAt i.at
+  pub item : i.item < 2 ^ 32
+  pub share : IfSome i.share IsShare
+
+pub record IsFormedPeriodRow (p : PeriodRow) : Type 0 where
+  pub at : IsFormedAt p.at
+  pub item : p.item < 2 ^ 32
+  pub starts : IfSome p.starts IsDay
+  pub ends : IfSome p.ends IsDay
 
 pub record IsFormedInterestRow (i : InterestRow) : Type 0 where
   pub at : IsFormedAt i.at

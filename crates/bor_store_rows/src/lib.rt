@@ -1,9 +1,9 @@
-//! A register as rows of six tables, and back.
+//! A register as rows of seven tables, and back.
 //!
 //! `specs/Encoding` says what rows the tables have of a register, column by column. [`TableRow`] reads
-//! a row of SQL as the value whose columns it has. [`joined`] puts statements together from the rows of
-//! their tables, and [`members_of`] the members of a register from agents, filings and statements,
-//! without the files of the filings. Nothing here speaks to a store.
+//! a row of SQL as the value whose columns it has. [`with_periods`] puts interests together from the rows
+//! of both their tables, [`joined`] statements from theirs, and [`members_of`] the members of a register
+//! from agents, filings and statements, without the files of the filings. Nothing here speaks to a store.
 #![tactic(auto)]
 
 mod answers;
@@ -16,6 +16,7 @@ mod reader;
 mod rows;
 mod seen;
 mod split;
+mod timing;
 mod values;
 mod words;
 
@@ -26,6 +27,9 @@ pub use members::members_of;
 pub use places::At;
 pub use reader::{TableRow, read_rows};
 pub use rows::{
-    AgentRow, FilingRow, IdentifierRow, InterestRow, Part, Placed, RegisterRow, StatementRow,
+    AgentRow, FilingRow, IdentifierRow, InterestLine, InterestRow, Part, PeriodRow, Placed,
+    RegisterRow, StatementRow,
 };
 pub use seen::any_visible;
+pub use timing::with_periods;
+pub use values::value_at;

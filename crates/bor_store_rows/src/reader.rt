@@ -14,10 +14,12 @@ ghost use Rattle.bor_store_rows.specs.RowForms.{IsFormedAt};
 use crate::fault::RowFault;
 use crate::parts::part_of;
 use crate::places::At;
-use crate::rows::{AgentRow, FilingRow, IdentifierRow, InterestRow, RegisterRow, StatementRow};
-use crate::values::{blob, day, flag, number, percent, text, value_at};
+use crate::rows::{
+    AgentRow, FilingRow, IdentifierRow, InterestLine, PeriodRow, RegisterRow, StatementRow,
+};
+use crate::values::{blob, day, day_or_null, flag, number, percent, text, value_at};
 use crate::words::by_word;
-use bods_read::{Identifier, Interest, Status};
+use bods_read::{Identifier, Status};
 use bor_register::Filing;
 use bor_terms::Span;
 use sqlite::Row;
@@ -179,24 +181,41 @@ fn share_of(row: &Row) -> Result<Option<Span>, RowFault>
     }
 }
 
-/// An interest with where it stands.
-impl TableRow for InterestRow {
-    ghost use Rattle.bor_store_rows.specs.Encoding.{interest_columns};
-    ghost use Rattle.bor_store_rows.specs.RowForms.{IsFormedInterestRow};
+/// All of an interest but its days, with where it stands.
+impl TableRow for InterestLine {
+    ghost use Rattle.bor_store_rows.specs.Encoding.{interest_line_columns};
+    ghost use Rattle.bor_store_rows.specs.RowForms.{IsFormedInterestLine};
 
-    ghost columns = { interest_columns };
+    ghost columns = { interest_line_columns };
 
-    ghost is_formed = { IsFormedInterestRow };
+    ghost is_formed = { IsFormedInterestLine };
 
-    fn read(alloc: Global, row: &Row) -> Result<InterestRow, RowFault> {
-        Ok(InterestRow {
+    fn read(alloc: Global, row: &Row) -> Result<InterestLine, RowFault> {
+        Ok(InterestLine {
             at: place_at(alloc, row)?,
             item: number(value_at(row, 3))?,
-            interest: Interest {
-                kind: by_word(value_at(row, 4))?,
-                directness: by_word(value_at(row, 5))?,
-                share: share_of(row)?,
-            },
+            kind: by_word(value_at(row, 4))?,
+            directness: by_word(value_at(row, 5))?,
+            share: share_of(row)?,
+        })
+    }
+}
+
+/// The days of an interest, with where it stands.
+impl TableRow for PeriodRow {
+    ghost use Rattle.bor_store_rows.specs.Encoding.{period_columns};
+    ghost use Rattle.bor_store_rows.specs.RowForms.{IsFormedPeriodRow};
+
+    ghost columns = { period_columns };
+
+    ghost is_formed = { IsFormedPeriodRow };
+
+    fn read(alloc: Global, row: &Row) -> Result<PeriodRow, RowFault> {
+        Ok(PeriodRow {
+            at: place_at(alloc, row)?,
+            item: number(value_at(row, 3))?,
+            starts: day_or_null(value_at(row, 4))?,
+            ends: day_or_null(value_at(row, 5))?,
         })
     }
 }

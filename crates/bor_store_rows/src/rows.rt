@@ -5,9 +5,10 @@ ghost use Rattle.bor_store_rows.specs.Placed.{with_lists, details_with};
 
 use crate::places::At;
 use bods_read::{
-    Details, EntityKind, FreeText, Identifier, Interest, PersonKind, Statement, Status,
+    Details, Directness, EntityKind, FreeText, Identifier, Interest, InterestKind, PersonKind,
+    Statement, Status,
 };
-use bor_terms::{AgentName, Day, Ident, Listed, LodgeKey, Token};
+use bor_terms::{AgentName, Day, Ident, Listed, LodgeKey, Span, Token};
 
 /// The row of the table `register`.
 #[derive(Debug, Drop)]
@@ -72,7 +73,27 @@ pub struct StatementRow {
     pub part: Part,
 }
 
-/// A row of the table `interest`.
+/// A row of the table `interest`, which has all of an interest but its days.
+#[derive(Debug, Drop)]
+pub struct InterestLine {
+    pub at: At,
+    pub item: u32,
+    pub kind: InterestKind,
+    pub directness: Directness,
+    pub share: Option<Span>,
+}
+
+/// A row of the table `period`: the days of an interest that has at least one.
+#[derive(Debug, Drop)]
+pub struct PeriodRow {
+    pub at: At,
+    pub item: u32,
+    pub starts: Option<Day>,
+    pub ends: Option<Day>,
+}
+
+/// An interest with where it stands. It has a row of the table `interest`, and one of the table `period`
+/// where it has a day.
 #[derive(Debug, Drop)]
 pub struct InterestRow {
     pub at: At,

@@ -5,7 +5,7 @@ ghost use Rattle.sqlite.specs.declared.types.Value.TheVariants as sql;
 ghost use Rattle.sqlite_value.specs.Value.{owned};
 ghost use Rattle.sqlite_value.specs.Order.{column};
 ghost use Rattle.bor_terms.specs.Day.{IsDay};
-ghost use Rattle.bor_store_rows.specs.Encoding.{truth, or_null};
+ghost use Rattle.bor_store_rows.specs.Encoding.{day_or_null, truth, or_null};
 ghost use Rattle.bor_store_rows.specs.Reading.{IsRead};
 
 use crate::fault::RowFault;
@@ -15,7 +15,7 @@ use sqlite::types::ValueRef;
 use std::alloc::Global;
 
 /// The value in a column, counted from 0; null past the last one.
-pub(crate) fn value_at<'a>(row: &'a Row, at: usize) -> ValueRef<'a>
+pub fn value_at<'a>(row: &'a Row, at: usize) -> ValueRef<'a>
     ensures { owned result ≡ column row.now at }
 {
     match row.get_ref(at) {
@@ -99,6 +99,16 @@ pub(crate) fn day(value: ValueRef<'_>) -> Result<Day, RowFault>
     match Day::from_number(n) {
         Some(day) => Ok(day),
         None => Err(RowFault::Damaged),
+    }
+}
+
+/// A day, or null.
+pub(crate) fn day_or_null(value: ValueRef<'_>) -> Result<Option<Day>, RowFault>
+    ensures { (o : Option ℤ) → owned value.entry ≡ day_or_null o → IfSome o IsDay → result ≡ Ok o }
+{
+    match value {
+        ValueRef::Null => Ok(None),
+        _ => Ok(Some(day(value)?)),
     }
 }
 

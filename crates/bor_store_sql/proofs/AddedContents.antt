@@ -16,7 +16,7 @@ use Rattle.bor_store_rows.specs.Placed.{bare, placed_from, placed_by, placed, in
 use Rattle.bor_store_rows.specs.Encoding.{contents, agent_columns, filing_columns, filing_rows, statement_columns, interest_columns, identifier_columns}
 use Rattle.bor_store_sql.specs.Kept.{Keeps}
 use Rattle.bor_store_sql.specs.Shown.{Has}
-use Rattle.bor_store_sql.specs.Changing.{live_filing, with_agent_row, with_filing_row, with_placed, added, enrolled}
+use Rattle.bor_store_sql.specs.Changing.{days_of, live_filing, with_agent_row, with_filing_row, with_placed, added, enrolled}
 use Rattle.bor_store_sql.proofs.Tables.{in_order}
 use Rattle.bor_store_sql.proofs.Members.{with_one_more, with_new_agent, member_added}
 use Rattle.bor_store_sql.proofs.WithdrawnContents.{agents_with}
@@ -53,6 +53,7 @@ module _ (agent : List ℕ) (number : ℕ) (key : List ℕ) (due : ℤ) (bytes :
       let after = with_filings agent (filings_of agent r.members ++ new ∷ []) r.members in
       let interests_of : Placed → List Row = λ p. map interest_columns (interest_rows p) in
       let identifiers_of : Placed → List Row = λ p. map identifier_columns (identifier_rows p) in
+      let periods_of : Placed → List Row = λ p. flat_map days_of (interest_rows p) in
       let columns : Placed → Row = λ p. statement_columns (bare p) in
       subst (λ (x : Register). Has (contents x) db) same record {
         schema = h.schema;
@@ -65,6 +66,8 @@ module _ (agent : List ℕ) (number : ℕ) (key : List ℕ) (due : ℤ) (bytes :
             (subst (λ xs. Keeps xs (db.trees 11)) (sym (flat_map-append interests_of (placed r.members) all_new)) h.interests);
         identifiers = in_order (flat_map identifiers_of (placed r.members ++ all_new)) (flat_map identifiers_of (placed after)) (db.trees 13) (IsPermutation-flat_map identifiers_of _ _ perm)
             (subst (λ xs. Keeps xs (db.trees 13)) (sym (flat_map-append identifiers_of (placed r.members) all_new)) h.identifiers);
+        periods = in_order (flat_map periods_of (placed r.members ++ all_new)) (flat_map periods_of (placed after)) (db.trees 19) (IsPermutation-flat_map periods_of _ _ perm)
+            (subst (λ xs. Keeps xs (db.trees 19)) (sym (flat_map-append periods_of (placed r.members) all_new)) h.periods);
       }
 
 module _ (agent token : List ℕ) (r : Register) where
@@ -83,4 +86,5 @@ module _ (agent token : List ℕ) (r : Register) where
         statements = subst (λ ps. Keeps (map (λ p. statement_columns (bare p)) ps) (db.trees 8)) (sym same) h.statements;
         interests = subst (λ ps. Keeps (flat_map (λ p. map interest_columns (interest_rows p)) ps) (db.trees 11)) (sym same) h.interests;
         identifiers = subst (λ ps. Keeps (flat_map (λ p. map identifier_columns (identifier_rows p)) ps) (db.trees 13)) (sym same) h.identifiers;
+        periods = subst (λ ps. Keeps (flat_map (λ p. flat_map days_of (interest_rows p)) ps) (db.trees 19)) (sym same) h.periods;
       }

@@ -1,7 +1,7 @@
 -- What the INSERTs do.
 use Rattle.std.proofs.Common.{◌≡◌, ℕ, ℤ, pos, ◌/◌, cond, List, [], ◌∷◌, length, Option, option_map, None, Some, Ok, refl}
 use Rattle.sqlite.specs.declared.types.Value.TheVariants.{Null}
-use Rattle.sqlite.specs.Kind.TheVariants.{Text as Words}
+use Rattle.sqlite.specs.Kind.TheVariants.{Text as Words, Integer as Numbers}
 use Rattle.sqlite.specs.Cast.{cast, cast_all}
 use Rattle.sqlite.specs.Effect.{value_rows}
 use Rattle.sqlite.specs.State.{State, Executes}
@@ -9,20 +9,21 @@ use Rattle.bor_terms.specs.Span.{Range}
 use Rattle.bods_read.specs.Words.{status_word}
 use Rattle.bor_register.specs.declared.filing.AcceptedFiling.{AcceptedFiling}
 use Rattle.bor_register.specs.declared.member.Member.{Member}
-use Rattle.bor_store_texts.specs.Tables.{keep_schema, agent_at, filing_at, filing_table, statement_at, statement_table, interest_at, interest_table, identifier_at, identifier_table}
-use Rattle.bor_store_texts.specs.Changes.{insert_agent_text, insert_agent_terms, insert_filing_text, insert_filing_terms, insert_statement_text, insert_statement_terms, insert_interest_text, insert_interest_terms, insert_identifier_text, insert_identifier_terms}
-use Rattle.bor_store_texts.proofs.ChangeMeanings.{insert_agent_is, insert_filing_is, insert_statement_is, insert_interest_is, insert_identifier_is}
+use Rattle.bor_store_texts.specs.Tables.{keep_schema, agent_at, filing_at, filing_table, statement_at, statement_table, interest_at, interest_table, identifier_at, identifier_table, period_at, period_table}
+use Rattle.bor_store_texts.specs.Changes.{insert_agent_text, insert_agent_terms, insert_filing_text, insert_filing_terms, insert_statement_text, insert_statement_terms, insert_interest_text, insert_interest_terms, insert_identifier_text, insert_identifier_terms, insert_period_text, insert_period_terms}
+use Rattle.bor_store_texts.proofs.ChangeMeanings.{insert_agent_is, insert_filing_is, insert_statement_is, insert_interest_is, insert_identifier_is, insert_period_is}
 use Rattle.bor_store_rows.specs.declared.rows.Part.{Part}
 use Rattle.bor_store_rows.specs.declared.rows.Part.TheVariants as part
 use Rattle.bor_store_rows.specs.declared.rows.StatementRow.{StatementRow}
 use Rattle.bor_store_rows.specs.declared.rows.InterestRow.{InterestRow}
 use Rattle.bor_store_rows.specs.declared.rows.IdentifierRow.{IdentifierRow}
-use Rattle.bor_store_rows.specs.Encoding.{Contents, agent_columns, filing_columns, statement_columns, interest_columns, identifier_columns, or_null}
+use Rattle.bor_store_rows.specs.declared.rows.PeriodRow.{PeriodRow}
+use Rattle.bor_store_rows.specs.Encoding.{Contents, agent_columns, filing_columns, statement_columns, interest_columns, identifier_columns, period_columns, day_or_null, or_null}
 use Rattle.bor_store_sql.specs.Shown.{Has}
-use Rattle.bor_store_sql.specs.Changing.{live_filing, given_filing, with_agent_row, with_filing_row, with_statement_row, with_interest_rows, with_identifier_rows}
+use Rattle.bor_store_sql.specs.Changing.{live_filing, given_filing, with_agent_row, with_filing_row, with_statement_row, with_interest_rows, with_identifier_rows, with_period_row}
 use Rattle.bor_store_sql.proofs.Inserts.{inserts, cast_int, cast_null}
 use Rattle.bor_store_sql.proofs.Tables.{one_more}
-use Rattle.bor_store_sql.proofs.Others.{with_agents, with_filings, with_statements, with_interests, with_identifiers}
+use Rattle.bor_store_sql.proofs.Others.{with_agents, with_filings, with_statements, with_interests, with_identifiers, with_periods}
 
 -- a nullable text column keeps a text and a null
 text_kept : (o : Option (List ℕ)) → cast Words (or_null o) ≡ or_null o
@@ -66,6 +67,14 @@ identifier_kept i = rw (cast_int (pos i.at.filing), cast_int (pos i.at.place), c
 filing_kept : (agent : List ℕ) (f : AcceptedFiling) → cast_all filing_table.columns (filing_columns agent f) ≡ filing_columns agent f
 filing_kept agent f = rw (cast_int (pos f.number), cast_int f.due, cast_int (pos (cond f.withdrawn 1 0))) refl
 
+-- a nullable column of numbers keeps a day and a null
+day_kept : (o : Option ℤ) → cast Numbers (day_or_null o) ≡ day_or_null o
+day_kept None = cast_null
+day_kept (Some day) = cast_int day
+
+period_kept : (p : PeriodRow) → cast_all period_table.columns (period_columns p) ≡ period_columns p
+period_kept p = rw (cast_int (pos p.at.filing), cast_int (pos p.at.place), cast_int (pos p.item), day_kept p.starts, day_kept p.ends) refl
+
 module _ (old new : State) (count : ℕ) (t : Contents) (has : Has t old.now) where
   pub agent_put : (m : Member) → Executes insert_agent_text (agent_columns m) old new (Ok count) → Has (with_agent_row (agent_columns m) t) new.now
   agent_put m h =
@@ -97,3 +106,9 @@ module _ (old new : State) (count : ℕ) (t : Contents) (has : Has t old.now) wh
       let made = inserts insert_identifier_text (identifier_columns i) keep_schema 5 insert_identifier_terms 7 identifier_at (identifier_columns i) insert_identifier_is.0 insert_identifier_is.1 refl refl refl
       refl (identifier_kept i) (λ new. refl) old new count has.schema h in
       with_identifiers t old.now new.now made.schema_is has made.others _ (rw made.rows (one_more t.identifiers (old.now.trees 13) (identifier_columns i) has.identifiers))
+
+  pub period_put : (p : PeriodRow) → Executes insert_period_text (period_columns p) old new (Ok count) → Has (with_period_row p t) new.now
+  period_put p h =
+      let made = inserts insert_period_text (period_columns p) keep_schema 6 insert_period_terms 7 period_at (period_columns p) insert_period_is.0 insert_period_is.1 refl refl refl
+      refl (period_kept p) (λ new. refl) old new count has.schema h in
+      with_periods t old.now new.now made.schema_is has made.others _ (rw made.rows (one_more t.periods (old.now.trees 19) (period_columns p) has.periods))

@@ -7,7 +7,7 @@ use Rattle.sqlite.specs.State.{Executes, ExecutesInside, HasCleanDisk}
 use Rattle.sqlite.specs.Store.{Ghosts}
 use Rattle.sqlite.specs.declared.error.Error.{Error}
 use Rattle.bor_store_texts.specs.declared.tables.TheConstants.{AGENT_TABLE, FILING_TABLE, IDENTIFIER_INDEX, IDENTIFIER_TABLE, INTEREST_TABLE, LINE_INDEX, RECORD_INDEX, REGISTER_TABLE, STATEMENT_TABLE, SUBJECT_INDEX}
-use Rattle.bor_store_texts.specs.Tables.{agent_table, filing_at, filing_table, identifier_at, identifier_index, identifier_table, interest_table, keep_schema, line_index, no_schema, record_index, register_table, schema_1, schema_2, schema_3, schema_4, schema_5, schema_6, schema_7, schema_8, schema_9, statement_at, statement_table, subject_index}
+use Rattle.bor_store_texts.specs.Tables.{agent_table, filing_at, filing_table, first_schema, identifier_at, identifier_index, identifier_table, interest_table, line_index, no_schema, record_index, register_table, schema_1, schema_2, schema_3, schema_4, schema_5, schema_6, schema_7, schema_8, schema_9, statement_at, statement_table, subject_index}
 use Rattle.bor_store_texts.proofs.TableMeanings.{agent_is, filing_is, identifier_index_is, identifier_is, interest_is, line_index_is, record_index_is, register_is, statement_is, subject_index_is}
 use Rattle.bor_store_sql.specs.Blank.{IsBlank, Leads}
 use Rattle.bor_store_sql.specs.Ran.{Ran}
@@ -33,8 +33,8 @@ module _ {S : Type 0} (g : Ghosts S) (given : Row) (old new : Held S) (result : 
   pub interest_created : Ran INTEREST_TABLE.now given (state g old) (state g new) result → given ≡ [] → HasCleanDisk (state g new) → IsTrue old.in_transaction → Leads (IsBlank schema_4) (IsBlank schema_5) (state g old) (state g new) result
   interest_created ran is clean inside = leads_by (IsBlank schema_4) (IsBlank schema_5) INTEREST_TABLE.now ran is clean inside (λ count blank h. table_made INTEREST_TABLE.now schema_4 interest_table interest_is refl (state g old) (state g new) count blank h)
 
-  pub line_index_created : Ran LINE_INDEX.now given (state g old) (state g new) result → given ≡ [] → HasCleanDisk (state g new) → IsTrue old.in_transaction → Leads (IsBlank schema_9) (IsBlank keep_schema) (state g old) (state g new) result
-  line_index_created ran is clean inside = leads_by (IsBlank schema_9) (IsBlank keep_schema) LINE_INDEX.now ran is clean inside (λ count blank h. index_made LINE_INDEX.now schema_9 2 filing_at line_index line_index_is refl (state g old) (state g new) count blank h)
+  pub line_index_created : Ran LINE_INDEX.now given (state g old) (state g new) result → given ≡ [] → HasCleanDisk (state g new) → IsTrue old.in_transaction → Leads (IsBlank schema_9) (IsBlank first_schema) (state g old) (state g new) result
+  line_index_created ran is clean inside = leads_by (IsBlank schema_9) (IsBlank first_schema) LINE_INDEX.now ran is clean inside (λ count blank h. index_made LINE_INDEX.now schema_9 2 filing_at line_index line_index_is refl (state g old) (state g new) count blank h)
 
   pub record_index_created : Ran RECORD_INDEX.now given (state g old) (state g new) result → given ≡ [] → HasCleanDisk (state g new) → IsTrue old.in_transaction → Leads (IsBlank schema_6) (IsBlank schema_7) (state g old) (state g new) result
   record_index_created ran is clean inside = leads_by (IsBlank schema_6) (IsBlank schema_7) RECORD_INDEX.now ran is clean inside (λ count blank h. index_made RECORD_INDEX.now schema_6 3 statement_at record_index record_index_is refl (state g old) (state g new) count blank h)

@@ -24,14 +24,15 @@ use Rattle.bor_terms.specs.Texts.{is_token}
 use Rattle.bor_register.proofs.Forms.{formed-empty_register}
 use Rattle.bor_register.specs.Register.{Register, empty_register}
 use Rattle.bor_store_texts.specs.Meanings.{MakesTable, MakesIndex}
-use Rattle.bor_store_texts.specs.Tables.{keep_schema, register_at, register_table}
+use Rattle.bor_store_texts.specs.Tables.{first_schema, keep_schema, register_at, register_table}
 use Rattle.bor_store_texts.specs.Changes.{insert_register_text, insert_register_terms}
 use Rattle.bor_store_texts.proofs.ChangeMeanings.{insert_register_is}
-use Rattle.bor_store_rows.specs.Encoding.{contents, register_columns}
+use Rattle.bor_store_rows.specs.Encoding.{contents, register_columns, tables_version}
 use Rattle.bor_store_rows.specs.Stored.{IsStored}
 use Rattle.bor_store_sql.specs.Blank.{IsBlank, Leads, no_contents}
 use Rattle.bor_store_sql.specs.Kept.{Keeps}
-use Rattle.bor_store_sql.specs.Shown.{Has}
+use Rattle.bor_store_sql.specs.Moving.{MakesPeriod, Moves}
+use Rattle.bor_store_sql.specs.Shown.{Has, HasFirst}
 use Rattle.bor_store_sql.proofs.Inserts.{inserts, went, same_value, cast_int}
 use Rattle.bor_store_sql.proofs.Others.{with_register}
 use Rattle.bor_store_sql.proofs.Stepping.{how_ended, ended_open, ended_committed}
@@ -41,24 +42,35 @@ use Rattle.bor_store_sql.proofs.Tables.{one_more}
 still_empty : (tables : List Table) (old new : Trees) → AllByRecursion (λ t. old t.tree ≡ []) tables → KeepsRows tables old new → AllByRecursion (λ t. new t.tree ≡ []) tables
 still_empty tables old new empty kept = all_both (λ t. new t.tree ≡ old t.tree) (λ t. old t.tree ≡ []) (λ t. new t.tree ≡ []) (λ t same none. same ∙ none) tables kept empty
 
+-- the table is made without rows, and those that were there keep theirs
+pub record Added (schema : Schema) (table : Table) (old new : Database) : Type 0 where
+  pub schema_is : new.schema ≡ created schema table
+  pub empty : new.trees (next_tree schema) ≡ []
+  pub kept : KeepsRows schema.tables old.trees new.trees
+
 module _ (sql : List ℕ) (schema : Schema) (table : Table) (is : MakesTable schema sql table) (uncounted : lacks_sequence (created schema table) ≡ false) where
-  pub table_made : (old new : State) (count : ℕ) → IsBlank schema old.now → Executes sql [] old new (Ok count) → IsBlank (created schema table) new.now
-  table_made old new count blank h =
-      let w = subst (λ t. Writes old new None CreateTable t [] count) is.1 (runs_as sql [] old new schema blank.is CreateTable is.0 is.2 count h) in
+  pub table_added : (old new : State) (count : ℕ) → old.now.schema ≡ schema → Executes sql [] old new (Ok count) → Added schema table old.now new.now
+  table_added old new count has h =
+      let w = subst (λ t. Writes old new None CreateTable t [] count) is.1 (runs_as sql [] old new schema has CreateTable is.0 is.2 count h) in
       let all = went w.changed in
       let first = went all.1 in
       let made = first.1 in
       let both : Ok made.table ≡ Ok table = sym made.defined ∙ is.3 in
       let same : made.table ≡ table = cc in
-      let schema_is : first.0.schema ≡ created schema table = made.is ∙ ap (λ s. created s made.table) blank.is ∙ ap (created schema) same in
+      let schema_is : first.0.schema ≡ created schema table = made.is ∙ ap (λ s. created s made.table) has ∙ ap (created schema) same in
       let lacks : lacks_sequence first.0.schema ≡ false = ap lacks_sequence schema_is ∙ uncounted in
       let now : new.now ≡ first.0 = ap (λ (p : Tally × Database). p.1) (same_value all.2) ∙ same_value (rw lacks at first.2) in
-      let none : first.0.trees (next_tree schema) ≡ [] = subst (λ s. first.0.trees (next_tree s) ≡ []) blank.is made.empty in
-      let kept : KeepsRows schema.tables old.now.trees first.0.trees = subst (λ (s : Schema). KeepsRows s.tables old.now.trees first.0.trees) blank.is made.others in
-      subst (IsBlank (created schema table)) (sym now) (record {
-        is = schema_is;
-        empty = all-append (λ t. first.0.trees t.tree ≡ []) schema.tables (record table { tree = next_tree schema } ∷ []) (still_empty schema.tables old.now.trees first.0.trees blank.empty kept) (none, tt);
-      })
+      let none : first.0.trees (next_tree schema) ≡ [] = subst (λ s. first.0.trees (next_tree s) ≡ []) has made.empty in
+      let kept : KeepsRows schema.tables old.now.trees first.0.trees = subst (λ (s : Schema). KeepsRows s.tables old.now.trees first.0.trees) has made.others in
+      subst (Added schema table old.now) (sym now) (record { schema_is = schema_is; empty = none; kept = kept })
+
+  pub table_made : (old new : State) (count : ℕ) → IsBlank schema old.now → Executes sql [] old new (Ok count) → IsBlank (created schema table) new.now
+  table_made old new count blank h =
+      let it = table_added old new count blank.is h in
+      record {
+        is = it.schema_is;
+        empty = all-append (λ t. new.now.trees t.tree ≡ []) schema.tables (record table { tree = next_tree schema } ∷ []) (still_empty schema.tables old.now.trees new.now.trees blank.empty it.kept) (it.empty, tt);
+      }
 
 module _ (sql : List ℕ) (schema : Schema) (at : ℕ) (table : Table) (index : Index) (is : MakesIndex schema at table sql index) (found : slice_get schema.tables at ≡ Some table) where
   pub index_made : (old new : State) (count : ℕ) → IsBlank schema old.now → Executes sql [] old new (Ok count) → IsBlank (indexed schema table index) new.now
@@ -111,10 +123,10 @@ finished first last old new x one = record { was_open = one.was_open; committed 
 
 -- ---- the register's row
 
-none_kept : (rows : List Row) → rows ≡ [] → Keeps [] rows
+pub none_kept : (rows : List Row) → rows ≡ [] → Keeps [] rows
 none_kept rows none = record { stored = []; under = none; same = IsPermutation-refl [] }
 
-blank_has : (db : Database) → IsBlank keep_schema db → Has no_contents db
+blank_has : (db : Database) → IsBlank first_schema db → HasFirst no_contents db
 blank_has db blank = record {
   schema = blank.is;
   register = none_kept _ blank.empty.0;
@@ -125,20 +137,28 @@ blank_has db blank = record {
   identifiers = none_kept _ blank.empty.1.1.1.1.1.0;
 }
 
+-- the table period, beside six without rows
+pub period_leads : {X : Type 0} (old new : State) (x : X) → Moves {E = Error} MakesPeriod old new (Ok x) → Leads {E = Error} (IsBlank first_schema) (Has no_contents) old new (Ok x)
+period_leads old new x one = record {
+  was_open = one.was_open;
+  committed = one.committed;
+  goes_on = one.goes_on;
+  made = λ blank. one.made no_contents (blank_has old.now blank);
+}
+
 -- what the INSERT of the register's row is given
 abbrev pub given_register : ℤ → List ℕ → Row
-given_register day registrar = Int day ∷ Text registrar ∷ []
+given_register day registrar = Int tables_version ∷ Int day ∷ Text registrar ∷ []
 
 module _ (registrar : List ℕ) (day : ℤ) where
   abbrev pub first_register : Register
   first_register = empty_register registrar day
 
   row_kept : cast_all register_table.columns (register_columns first_register) ≡ register_columns first_register
-  row_kept = rw (cast_int (pos 1), cast_int day) refl
+  row_kept = rw (cast_int (pos 1), cast_int tables_version, cast_int day) refl
 
-  pub register_put : (old new : State) (count : ℕ) → IsBlank keep_schema old.now → Executes insert_register_text (given_register day registrar) old new (Ok count) → Has (contents first_register) new.now
-  register_put old new count blank h =
-      let has = blank_has old.now blank in
+  pub register_put : (old new : State) (count : ℕ) → Has no_contents old.now → Executes insert_register_text (given_register day registrar) old new (Ok count) → Has (contents first_register) new.now
+  register_put old new count has h =
       let x = register_columns first_register in
       let made = inserts insert_register_text (given_register day registrar) keep_schema 0 insert_register_terms 5 register_at x insert_register_is.0 insert_register_is.1 refl refl refl refl row_kept (λ new. refl) old new count has.schema h in
       with_register no_contents old.now new.now made.schema_is has made.others _ (rw made.rows (one_more [] (old.now.trees 0) x has.register))

@@ -17,7 +17,7 @@ use Rattle.bor_store_texts.specs.Changes.{equals_number, update_day_text, update
 use Rattle.bor_store_texts.proofs.ChangeMeanings.{update_day_is}
 use Rattle.bor_terms.specs.Day.{IsDay}
 use Rattle.bor_store_rows.specs.Stored.{IsStored}
-use Rattle.bor_store_rows.specs.Encoding.{Contents, contents, register_columns}
+use Rattle.bor_store_rows.specs.Encoding.{Contents, contents, register_columns, tables_version}
 use Rattle.bor_store_sql.specs.Kept.{Keeps}
 use Rattle.bor_store_sql.specs.Shown.{Has}
 use Rattle.bor_store_sql.specs.Changing.{is_the_one, dated, with_day, IsOneRegister}
@@ -69,7 +69,7 @@ module _ (day : ℤ) where
   is_it r = and-true _ ∙ int_test (pos 1) (pos 1)
 
   row_is : (r : Register) → cond (is_the_one day (register_columns r)) (dated day (register_columns r)) (register_columns r) ≡ register_columns (record r { day = day })
-  row_is r = rw (is_it r) (rw (cast_int (pos 1), cast_int day) refl)
+  row_is r = rw (is_it r) (rw (cast_int (pos 1), cast_int tables_version, cast_int day) refl)
 
   pub dated_has : (r : Register) (db : Database) → Has (with_day day (contents r)) db → Has (contents (record r { day = day })) db
   dated_has r db h = record {
@@ -80,6 +80,7 @@ module _ (day : ℤ) where
     statements = h.statements;
     interests = h.interests;
     identifiers = h.identifiers;
+    periods = h.periods;
   }
 
   pub dated_stored : (r : Register) → IsDay day → IsStored r → IsStored (record r { day = day })

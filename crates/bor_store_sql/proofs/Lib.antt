@@ -29,3 +29,13 @@ pub mod Creating
 pub mod Created
 pub mod WholeReads
 pub mod KeyedReads
+pub mod Moves
+pub mod Beside
+pub mod Versioning
+pub mod PeriodReads
+pub mod BothReads
+pub mod BothKeyed
+pub mod Pairs
+pub mod Told
+pub mod Alone
+pub mod Fits

@@ -1,4 +1,4 @@
--- One of the six tables is changed, and the others are as they were.
+-- One of the seven tables is changed, and the others are as they were.
 use Rattle.std.proofs.Common.{◌≡◌, ◌≢◌, ℕ, Bool, true, false, not, List, [], ◌∷◌, ◌==◌, ◌&&◌, true≢false, refl, sym, ap, subst, ◌∙◌}
 use Rattle.std.specs.List.{AllByRecursion, list_all}
 use Rattle.sqlite.specs.Order.{Row}
@@ -43,6 +43,7 @@ module _ (t : Contents) (old new : Database) (schema : new.schema ≡ keep_schem
     statements = stays 0 old new others 8 refl refl t.statements has.statements;
     interests = stays 0 old new others 11 refl refl t.interests has.interests;
     identifiers = stays 0 old new others 13 refl refl t.identifiers has.identifiers;
+    periods = stays 0 old new others 19 refl refl t.periods has.periods;
   }
 
   pub with_agents : AreOthersKept 2 old new → (xs : List Row) → Keeps xs (new.trees 2) → Has (record t { agents = xs }) new
@@ -54,6 +55,7 @@ module _ (t : Contents) (old new : Database) (schema : new.schema ≡ keep_schem
     statements = stays 2 old new others 8 refl refl t.statements has.statements;
     interests = stays 2 old new others 11 refl refl t.interests has.interests;
     identifiers = stays 2 old new others 13 refl refl t.identifiers has.identifiers;
+    periods = stays 2 old new others 19 refl refl t.periods has.periods;
   }
 
   pub with_filings : AreOthersKept 5 old new → (xs : List Row) → Keeps xs (new.trees 5) → Has (record t { filings = xs }) new
@@ -65,6 +67,7 @@ module _ (t : Contents) (old new : Database) (schema : new.schema ≡ keep_schem
     statements = stays 5 old new others 8 refl refl t.statements has.statements;
     interests = stays 5 old new others 11 refl refl t.interests has.interests;
     identifiers = stays 5 old new others 13 refl refl t.identifiers has.identifiers;
+    periods = stays 5 old new others 19 refl refl t.periods has.periods;
   }
 
   pub with_statements : AreOthersKept 8 old new → (xs : List Row) → Keeps xs (new.trees 8) → Has (record t { statements = xs }) new
@@ -76,6 +79,7 @@ module _ (t : Contents) (old new : Database) (schema : new.schema ≡ keep_schem
     statements = rows;
     interests = stays 8 old new others 11 refl refl t.interests has.interests;
     identifiers = stays 8 old new others 13 refl refl t.identifiers has.identifiers;
+    periods = stays 8 old new others 19 refl refl t.periods has.periods;
   }
 
   pub with_interests : AreOthersKept 11 old new → (xs : List Row) → Keeps xs (new.trees 11) → Has (record t { interests = xs }) new
@@ -87,6 +91,7 @@ module _ (t : Contents) (old new : Database) (schema : new.schema ≡ keep_schem
     statements = stays 11 old new others 8 refl refl t.statements has.statements;
     interests = rows;
     identifiers = stays 11 old new others 13 refl refl t.identifiers has.identifiers;
+    periods = stays 11 old new others 19 refl refl t.periods has.periods;
   }
 
   pub with_identifiers : AreOthersKept 13 old new → (xs : List Row) → Keeps xs (new.trees 13) → Has (record t { identifiers = xs }) new
@@ -98,4 +103,17 @@ module _ (t : Contents) (old new : Database) (schema : new.schema ≡ keep_schem
     statements = stays 13 old new others 8 refl refl t.statements has.statements;
     interests = stays 13 old new others 11 refl refl t.interests has.interests;
     identifiers = rows;
+    periods = stays 13 old new others 19 refl refl t.periods has.periods;
+  }
+
+  pub with_periods : AreOthersKept 19 old new → (xs : List Row) → Keeps xs (new.trees 19) → Has (record t { periods = xs }) new
+  with_periods others xs rows = record {
+    schema = schema;
+    register = stays 19 old new others 0 refl refl t.register has.register;
+    agents = stays 19 old new others 2 refl refl t.agents has.agents;
+    filings = stays 19 old new others 5 refl refl t.filings has.filings;
+    statements = stays 19 old new others 8 refl refl t.statements has.statements;
+    interests = stays 19 old new others 11 refl refl t.interests has.interests;
+    identifiers = stays 19 old new others 13 refl refl t.identifiers has.identifiers;
+    periods = rows;
   }

@@ -51,7 +51,7 @@ use Rattle.bor_store_sql.proofs.StoredMembers.{numbered_of}
 
 -- ---- tests of columns
 
-number_test : (m n : ℕ) → is_eq (int_cmp (pos m) (pos n)) ≡ (m == n)
+pub number_test : (m n : ℕ) → is_eq (int_cmp (pos m) (pos n)) ≡ (m == n)
 number_test m n = grind (arith, ints, nat_tests)
 
 as_truth : (b : Bool) → from_truth (Some b) ≡ truth b
@@ -83,7 +83,7 @@ module _ (agent : List ℕ) (ms : List Member) (names : IsOrdered ms) where
   own_owned : filter (λ (o : Owned). is_same o.agent agent) (owned ms) ≡ map (owned_filing agent) (filings_of agent ms)
   own_owned = own_alone (λ name fs. map (owned_filing name) fs) owned refl (λ m rest. refl) (λ (o : Owned). o.agent) owners (λ name. refl) agent ms names
 
-  own_filings : (q : AcceptedFiling → Bool) (out : Owned → Row) → map out (filter (λ (o : Owned). is_same o.agent agent && q o.filing) (owned ms)) ≡ map (λ f. out (owned_filing agent f)) (filter q (filings_of agent ms))
+  pub own_filings : (q : AcceptedFiling → Bool) (out : Owned → Row) → map out (filter (λ (o : Owned). is_same o.agent agent && q o.filing) (owned ms)) ≡ map (λ f. out (owned_filing agent f)) (filter q (filings_of agent ms))
   own_filings q out =
       ap (map out) (filter_both (λ (o : Owned). is_same o.agent agent) (λ (o : Owned). q o.filing) (owned ms) ∙ ap (filter (λ (o : Owned). q o.filing)) own_owned ∙ filter-map (λ (o : Owned). q o.filing) (owned_filing agent) (filings_of agent ms))
       ∙ map-map out (owned_filing agent) (filter q (filings_of agent ms))
@@ -91,14 +91,14 @@ module _ (agent : List ℕ) (ms : List Member) (names : IsOrdered ms) where
   own_placed : filter (λ (p : Placed). is_same p.at.agent agent) (placed ms) ≡ placed_by agent (filings_of agent ms)
   own_placed = own_alone placed_by placed refl (λ m rest. refl) (λ (p : Placed). p.at.agent) owned_by (λ name. refl) agent ms names
 
-  own_statements : (q : Placed → Bool) → filter (λ (p : Placed). is_same p.at.agent agent && q p) (placed ms) ≡ filter q (placed_by agent (filings_of agent ms))
+  pub own_statements : (q : Placed → Bool) → filter (λ (p : Placed). is_same p.at.agent agent && q p) (placed ms) ≡ filter q (placed_by agent (filings_of agent ms))
   own_statements q = filter_both (λ (p : Placed). is_same p.at.agent agent) q (placed ms) ∙ ap (filter q) own_placed
 
 lines_of : (name : List ℕ) (fs : List AcceptedFiling) → map (λ (o : Owned). line_columns (filing_row o.agent o.filing)) (map (owned_filing name) fs) ≡ map line_columns (map (filing_row name) fs)
 lines_of name [] = refl
 lines_of name (f ∷ fs) = ap (λ l. line_columns (filing_row name f) ∷ l) (lines_of name fs)
 
-lines_are : (ms : List Member) → map (λ (o : Owned). line_columns (filing_row o.agent o.filing)) (owned ms) ≡ map line_columns (filing_lines ms)
+pub lines_are : (ms : List Member) → map (λ (o : Owned). line_columns (filing_row o.agent o.filing)) (owned ms) ≡ map line_columns (filing_lines ms)
 lines_are [] = refl
 lines_are (m ∷ ms) =
     map-append (λ (o : Owned). line_columns (filing_row o.agent o.filing)) (map (owned_filing m.name) m.filings) (owned ms) ∙ ap₂ (λ x y. x ++ y) (lines_of m.name m.filings) (lines_are ms)
@@ -111,7 +111,7 @@ module _ {X : Type 0} (at_of : X → At) (t : At → Bool) (rows : Placed → Li
   passed at b e [] h = tt
   passed at b e (x ∷ xs) h = (ap t h.0 ∙ e, passed at b e xs h.1)
 
-  rows_at : (ps : List Placed) → filter (λ x. t (at_of x)) (flat_map rows ps) ≡ flat_map rows (filter (λ (p : Placed). t p.at) ps)
+  pub rows_at : (ps : List Placed) → filter (λ x. t (at_of x)) (flat_map rows ps) ≡ flat_map rows (filter (λ (p : Placed). t p.at) ps)
   rows_at [] = refl
   rows_at (p ∷ ps) = filter-append (λ x. t (at_of x)) (rows p) (flat_map rows ps) ∙ go (t p.at) refl (rows_at ps)
     where
@@ -120,11 +120,11 @@ module _ {X : Type 0} (at_of : X → At) (t : At → Bool) (rows : Placed → Li
       go true e more = rw e (ap₂ (λ x y. x ++ y) (filter_all (λ x. t (at_of x)) (rows p) (passed p.at true e (rows p) (own p))) more)
       go false e more = rw e (ap₂ (λ x y. x ++ y) (filter_none (λ x. t (at_of x)) (rows p) (passed p.at false e (rows p) (own p))) more)
 
-interests_stand : (at : At) (n : ℕ) (is : List Interest) → AllByRecursion (λ (i : InterestRow). i.at ≡ at) (interests_from at n is)
+pub interests_stand : (at : At) (n : ℕ) (is : List Interest) → AllByRecursion (λ (i : InterestRow). i.at ≡ at) (interests_from at n is)
 interests_stand at n [] = tt
 interests_stand at n (i ∷ is) = (refl, interests_stand at (n + 1) is)
 
-identifiers_stand : (at : At) (n : ℕ) (is : List Identifier) → AllByRecursion (λ (i : IdentifierRow). i.at ≡ at) (identifiers_from at n is)
+pub identifiers_stand : (at : At) (n : ℕ) (is : List Identifier) → AllByRecursion (λ (i : IdentifierRow). i.at ≡ at) (identifiers_from at n is)
 identifiers_stand at n [] = tt
 identifiers_stand at n (i ∷ is) = (refl, identifiers_stand at (n + 1) is)
 

@@ -58,6 +58,24 @@ then_last fits f g old mid new a (Err e) one two = record {
   made = tt;
 }
 
+-- what is made in other words, whatever it answered
+pub in_other_words : {X : Type 0} (f h : Contents → Contents) (old new : State) (x : X) → Steps {E = Error} Any f old new (Ok x) → ((t : Contents) → f t ≡ h t) → Steps {X = Unit {0}} {E = Error} Any h old new (Ok (tt {0}))
+in_other_words f h old new x one same = record {
+  was_open = one.was_open;
+  committed = one.committed;
+  goes_on = one.goes_on;
+  made = λ t has fit. subst (λ x. Has x new.now) (same t) (one.made t has fit);
+}
+
+-- nothing is made
+pub stays_so : (h : Contents → Contents) (old : State) → IsTrue old.in_transaction → ((t : Contents) → t ≡ h t) → Steps {X = Unit {0}} {E = Error} Any h old old (Ok (tt {0}))
+stays_so h old inside same = record {
+  was_open = λ up. up;
+  committed = λ up. λ i. old.committed;
+  goes_on = inside;
+  made = λ t has fit. subst (λ x. Has x old.now) (same t) has;
+}
+
 -- a transaction that is made and committed
 pub committed_shows : {X Y : Type 0} {y : Y} (fits : Contents → Type 0) (change : Contents → Contents) (r after : Register) (old start mid new : State) (result : Result X Error)
     → (IsTrue start.is_open → start.now ≡ old.committed) → Steps {E = Error} fits change start mid (Ok y)

@@ -12,19 +12,19 @@ use Rattle.sqlite_rules.specs.Action.{Work, works, work_by, pairs, deed_for}
 use Rattle.sqlite_schema.specs.Rules.{parent_key}
 use Rattle.sqlite_rules.specs.Cast.{cast_row}
 use Rattle.sqlite_schema.specs.declared.schema.Keys.TheVariants.{Enforced}
-use Rattle.bor_store_texts.specs.Tables.{keep_schema, filing_at, statement_at, interest_at, identifier_at}
+use Rattle.bor_store_texts.specs.Tables.{keep_schema, filing_at, statement_at, interest_at, identifier_at, period_at}
 use Rattle.bor_store_texts.specs.Queries.{equals}
-use Rattle.bor_store_texts.specs.Changes.{mark_withdrawn_text, mark_withdrawn_program, delete_identifiers_text, delete_identifiers_program, delete_interests_text, delete_interests_program, delete_statements_text, delete_statements_program}
-use Rattle.bor_store_texts.proofs.ChangeMeanings.{mark_withdrawn_is, delete_identifiers_is, delete_interests_is, delete_statements_is}
+use Rattle.bor_store_texts.specs.Changes.{mark_withdrawn_text, mark_withdrawn_program, delete_identifiers_text, delete_identifiers_program, delete_interests_text, delete_interests_program, delete_periods_text, delete_periods_program, delete_statements_text, delete_statements_program}
+use Rattle.bor_store_texts.proofs.ChangeMeanings.{mark_withdrawn_is, delete_identifiers_is, delete_interests_is, delete_periods_is, delete_statements_is}
 use Rattle.bor_store_rows.specs.Encoding.{Contents}
 use Rattle.bor_store_sql.specs.Ran.{Ran}
 use Rattle.bor_store_sql.specs.Shown.{Has, Steps}
-use Rattle.bor_store_sql.specs.Changing.{Any, is_of_filing, marked, with_mark, IsOnce, without_identifiers, without_interests, without_statements}
+use Rattle.bor_store_sql.specs.Changing.{Any, is_of_filing, marked, with_mark, IsOnce, without_identifiers, without_interests, without_periods, without_statements}
 use Rattle.bor_store_sql.proofs.Inserts.{cast_int}
 use Rattle.bor_store_sql.proofs.Stepping.{one_step}
 use Rattle.bor_store_sql.proofs.Writes.{deletes, updates}
 use Rattle.bor_store_sql.proofs.Tables.{deleted, updated}
-use Rattle.bor_store_sql.proofs.Others.{with_filings, with_statements, with_interests, with_identifiers}
+use Rattle.bor_store_sql.proofs.Others.{with_filings, with_statements, with_interests, with_identifiers, with_periods}
 
 -- no key acts where a filing's row changes
 abbrev works_by : List Row → List Row → Bool → List Work
@@ -61,6 +61,13 @@ module _ (agent : List ℕ) (number : ℕ) (old new : State) (count : ℕ) (t : 
       with_identifiers t old.now new.now w.schema_is has w.others _
       (deleted 13 refl filing_tests params (is_of_filing agent number) (λ id x. refl) old.now.trees t.identifiers done.0 (new.now.trees 13) has.identifiers (done.1.answer Null) w.rows)
 
+  pub periods_deleted : Executes delete_periods_text params old new (Ok count) → Has (without_periods agent number t) new.now
+  periods_deleted h =
+      let done = deletes delete_periods_text params keep_schema 6 delete_periods_program period_at delete_periods_is.0 delete_periods_is.1 refl (λ olds. refl) old new count has.schema h in
+      let w = done.2 in
+      with_periods t old.now new.now w.schema_is has w.others _
+      (deleted 19 refl filing_tests params (is_of_filing agent number) (λ id x. refl) old.now.trees t.periods done.0 (new.now.trees 19) has.periods (done.1.answer Null) w.rows)
+
   pub interests_deleted : Executes delete_interests_text params old new (Ok count) → Has (without_interests agent number t) new.now
   interests_deleted h =
       let done = deletes delete_interests_text params keep_schema 4 delete_interests_program interest_at delete_interests_is.0 delete_interests_is.1 refl (λ olds. refl) old new count has.schema h in
@@ -89,6 +96,10 @@ module _ {S : Type 0} (g : Ghosts S) (agent : List ℕ) (number : ℕ) (old new 
   pub identifiers_gone : Ran delete_identifiers_text (Text agent ∷ Int (pos number) ∷ []) (state g old) (state g new) result → HasCleanDisk (state g new) → IsTrue old.in_transaction → Steps Any (without_identifiers agent number) (state g old) (state g new) result
   identifiers_gone ran clean inside =
       one_step Any (without_identifiers agent number) delete_identifiers_text (filing_params agent number) (state g old) (state g new) result (ran.inside clean inside) (λ count t h has fit. identifiers_deleted agent number (state g old) (state g new) count t has h)
+
+  pub periods_gone : Ran delete_periods_text (Text agent ∷ Int (pos number) ∷ []) (state g old) (state g new) result → HasCleanDisk (state g new) → IsTrue old.in_transaction → Steps Any (without_periods agent number) (state g old) (state g new) result
+  periods_gone ran clean inside =
+      one_step Any (without_periods agent number) delete_periods_text (filing_params agent number) (state g old) (state g new) result (ran.inside clean inside) (λ count t h has fit. periods_deleted agent number (state g old) (state g new) count t has h)
 
   pub interests_gone : Ran delete_interests_text (Text agent ∷ Int (pos number) ∷ []) (state g old) (state g new) result → HasCleanDisk (state g new) → IsTrue old.in_transaction → Steps Any (without_interests agent number) (state g old) (state g new) result
   interests_gone ran clean inside =

@@ -1,5 +1,5 @@
 -- The tables of a register in which a filing is withdrawn.
-use Rattle.std.proofs.Common.{◌≡◌, ℕ, pos, ◌+◌, ◌<◌, ◌≤◌, ◌==◌, ◌&&◌, Bool, true, false, not, cond, List, [], ◌∷◌, ◌++◌, map, filter, length, drop, append-nil, refl, sym, ap, ap₂, subst, ◌∙◌, arith}
+use Rattle.std.proofs.Common.{◌≡◌, ℕ, ℤ, Option, Some, None, pos, ◌+◌, ◌<◌, ◌≤◌, ◌==◌, ◌&&◌, Bool, true, false, not, cond, List, [], ◌∷◌, ◌++◌, map, filter, length, drop, append-nil, refl, sym, ap, ap₂, subst, ◌∙◌, arith}
 use Rattle.std.specs.Prelude.{if◌then◌else◌}
 use Rattle.std.proofs.lemmas.List.Elements.{All-nil, All-cons, All-head, All-tail}
 use Rattle.std.specs.List.{AllByRecursion, flat_map}
@@ -24,11 +24,12 @@ use Rattle.bor_store_rows.specs.declared.rows.Placed.{Placed}
 use Rattle.bods_read.specs.declared.details.Identifier.{Identifier}
 use Rattle.bods_read.specs.declared.interest.Interest.{Interest}
 use Rattle.bor_store_rows.specs.declared.places.At.{At}
-use Rattle.bor_store_rows.specs.Placed.{bare, placed_from, placed_by, placed, interest_rows, identifier_rows, interests_from, identifiers_from, interests_of, identifiers_of}
-use Rattle.bor_store_rows.specs.Encoding.{contents, agent_columns, filing_columns, filing_rows, statement_columns, interest_columns, identifier_columns}
+use Rattle.bor_store_rows.specs.declared.rows.InterestRow.{InterestRow}
+use Rattle.bor_store_rows.specs.Placed.{bare, placed_from, placed_by, placed, interest_rows, identifier_rows, interests_from, identifiers_from, interests_of, identifiers_of, if_said, period_of}
+use Rattle.bor_store_rows.specs.Encoding.{contents, agent_columns, filing_columns, filing_rows, statement_columns, interest_columns, identifier_columns, period_columns}
 use Rattle.bor_register.proofs.Forms.{formed-with_filings, formed-with_withdrawn, formed-filings_of}
 use Rattle.bor_store_rows.specs.Stored.{AreNumbered, AllNumbered, IsCounted, AreCounted, IsStored}
-use Rattle.bor_store_sql.specs.Changing.{is_of_filing, marked, others, withdrawn_in, withdrawn}
+use Rattle.bor_store_sql.specs.Changing.{days_of, is_of_filing, marked, others, withdrawn_in, withdrawn}
 use Rattle.bor_store_sql.proofs.Inserts.{cast_int}
 use Rattle.bor_store_sql.proofs.Members.{apart_names}
 use Rattle.bor_store_sql.proofs.StoredMembers.{AllCounted, numbered_with, numbered_of, ordered_with, counted_of, counted_with}
@@ -179,6 +180,28 @@ module _ (agent : List ℕ) (number : ℕ) where
   identifiers_whole at item (i ∷ is) true e = rw (begins agent number at.agent at.filing (drop 2 (identifier_columns (record { at = at; item = item; identifier = i }))) ∙ e) (identifiers_whole at (item + 1) is true e)
   identifiers_whole at item (i ∷ is) false e = rw (begins agent number at.agent at.filing (drop 2 (identifier_columns (record { at = at; item = item; identifier = i }))) ∙ e) (ap (λ l. identifier_columns (record { at = at; item = item; identifier = i }) ∷ l) (identifiers_whole at (item + 1) is false e))
 
+  period_gone : (i : InterestRow) (starts ends : Option ℤ) (b : Bool) → (is_same i.at.agent agent && i.at.filing == number) ≡ b
+      → others agent number (map period_columns (if_said (period_of i) starts ends)) ≡ cond b [] (map period_columns (if_said (period_of i) starts ends))
+  period_gone i None None true e = refl
+  period_gone i None None false e = refl
+  period_gone i None (Some end) true e = rw (begins agent number i.at.agent i.at.filing (drop 2 (period_columns (period_of i))) ∙ e) refl
+  period_gone i None (Some end) false e = rw (begins agent number i.at.agent i.at.filing (drop 2 (period_columns (period_of i))) ∙ e) refl
+  period_gone i (Some start) ends true e = rw (begins agent number i.at.agent i.at.filing (drop 2 (period_columns (period_of i))) ∙ e) refl
+  period_gone i (Some start) ends false e = rw (begins agent number i.at.agent i.at.filing (drop 2 (period_columns (period_of i))) ∙ e) refl
+
+  both_gone : (b : Bool) (xs ys : List Row) → cond b [] xs ++ cond b [] ys ≡ cond b [] (xs ++ ys)
+  both_gone true xs ys = refl
+  both_gone false xs ys = refl
+
+  periods_whole : (at : At) (item : ℕ) (is : List Interest) (b : Bool) → (is_same at.agent agent && at.filing == number) ≡ b
+      → others agent number (flat_map days_of (interests_from at item is)) ≡ cond b [] (flat_map days_of (interests_from at item is))
+  periods_whole at item [] true e = refl
+  periods_whole at item [] false e = refl
+  periods_whole at item (i ∷ is) b e =
+      let row : InterestRow = record { at = at; item = item; interest = i } in
+      filter-append (λ x. not (is_of_filing agent number x)) (days_of row) (flat_map days_of (interests_from at (item + 1) is))
+      ∙ ap₂ (λ x y. x ++ y) (period_gone row i.starts i.ends b e) (periods_whole at (item + 1) is b e) ∙ both_gone b (days_of row) (flat_map days_of (interests_from at (item + 1) is))
+
   statement_rows_gone : (ps : List Placed) → others agent number (map (λ p. statement_columns (bare p)) ps) ≡ map (λ p. statement_columns (bare p)) (filter stays ps)
   statement_rows_gone [] = refl
   statement_rows_gone (p ∷ ps) = go (is_same p.at.agent agent && p.at.filing == number) refl (statement_rows_gone ps)
@@ -258,6 +281,9 @@ module _ (agent : List ℕ) (number : ℕ) where
   abbrev interest_of : Placed → List Row
   interest_of p = map interest_columns (interest_rows p)
 
+  abbrev period_rows_of : Placed → List Row
+  period_rows_of p = flat_map days_of (interest_rows p)
+
   abbrev identifier_of : Placed → List Row
   identifier_of p = map identifier_columns (identifier_rows p)
 
@@ -275,4 +301,6 @@ module _ (agent : List ℕ) (number : ℕ) where
             (rows_gone interest_of (λ p b e. interests_whole p.at 1 (interests_of p.statement.details) b e) (placed r.members) ∙ ap (flat_map interest_of) gone) h.interests;
         identifiers = subst (λ xs. Keeps xs (db.trees 13))
             (rows_gone identifier_of (λ p b e. identifiers_whole p.at 1 (identifiers_of p.statement.details) b e) (placed r.members) ∙ ap (flat_map identifier_of) gone) h.identifiers;
+        periods = subst (λ xs. Keeps xs (db.trees 19))
+            (rows_gone period_rows_of (λ p b e. periods_whole p.at 1 (interests_of p.statement.details) b e) (placed r.members) ∙ ap (flat_map period_rows_of) gone) h.periods;
       }

@@ -18,6 +18,6 @@ pub record Leads {X E : Type 0} (before after : Database → Type 0) (old new : 
   pub goes_on : OnOk result (IsTrue new.in_transaction)
   pub made : OnOk result (before old.now → after new.now)
 
--- what six tables without rows have
+-- what seven tables without rows have
 abbrev pub no_contents : Contents
-no_contents = record { register = []; agents = []; filings = []; statements = []; interests = []; identifiers = [] }
+no_contents = record { register = []; agents = []; filings = []; statements = []; interests = []; identifiers = []; periods = [] }

@@ -13,12 +13,14 @@ use Rattle.bor_register.specs.Live.{accepted}
 use Rattle.bor_register.specs.Withdrawal.{with_withdrawn}
 use Rattle.bods_read.specs.declared.statement.Statement.{Statement}
 use Rattle.bor_register.specs.declared.filing.AcceptedFiling.{AcceptedFiling}
+use Rattle.bor_register.specs.declared.member.Member.{Member}
 use Rattle.bor_store_rows.specs.declared.rows.Placed.{Placed}
 use Rattle.bor_store_rows.specs.declared.rows.StatementRow.{StatementRow}
 use Rattle.bor_store_rows.specs.declared.rows.InterestRow.{InterestRow}
 use Rattle.bor_store_rows.specs.declared.rows.IdentifierRow.{IdentifierRow}
-use Rattle.bor_store_rows.specs.Placed.{bare, interest_rows, identifier_rows, placed_from}
-use Rattle.bor_store_rows.specs.Encoding.{Contents, filing_columns, statement_columns, interest_columns, identifier_columns}
+use Rattle.bor_store_rows.specs.declared.rows.PeriodRow.{PeriodRow}
+use Rattle.bor_store_rows.specs.Placed.{bare, interest_rows, identifier_rows, period_rows, placed, placed_from}
+use Rattle.bor_store_rows.specs.Encoding.{Contents, filing_columns, statement_columns, interest_columns, identifier_columns, period_columns}
 
 -- the register once the agent's filing with this number is withdrawn
 abbrev pub withdrawn : List ℕ → ℕ → Register → Register
@@ -33,6 +35,11 @@ added agent key due bytes statements r =
 -- the register once the agent is added
 abbrev pub enrolled : List ℕ → List ℕ → Register → Register
 enrolled agent token r = record r { members = with_member (new_member agent token) r.members }
+
+-- ---- what the table period has of a register, statement by statement
+
+abbrev pub all_periods : List Member → List PeriodRow
+all_periods ms = flat_map (λ p. flat_map period_rows (interest_rows p)) (placed ms)
 
 -- ---- rows of a withdrawn filing, for clauses of private functions alone
 
@@ -70,9 +77,13 @@ without_interests agent number t = record t { interests = others agent number t.
 abbrev pub without_statements : List ℕ → ℕ → Contents → Contents
 without_statements agent number t = record t { statements = others agent number t.statements }
 
+abbrev pub without_periods : List ℕ → ℕ → Contents → Contents
+without_periods agent number t = record t { periods = others agent number t.periods }
+
 -- the filing is marked, and the rows of its statements are gone
 abbrev pub withdrawn_in : List ℕ → ℕ → Contents → Contents
-withdrawn_in agent number t = without_statements agent number (without_interests agent number (without_identifiers agent number (with_mark agent number t)))
+withdrawn_in agent number t =
+    without_statements agent number (without_interests agent number (without_identifiers agent number (without_periods agent number (with_mark agent number t))))
 
 -- ---- rows that are added, for clauses of private functions alone
 
@@ -99,9 +110,19 @@ with_interest_rows is t = record t { interests = t.interests ++ map interest_col
 abbrev pub with_identifier_rows : List IdentifierRow → Contents → Contents
 with_identifier_rows is t = record t { identifiers = t.identifiers ++ map identifier_columns is }
 
+-- the row of the days of an interest, where it has one
+abbrev pub days_of : InterestRow → List Row
+days_of i = map period_columns (period_rows i)
+
+abbrev pub with_period_row : PeriodRow → Contents → Contents
+with_period_row p t = record t { periods = t.periods ++ period_columns p ∷ [] }
+
+abbrev pub with_period_rows : List InterestRow → Contents → Contents
+with_period_rows is t = record t { periods = t.periods ++ flat_map days_of is }
+
 -- a statement's row and those of its lists
 abbrev pub with_one_placed : Placed → Contents → Contents
-with_one_placed p t = with_interest_rows (interest_rows p) (with_identifier_rows (identifier_rows p) (with_statement_row (bare p) t))
+with_one_placed p t = with_period_rows (interest_rows p) (with_interest_rows (interest_rows p) (with_identifier_rows (identifier_rows p) (with_statement_row (bare p) t)))
 
 -- the rows of all these statements
 abbrev pub with_placed : List Placed → Contents → Contents
@@ -109,6 +130,7 @@ with_placed ps t = record t {
   statements = t.statements ++ map (λ p. statement_columns (bare p)) ps;
   interests = t.interests ++ flat_map (λ p. map interest_columns (interest_rows p)) ps;
   identifiers = t.identifiers ++ flat_map (λ p. map identifier_columns (identifier_rows p)) ps;
+  periods = t.periods ++ flat_map (λ p. flat_map days_of (interest_rows p)) ps;
 }
 
 -- a filing's row and those of its statements

@@ -8,7 +8,7 @@ use Rattle.sqlite.specs.Schema.{Schema}
 use Rattle.sqlite.specs.State.{State, Shown}
 use Rattle.sqlite.specs.declared.error.Error.{Error}
 use Rattle.bor_register.specs.Register.{Register}
-use Rattle.bor_store_sql.specs.Shown.{IsClean, ShowsIn}
+use Rattle.bor_store_sql.specs.Shown.{IsClean, ShowsIn, ShowsLists}
 
 -- under no schema the text is a change that returns rows
 abbrev pub IsQuery : List ℕ → Type 0
@@ -25,3 +25,9 @@ pub record Finds (old new : State) (result : Result (Vec Row Global) Error) (row
   pub began : IsClean new → IsClean old
   pub kept : IsClean new → new.committed ≡ old.committed
   pub rows : IsClean new → (r : Register) → ShowsIn r old → IfOk result (λ rows. rows.items ≡ rows_of r)
+
+-- The same of tables of either version.
+pub record FindsBoth (old new : State) (result : Result (Vec Row Global) Error) (rows_of : Register → List Row) : Type 0 where
+  pub began : IsClean new → IsClean old
+  pub kept : IsClean new → new.committed ≡ old.committed
+  pub rows : IsClean new → (r : Register) → ShowsLists r old → IfOk result (λ rows. rows.items ≡ rows_of r)

@@ -5,3 +5,5 @@ pub mod Found
 pub mod Selected
 pub mod Blank
 pub mod Ran
+pub mod Moving
+pub mod Fitting

@@ -1,20 +1,22 @@
 //! What adds an agent, and a filing with its statements.
 
-ghost use Rattle.std.specs.Prelude.{◌≡◌, ◌+◌, ◌<◌, ◌^◌, false, true, [], ◌∷◌, All, length, IsTrue, IfOk, OnOk, OnErr};
+ghost use Rattle.std.specs.Prelude.{◌≡◌, ◌+◌, ◌<◌, ◌^◌, false, true, [], ◌∷◌, All, is_some, ◌||◌, length, IsTrue, IfOk, OnOk, OnErr};
 ghost use Rattle.sqlite.specs.Held.{state};
 ghost use Rattle.sqlite.specs.State.{HasCleanDisk};
-ghost use Rattle.bor_store_rows.specs.Placed.{bare, placed_from, interests_from, identifiers_from, interests_of, identifiers_of};
+ghost use Rattle.bor_store_rows.specs.Placed.{bare, period_of, placed_from, interests_from, identifiers_from, interests_of, identifiers_of};
 ghost use Rattle.bor_store_sql.specs.Shown.{Steps, IsClean, ShowsIn};
-ghost use Rattle.bor_store_sql.specs.Changing.{Any, live_filing, with_filing_row, with_statement_row, with_interest_rows, with_identifier_rows, with_one_placed, with_placed, with_live_filing, added};
+ghost use Rattle.bor_store_sql.specs.Changing.{Any, live_filing, with_filing_row, with_statement_row, with_interest_rows, with_identifier_rows, with_period_row, with_period_rows, with_one_placed, with_placed, with_live_filing, added};
 ghost use Rattle.bor_register.specs.Register.{Register, is_enrolled, filings_of};
 ghost use Rattle.bor_store_rows.specs.Stored.{IsCounted, AreCounted};
 ghost use Rattle.bods_read.specs.Forms.{IsFormedStatement};
 ghost use Rattle.bor_register.specs.Limits.{filings_limit};
 
-use crate::columns::{filing_values, identifier_values, interest_values, statement_values};
+use crate::columns::{
+    filing_values, identifier_values, interest_values, period_values, statement_values,
+};
 use bods_read::{Details, Identifier, Interest, Statement};
 use bor_store_texts::changes::{
-    INSERT_FILING, INSERT_IDENTIFIER, INSERT_INTEREST, INSERT_STATEMENT,
+    INSERT_FILING, INSERT_IDENTIFIER, INSERT_INTEREST, INSERT_PERIOD, INSERT_STATEMENT,
 };
 use bor_terms::{Day, LodgeKey};
 use sqlite::{Alter, Connection, Error, ErrorCode, Transaction};
@@ -77,6 +79,55 @@ fn insert_interest<S: Alter>(
     )
 }
 
+fn put_period<S: Alter>(
+    tx: &mut Transaction<'_, S>,
+    agent: &str,
+    number: u32,
+    place: u32,
+    item: u32,
+    interest: &Interest,
+) -> Result<usize, Error>
+    ensures same_reference { tx.new.conn.ghost_name ≡ tx.old.conn.ghost_name }
+    ensures clean { HasCleanDisk (state S.Store tx.new.conn.now) → HasCleanDisk (state S.Store tx.old.conn.now) }
+    ensures steps { HasCleanDisk (state S.Store tx.new.conn.now) → IsTrue (state S.Store tx.old.conn.now).in_transaction
+        → Steps Any (with_period_row (period_of (record { at = record { agent = agent.now; filing = number; place = place }; item = item; interest = interest.now })))
+        (state S.Store tx.old.conn.now) (state S.Store tx.new.conn.now) result }
+{
+    tx.execute(
+        INSERT_PERIOD,
+        &period_values(agent, number, place, item, interest.starts, interest.ends),
+    )
+}
+
+// Whether the interest has a day.
+fn is_said(interest: &Interest) -> bool
+    ensures { result ≡ (is_some interest.now.starts || is_some interest.now.ends) }
+{
+    interest.starts.is_some() || interest.ends.is_some()
+}
+
+// The row of the days of an interest, where it has one.
+fn insert_period<S: Alter>(
+    tx: &mut Transaction<'_, S>,
+    agent: &str,
+    number: u32,
+    place: u32,
+    item: u32,
+    interest: &Interest,
+) -> Result<(), Error>
+    ensures same_reference { tx.new.conn.ghost_name ≡ tx.old.conn.ghost_name }
+    ensures clean { HasCleanDisk (state S.Store tx.new.conn.now) → HasCleanDisk (state S.Store tx.old.conn.now) }
+    ensures steps { HasCleanDisk (state S.Store tx.new.conn.now) → IsTrue (state S.Store tx.old.conn.now).in_transaction
+        → Steps Any (with_period_rows (record { at = record { agent = agent.now; filing = number; place = place }; item = item; interest = interest.now } ∷ []))
+        (state S.Store tx.old.conn.now) (state S.Store tx.new.conn.now) result }
+{
+    if !is_said(interest) {
+        return Ok(());
+    }
+    put_period(tx, agent, number, place, item, interest)?;
+    Ok(())
+}
+
 fn insert_identifier<S: Alter>(
     tx: &mut Transaction<'_, S>,
     agent: &str,
@@ -97,8 +148,8 @@ fn insert_identifier<S: Alter>(
     )
 }
 
-// The number after this one; a table has numbers of 32 bits alone.
-fn next(number: u32) -> Result<u32, Error>
+/// The number after this one; a table has numbers of 32 bits alone.
+pub(crate) fn next(number: u32) -> Result<u32, Error>
     ensures value { IfOk result (λ next. next ≡ number + 1) }
     ensures within { IfOk result (λ next. next < 2 ^ 32) }
 {
@@ -108,7 +159,8 @@ fn next(number: u32) -> Result<u32, Error>
     }
 }
 
-fn interests(details: &Details) -> &[Interest]
+/// The interests that a relationship has.
+pub(crate) fn interests(details: &Details) -> &[Interest]
     ensures { result.now ≡ interests_of details.now }
 {
     match details {
@@ -117,7 +169,8 @@ fn interests(details: &Details) -> &[Interest]
     }
 }
 
-fn identifiers(details: &Details) -> &[Identifier]
+/// The identifiers that an entity has.
+pub(crate) fn identifiers(details: &Details) -> &[Identifier]
     ensures { result.now ≡ identifiers_of details.now }
 {
     match details {
@@ -148,6 +201,27 @@ fn insert_interests<S: Alter>(
     Ok(())
 }
 
+fn insert_periods<S: Alter>(
+    tx: &mut Transaction<'_, S>,
+    agent: &str,
+    number: u32,
+    place: u32,
+    interests: &[Interest],
+) -> Result<(), Error>
+    ensures same_reference { tx.new.conn.ghost_name ≡ tx.old.conn.ghost_name }
+    ensures clean { HasCleanDisk (state S.Store tx.new.conn.now) → HasCleanDisk (state S.Store tx.old.conn.now) }
+    ensures steps { HasCleanDisk (state S.Store tx.new.conn.now) → IsTrue (state S.Store tx.old.conn.now).in_transaction
+        → Steps Any (with_period_rows (interests_from (record { agent = agent.now; filing = number; place = place }) 1 interests.now))
+        (state S.Store tx.old.conn.now) (state S.Store tx.new.conn.now) result }
+{
+    let mut item = 0;
+    for interest in interests {
+        item = next(item)?;
+        insert_period(tx, agent, number, place, item, interest)?;
+    }
+    Ok(())
+}
+
 fn insert_identifiers<S: Alter>(
     tx: &mut Transaction<'_, S>,
     agent: &str,
@@ -170,7 +244,7 @@ fn insert_identifiers<S: Alter>(
     Ok(())
 }
 
-// A statement's row, its identifiers and its interests.
+// A statement's row, its identifiers, its interests and their days.
 fn insert_placed<S: Alter>(
     tx: &mut Transaction<'_, S>,
     agent: &str,
@@ -187,7 +261,8 @@ fn insert_placed<S: Alter>(
 {
     insert_statement(tx, agent, number, place, statement)?;
     insert_identifiers(tx, agent, number, place, identifiers(&statement.details))?;
-    insert_interests(tx, agent, number, place, interests(&statement.details))
+    insert_interests(tx, agent, number, place, interests(&statement.details))?;
+    insert_periods(tx, agent, number, place, interests(&statement.details))
 }
 
 fn insert_statements<S: Alter>(

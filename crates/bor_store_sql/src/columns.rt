@@ -7,10 +7,11 @@ ghost use Rattle.sqlite.specs.declared.types.Value.TheVariants.{Int, Text, Blob}
 ghost use Rattle.bor_register.specs.Register.{new_member};
 ghost use Rattle.bods_read.specs.Words.{status_word};
 ghost use Rattle.bor_store_rows.specs.Placed.{bare, part_of};
-ghost use Rattle.bor_store_rows.specs.Encoding.{agent_columns, statement_columns, part_columns, interest_columns, identifier_columns, or_null, share_columns};
+ghost use Rattle.bor_store_rows.specs.Encoding.{agent_columns, statement_columns, part_columns, interest_columns, identifier_columns, period_columns, day_or_null, or_null, share_columns, tables_version};
 ghost use Rattle.bor_store_sql.specs.Changing.{given_filing};
 
 use bods_read::{Details, FreeText, Identifier, Interest, Statement, Status};
+use bor_store_texts::changes::VERSION;
 use bor_terms::{Day, Ident, Span};
 use sqlite::types::ValueRef;
 
@@ -85,11 +86,12 @@ pub(crate) fn day_value(day: Day) -> [ValueRef<'static>; 1]
     [ValueRef::Int(i64::from(day.number()))]
 }
 
-/// The columns of the register's row but `one` and `version`.
-pub(crate) fn register_values(day: Day, registrar: &str) -> [ValueRef<'_>; 2]
-    ensures { bound result ≡ Int day ∷ Text registrar.now ∷ [] }
+/// The columns of the register's row but `one`.
+pub(crate) fn register_values(day: Day, registrar: &str) -> [ValueRef<'_>; 3]
+    ensures { bound result ≡ Int tables_version ∷ Int day ∷ Text registrar.now ∷ [] }
 {
     [
+        ValueRef::Int(VERSION),
         ValueRef::Int(i64::from(day.number())),
         ValueRef::Text(registrar.as_bytes()),
     ]
@@ -201,6 +203,9 @@ fn part_values(details: &Details) -> [ValueRef<'_>; 4]
     }
 }
 
+/// Which column of a statement is its status.
+pub(crate) const STATUS: usize = 8;
+
 /// The columns of a statement: where it stands, and what it says but for its lists.
 pub(crate) fn statement_values<'a>(
     agent: &'a str,
@@ -278,4 +283,47 @@ pub(crate) fn interest_values<'a>(
         high,
         high_open,
     ]
+}
+
+fn day_or_null(day: Option<Day>) -> ValueRef<'static>
+    ensures { bound_value (owned result) ≡ day_or_null day }
+{
+    match day {
+        Some(day) => ValueRef::Int(i64::from(day.number())),
+        None => ValueRef::Null,
+    }
+}
+
+/// The columns of the days of an interest: where its statement stands, which of its interests it is, and
+/// its first and its last day.
+pub(crate) fn period_values(
+    agent: &str,
+    filing: u32,
+    place: u32,
+    item: u32,
+    starts: Option<Day>,
+    ends: Option<Day>,
+) -> [ValueRef<'_>; 6]
+    ensures { bound result ≡ period_columns (record {
+      at = record { agent = agent.now; filing = filing; place = place };
+      item = item;
+      starts = starts;
+      ends = ends;
+    }) }
+{
+    [
+        ValueRef::Text(agent.as_bytes()),
+        ValueRef::Int(i64::from(filing)),
+        ValueRef::Int(i64::from(place)),
+        ValueRef::Int(i64::from(item)),
+        day_or_null(starts),
+        day_or_null(ends),
+    ]
+}
+
+/// The version of the tables.
+pub(crate) fn version_value() -> [ValueRef<'static>; 1]
+    ensures { bound result ≡ Int tables_version ∷ [] }
+{
+    [ValueRef::Int(VERSION)]
 }

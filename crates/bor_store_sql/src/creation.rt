@@ -4,9 +4,10 @@ ghost use Rattle.std.specs.Prelude.{◌≡◌, false, true, IsTrue, OnOk, OnErr}
 ghost use Rattle.sqlite.specs.Held.{state};
 ghost use Rattle.sqlite.specs.State.{HasCleanDisk};
 ghost use Rattle.bor_register.specs.Register.{empty_register};
-ghost use Rattle.bor_store_texts.specs.Tables.{no_schema, schema_1, schema_2, schema_3, schema_4, schema_5, schema_6, schema_7, schema_8, schema_9, keep_schema};
+ghost use Rattle.bor_store_texts.specs.Tables.{no_schema, schema_1, schema_2, schema_3, schema_4, schema_5, schema_6, schema_7, schema_8, schema_9, first_schema};
 ghost use Rattle.bor_store_rows.specs.Encoding.{contents};
-ghost use Rattle.bor_store_sql.specs.Blank.{IsBlank, Leads};
+ghost use Rattle.bor_store_sql.specs.Blank.{IsBlank, Leads, no_contents};
+ghost use Rattle.bor_store_sql.specs.Moving.{MakesPeriod, Moves};
 ghost use Rattle.bor_store_sql.specs.Shown.{Has, IsClean, ShowsIn};
 
 use crate::columns::register_values;
@@ -14,7 +15,7 @@ use crate::running::run;
 use bor_store_texts::changes::INSERT_REGISTER;
 use bor_store_texts::tables::{
     AGENT_TABLE, FILING_TABLE, IDENTIFIER_INDEX, IDENTIFIER_TABLE, INTEREST_TABLE, LINE_INDEX,
-    RECORD_INDEX, REGISTER_TABLE, STATEMENT_TABLE, SUBJECT_INDEX,
+    PERIOD_TABLE, RECORD_INDEX, REGISTER_TABLE, STATEMENT_TABLE, SUBJECT_INDEX,
 };
 use bor_terms::{Day, Token};
 use sqlite::{Alter, Connection, Error, Transaction};
@@ -114,9 +115,20 @@ fn create_line_index<S: Alter>(tx: &mut Transaction<'_, S>) -> Result<usize, Err
     ensures same_reference { tx.new.conn.ghost_name ≡ tx.old.conn.ghost_name }
     ensures clean { HasCleanDisk (state S.Store tx.new.conn.now) → HasCleanDisk (state S.Store tx.old.conn.now) }
     ensures leads { HasCleanDisk (state S.Store tx.new.conn.now) → IsTrue (state S.Store tx.old.conn.now).in_transaction
-        → Leads (IsBlank schema_9) (IsBlank keep_schema) (state S.Store tx.old.conn.now) (state S.Store tx.new.conn.now) result }
+        → Leads (IsBlank schema_9) (IsBlank first_schema) (state S.Store tx.old.conn.now) (state S.Store tx.new.conn.now) result }
 {
     run(tx, LINE_INDEX, &[])
+}
+
+/// Makes the table `period` beside those of version 1, whatever rows they have.
+#[tactic(auto, using(crate::proofs::Beside::period_made_beside))]
+pub(crate) fn create_period<S: Alter>(tx: &mut Transaction<'_, S>) -> Result<usize, Error>
+    ensures same_reference { tx.new.conn.ghost_name ≡ tx.old.conn.ghost_name }
+    ensures clean { HasCleanDisk (state S.Store tx.new.conn.now) → HasCleanDisk (state S.Store tx.old.conn.now) }
+    ensures moves { HasCleanDisk (state S.Store tx.new.conn.now) → IsTrue (state S.Store tx.old.conn.now).in_transaction
+        → Moves MakesPeriod (state S.Store tx.old.conn.now) (state S.Store tx.new.conn.now) result }
+{
+    run(tx, PERIOD_TABLE, &[])
 }
 
 fn create_lists<S: Alter>(tx: &mut Transaction<'_, S>) -> Result<(), Error>
@@ -147,7 +159,7 @@ fn create_indexes<S: Alter>(tx: &mut Transaction<'_, S>) -> Result<(), Error>
     ensures same_reference { tx.new.conn.ghost_name ≡ tx.old.conn.ghost_name }
     ensures clean { HasCleanDisk (state S.Store tx.new.conn.now) → HasCleanDisk (state S.Store tx.old.conn.now) }
     ensures leads { HasCleanDisk (state S.Store tx.new.conn.now) → IsTrue (state S.Store tx.old.conn.now).in_transaction
-        → Leads (IsBlank schema_6) (IsBlank keep_schema) (state S.Store tx.old.conn.now) (state S.Store tx.new.conn.now) result }
+        → Leads (IsBlank schema_6) (IsBlank first_schema) (state S.Store tx.old.conn.now) (state S.Store tx.new.conn.now) result }
 {
     create_record_index(tx)?;
     create_subject_index(tx)?;
@@ -164,7 +176,7 @@ fn insert_register<S: Alter>(
     ensures same_reference { tx.new.conn.ghost_name ≡ tx.old.conn.ghost_name }
     ensures clean { HasCleanDisk (state S.Store tx.new.conn.now) → HasCleanDisk (state S.Store tx.old.conn.now) }
     ensures leads { HasCleanDisk (state S.Store tx.new.conn.now) → IsTrue (state S.Store tx.old.conn.now).in_transaction
-        → Leads (IsBlank keep_schema) (Has (contents (empty_register registrar.now day))) (state S.Store tx.old.conn.now) (state S.Store tx.new.conn.now) result }
+        → Leads (Has no_contents) (Has (contents (empty_register registrar.now day))) (state S.Store tx.old.conn.now) (state S.Store tx.new.conn.now) result }
 {
     tx.execute(INSERT_REGISTER, &register_values(day, registrar))
 }
@@ -182,6 +194,7 @@ fn make_register<S: Alter>(
     create_lists(tx)?;
     create_details(tx)?;
     create_indexes(tx)?;
+    create_period(tx)?;
     insert_register(tx, registrar, day)?;
     Ok(())
 }

@@ -1,22 +1,24 @@
 //! What reads rows by key.
 
 ghost use Rattle.std.specs.Prelude.{◌≡◌, false, [], ◌∷◌, map};
+ghost use Rattle.std.specs.List.{flat_map};
 ghost use Rattle.sqlite.specs.Held.{state};
 ghost use Rattle.bor_terms.specs.Texts.{is_same};
 ghost use Rattle.bor_register.specs.Register.{filings_of};
 ghost use Rattle.bor_register.specs.Publication.{filing_shown};
-ghost use Rattle.bor_store_rows.specs.Placed.{bare, filing_row};
-ghost use Rattle.bor_store_rows.specs.Encoding.{truth, agent_columns, line_columns, shown_columns, statement_columns, interest_columns, identifier_columns};
-ghost use Rattle.bor_store_sql.specs.Found.{Finds};
+ghost use Rattle.bor_store_rows.specs.Placed.{period_rows, bare, filing_row};
+ghost use Rattle.bor_store_rows.specs.Encoding.{truth, agent_columns, line_columns, shown_columns, statement_columns, interest_columns, period_columns, identifier_columns};
+ghost use Rattle.bor_store_sql.specs.Found.{Finds, FindsBoth};
 ghost use Rattle.bor_store_sql.specs.Selected.{named, with_token, keyed, numbered, last, placed_of, in_filing, in_declaration, in_series, identified, interests_at, identifiers_at, place_columns};
 
 use crate::queries::{
     query_by_file, query_by_filing, query_by_one, query_by_statement, query_by_three, query_by_two,
 };
 use bor_store_texts::queries::{
-    AGENT_BY_NAME, AGENT_BY_TOKEN, FILING_BY_KEY, FILINGS_OF_AGENT, IDENTIFIERS_OF_STATEMENT,
-    INTERESTS_OF_STATEMENT, LAST_FILING, LAST_OF_SERIES, LINE_BY_KEY, LINE_BY_NUMBER, SAME_BYTES,
-    STATEMENT_BY_ID, STATEMENTS_OF_DECLARATION, STATEMENTS_OF_FILING,
+    AGENT_BY_NAME, AGENT_BY_TOKEN, FILE_BY_NUMBER, FILING_BY_KEY, FILINGS_OF_AGENT,
+    IDENTIFIERS_OF_STATEMENT, INTERESTS_OF_STATEMENT, LAST_FILING, LAST_OF_SERIES, LINE_BY_KEY,
+    LINE_BY_NUMBER, PERIODS_OF_STATEMENT, SAME_BYTES, STATEMENT_BY_ID, STATEMENTS_OF_DECLARATION,
+    STATEMENTS_OF_FILING,
 };
 use sqlite::{Alter, Connection, Error, Row};
 
@@ -157,6 +159,7 @@ pub fn statements_of_filing<S: Alter>(
     requires { conn.old.in_transaction ≡ false }
     ensures mode { conn.new.in_transaction ≡ false }
     ensures finds { Finds (state S.Store conn.old) (state S.Store conn.new) result (λ r. map (λ p. statement_columns (bare p)) (in_filing number (placed_of agent.now r))) }
+    ensures both { FindsBoth (state S.Store conn.old) (state S.Store conn.new) result (λ r. map (λ p. statement_columns (bare p)) (in_filing number (placed_of agent.now r))) }
 {
     query_by_filing(conn, STATEMENTS_OF_FILING, agent, number)
 }
@@ -186,8 +189,39 @@ pub fn interests_of_statement<S: Alter>(
     requires { conn.old.in_transaction ≡ false }
     ensures mode { conn.new.in_transaction ≡ false }
     ensures finds { Finds (state S.Store conn.old) (state S.Store conn.new) result (λ r. map interest_columns (interests_at (record { agent = agent.now; filing = number; place = place }) r.members)) }
+    ensures both { FindsBoth (state S.Store conn.old) (state S.Store conn.new) result (λ r. map interest_columns (interests_at (record { agent = agent.now; filing = number; place = place }) r.members)) }
 {
     query_by_statement(conn, INTERESTS_OF_STATEMENT, agent, number, place)
+}
+
+/// The days of the interests of the statement at this place, by item.
+#[tactic(auto, using(crate::proofs::PeriodReads::periods_of_statement_asks))]
+pub fn periods_of_statement<S: Alter>(
+    conn: &mut Connection<S>,
+    agent: &str,
+    number: u32,
+    place: u32,
+) -> Result<Vec<Row>, Error>
+    requires { conn.old.in_transaction ≡ false }
+    ensures mode { conn.new.in_transaction ≡ false }
+    ensures finds { Finds (state S.Store conn.old) (state S.Store conn.new) result (λ r. map period_columns (flat_map period_rows (interests_at (record { agent = agent.now; filing = number; place = place }) r.members))) }
+{
+    query_by_statement(conn, PERIODS_OF_STATEMENT, agent, number, place)
+}
+
+/// The agent's filing with this number, with its file.
+#[tactic(auto, using(crate::proofs::PeriodReads::file_by_number_asks))]
+pub fn file_by_number<S: Alter>(
+    conn: &mut Connection<S>,
+    agent: &str,
+    number: u32,
+) -> Result<Vec<Row>, Error>
+    requires { conn.old.in_transaction ≡ false }
+    ensures mode { conn.new.in_transaction ≡ false }
+    ensures finds { Finds (state S.Store conn.old) (state S.Store conn.new) result (λ r. map (λ f. shown_columns (filing_shown f)) (numbered number (filings_of agent.now r.members))) }
+    ensures both { FindsBoth (state S.Store conn.old) (state S.Store conn.new) result (λ r. map (λ f. shown_columns (filing_shown f)) (numbered number (filings_of agent.now r.members))) }
+{
+    query_by_filing(conn, FILE_BY_NUMBER, agent, number)
 }
 
 /// The identifiers of the statement at this place, by item.
@@ -201,6 +235,7 @@ pub fn identifiers_of_statement<S: Alter>(
     requires { conn.old.in_transaction ≡ false }
     ensures mode { conn.new.in_transaction ≡ false }
     ensures finds { Finds (state S.Store conn.old) (state S.Store conn.new) result (λ r. map identifier_columns (identifiers_at (record { agent = agent.now; filing = number; place = place }) r.members)) }
+    ensures both { FindsBoth (state S.Store conn.old) (state S.Store conn.new) result (λ r. map identifier_columns (identifiers_at (record { agent = agent.now; filing = number; place = place }) r.members)) }
 {
     query_by_statement(conn, IDENTIFIERS_OF_STATEMENT, agent, number, place)
 }

@@ -9,7 +9,9 @@
 mod additions;
 mod columns;
 mod creation;
+mod fitting;
 mod keyed;
+mod moving;
 mod queries;
 mod reads;
 mod records;
@@ -19,14 +21,17 @@ mod withdrawal;
 
 pub use additions::add_filing;
 pub use creation::set_up;
+pub use fitting::keeps_statements;
 pub use keyed::{
-    agent_by_name, agent_by_token, filing_by_key, filings_of_agent, identifiers_of_statement,
-    interests_of_statement, last_filing, last_of_series, line_by_key, line_by_number, same_bytes,
-    statement_by_id, statements_of_declaration, statements_of_filing,
+    agent_by_name, agent_by_token, file_by_number, filing_by_key, filings_of_agent,
+    identifiers_of_statement, interests_of_statement, last_filing, last_of_series, line_by_key,
+    line_by_number, periods_of_statement, same_bytes, statement_by_id, statements_of_declaration,
+    statements_of_filing,
 };
+pub use moving::move_tables;
 pub use reads::{
-    all_agents, all_filings, all_identifiers, all_interests, all_register, all_statements,
-    more_statements,
+    all_agents, all_filings, all_identifiers, all_interests, all_periods, all_register,
+    all_statements, more_statements,
 };
 pub use records::{
     identifiers_by_id, statement_by_place, statements_of_record, statements_of_series,

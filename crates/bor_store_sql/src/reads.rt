@@ -4,15 +4,15 @@ ghost use Rattle.std.specs.Prelude.{◌≡◌, false, pos, [], ◌∷◌, drop, 
 ghost use Rattle.std.specs.List.{flat_map};
 ghost use Rattle.sqlite.specs.Held.{state};
 ghost use Rattle.sqlite.specs.declared.types.Value.TheVariants.{Int};
-ghost use Rattle.bor_store_rows.specs.Placed.{bare, filing_lines, placed, interest_rows, identifier_rows};
-ghost use Rattle.bor_store_rows.specs.Encoding.{register_columns, agent_columns, line_columns, statement_columns, interest_columns, identifier_columns};
-ghost use Rattle.bor_store_sql.specs.Found.{Finds};
+ghost use Rattle.bor_store_rows.specs.Placed.{bare, filing_lines, placed, interest_rows, period_rows, identifier_rows};
+ghost use Rattle.bor_store_rows.specs.Encoding.{register_columns, agent_columns, line_columns, statement_columns, interest_columns, period_columns, identifier_columns};
+ghost use Rattle.bor_store_sql.specs.Found.{Finds, FindsBoth};
 
 use crate::columns::one_number;
 use crate::queries::query;
 use bor_store_texts::queries::{
-    ALL_AGENTS, ALL_FILINGS, ALL_IDENTIFIERS, ALL_INTERESTS, ALL_REGISTER, ALL_STATEMENTS,
-    MORE_STATEMENTS,
+    ALL_AGENTS, ALL_FILINGS, ALL_IDENTIFIERS, ALL_INTERESTS, ALL_PERIODS, ALL_REGISTER,
+    ALL_STATEMENTS, MORE_STATEMENTS,
 };
 use sqlite::{Alter, Connection, Error, Row};
 
@@ -37,11 +37,12 @@ pub fn all_agents<S: Alter>(conn: &mut Connection<S>) -> Result<Vec<Row>, Error>
 }
 
 /// All filings without their files, by agent and number.
-#[tactic(auto, using(crate::proofs::Plain::all_filings_asks, crate::proofs::WholeReads::all_filings_finds))]
+#[tactic(auto, using(crate::proofs::Plain::all_filings_asks, crate::proofs::WholeReads::all_filings_finds, crate::proofs::BothReads::all_filings_finds))]
 pub fn all_filings<S: Alter>(conn: &mut Connection<S>) -> Result<Vec<Row>, Error>
     requires { conn.old.in_transaction ≡ false }
     ensures mode { conn.new.in_transaction ≡ false }
     ensures finds { Finds (state S.Store conn.old) (state S.Store conn.new) result (λ r. map line_columns (filing_lines r.members)) }
+    ensures both { FindsBoth (state S.Store conn.old) (state S.Store conn.new) result (λ r. map line_columns (filing_lines r.members)) }
 {
     query(conn, ALL_FILINGS, &[])
 }
@@ -64,6 +65,16 @@ pub fn all_interests<S: Alter>(conn: &mut Connection<S>) -> Result<Vec<Row>, Err
     ensures finds { Finds (state S.Store conn.old) (state S.Store conn.new) result (λ r. map interest_columns (flat_map interest_rows (placed r.members))) }
 {
     query(conn, ALL_INTERESTS, &[])
+}
+
+/// The days of all interests, by agent, filing, place and item.
+#[tactic(auto, using(crate::proofs::PeriodReads::all_periods_asks, crate::proofs::PeriodReads::all_periods_finds))]
+pub fn all_periods<S: Alter>(conn: &mut Connection<S>) -> Result<Vec<Row>, Error>
+    requires { conn.old.in_transaction ≡ false }
+    ensures mode { conn.new.in_transaction ≡ false }
+    ensures finds { Finds (state S.Store conn.old) (state S.Store conn.new) result (λ r. map period_columns (flat_map period_rows (flat_map interest_rows (placed r.members)))) }
+{
+    query(conn, ALL_PERIODS, &[])
 }
 
 /// All identifiers, by agent, filing, place and item.

@@ -4,12 +4,12 @@ ghost use Rattle.std.specs.Prelude.{◌≡◌, false, true, IsTrue, IfOk, OnOk, 
 ghost use Rattle.sqlite.specs.Held.{state};
 ghost use Rattle.sqlite.specs.State.{HasCleanDisk};
 ghost use Rattle.bor_store_sql.specs.Shown.{Steps, IsClean, ShowsIn};
-ghost use Rattle.bor_store_sql.specs.Changing.{IsOnce, Any, with_mark, without_identifiers, without_interests, without_statements, withdrawn_in, withdrawn};
+ghost use Rattle.bor_store_sql.specs.Changing.{IsOnce, Any, with_mark, without_identifiers, without_interests, without_periods, without_statements, withdrawn_in, withdrawn};
 ghost use Rattle.bor_register.specs.Register.{Register};
 
 use crate::running::run_by_filing;
 use bor_store_texts::changes::{
-    DELETE_IDENTIFIERS, DELETE_INTERESTS, DELETE_STATEMENTS, MARK_WITHDRAWN,
+    DELETE_IDENTIFIERS, DELETE_INTERESTS, DELETE_PERIODS, DELETE_STATEMENTS, MARK_WITHDRAWN,
 };
 use sqlite::{Alter, Connection, Error, Transaction};
 
@@ -39,6 +39,20 @@ fn delete_identifiers<S: Alter>(
         → Steps Any (without_identifiers agent.now number) (state S.Store tx.old.conn.now) (state S.Store tx.new.conn.now) result }
 {
     run_by_filing(tx, DELETE_IDENTIFIERS, agent, number)
+}
+
+#[tactic(auto, using(crate::proofs::Withdrawing::periods_gone))]
+fn delete_periods<S: Alter>(
+    tx: &mut Transaction<'_, S>,
+    agent: &str,
+    number: u32,
+) -> Result<usize, Error>
+    ensures same_reference { tx.new.conn.ghost_name ≡ tx.old.conn.ghost_name }
+    ensures clean { HasCleanDisk (state S.Store tx.new.conn.now) → HasCleanDisk (state S.Store tx.old.conn.now) }
+    ensures steps { HasCleanDisk (state S.Store tx.new.conn.now) → IsTrue (state S.Store tx.old.conn.now).in_transaction
+        → Steps Any (without_periods agent.now number) (state S.Store tx.old.conn.now) (state S.Store tx.new.conn.now) result }
+{
+    run_by_filing(tx, DELETE_PERIODS, agent, number)
 }
 
 #[tactic(auto, using(crate::proofs::Withdrawing::interests_gone))]
@@ -80,6 +94,7 @@ fn withdraw_rows<S: Alter>(
         → Steps (IsOnce agent.now number) (withdrawn_in agent.now number) (state S.Store tx.old.conn.now) (state S.Store tx.new.conn.now) result }
 {
     mark_withdrawn(tx, agent, number)?;
+    delete_periods(tx, agent, number)?;
     delete_identifiers(tx, agent, number)?;
     delete_interests(tx, agent, number)?;
     delete_statements(tx, agent, number)?;

@@ -6,10 +6,16 @@ mod checks;
 #[cfg(test)]
 mod damage;
 #[cfg(test)]
+mod first;
+#[cfg(test)]
+mod moving;
+#[cfg(test)]
 mod nodes;
 #[cfg(test)]
 mod opening;
 #[cfg(test)]
 mod sight;
+#[cfg(test)]
+mod stopped;
 #[cfg(test)]
 mod stores;

@@ -2,14 +2,14 @@
 //! returned an error would make the proof of each caller longer by an exit.
 
 use crate::checks::opens;
-use bor_store::{OpenFault, SqlKeep, examine, set_up};
+use bor_store::{OpenFault, SqlKeep, examine, migrate, set_up};
 use bor_terms::{AgentName, Day, Token};
 use sqlite::{Alter, Connection, MemStore};
 use std::alloc::Global;
 use std::process::Abort;
 
-// The rows of the first lodging: an entity, a person and a relationship between them.
-const FIRST: [&str; 4] = [
+/// The rows of the first lodging: an entity, a person and a relationship between them.
+pub(crate) const FIRST: [&str; 4] = [
     "INSERT INTO agent VALUES ('alder', 'alder-token-000001')",
     "INSERT INTO filing VALUES ('alder', 1, 'f1', 19754, 0, x'5B5D')",
     "INSERT INTO statement VALUES \
@@ -68,6 +68,16 @@ pub(crate) fn adopting<S: Alter + Drop>(
 ) -> Result<SqlKeep<S>, OpenFault> {
     assert!(rt; conn.is_autocommit());
     SqlKeep::adopt(alloc, conn)
+}
+
+/// Moves the tables to version 2; the fault where it is refused.
+pub(crate) fn moving<S: Alter>(
+    rt: &impl Abort,
+    alloc: Global,
+    conn: &mut Connection<S>,
+) -> Option<OpenFault> {
+    assert!(rt; conn.is_autocommit());
+    migrate(conn, alloc).err()
 }
 
 /// A store in memory in which a register of 2024-02-01 is set up, changed by these texts.

@@ -2,8 +2,8 @@
 use Rattle.std.proofs.Common.{refl}
 use Rattle.sqlite.specs.Listing.{understood}
 use Rattle.sqlite_tied.specs.Compute.{everything}
-use Rattle.bor_store_texts.specs.Meanings.{Asks}
-use Rattle.bor_store_texts.specs.Queries.{all_register_text, all_register_command, all_agents_text, all_agents_command, all_filings_text, all_filings_command, all_statements_text, all_statements_command, all_interests_text, all_interests_command, all_identifiers_text, all_identifiers_command, agent_by_name_text, agent_by_name_command, agent_by_token_text, agent_by_token_command, filing_by_key_text, filing_by_key_command, line_by_key_text, line_by_key_command, line_by_number_text, line_by_number_command, same_bytes_text, same_bytes_command, filings_of_agent_text, filings_of_agent_command, last_filing_text, last_filing_command, last_of_series_text, last_of_series_command, statement_by_id_text, statement_by_id_command, statements_of_filing_text, statements_of_filing_command, statements_of_declaration_text, statements_of_declaration_command, interests_of_statement_text, interests_of_statement_command, identifiers_of_statement_text, identifiers_of_statement_command, more_statements_text, more_statements_command, statements_of_series_text, statements_of_series_command, statements_of_record_text, statements_of_record_command, statements_of_subject_text, statements_of_subject_command, statement_by_place_text, statement_by_place_command, identifiers_by_id_text, identifiers_by_id_command}
+use Rattle.bor_store_texts.specs.Meanings.{Asks, AsksBoth}
+use Rattle.bor_store_texts.specs.Queries.{all_register_text, all_register_command, all_agents_text, all_agents_command, all_filings_text, all_filings_command, all_statements_text, all_statements_command, all_interests_text, all_interests_command, all_identifiers_text, all_identifiers_command, agent_by_name_text, agent_by_name_command, agent_by_token_text, agent_by_token_command, filing_by_key_text, filing_by_key_command, line_by_key_text, line_by_key_command, line_by_number_text, line_by_number_command, same_bytes_text, same_bytes_command, filings_of_agent_text, filings_of_agent_command, last_filing_text, last_filing_command, last_of_series_text, last_of_series_command, statement_by_id_text, statement_by_id_command, statements_of_filing_text, statements_of_filing_command, statements_of_declaration_text, statements_of_declaration_command, interests_of_statement_text, interests_of_statement_command, identifiers_of_statement_text, identifiers_of_statement_command, more_statements_text, more_statements_command, statements_of_series_text, statements_of_series_command, statements_of_record_text, statements_of_record_command, statements_of_subject_text, statements_of_subject_command, statement_by_place_text, statement_by_place_command, identifiers_by_id_text, identifiers_by_id_command, all_periods_text, all_periods_command, periods_of_statement_text, periods_of_statement_command, file_by_number_text, file_by_number_command}
 
 pub all_register_is : Asks all_register_text all_register_command
 unfolding understood everything
@@ -108,3 +108,37 @@ statement_by_place_is = (refl, (refl, refl), refl)
 pub identifiers_by_id_is : Asks identifiers_by_id_text identifiers_by_id_command
 unfolding understood everything
 identifiers_by_id_is = (refl, (refl, refl), refl)
+
+pub all_periods_is : Asks all_periods_text all_periods_command
+unfolding understood everything
+all_periods_is = (refl, (refl, refl), refl)
+
+pub periods_of_statement_is : Asks periods_of_statement_text periods_of_statement_command
+unfolding understood everything
+periods_of_statement_is = (refl, (refl, refl), refl)
+
+pub file_by_number_is : Asks file_by_number_text file_by_number_command
+unfolding understood everything
+file_by_number_is = (refl, (refl, refl), refl)
+
+-- ---- those that are asked of version 1 too
+
+pub all_filings_both : AsksBoth all_filings_text all_filings_command
+unfolding understood everything
+all_filings_both = record { first = (refl, (refl, refl), refl); now = all_filings_is }
+
+pub file_by_number_both : AsksBoth file_by_number_text file_by_number_command
+unfolding understood everything
+file_by_number_both = record { first = (refl, (refl, refl), refl); now = file_by_number_is }
+
+pub statements_of_filing_both : AsksBoth statements_of_filing_text statements_of_filing_command
+unfolding understood everything
+statements_of_filing_both = record { first = (refl, (refl, refl), refl); now = statements_of_filing_is }
+
+pub interests_of_statement_both : AsksBoth interests_of_statement_text interests_of_statement_command
+unfolding understood everything
+interests_of_statement_both = record { first = (refl, (refl, refl), refl); now = interests_of_statement_is }
+
+pub identifiers_of_statement_both : AsksBoth identifiers_of_statement_text identifiers_of_statement_command
+unfolding understood everything
+identifiers_of_statement_both = record { first = (refl, (refl, refl), refl); now = identifiers_of_statement_is }

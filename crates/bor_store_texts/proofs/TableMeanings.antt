@@ -3,8 +3,8 @@ use Rattle.std.proofs.Common.{refl}
 use Rattle.sqlite.specs.Listing.{understood}
 use Rattle.sqlite_tied.specs.Compute.{everything}
 use Rattle.bor_store_texts.specs.Meanings.{MakesTable, MakesIndex}
-use Rattle.bor_store_texts.specs.Tables.{no_schema, schema_1, schema_2, schema_3, schema_4, schema_5, schema_6, schema_7, schema_8, schema_9, register_table, agent_table, filing_table, statement_table, interest_table, identifier_table, record_index, subject_index, identifier_index, line_index, filing_at, identifier_at, statement_at}
-use Rattle.bor_store_texts.specs.declared.tables.TheConstants.{REGISTER_TABLE, AGENT_TABLE, FILING_TABLE, STATEMENT_TABLE, INTEREST_TABLE, IDENTIFIER_TABLE, RECORD_INDEX, SUBJECT_INDEX, IDENTIFIER_INDEX, LINE_INDEX}
+use Rattle.bor_store_texts.specs.Tables.{no_schema, schema_1, schema_2, schema_3, schema_4, schema_5, schema_6, schema_7, schema_8, schema_9, register_table, agent_table, filing_table, statement_table, interest_table, identifier_table, record_index, subject_index, identifier_index, line_index, filing_at, identifier_at, statement_at, first_schema, period_table}
+use Rattle.bor_store_texts.specs.declared.tables.TheConstants.{REGISTER_TABLE, AGENT_TABLE, FILING_TABLE, STATEMENT_TABLE, INTEREST_TABLE, IDENTIFIER_TABLE, RECORD_INDEX, SUBJECT_INDEX, IDENTIFIER_INDEX, LINE_INDEX, PERIOD_TABLE}
 
 pub register_is : MakesTable no_schema REGISTER_TABLE.now register_table
 unfolding understood everything
@@ -45,3 +45,7 @@ identifier_index_is = (refl, refl, (refl, refl), refl)
 pub line_index_is : MakesIndex schema_9 2 filing_at LINE_INDEX.now line_index
 unfolding understood everything
 line_index_is = (refl, refl, (refl, refl), refl)
+
+pub period_is : MakesTable first_schema PERIOD_TABLE.now period_table
+unfolding understood everything
+period_is = (refl, refl, (refl, refl), refl)

@@ -10,7 +10,7 @@ use Rattle.sqlite.specs.Command.TheVariants.{Insert, Update, Delete}
 use Rattle.sqlite.specs.Source.TheVariants.{Values}
 use Rattle.sqlite_schema.specs.declared.program.Program.{Program}
 use Rattle.bor_store_texts.specs.Queries.{table_query, equals}
-use Rattle.bor_store_texts.specs.declared.changes.TheConstants.{INSERT_REGISTER, INSERT_AGENT, INSERT_FILING, INSERT_STATEMENT, INSERT_INTEREST, INSERT_IDENTIFIER, DELETE_IDENTIFIERS, DELETE_INTERESTS, DELETE_STATEMENTS, MARK_WITHDRAWN, UPDATE_DAY}
+use Rattle.bor_store_texts.specs.declared.changes.TheConstants.{INSERT_REGISTER, INSERT_AGENT, INSERT_FILING, INSERT_STATEMENT, INSERT_INTEREST, INSERT_IDENTIFIER, DELETE_IDENTIFIERS, DELETE_INTERESTS, DELETE_STATEMENTS, MARK_WITHDRAWN, UPDATE_DAY, INSERT_PERIOD, DELETE_PERIODS, UPDATE_VERSION}
 
 -- Columns are counted from 1, parameters from 0. An update gives the row's identity twice and then its columns, a deletion its identity.
 
@@ -22,7 +22,7 @@ abbrev pub insert_register_text : List ℕ
 insert_register_text = INSERT_REGISTER.now
 
 abbrev pub insert_register_terms : List Term
-insert_register_terms = lit Null ∷ lit (Int (pos 1)) ∷ lit (Int (pos 1)) ∷ col 0 0 ∷ col 0 1 ∷ []
+insert_register_terms = lit Null ∷ lit (Int (pos 1)) ∷ col 0 0 ∷ col 0 1 ∷ col 0 2 ∷ []
 
 abbrev pub insert_register_command : Command
 insert_register_command = Insert 0 (Values insert_register_terms 5)
@@ -116,3 +116,30 @@ update_day_program = record { lets = []; body = table_query 0 (equals_number 1 1
 
 abbrev pub update_day_command : Command
 update_day_command = Update 0 update_day_program
+
+abbrev pub insert_period_text : List ℕ
+insert_period_text = INSERT_PERIOD.now
+
+abbrev pub insert_period_terms : List Term
+insert_period_terms = lit Null ∷ col 0 0 ∷ col 0 1 ∷ col 0 2 ∷ col 0 3 ∷ col 0 4 ∷ col 0 5 ∷ []
+
+abbrev pub insert_period_command : Command
+insert_period_command = Insert 6 (Values insert_period_terms 7)
+
+abbrev pub delete_periods_text : List ℕ
+delete_periods_text = DELETE_PERIODS.now
+
+abbrev pub delete_periods_program : Program
+delete_periods_program = record { lets = []; body = table_query 19 (equals 1 0 ∷ equals 2 1 ∷ []) (col 1 0 ∷ []) [] }
+
+abbrev pub delete_periods_command : Command
+delete_periods_command = Delete 6 delete_periods_program
+
+abbrev pub update_version_text : List ℕ
+update_version_text = UPDATE_VERSION.now
+
+abbrev pub update_version_program : Program
+update_version_program = record { lets = []; body = table_query 0 (equals_number 1 1 ∷ []) (col 1 0 ∷ col 1 0 ∷ col 1 1 ∷ col 0 0 ∷ col 1 3 ∷ col 1 4 ∷ []) [] }
+
+abbrev pub update_version_command : Command
+update_version_command = Update 0 update_version_program

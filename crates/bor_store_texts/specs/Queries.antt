@@ -10,7 +10,7 @@ use Rattle.sqlite.specs.Command.{Command}
 use Rattle.sqlite.specs.Command.TheVariants.{Select}
 use Rattle.sqlite_sql.specs.declared.ops.BinaryOp.TheVariants.{Compare}
 use Rattle.sqlite_sql.specs.declared.ops.CompareOp.TheVariants.{Eq}
-use Rattle.bor_store_texts.specs.declared.queries.TheConstants.{ALL_REGISTER, ALL_AGENTS, ALL_FILINGS, ALL_STATEMENTS, ALL_INTERESTS, ALL_IDENTIFIERS, AGENT_BY_NAME, AGENT_BY_TOKEN, FILING_BY_KEY, LINE_BY_KEY, LINE_BY_NUMBER, SAME_BYTES, FILINGS_OF_AGENT, LAST_FILING, LAST_OF_SERIES, STATEMENT_BY_ID, STATEMENTS_OF_FILING, STATEMENTS_OF_DECLARATION, INTERESTS_OF_STATEMENT, IDENTIFIERS_OF_STATEMENT, MORE_STATEMENTS, STATEMENTS_OF_SERIES, STATEMENTS_OF_RECORD, STATEMENTS_OF_SUBJECT, STATEMENT_BY_PLACE, IDENTIFIERS_BY_ID}
+use Rattle.bor_store_texts.specs.declared.queries.TheConstants.{ALL_REGISTER, ALL_AGENTS, ALL_FILINGS, ALL_STATEMENTS, ALL_INTERESTS, ALL_IDENTIFIERS, AGENT_BY_NAME, AGENT_BY_TOKEN, FILING_BY_KEY, LINE_BY_KEY, LINE_BY_NUMBER, SAME_BYTES, FILINGS_OF_AGENT, LAST_FILING, LAST_OF_SERIES, STATEMENT_BY_ID, STATEMENTS_OF_FILING, STATEMENTS_OF_DECLARATION, INTERESTS_OF_STATEMENT, IDENTIFIERS_OF_STATEMENT, MORE_STATEMENTS, STATEMENTS_OF_SERIES, STATEMENTS_OF_RECORD, STATEMENTS_OF_SUBJECT, STATEMENT_BY_PLACE, IDENTIFIERS_BY_ID, ALL_PERIODS, PERIODS_OF_STATEMENT, FILE_BY_NUMBER}
 
 -- Columns are counted from 1, parameters from 0.
 
@@ -285,3 +285,30 @@ identifiers_by_id_query = table_query 13 (equals 5 0 ∷ equals 6 1 ∷ []) (col
 
 abbrev pub identifiers_by_id_command : Command
 identifiers_by_id_command = shows_rows identifiers_by_id_query (codes "agent" ∷ codes "filing" ∷ codes "place" ∷ codes "item" ∷ codes "scheme" ∷ codes "id" ∷ [])
+
+abbrev pub all_periods_text : List ℕ
+all_periods_text = ALL_PERIODS.now
+
+abbrev pub all_periods_query : Query
+all_periods_query = table_query 19 ([]) (col 1 1 ∷ col 1 2 ∷ col 1 3 ∷ col 1 4 ∷ col 1 5 ∷ col 1 6 ∷ []) (rising 1 ∷ rising 2 ∷ rising 3 ∷ rising 4 ∷ [])
+
+abbrev pub all_periods_command : Command
+all_periods_command = shows_rows all_periods_query (codes "agent" ∷ codes "filing" ∷ codes "place" ∷ codes "item" ∷ codes "starts" ∷ codes "ends" ∷ [])
+
+abbrev pub periods_of_statement_text : List ℕ
+periods_of_statement_text = PERIODS_OF_STATEMENT.now
+
+abbrev pub periods_of_statement_query : Query
+periods_of_statement_query = table_query 19 (equals 1 0 ∷ equals 2 1 ∷ equals 3 2 ∷ []) (col 1 1 ∷ col 1 2 ∷ col 1 3 ∷ col 1 4 ∷ col 1 5 ∷ col 1 6 ∷ []) (rising 1 ∷ rising 2 ∷ rising 3 ∷ rising 4 ∷ [])
+
+abbrev pub periods_of_statement_command : Command
+periods_of_statement_command = shows_rows periods_of_statement_query (codes "agent" ∷ codes "filing" ∷ codes "place" ∷ codes "item" ∷ codes "starts" ∷ codes "ends" ∷ [])
+
+abbrev pub file_by_number_text : List ℕ
+file_by_number_text = FILE_BY_NUMBER.now
+
+abbrev pub file_by_number_query : Query
+file_by_number_query = table_query 5 (equals 1 0 ∷ equals 2 1 ∷ []) (col 1 2 ∷ col 1 4 ∷ col 1 5 ∷ col 1 6 ∷ []) (rising 1 ∷ rising 2 ∷ [])
+
+abbrev pub file_by_number_command : Command
+file_by_number_command = shows_rows file_by_number_query (codes "number" ∷ codes "due" ∷ codes "withdrawn" ∷ codes "bytes" ∷ [])

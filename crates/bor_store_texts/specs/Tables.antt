@@ -1,4 +1,4 @@
--- The six tables and their indexes, as SQL makes them.
+-- The seven tables and their indexes, as SQL makes them. Those of version 1 are six: all but `period`.
 use Rattle.std.specs.Prelude.{true, false, [], ◌∷◌, None, codes, List, ℕ}
 use Rattle.sqlite.specs.Collation.TheVariants.{Binary}
 use Rattle.sqlite.specs.declared.types.Value.TheVariants.{Null}
@@ -121,6 +121,22 @@ identifier_table = record {
   is_counted = false;
 }
 
+abbrev pub period_table : Table
+period_table = record {
+  name = codes "period";
+  tree = 0;
+  columns = needed (codes "agent") Text ∷ needed (codes "filing") Integer ∷ needed (codes "place") Integer ∷ needed (codes "item") Integer ∷ may_have (codes "starts") Integer ∷ may_have (codes "ends") Integer ∷ [];
+  key = None;
+  primary = 1 ∷ 2 ∷ 3 ∷ 4 ∷ [];
+  uniques = (1 ∷ 2 ∷ 3 ∷ 4 ∷ []) ∷ [];
+  orders = plain ∷ [];
+  checks = [];
+  references = refers_to (1 ∷ 2 ∷ 3 ∷ 4 ∷ []) (codes "interest") (codes "agent" ∷ codes "filing" ∷ codes "place" ∷ codes "item" ∷ []) ∷ [];
+  computed = [];
+  stamps = record { places = []; terms = []; formats = [] };
+  is_counted = false;
+}
+
 -- ---- the tables at their trees
 
 abbrev pub register_at : Table
@@ -140,6 +156,9 @@ interest_at = record interest_table { tree = 11 }
 
 abbrev pub identifier_at : Table
 identifier_at = record identifier_table { tree = 13 }
+
+abbrev pub period_at : Table
+period_at = record period_table { tree = 19 }
 
 -- ---- indexes beside those of the keys
 
@@ -190,6 +209,10 @@ schema_8 = indexed schema_7 statement_at subject_index
 abbrev pub schema_9 : Schema
 schema_9 = indexed schema_8 identifier_at identifier_index
 
+-- the tables and indexes of a register in version 1
+abbrev pub first_schema : Schema
+first_schema = indexed schema_9 filing_at line_index
+
 -- the tables and indexes of a register
 abbrev pub keep_schema : Schema
-keep_schema = indexed schema_9 filing_at line_index
+keep_schema = created first_schema period_table

@@ -122,3 +122,16 @@ pub const STATEMENT_BY_PLACE: &str =
 /// The identifiers of all statements that are these, by scheme and identifier.
 pub const IDENTIFIERS_BY_ID: &str = "SELECT agent, filing, place, item, scheme, id \
      FROM identifier WHERE scheme = ?1 AND id = ?2 ORDER BY agent, filing, place, item";
+
+/// All periods.
+pub const ALL_PERIODS: &str = "SELECT agent, filing, place, item, starts, ends \
+     FROM period ORDER BY agent, filing, place, item";
+
+/// The periods of a statement, by agent, filing and place.
+pub const PERIODS_OF_STATEMENT: &str = "SELECT agent, filing, place, item, starts, ends \
+     FROM period WHERE agent = ?1 AND filing = ?2 AND place = ?3 \
+     ORDER BY agent, filing, place, item";
+
+/// A filing with its file, by agent and number.
+pub const FILE_BY_NUMBER: &str = "SELECT number, due, withdrawn, bytes \
+     FROM filing WHERE agent = ?1 AND number = ?2 ORDER BY agent, number";

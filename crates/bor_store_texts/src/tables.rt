@@ -1,4 +1,4 @@
-//! The six tables and their indexes, as SQL makes them.
+//! The seven tables and their indexes, as SQL makes them.
 
 /// One row: the version of the tables, the register's day as its day number from 1970-01-01, and the
 /// registrar's token.
@@ -78,6 +78,19 @@ pub const IDENTIFIER_TABLE: &str = "CREATE TABLE identifier (
     id TEXT NOT NULL,
     PRIMARY KEY (agent, filing, place, item),
     FOREIGN KEY (agent, filing, place) REFERENCES statement (agent, filing, place)
+) STRICT";
+
+/// The first and the last day on which an interest counts, by its place in the statement: a row only where
+/// one of them is there. It is made last, since tables of version 1 are those without it.
+pub const PERIOD_TABLE: &str = "CREATE TABLE period (
+    agent TEXT NOT NULL,
+    filing INTEGER NOT NULL,
+    place INTEGER NOT NULL,
+    item INTEGER NOT NULL,
+    starts INTEGER,
+    ends INTEGER,
+    PRIMARY KEY (agent, filing, place, item),
+    FOREIGN KEY (agent, filing, place, item) REFERENCES interest (agent, filing, place, item)
 ) STRICT";
 
 /// A record's statements, in order of acceptance and of place.

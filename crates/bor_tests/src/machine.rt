@@ -59,6 +59,13 @@ impl Registers for Machine {
         })
     }
 
+    fn migrate<'a>(&self, _path: &'a str) -> Result<(), Failure<'a>> {
+        if self.is_starved {
+            return Err(Failure::Memory);
+        }
+        Ok(())
+    }
+
     fn close(&self, _register: ListKeep) {}
 }
 

@@ -84,8 +84,9 @@ fn open_node(rt: &impl Abort, alloc: Global, row: &Row) -> OpenNode {
 #[test]
 fn the_page_of_links(rt: HostRuntime) {
     let alloc = rt.alloc();
+    let date = day(&rt, "2024-01-11");
     let rows = rows(&rt, alloc, "E s1 e1 7; E s2 a1 7; R s3 r1 e1 a1");
-    let latest = open_rows(alloc, &rows, day(&rt, "2024-01-11")).expect(&rt, "memory");
+    let latest = open_rows(alloc, &rows, date).expect(&rt, "memory");
     let [first, second, third] = latest.as_slice() else {
         panic!(rt; "not three rows");
     };
@@ -93,8 +94,8 @@ fn the_page_of_links(rt: HostRuntime) {
     let a1 = open_node(&rt, alloc, *second);
     assert!(rt; e1.is_alias(&a1));
     let votes = interests_of(&third.statement);
-    assert!(rt; stake_of(votes));
-    assert!(rt; holding_of(votes));
+    assert!(rt; stake_of(votes, date));
+    assert!(rt; holding_of(votes, date));
 }
 
 #[test]

@@ -37,6 +37,8 @@ const SERVE: [&str; 7] = [
     "0",
 ];
 
+const MIGRATE: [&str; 3] = ["migrate", "--db", "a.db"];
+
 const EXCHANGE: [&str; 8] = [
     "exchange",
     "--db",
@@ -87,11 +89,12 @@ fn fails_untold<R: Files + AllocGlobal + Abort>(
 // Words and the text that is printed, of which the output takes nothing or nine bytes, or hands nothing on.
 #[test]
 fn an_output_that_fails_is_not_told(rt: HostRuntime) {
-    let cases: [(&[&str], &str); 4] = [
+    let cases: [(&[&str], &str); 5] = [
         (&[], "refused NoStatements\n"),
         (&["--help"], HELP),
         (&REPORT, "refused NoEntity\n"),
         (&SERVE, "listening 127.0.0.1:80\n"),
+        (&MIGRATE, "version 2\n"),
     ];
     for (words, text) in cases {
         for room in [0, 9] {
@@ -141,7 +144,7 @@ fn an_input_that_breaks_off_is_told(rt: HostRuntime) {
 
 #[test]
 fn a_register_for_which_there_is_no_memory_is_told(rt: HostRuntime) {
-    let cases: [&[&str]; 3] = [&REPORT, &SERVE, &EXCHANGE];
+    let cases: [&[&str]; 4] = [&REPORT, &SERVE, &MIGRATE, &EXCHANGE];
     for words in cases {
         fails(&rt, true, words, b"".as_slice(), "bor: out of memory\n");
     }
@@ -234,12 +237,13 @@ fn a_report_of_a_store_that_fails_prints_nothing(rt: HostRuntime) {
 // The pages that clap tells of each command.
 #[test]
 fn the_help_has_the_pages_of_its_commands(rt: HostRuntime) {
-    let cases: [&[&str]; 5] = [
+    let cases: [&[&str]; 6] = [
         &["help"],
         &["help", "check"],
         &["exchange", "--help"],
         &["serve", "-h"],
         &["report", "--help"],
+        &["migrate", "--help"],
     ];
     for words in cases {
         let unread = Command::read(rt.alloc(), words).expect_err(&rt, "no command");

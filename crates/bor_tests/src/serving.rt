@@ -17,8 +17,8 @@ const NONE_LISTED: &[u8] =
     b"HTTP/1.1 200 OK\r\nContent-Type: application/json\r\nContent-Length: 2\r\nConnection: close\r\n\r\n[]";
 
 // What alder sends to list its filings, and to withdraw its filing f1.
-const LISTING: &[u8] =
-    b"GET /filings HTTP/1.1\r\nAuthorization: Bearer alder-token-000001\r\n\r\n";
+const LISTING: &[u8] = b"GET /filings HTTP/1.1\r\nAuthorization: Bearer alder-token-000001\r\n\r\n";
+
 const WITHDRAWAL: &[u8] =
     b"DELETE /filings/f1 HTTP/1.1\r\nAuthorization: Bearer alder-token-000001\r\n\r\n";
 

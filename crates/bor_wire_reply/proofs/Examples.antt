@@ -80,8 +80,8 @@ pub one_person : chains_text (record { agent = codes "alder"; declaration = code
 unfolding digits chains_text escape_byte day_text year_at month_at calendar
 one_person = refl
 
--- more than a quarter of the votes, and at most half
-pub some_votes : compact_text (interest_data (record { kind = interests.VotingRights; directness = directness.Direct; share = Some (range 25 true 50 false) }))
+-- more than a quarter of the votes, and at most half; the days aren't told
+pub some_votes : compact_text (interest_data (record { kind = interests.VotingRights; directness = directness.Direct; share = Some (range 25 true 50 false); starts = Some (pos 19754); ends = None }))
     ≡ codes "{\"directness\":\"direct\",\"share\":{\"high\":50,\"highOpen\":false,\"low\":25,\"lowOpen\":true},\"type\":\"votingRights\"}"
 unfolding escape_byte digits interest_word directness_word
 some_votes = refl

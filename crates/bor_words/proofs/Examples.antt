@@ -11,7 +11,7 @@ no_words = (refl, refl)
 
 pub check_alone : EntersCheck (entered_by (codes "check" ∷ [])) × (file_at (entered_by (codes "check" ∷ [])) ≡ None)
 unfolding clap_on_literals
-check_alone = ((refl, refl, refl), refl)
+check_alone = ((refl, refl, refl, refl), refl)
 
 pub check_of_a_file : file_at (entered_by (codes "check" ∷ codes "a.json" ∷ [])) ≡ Some (codes "a.json")
 unfolding clap_on_literals

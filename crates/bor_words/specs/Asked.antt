@@ -7,6 +7,7 @@ use Rattle.clap.specs.declared.error.kind.ErrorKind.TheVariants.{DisplayHelp}
 use Rattle.bor_words.specs.declared.command.Command.{Command}
 use Rattle.bor_words.specs.declared.command.Command.TheVariants as command
 use Rattle.bor_words.specs.declared.exchange.Exchange.{Exchange}
+use Rattle.bor_words.specs.declared.migrate.Migrate.{Migrate}
 use Rattle.bor_words.specs.declared.serve.Serve.{Serve}
 use Rattle.bor_words.specs.declared.report.Report.{Report}
 use Rattle.bor_words.specs.declared.source.Source.{Source}
@@ -45,7 +46,7 @@ source_text (File name) = name.now
 -- no other command is entered than check
 abbrev pub EntersCheck : Entered → Type 0
 EntersCheck entered = (found_behind (codes "exchange") entered ≡ None) × (found_behind (codes "serve") entered ≡ None)
-    × (found_behind (codes "report") entered ≡ None)
+    × (found_behind (codes "report") entered ≡ None) × (found_behind (codes "migrate") entered ≡ None)
 
 -- what is asked of an exchange
 pub record IsExchange (rows : List Row) (asked : Exchange) : Type 0 where
@@ -69,9 +70,14 @@ pub record IsReport (rows : List Row) (asked : Report) : Type 0 where
   pub rec : asked.entity.rec ≡ given (codes "record") rows
   pub date : asked.date ≡ option_and_then day_of (first_of (codes "date") rows)
 
+-- what is asked of a migration
+pub record IsMigrate (rows : List Row) (asked : Migrate) : Type 0 where
+  pub db : asked.db.now ≡ given (codes "db") rows
+
 -- the command is what is asked for
 abbrev pub IsAsked : Entered → Command → Type 0
 IsAsked entered (command.Check source) = EntersCheck entered × (name_of source ≡ file_at entered)
 IsAsked entered (command.Exchange asked) = (rows : List Row) × (found_behind (codes "exchange") entered ≡ Some rows) × IsExchange rows asked
 IsAsked entered (command.Serve asked) = (rows : List Row) × (found_behind (codes "serve") entered ≡ Some rows) × IsServe rows asked
 IsAsked entered (command.Report asked) = (rows : List Row) × (found_behind (codes "report") entered ≡ Some rows) × IsReport rows asked
+IsAsked entered (command.Migrate asked) = (rows : List Row) × (found_behind (codes "migrate") entered ≡ Some rows) × IsMigrate rows asked

@@ -38,14 +38,17 @@ report_app =
     with_rule (with_rule (with_rule (with_rule (with_rule (with_rule (new_app (codes "report")) (required_rule (codes "db"))) (required_rule (codes "viewer")))
     (required_rule (codes "agent"))) (required_rule (codes "declaration"))) (required_rule (codes "record"))) (option_rule (codes "date"))
 
+abbrev pub migrate_app : App
+migrate_app = with_rule (new_app (codes "migrate")) (required_rule (codes "db"))
+
 -- the words begin after the program's name
 abbrev pub without_name : App → App
 without_name a = record a { top = record a.top { no_binary_name = true } }
 
 abbrev pub bor_app : App
 bor_app =
-    with_subcommand (with_subcommand (with_subcommand (with_subcommand (without_name (new_app (codes "bor"))) check_app.top) exchange_app.top)
-    serve_app.top) report_app.top
+    with_subcommand (with_subcommand (with_subcommand (with_subcommand (with_subcommand (without_name (new_app (codes "bor"))) check_app.top)
+    exchange_app.top) serve_app.top) report_app.top) migrate_app.top
 
 -- ---- what clap finds
 

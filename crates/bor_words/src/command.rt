@@ -9,6 +9,7 @@ ghost use Rattle.bor_words.specs.Words.{bor_app, entered_by, file_at, rows_in};
 
 use crate::exchange::Exchange;
 use crate::matches::{behind, optional};
+use crate::migrate::Migrate;
 use crate::parser::parser;
 use crate::report::Report;
 use crate::serve::Serve;
@@ -29,6 +30,8 @@ pub enum Command<'a> {
     Serve(Serve<'a>),
     /// Print who stands behind an entity.
     Report(Report<'a>),
+    /// Move a register of an earlier version to the tables of this program.
+    Migrate(Migrate<'a>),
 }
 
 impl<'a> Command<'a> {
@@ -63,6 +66,9 @@ impl<'a> Command<'a> {
         }
         if let Some(found) = behind(matches, "report") {
             return Ok(Command::Report(Report::read(alloc, found)?));
+        }
+        if let Some(found) = behind(matches, "migrate") {
+            return Ok(Command::Migrate(Migrate::read(found)));
         }
         Ok(Command::Check(Source::of(file_named(matches))))
     }

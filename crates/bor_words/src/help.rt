@@ -10,6 +10,7 @@ Commands:
   exchange  Answers HTTP requests in files, one after the other, and prints the replies
   serve     Answers HTTP requests on 127.0.0.1, one connection after the other
   report    Prints which persons hold an entity, directly or through a chain, as an agent sees it
+  migrate   Moves a register of version 1 to version 2, in which an interest counts within its dates
   help      Print this message or the help of the given subcommand(s)
 
 Options:
@@ -74,4 +75,15 @@ Options:
 
 Example:
   bor report --db register.db --viewer alder --agent alder --declaration c1 --record e1
+
+Moves a register of version 1 to version 2, in which an interest counts within its dates
+
+Usage: bor migrate --db <PATH>
+
+Options:
+      --db <PATH>  The register's file
+  -h, --help       Print help
+
+Example:
+  bor migrate --db register.db
 ";

@@ -3,7 +3,7 @@
 ghost use Rattle.std.specs.Prelude.{◌≡◌, IfOk, false};
 ghost use Rattle.clap.specs.Words.{app_of, rule_of};
 ghost use Rattle.clap.specs.declared.builder.command.Command.TheViews.{out-Command as fields_of};
-ghost use Rattle.bor_words.specs.Words.{bor_app, check_app, exchange_app, option_rule, report_app, required_rule, serve_app};
+ghost use Rattle.bor_words.specs.Words.{bor_app, check_app, exchange_app, migrate_app, option_rule, report_app, required_rule, serve_app};
 
 use clap::{Arg, ArgAction, Command as Parser};
 use std::alloc::{AllocError, Global};
@@ -16,6 +16,9 @@ const SERVE_EXAMPLE: &str = "Example:
 
 const REPORT_EXAMPLE: &str = "Example:
   bor report --db register.db --viewer alder --agent alder --declaration c1 --record e1";
+
+const MIGRATE_EXAMPLE: &str = "Example:
+  bor migrate --db register.db";
 
 const CHECK_EXAMPLE: &str = "Example:
   bor check filing.json";
@@ -145,6 +148,18 @@ fn report<'a>(alloc: Global) -> Result<Parser<'a>, AllocError>
         ))
 }
 
+fn migrate<'a>(alloc: Global) -> Result<Parser<'a>, AllocError>
+    ensures app { IfOk result (λ parser. app_of parser ≡ migrate_app) }
+    ensures local { IfOk result (λ parser. (fields_of parser).has_globals ≡ false) }
+{
+    Parser::new(alloc, "migrate")
+        .about(
+            "Moves a register of version 1 to version 2, in which an interest counts within its dates",
+        )
+        .after_help(MIGRATE_EXAMPLE)
+        .arg(required(alloc, "db", "PATH", "The register's file"))
+}
+
 /// The words that `bor` takes.
 pub fn parser<'a>(alloc: Global) -> Result<Parser<'a>, AllocError>
     ensures { IfOk result (λ parser. app_of parser ≡ bor_app) }
@@ -157,5 +172,6 @@ pub fn parser<'a>(alloc: Global) -> Result<Parser<'a>, AllocError>
         .subcommand(check(alloc)?)?
         .subcommand(exchange(alloc)?)?
         .subcommand(serve(alloc)?)?
-        .subcommand(report(alloc)?)
+        .subcommand(report(alloc)?)?
+        .subcommand(migrate(alloc)?)
 }

@@ -5,5 +5,5 @@ use Rattle.bods_read.proofs.interests.of_object.Goals as goal
 
 pub returns : goal.returns
 returns c =
-    interest_read _ _ _ _ (c.kind_worded-kind.ensures ∙ ap interest_worded c.text_at.ensures)
+    interest_read _ _ _ _ _ _ c.starts-starts.ensures c.ends-ends.ensures (c.kind_worded-kind.ensures ∙ ap interest_worded c.text_at.ensures)
     (c.directness_worded-directness.ensures ∙ ap directness_worded c.text_at-2.ensures) c.in_ok-share.ensures

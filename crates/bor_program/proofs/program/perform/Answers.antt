@@ -17,3 +17,6 @@ returns-in-Exchange g c = rw c.in-Exchange.is (keeps_same _, c.exchange.ensures)
 
 pub returns-in-Serve : goal.returns-in-Serve
 returns-in-Serve g c = rw c.in-Serve.is (keeps_same _, c.serve.ensures)
+
+pub returns-in-Migrate : goal.returns-in-Migrate
+returns-in-Migrate g c = rw c.in-Migrate.is (keeps_same _, c.migrate.ensures)

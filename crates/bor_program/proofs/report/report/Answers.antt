@@ -1,12 +1,8 @@
-use Rattle.std.proofs.Common.{◌≡◌, ◌∙◌, Bool, true, false, ap, arith, inl, inr, sym}
-use Rattle.bor_program.specs.Program.{exit_code, report_status}
+use Rattle.std.proofs.Common.{◌≡◌, ◌∙◌, ap, arith, inl, inr, sym}
+use Rattle.bor_program.specs.Program.{exit_code}
 use Rattle.bor_program.proofs.Ends.{keeps_same}
-use Rattle.bor_program.proofs.MetFailures.{cut_text, fails_to_open, met_opened, met_opening, no_text, tells_cut}
+use Rattle.bor_program.proofs.MetFailures.{cut_text, fails_to_open, met_opened, met_opening, no_failure, no_text, tells_cut}
 use Rattle.bor_program.proofs.report.report.Goals as goal
-
-no_failure : (refused : Bool) → 3 ≡ report_status refused → ⊥
-no_failure true e = absurd (omega (arith, e))
-no_failure false e = absurd (omega (arith, e))
 
 pub returns-in-Ok-told : goal.returns-in-Ok-told
 returns-in-Ok-told g c =

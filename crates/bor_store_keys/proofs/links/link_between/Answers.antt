@@ -7,5 +7,5 @@ use Rattle.bor_store_keys.proofs.links.link_between.Goals as goal
 
 pub returns-clause-answer : goal.returns-clause-answer
 returns-clause-answer g c clean r shows entity =
-    link_is (nodes_of c.args.view.now.day (rows_seen c.args.view.now r)) c.args.node.now c.args.party c.args.subject c.args.interests.now c.stake_of.result c.holding_of.result (not-false _ (sym c.if-ne.ensures)) entity
+    link_is c.args.view.now.day (nodes_of c.args.view.now.day (rows_seen c.args.view.now r)) c.args.node.now c.args.party c.args.subject c.args.interests.now c.stake_of.result c.holding_of.result (not-false _ (sym c.if-ne.ensures)) entity
     (sym (c.in_ok-is_node.ensures.answer clean r shows) ∙ c.if-not-branch.false) c.stake_of.ensures c.holding_of.ensures

@@ -1,23 +1,20 @@
-use Rattle.std.proofs.Common.{◌≡◌, List, map, ap}
+use Rattle.std.proofs.Common.{◌∙◌}
 use Rattle.std.specs.Prelude.{filter}
-use Rattle.std.proofs.lemmas.List.Elements.{All-filter}
 use Rattle.sqlite.specs.Held.{state}
-use Rattle.bor_store_rows.specs.declared.places.At.{At}
 use Rattle.bor_store_rows.specs.declared.rows.Placed.{Placed}
 use Rattle.bor_store_rows.specs.Placed.{placed, same_place}
-use Rattle.bor_store_rows.specs.Encoding.{interest_columns}
-use Rattle.bor_store_rows.specs.RowForms.{IsFormedPlaced, IsFormedInterestRow}
-use Rattle.bor_store_rows.proofs.Formed.{placed_formed, all_interests_formed}
+use Rattle.bor_store_rows.proofs.Apart.{all_apart, apart_filter}
+use Rattle.bor_store_rows.proofs.Timings.{all_several}
 use Rattle.bor_store_sql.specs.Selected.{interests_at}
-use Rattle.bor_store_reads.proofs.Found.{told}
+use Rattle.bor_store_reads.proofs.Found.{still_shows}
 use Rattle.bor_store_reads.proofs.declarations.interests_of_one.Goals as goal
 
 pub returns-clause-answer : goal.returns-clause-answer
-returns-clause-answer g c =
+returns-clause-answer g c clean r shows =
     let at = c.args.at.now in
-    let shown : List _ → At = λ a. record { agent = a; filing = at.filing; place = at.place } in
-    told interest_columns IsFormedInterestRow (state g.S.Store c.args.conn.now) (state g.S.Store c.interests_of_statement.new.conn) c.interests_of_statement.result (λ r. map interest_columns (interests_at (shown c.as_str.result.now) r.members)) c.interests_of_statement.ensures.finds
-    (λ r. interests_at at r.members)
-    (λ r. ap (λ a. map interest_columns (interests_at (shown a) r.members)) c.as_str.ensures.value)
-    (λ r stored. all_interests_formed (filter (λ p. same_place p.at at) (placed r.members)) (All-filter (λ (p : Placed). same_place p.at at) IsFormedPlaced (placed r.members) (placed_formed r stored)))
-    c.all.result (λ xs values. values.items ≡ xs) c.all.ensures
+    let second = c.periods_of_one.ensures.reads.began clean in
+    let shown = still_shows r (state g.S.Store c.args.conn.now) (state g.S.Store c.lines_of_one.new.conn) (c.lines_of_one.ensures.reads.kept second) shows in
+    let here = filter (λ (p : Placed). same_place p.at at) (placed r.members) in
+    c.in_ok-with_periods.ensures (interests_at at r.members)
+    (all_several here (apart_filter (λ (p : Placed). same_place p.at at) (placed r.members) (all_apart r.members shows.stored.ordered shows.stored.numbered))) (c.in_ok-lines.ensures.answer second r shows)
+    (c.as_slice.ensures.value ∙ c.in_ok-periods.ensures.answer clean r shown)

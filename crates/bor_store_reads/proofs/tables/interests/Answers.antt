@@ -1,16 +1,15 @@
-use Rattle.std.proofs.Common.{◌≡◌, map, refl}
+use Rattle.std.proofs.Common.{◌∙◌}
 use Rattle.std.specs.List.{flat_map}
 use Rattle.sqlite.specs.Held.{state}
 use Rattle.bor_store_rows.specs.Placed.{interest_rows, placed}
-use Rattle.bor_store_rows.specs.Encoding.{interest_columns}
-use Rattle.bor_store_rows.specs.RowForms.{IsFormedInterestRow}
-use Rattle.bor_store_rows.proofs.Formed.{placed_formed, all_interests_formed}
-use Rattle.bor_store_reads.proofs.Found.{told}
+use Rattle.bor_store_rows.proofs.Apart.{all_apart}
+use Rattle.bor_store_rows.proofs.Timings.{all_several}
+use Rattle.bor_store_reads.proofs.Found.{still_shows}
 use Rattle.bor_store_reads.proofs.tables.interests.Goals as goal
 
 pub returns-clause-answer : goal.returns-clause-answer
-returns-clause-answer g c =
-    told interest_columns IsFormedInterestRow (state g.S.Store c.args.conn.now) (state g.S.Store c.all_interests.new.conn) c.all_interests.result (λ r. map interest_columns (flat_map interest_rows (placed r.members))) c.all_interests.ensures.finds (λ r. flat_map interest_rows (placed r.members))
-    (λ r. refl)
-    (λ r stored. all_interests_formed (placed r.members) (placed_formed r stored))
-    c.all.result (λ xs values. values.items ≡ xs) c.all.ensures
+returns-clause-answer g c clean r shows =
+    let second = c.periods.ensures.reads.began clean in
+    let shown = still_shows r (state g.S.Store c.args.conn.now) (state g.S.Store c.interest_lines.new.conn) (c.interest_lines.ensures.reads.kept second) shows in
+    c.in_ok-with_periods.ensures (flat_map interest_rows (placed r.members)) (all_several (placed r.members) (all_apart r.members shows.stored.ordered shows.stored.numbered)) (c.in_ok-lines.ensures.answer second r shows)
+    (c.as_slice.ensures.value ∙ c.in_ok-periods.ensures.answer clean r shown)

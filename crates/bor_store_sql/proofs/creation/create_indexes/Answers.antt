@@ -1,5 +1,5 @@
 use Rattle.sqlite.specs.Held.{state}
-use Rattle.bor_store_texts.specs.Tables.{schema_6, schema_7, schema_8, schema_9, keep_schema}
+use Rattle.bor_store_texts.specs.Tables.{schema_6, schema_7, schema_8, schema_9, first_schema}
 use Rattle.bor_store_sql.specs.Blank.{IsBlank}
 use Rattle.bor_store_sql.proofs.Creating.{both_lead, finished}
 use Rattle.bor_store_sql.proofs.creation.create_indexes.Goals as goal
@@ -21,5 +21,5 @@ returns-clause-leads g c clean inside =
     let lead4 = c.in_ok-create_line_index.ensures.leads clean4 lead3.goes_on in
     let so1 = both_lead (IsBlank schema_6) (IsBlank schema_7) (IsBlank schema_8) s0 s1 s2 _ _ lead1 lead2 in
     let so2 = both_lead (IsBlank schema_6) (IsBlank schema_8) (IsBlank schema_9) s0 s2 s3 _ _ so1 lead3 in
-    let so3 = both_lead (IsBlank schema_6) (IsBlank schema_9) (IsBlank keep_schema) s0 s3 s4 _ _ so2 lead4 in
-    finished (IsBlank schema_6) (IsBlank keep_schema) s0 s4 _ so3
+    let so3 = both_lead (IsBlank schema_6) (IsBlank schema_9) (IsBlank first_schema) s0 s3 s4 _ _ so2 lead4 in
+    finished (IsBlank schema_6) (IsBlank first_schema) s0 s4 _ so3

@@ -17,11 +17,11 @@ pub by_subject-requires : goal.by_subject-requires
 by_subject-requires c = λ l h.
     let are : ArePlaces c.in_ok-nodes.nodes.items (λ n. get node_cmp c.in_ok-places.places n) =
     subst (λ (xs : List OpenNode). ArePlaces xs (λ n. get node_cmp c.in_ok-places.places n)) c.deref-2.ensures.value c.in_ok-places.ensures in
-    let made : c.deref-5.result.now ≡ filter_map (link_in c.in_ok-nodes.nodes.items) (map (λ x. x.now) c.deref-4.result.now) =
-    c.deref-5.ensures.value ∙ c.in_ok-links.ensures ∙ ap (λ (xs : List OpenNode). filter_map (link_in xs) (map (λ x. x.now) c.deref-4.result.now)) c.deref-3.ensures.value in
+    let made : c.deref-5.result.now ≡ filter_map (link_in c.args.day c.in_ok-nodes.nodes.items) (map (λ x. x.now) c.deref-4.result.now) =
+    c.deref-5.ensures.value ∙ c.in_ok-links.ensures ∙ ap (λ (xs : List OpenNode). filter_map (link_in c.args.day xs) (map (λ x. x.now) c.deref-4.result.now)) c.deref-3.ensures.value in
     let count : length c.in_ok-nodes.nodes.items ≡ c.len.result = omega arith in
     subst (λ (n : ℕ). IsBelow n (get node_cmp c.in_ok-places.places l.subject)) count
-    (subject_placed c.in_ok-nodes.nodes.items (map (λ x. x.now) c.deref-4.result.now) (λ n. get node_cmp c.in_ok-places.places n) are l (subst (λ (ls : List Link). Contains ls l) made h))
+    (subject_placed c.args.day c.in_ok-nodes.nodes.items (map (λ x. x.now) c.deref-4.result.now) (λ n. get node_cmp c.in_ok-places.places n) are l (subst (λ (ls : List Link). Contains ls l) made h))
 
 pub invariant_of-result : goal.invariant_of-result
 invariant_of-result c =

@@ -1,0 +1,148 @@
+-- What is gathered line by line is what the files of a register's live filings say.
+use Rattle.std.proofs.Common.{◌≡◌, ◌+◌, ◌<◌, ◌≤◌, ℕ, Bool, true, false, List, [], ◌∷◌, ◌++◌, map, take, drop, length, get_or, slice_get, Some, Vec, Result, Ok, Err, append_assoc, append-nil, refl, sym, ap, ap₂, subst, ◌∙◌, arith}
+use Rattle.std.specs.List.{AllByRecursion}
+use Rattle.std.specs.declared.alloc.Global.{Global}
+use Rattle.std.proofs.lemmas.List.{take_more, drop_more, take-append-drop}
+use Rattle.sqlite_keyed.proofs.ListLemmas.{all_weaker}
+use Rattle.bods_read.specs.File.{reading}
+use Rattle.bods_read.specs.declared.fault.FileFault.{FileFault}
+use Rattle.bods_read.specs.declared.statement.Statement.{Statement}
+use Rattle.bor_terms.specs.Texts.{is_same}
+use Rattle.bor_terms.proofs.Texts.{same_refl, same_sym}
+use Rattle.bor_register.specs.Register.{IsOrdered, filings_of}
+use Rattle.bor_register.specs.declared.filing.AcceptedFiling.{AcceptedFiling}
+use Rattle.bor_register.specs.declared.member.Member.{Member}
+use Rattle.bor_store_rows.proofs.Numbers.{same_number, other_number, before_number}
+use Rattle.bor_store_rows.specs.Placed.{filing_lines, filing_row, placed_from}
+use Rattle.bor_store_rows.specs.Stored.{AllNumbered, AreNumbered}
+use Rattle.bor_store_rows.specs.declared.rows.FilingRow.{FilingRow}
+use Rattle.bor_store_rows.specs.declared.rows.PeriodRow.{PeriodRow}
+use Rattle.bor_store_sql.specs.Selected.{numbered}
+use Rattle.bor_store_sql.proofs.Members.{apart_names}
+use Rattle.bor_store_reads.specs.declared.fault.ReadError.{ReadError}
+use Rattle.bor_store.specs.Migrating.{FileSays, FilesSay, FilingSays, FoundSays, GathersAll, LineSays, LinesSay, OwnSay, UnlessWithdrawn, days_of, filed_at}
+
+-- ---- one line after the other
+
+module _ (ms : List Member) where
+  lines_append : (xs ys : List FilingRow) (ps qs : List PeriodRow) → LinesSay ms xs ps → LinesSay ms ys qs → LinesSay ms (xs ++ ys) (ps ++ qs)
+  lines_append [] ys ps qs h k = subst (λ l. LinesSay ms ys (l ++ qs)) (sym h) k
+  lines_append (x ∷ xs) ys ps qs h k = (h.0, h.1 ++ qs, h.2, lines_append xs ys h.1 qs h.3 k, ap (λ l. l ++ qs) h.4 ∙ append_assoc h.0 h.1 qs)
+
+  lines_split : (xs ys : List FilingRow) (days : List PeriodRow) → LinesSay ms (xs ++ ys) days → (ps : List PeriodRow) × (qs : List PeriodRow) × LinesSay ms xs ps × LinesSay ms ys qs × (days ≡ ps ++ qs)
+  lines_split [] ys days h = ([], days, refl, h, refl)
+  lines_split (x ∷ xs) ys days h =
+      let rest = lines_split xs ys h.1 h.3 in
+      (h.0 ++ rest.0, rest.1, (h.0, rest.0, h.2, rest.2, refl), rest.3, h.4 ∙ ap (λ l. h.0 ++ l) rest.4 ∙ sym (append_assoc h.0 rest.0 rest.1))
+
+  pub line_gathered : (lines : List FilingRow) (i : ℕ) (x : FilingRow) (before after : List PeriodRow) → i < length lines → x ≡ get_or lines i x → LinesSay ms (take i lines) before
+      → (days : List PeriodRow) × LineSays ms x days × (after ≡ before ++ days) → LinesSay ms (take (i + 1) lines) after
+  line_gathered lines i x before after lt is so_far more =
+      let one : LinesSay ms (x ∷ []) more.0 = (more.0, [], more.1, refl, sym (append-nil more.0)) in
+      let on : take (i + 1) lines ≡ take i lines ++ x ∷ [] = take_more lines i x lt ∙ ap (λ y. take i lines ++ y ∷ []) (sym is) in
+      subst (λ l. LinesSay ms l after) (sym on) (subst (LinesSay ms (take i lines ++ x ∷ [])) (sym more.2) (lines_append (take i lines) (x ∷ []) before more.0 so_far one))
+
+  -- where a line says nothing, all of them together say nothing
+  pub line_failed : (lines : List FilingRow) (i : ℕ) (x : FilingRow) → i < length lines → x ≡ get_or lines i x → ((days : List PeriodRow) → LineSays ms x days → ⊥) → (days : List PeriodRow) → LinesSay ms lines days → ⊥
+  line_failed lines i x lt is none days h =
+      let rest : drop i lines ≡ x ∷ drop (i + 1) lines = drop_more lines i x lt ∙ ap (λ y. y ∷ drop (i + 1) lines) (sym is) in
+      let whole : lines ≡ take i lines ++ (x ∷ drop (i + 1) lines) = sym (take-append-drop i lines) ∙ ap (λ l. take i lines ++ l) rest in
+      let parts = lines_split (take i lines) (x ∷ drop (i + 1) lines) days (subst (λ l. LinesSay ms l days) whole h) in
+      none parts.3.0 parts.3.2
+
+-- ---- the filing of a line
+
+-- the filing is the one of its number
+abbrev IsFound : List AcceptedFiling → AcceptedFiling → Type 0
+IsFound whole f = numbered f.number whole ≡ f ∷ []
+
+pub none_numbered : (number n : ℕ) (fs : List AcceptedFiling) → number < n → AreNumbered n fs → numbered number fs ≡ []
+none_numbered number n [] low h = refl
+none_numbered number n (f ∷ fs) low h = rw (other_number number f.number (let is = h.0 in omega (arith, is, low))) (none_numbered number (n + 1) fs (omega (arith, low)) h.1)
+
+record IsAlone (whole : List AcceptedFiling) (low : ℕ) (f : AcceptedFiling) : Type 0 where
+  pub found : IsFound whole f
+  pub from : low ≤ f.number
+
+each_alone : (n : ℕ) (fs : List AcceptedFiling) → AreNumbered n fs → AllByRecursion (IsAlone fs n) fs
+each_alone n [] h = tt
+each_alone n (f ∷ fs) h =
+    let is = h.0 in (
+      record { found = rw (same_number f.number) (ap (λ l. f ∷ l) (none_numbered f.number (n + 1) fs (omega (arith, is)) h.1)); from = omega (arith, is) },
+      all_weaker (IsAlone fs (n + 1)) (IsAlone (f ∷ fs) n)
+          (λ g k. let low = k.from in record { found = rw (before_number f.number g.number (omega (arith, is, low))) k.found; from = omega (arith, low) }) fs (each_alone (n + 1) fs h.1),
+    )
+
+-- each agent's filings are found by its name
+own_beside : (m : Member) (ms rest : List Member) → AllByRecursion (λ (o : Member). is_same o.name m.name ≡ false) rest → AllByRecursion (λ (o : Member). filings_of o.name ms ≡ o.filings) rest
+    → AllByRecursion (λ (o : Member). filings_of o.name (m ∷ ms) ≡ o.filings) rest
+own_beside m ms [] apart own = tt
+own_beside m ms (o ∷ rest) apart own = (rw (same_sym m.name o.name ∙ apart.0) own.0, own_beside m ms rest apart.1 own.1)
+
+all_own : (ms : List Member) → IsOrdered ms → AllByRecursion (λ (o : Member). filings_of o.name ms ≡ o.filings) ms
+all_own [] up = tt
+all_own (m ∷ ms) up = (rw (same_refl m.name) refl, own_beside m ms ms (apart_names m.name m.name ms (same_refl m.name) up.0) (all_own ms up.1))
+
+module _ (whole : List Member) where
+  module _ (agent : List ℕ) (own : List AcceptedFiling) (mine : filings_of agent whole ≡ own) where
+    found_at : (n : ℕ) (f : AcceptedFiling) → IsAlone own n f → filed_at agent f.number whole ≡ Some f
+    found_at n f h = ap (λ fs. slice_get (numbered f.number fs) 0) mine ∙ ap (λ fs. slice_get fs 0) h.found
+
+    own_said : (n : ℕ) (fs : List AcceptedFiling) → AllByRecursion (IsAlone own n) fs → (days : List PeriodRow) → LinesSay whole (map (filing_row agent) fs) days → OwnSay agent fs days
+    own_said n [] alone days h = h
+    own_said n (f ∷ fs) alone days h =
+        (h.0, h.1, subst (λ o. UnlessWithdrawn f.withdrawn (FoundSays agent f.number o) h.0) (found_at n f alone.0) h.2, own_said n fs alone.1 h.1 h.3, h.4)
+
+    own_told : (n : ℕ) (fs : List AcceptedFiling) → AllByRecursion (IsAlone own n) fs → (days : List PeriodRow) → OwnSay agent fs days → LinesSay whole (map (filing_row agent) fs) days
+    own_told n [] alone days h = h
+    own_told n (f ∷ fs) alone days h =
+        (h.0, h.1, subst (λ o. UnlessWithdrawn f.withdrawn (FoundSays agent f.number o) h.0) (sym (found_at n f alone.0)) h.2, own_told n fs alone.1 h.1 h.3, h.4)
+
+  files_said : (ms : List Member) → AllByRecursion (λ (m : Member). filings_of m.name whole ≡ m.filings) ms → AllNumbered ms → (days : List PeriodRow) → LinesSay whole (filing_lines ms) days → FilesSay ms days
+  files_said [] own numbers days h = h
+  files_said (m ∷ ms) own numbers days h =
+      let parts = lines_split whole (map (filing_row m.name) m.filings) (filing_lines ms) days h in
+      (parts.0, parts.1, own_said m.name m.filings own.0 1 m.filings (each_alone 1 m.filings numbers.0) parts.0 parts.2, files_said ms own.1 numbers.1 parts.1 parts.3, parts.4)
+
+  files_told : (ms : List Member) → AllByRecursion (λ (m : Member). filings_of m.name whole ≡ m.filings) ms → AllNumbered ms → (days : List PeriodRow) → FilesSay ms days → LinesSay whole (filing_lines ms) days
+  files_told [] own numbers days h = h
+  files_told (m ∷ ms) own numbers days h =
+      subst (LinesSay whole (map (filing_row m.name) m.filings ++ filing_lines ms)) (sym h.4)
+      (lines_append whole (map (filing_row m.name) m.filings) (filing_lines ms) h.0 h.1 (own_told m.name m.filings own.0 1 m.filings (each_alone 1 m.filings numbers.0) h.0 h.2) (files_told ms own.1 numbers.1 h.1 h.3))
+
+-- the lines of a register say what the files of its live filings say
+lines_say : (ms : List Member) → IsOrdered ms → AllNumbered ms → (days : List PeriodRow) → LinesSay ms (filing_lines ms) days → FilesSay ms days
+lines_say ms up numbers = files_said ms ms (all_own ms up) numbers
+
+say_lines : (ms : List Member) → IsOrdered ms → AllNumbered ms → (days : List PeriodRow) → FilesSay ms days → LinesSay ms (filing_lines ms) days
+say_lines ms up numbers = files_told ms ms (all_own ms up) numbers
+
+-- ---- they say one thing alone
+
+pub read_once : (r : Result (List Statement) FileFault) (a b : List Statement) → r ≡ Ok a → r ≡ Ok b → a ≡ b
+read_once r a b h k = cc
+
+file_once : (agent : List ℕ) (number : ℕ) (f : AcceptedFiling) (ps qs : List PeriodRow) → FileSays agent number f ps → FileSays agent number f qs → ps ≡ qs
+file_once agent number f ps qs h k =
+    h.are ∙ ap (λ ss. days_of (placed_from agent number 1 ss)) (read_once (reading f.bytes) h.said k.said h.read k.read) ∙ sym k.are
+
+filing_once : (agent : List ℕ) (f : AcceptedFiling) (ps qs : List PeriodRow) → FilingSays agent f ps → FilingSays agent f qs → ps ≡ qs
+filing_once agent f ps qs = go f.withdrawn
+  where
+    go : (b : Bool) → UnlessWithdrawn b (FileSays agent f.number f) ps → UnlessWithdrawn b (FileSays agent f.number f) qs → ps ≡ qs
+    go true h k = h ∙ sym k
+    go false h k = file_once agent f.number f ps qs h k
+
+own_once : (agent : List ℕ) (fs : List AcceptedFiling) (ps qs : List PeriodRow) → OwnSay agent fs ps → OwnSay agent fs qs → ps ≡ qs
+own_once agent [] ps qs h k = h ∙ sym k
+own_once agent (f ∷ fs) ps qs h k = h.4 ∙ ap₂ (λ x y. x ++ y) (filing_once agent f h.0 k.0 h.2 k.2) (own_once agent fs h.1 k.1 h.3 k.3) ∙ sym k.4
+
+pub files_once : (ms : List Member) (ps qs : List PeriodRow) → FilesSay ms ps → FilesSay ms qs → ps ≡ qs
+files_once [] ps qs h k = h ∙ sym k
+files_once (m ∷ ms) ps qs h k = h.4 ∙ ap₂ (λ x y. x ++ y) (own_once m.name m.filings h.0 k.0 h.2 k.2) (files_once ms h.1 k.1 h.3 k.3) ∙ sym k.4
+
+-- ---- all that the files say
+
+pub gathered_all : (ms : List Member) → IsOrdered ms → AllNumbered ms → (result : Result (Vec PeriodRow Global) ReadError) → GathersAll (LinesSay ms (filing_lines ms)) result → GathersAll (FilesSay ms) result
+gathered_all ms up numbers (Ok days) h = lines_say ms up numbers days.items h
+gathered_all ms up numbers (Err error) h = λ damaged days says. h damaged days (say_lines ms up numbers days says)

@@ -1,0 +1,27 @@
+use Rattle.std.proofs.Common.{sym, subst}
+use Rattle.sqlite.specs.Held.{state}
+use Rattle.bor_records.specs.Promises.{left_by}
+use Rattle.bor_store_sql.specs.Changing.{withdrawn}
+use Rattle.bor_store_sql.specs.Shown.{IsClean, ShowsIn}
+use Rattle.bor_store.proofs.Filing.{any_fault, change_left, counted_failed}
+use Rattle.bor_store.proofs.sql_keep.SqlKeepKeep.withdraw.Goals as goal
+
+pub returns-clause-changes : goal.returns-clause-changes
+returns-clause-changes g c =
+    let made = c.withdraw_filing-made.ensures in
+    let told = c.made.ensures in
+    let same = c.connection.ensures.value in
+    let began : IsClean (state g.S.Store c.made.new.self.conn) → IsClean (state g.S.Store c.args.self.now.conn) = λ clean. subst (λ k. IsClean (state g.S.Store k)) same (made.began (subst (λ k. IsClean (state g.S.Store k)) told.conn clean)) in
+    record {
+      began = began;
+      counts = counted_failed c.withdraw_filing-made.result c.made.result c.args.self.now.faults c.made.new.self.faults told.told told.counts;
+      told = any_fault c.made.result;
+      changed = λ r shows clean.
+          (let ended = subst (λ k. IsClean (state g.S.Store k)) told.conn clean in
+          let shown = subst (λ k. ShowsIn r (state g.S.Store k)) (sym same) shows in
+          let changed = withdrawn c.as_str.result.now c.args.number r in
+          subst (λ n. ShowsIn (left_by c.made.result (withdrawn n c.args.number r) r) (state g.S.Store c.made.new.self.conn)) c.as_str.ensures.value
+          (subst (λ k. ShowsIn (left_by c.made.result changed r) (state g.S.Store k)) (sym told.conn)
+          (change_left c.withdraw_filing-made.result c.made.result r changed (state g.S.Store c.connection.result.now) (state g.S.Store c.withdraw_filing-made.new.conn) told.told
+          (made.made ended r shown) (made.kept ended) shown)));
+    }

@@ -1,0 +1,116 @@
+//! The days of the interests of statements, as rows of the table `period`.
+
+ghost use Rattle.std.specs.Prelude.{◌≡◌, ◌+◌, ◌<◌, ◌^◌, ◌++◌, ◌||◌, is_some, OnOk, IfOk, IfErr};
+ghost use Rattle.std.specs.List.{flat_map};
+ghost use Rattle.bor_store_rows.specs.Placed.{interest_rows, interests_of, period_rows, placed_from};
+ghost use Rattle.bor_store_sql.specs.Fitting.{standing};
+ghost use Rattle.bor_store_reads.specs.Answering.{IsNoDamage};
+ghost use Rattle.bor_store.specs.Migrating.{days_of};
+
+use bods_read::{Details, Interest, Statement};
+use bor_store_reads::ReadError;
+use bor_store_rows::{At, PeriodRow};
+use bor_terms::AgentName;
+use std::alloc::Global;
+
+// The number after this one; a table has numbers of 32 bits alone.
+fn next(number: u32) -> Result<u32, ReadError>
+    ensures value { IfOk result (λ next. next ≡ number + 1) }
+    ensures within { IfOk result (λ next. next < 2 ^ 32) }
+    ensures failed { IfErr result IsNoDamage }
+{
+    match number.checked_add(1) {
+        Some(next) => Ok(next),
+        None => Err(ReadError::Store),
+    }
+}
+
+fn interests(details: &Details) -> &[Interest]
+    ensures { result.now ≡ interests_of details.now }
+{
+    match details {
+        Details::Relationship { interests, .. } => interests.as_slice(),
+        _ => &[],
+    }
+}
+
+fn is_said(interest: &Interest) -> bool
+    ensures { result ≡ (is_some interest.now.starts || is_some interest.now.ends) }
+{
+    interest.starts.is_some() || interest.ends.is_some()
+}
+
+// Adds the days of an interest, where it has any.
+fn add_one(
+    alloc: Global,
+    rows: &mut Vec<PeriodRow>,
+    agent: &AgentName,
+    filing: u32,
+    place: u32,
+    item: u32,
+    interest: &Interest,
+) -> Result<(), ReadError>
+    ensures added { OnOk result (rows.new.items ≡ rows.old.items ++ period_rows (record {
+      at = record { agent = agent.now; filing = filing; place = place };
+      item = item;
+      interest = interest.now;
+    })) }
+    ensures failed { IfErr result IsNoDamage }
+{
+    if !is_said(interest) {
+        return Ok(());
+    }
+    let agent = agent.copy(alloc)?;
+    rows.push(PeriodRow {
+        at: At {
+            agent,
+            filing,
+            place,
+        },
+        item,
+        starts: interest.starts,
+        ends: interest.ends,
+    })?;
+    Ok(())
+}
+
+// Adds the days of a statement's interests.
+fn add_statement(
+    alloc: Global,
+    rows: &mut Vec<PeriodRow>,
+    agent: &AgentName,
+    filing: u32,
+    place: u32,
+    statement: &Statement,
+) -> Result<(), ReadError>
+    ensures added { OnOk result (rows.new.items
+        ≡ rows.old.items ++ flat_map period_rows (interest_rows (standing agent.now filing place statement.now))) }
+    ensures failed { IfErr result IsNoDamage }
+{
+    let mut item = 0;
+    for interest in interests(&statement.details) {
+        item = next(item)?;
+        add_one(alloc, rows, agent, filing, place, item, interest)?;
+    }
+    Ok(())
+}
+
+/// Adds the days of the interests of a filing's statements, which stand at the places from 1 on.
+pub(crate) fn add_days(
+    alloc: Global,
+    rows: &mut Vec<PeriodRow>,
+    agent: &AgentName,
+    filing: u32,
+    statements: &[Statement],
+) -> Result<(), ReadError>
+    ensures added { OnOk result (rows.new.items
+        ≡ rows.old.items ++ days_of (placed_from agent.now filing 1 statements.now)) }
+    ensures failed { IfErr result IsNoDamage }
+{
+    let mut place = 0;
+    for statement in statements {
+        place = next(place)?;
+        add_statement(alloc, rows, agent, filing, place, statement)?;
+    }
+    Ok(())
+}

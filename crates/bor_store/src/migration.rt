@@ -1,0 +1,121 @@
+//! The move of tables of version 1 to version 2.
+
+ghost use Rattle.std.specs.Prelude.{◌≡◌, ◌⊎◌, true, false, Err, IfErr, IsErrAnd, IsTrue, MatchResult, OnErr};
+ghost use Rattle.sqlite.specs.Held.{state};
+ghost use Rattle.sqlite.specs.State.{HasCleanDisk};
+ghost use Rattle.bor_machine.specs.Legality.{IsLegal};
+ghost use Rattle.bor_register.specs.Register.{Register};
+ghost use Rattle.bor_store_sql.specs.Shown.{IsClean, ShowsFirst, ShowsIn};
+ghost use Rattle.bor_store_reads.specs.Answering.{ReadsOnly};
+ghost use Rattle.bor_store.specs.Opening.{IsFailure, is_period_used, is_versioned, version_in};
+ghost use Rattle.bor_store.specs.Migrating.{IsMoveJudged, IsVersionJudged, Migrates, TellsVersion};
+ghost use Rattle.bor_store.specs.declared.open_fault.OpenFault.TheVariants as faults;
+
+use crate::adoption::{has_all, has_first, is_versioned, version_in, version_rows};
+use crate::files::days_in_files;
+use crate::open_fault::OpenFault;
+use crate::setup::is_used;
+use bor_store_sql::move_tables;
+use bor_store_texts::changes::{FIRST_VERSION, VERSION};
+use sqlite::{Alter, Connection, Row};
+use std::alloc::Global;
+
+// Whether tables are of version 1, and not of version 2: by the rows of their versions, and by whether
+// all tables of each version are there and the name `period` is used.
+fn version_told(rows: &[Row], first: bool, used: bool, second: bool) -> Result<bool, OpenFault>
+    ensures { IsErrAnd result IsFailure ⊎ TellsVersion (version_in rows.now) first used second result }
+{
+    let version = version_in(rows)?;
+    if version == FIRST_VERSION {
+        if !first {
+            return Err(OpenFault::NoRegister);
+        }
+        if used {
+            return Err(OpenFault::Taken);
+        }
+        return Ok(true);
+    }
+    if version != VERSION {
+        return Err(OpenFault::OtherVersion(version));
+    }
+    if !second {
+        return Err(OpenFault::NoRegister);
+    }
+    Ok(false)
+}
+
+// Whether the tables of a connection are of version 1, and not of version 2.
+fn is_first<S: Alter>(conn: &mut Connection<S>) -> Result<bool, OpenFault>
+    requires { conn.old.in_transaction ≡ false }
+    ensures reads { ReadsOnly (state S.Store conn.old) (state S.Store conn.new) }
+    ensures bare { is_versioned (state S.Store conn.old).now.schema ≡ false → result ≡ Err faults.NoRegister }
+    ensures taken { result ≡ Err faults.Taken → IsTrue (is_period_used (state S.Store conn.old).now.schema) }
+    ensures judged { HasCleanDisk (state S.Store conn.new) → IsVersionJudged (state S.Store conn.old) result }
+    ensures first { IsClean (state S.Store conn.new)
+        → (r : Register) → ShowsFirst r (state S.Store conn.old)
+        → MatchResult result (λ first. first ≡ true) IsFailure }
+    ensures second { IsClean (state S.Store conn.new)
+        → (r : Register) → ShowsIn r (state S.Store conn.old)
+        → MatchResult result (λ first. first ≡ false) IsFailure }
+{
+    let _settled = conn.is_autocommit();
+    if !is_versioned(conn.schema()) {
+        return Err(OpenFault::NoRegister);
+    }
+    let first = has_first(conn.schema());
+    let used = is_used(conn.schema(), "period");
+    let second = has_all(conn.schema());
+    let rows = version_rows(conn)?;
+    version_told(rows.as_slice(), first, used, second)
+}
+
+// Moves tables of version 1.
+fn move_first<S: Alter>(conn: &mut Connection<S>, alloc: Global) -> Result<(), OpenFault>
+    requires { conn.old.in_transaction ≡ false }
+    ensures mode { conn.new.in_transaction ≡ false }
+    ensures began { IsClean (state S.Store conn.new) → IsClean (state S.Store conn.old) }
+    ensures kept { IsClean (state S.Store conn.new) → OnErr result ((state S.Store conn.new).committed ≡ (state S.Store conn.old).committed) }
+    ensures told { IfErr result (λ fault. IsFailure fault ⊎ (fault ≡ faults.Damaged)) }
+    ensures migrated { IsClean (state S.Store conn.new)
+        → (r : Register) → ShowsFirst r (state S.Store conn.old)
+        → Migrates r (state S.Store conn.new) result }
+{
+    let days = days_in_files(conn, alloc)?;
+    move_tables(conn, days.as_slice())?;
+    Ok(())
+}
+
+/// Moves the tables of a register from version 1 to version 2, in one transaction: the table `period` is
+/// made and filled from the files of the live filings, and the version is set. Tables of version 2 stay
+/// as they are. No transaction may be open. First [`OpenFault::NoRegister`] comes where there is no table
+/// `register` with the columns `one` and `version`, or not exactly one row in it, with a whole version;
+/// then [`OpenFault::OtherVersion`] where that is neither 1 nor 2; then `NoRegister` where another table
+/// or column of a register of this version is missing. Of version 1 [`OpenFault::Taken`] comes where a
+/// table, an index or a view is named `period`, and then [`OpenFault::Damaged`] where the reader
+/// refuses the file of a live filing, or what it is read to isn't what the tables have of the filing, but
+/// for statuses that it leaves out and for days, or a row of a filing has a value of no form. Where it answers otherwise than `Ok` the tables are as they were.
+pub fn migrate<S: Alter>(conn: &mut Connection<S>, alloc: Global) -> Result<(), OpenFault>
+    requires { conn.old.in_transaction ≡ false }
+    ensures mode { conn.new.in_transaction ≡ false }
+    ensures began { IsClean (state S.Store conn.new) → IsClean (state S.Store conn.old) }
+    ensures kept { IsClean (state S.Store conn.new) → OnErr result ((state S.Store conn.new).committed ≡ (state S.Store conn.old).committed) }
+    ensures bare { is_versioned (state S.Store conn.old).now.schema ≡ false → result ≡ Err faults.NoRegister }
+    ensures taken { result ≡ Err faults.Taken → IsTrue (is_period_used (state S.Store conn.old).now.schema) }
+    ensures judged { IsClean (state S.Store conn.new)
+        → IsMoveJudged (state S.Store conn.old) (state S.Store conn.new) result }
+    ensures unchanged { IsClean (state S.Store conn.new)
+        → (r : Register) → ShowsIn r (state S.Store conn.old)
+        → MatchResult result (λ _. (state S.Store conn.new).committed ≡ (state S.Store conn.old).committed) IsFailure }
+    ensures migrated { IsClean (state S.Store conn.new)
+        → (r : Register) → ShowsFirst r (state S.Store conn.old)
+        → Migrates r (state S.Store conn.new) result }
+    ensures legal { IsClean (state S.Store conn.new)
+        → (r : Register) → ShowsFirst r (state S.Store conn.old) → IsLegal r
+        → MatchResult result (λ _. ShowsIn r (state S.Store conn.new)) IsFailure }
+{
+    let first = is_first(conn)?;
+    if !first {
+        return Ok(());
+    }
+    move_first(conn, alloc)
+}

@@ -1,0 +1,168 @@
+-- The rows that a filing's statements have in the tables, and those of the statements that a file says.
+use Rattle.std.proofs.Common.{◌≡◌, ◌⊎◌, inl, inr, ◌↔◌, ℕ, ◌+◌, ◌<◌, ◌==◌, Bool, true, false, List, [], ◌∷◌, ◌++◌, map, append-nil, is_some, true≢false, Option, Some, None, option_map, refl, sym, ap, ap₂, subst, ◌∙◌, slice_set, arith}
+use Rattle.std.specs.Prelude.{All}
+use Rattle.std.specs.List.{flat_map}
+use Rattle.std.proofs.lemmas.List.{map-set}
+use Rattle.std.proofs.lemmas.List.Elements.{All-head, All-tail, All-filter, filter-append}
+use Rattle.sqlite.specs.Order.{Row, column}
+use Rattle.sqlite.specs.Values.{bound, bound_value}
+use Rattle.sqlite_value.specs.Value.{owned}
+use Rattle.sqlite_value.specs.declared.value.ValueRef.{ValueRef}
+use Rattle.sqlite.specs.declared.types.Value.{Value}
+use Rattle.sqlite.specs.declared.types.Value.TheVariants.{Text}
+use Rattle.bods_read.specs.Words.{status_word, status_worded}
+use Rattle.bods_read.specs.declared.statement.Statement.{Statement}
+use Rattle.bods_read.specs.declared.statement.Status.{Status}
+use Rattle.bor_register.specs.Register.{Register, filings_of}
+use Rattle.bor_register.specs.declared.filing.AcceptedFiling.{AcceptedFiling}
+use Rattle.bor_register.specs.declared.member.Member.{Member}
+use Rattle.bor_store_rows.specs.Encoding.{identifier_columns, interest_columns, or_null, statement_columns}
+use Rattle.bor_store_rows.specs.Placed.{bare, identifier_rows, interest_rows, placed, placed_by, placed_from}
+use Rattle.bor_store_rows.specs.Stored.{AreNumbered, IsStored}
+use Rattle.bor_store_rows.specs.WordLaws.{status_back}
+use Rattle.bor_store_rows.specs.declared.rows.Placed.{Placed}
+use Rattle.bor_store_rows.proofs.Numbers.{other_number}
+use Rattle.bor_store_rows.proofs.Successors.{is_number, none_filed, other_filing, own_filing}
+use Rattle.bor_store_sql.specs.Fitting.{Fit, FitsAt, IsKept, Pairwise, columns_beside, standing, statements_kept, with_status}
+use Rattle.bor_store_sql.specs.Selected.{identifiers_at, in_filing, interests_at, numbered, placed_of}
+use Rattle.bor_store_sql.proofs.Alone.{IsAlone, own_alone_at}
+use Rattle.bor_store_sql.proofs.StoredMembers.{numbered_of}
+
+-- ---- the status of a row
+
+abbrev status_value : Option Status → Value
+status_value status = or_null (option_map status_word status)
+
+bound_status : (o : Option Status) → bound_value (status_value o) ≡ status_value o
+bound_status None = refl
+bound_status (Some status) = refl
+
+same_status : (o : Option Status) (status : Status) → status_value o ≡ Text (status_word status) → o ≡ Some status
+same_status None status e = absurd cc
+same_status (Some other) status e = let words : status_word other ≡ status_word status = cc in sym (status_back other) ∙ ap status_worded words ∙ status_back status
+
+-- the values of a statement that says no status, with the one that a row has, and those of one that says it
+pub beside_none : (row : Row) (o : Option Status) (values : List ValueRef) (x : Row) (v : ValueRef) → is_some o ≡ false → bound values ≡ x → owned v ≡ column row 8 → bound (slice_set values 8 v) ≡ columns_beside row o x
+beside_none row None values x v e is own = map-set (λ (u : ValueRef). bound_value (owned u)) values 8 v ∙ ap₂ (λ l u. slice_set l 8 (bound_value u)) is own
+beside_none row (Some status) values x v e is own = absurd (true≢false e)
+
+pub beside_some : (row : Row) (o : Option Status) (values : List ValueRef) (x : Row) → is_some o ≡ true → bound values ≡ x → bound values ≡ columns_beside row o x
+beside_some row None values x e is = absurd (true≢false (sym e))
+beside_some row (Some status) values x e is = is
+
+-- ---- one statement
+
+module _ (agent : List ℕ) (number place : ℕ) (said kept : Statement) where
+  abbrev as_said : Option Status → Row
+  as_said status = statement_columns (bare (standing agent number place (with_status status said)))
+
+  abbrev kept_row : Row
+  kept_row = statement_columns (bare (standing agent number place kept))
+
+  row_fits : (o : Option Status) → kept_row ≡ columns_beside kept_row o (as_said o) → ((o ≡ None) ⊎ (o ≡ kept.status)) × (as_said kept.status ≡ kept_row)
+  row_fits None e = (inl refl, sym (e ∙ ap (λ v. slice_set (as_said None) 8 v) (bound_status kept.status)))
+  row_fits (Some status) e =
+      let same : kept.status ≡ Some status = same_status kept.status status (ap (λ x. column x 8) e) in
+      (inr (sym same), ap as_said same ∙ sym e)
+
+  fits_row : (o : Option Status) → (o ≡ None) ⊎ (o ≡ kept.status) → as_said kept.status ≡ kept_row → kept_row ≡ columns_beside kept_row o (as_said o)
+  fits_row None h e = sym e ∙ sym (ap (λ v. slice_set (as_said None) 8 v) (bound_status kept.status))
+  fits_row (Some status) (inl unsaid) e = absurd cc
+  fits_row (Some status) (inr same) e = sym e ∙ ap as_said (sym same)
+
+  module _ (ms : List Member) (alone : IsAlone (placed ms) (standing agent number place kept)) where
+    abbrev p : Placed
+    p = standing agent number place kept
+
+    own_interests : interests_at p.at ms ≡ interest_rows p
+    own_interests = ap (flat_map interest_rows) alone ∙ append-nil (interest_rows p)
+
+    own_identifiers : identifiers_at p.at ms ≡ identifier_rows p
+    own_identifiers = ap (flat_map identifier_rows) alone ∙ append-nil (identifier_rows p)
+
+    fits_of_kept : IsKept agent number ms place said kept_row → FitsAt agent number place said kept
+    fits_of_kept h = record {
+      status = (row_fits said.status h.row).0;
+      statement = (row_fits said.status h.row).1;
+      interests = h.lists.interests ∙ ap (map interest_columns) own_interests;
+      identifiers = h.lists.identifiers ∙ ap (map identifier_columns) own_identifiers;
+    }
+
+    kept_of_fits : FitsAt agent number place said kept → IsKept agent number ms place said kept_row
+    kept_of_fits h = record {
+      row = fits_row said.status h.status h.statement;
+      lists = record {
+        interests = h.interests ∙ sym (ap (map interest_columns) own_interests);
+        identifiers = h.identifiers ∙ sym (ap (map identifier_columns) own_identifiers);
+      };
+    }
+
+-- ---- all statements of a filing
+
+module _ (agent : List ℕ) (number : ℕ) (ms : List Member) where
+  abbrev pub rows_from : ℕ → List Statement → List Row
+  rows_from place kept = map (λ p. statement_columns (bare p)) (placed_from agent number place kept)
+
+  abbrev AllAlone : ℕ → List Statement → Type 0
+  AllAlone place kept = All (IsAlone (placed ms)) (placed_from agent number place kept)
+
+  fit_of_rows : (place : ℕ) (said kept : List Statement) → AllAlone place kept → Pairwise (IsKept agent number ms) place said (rows_from place kept) → Fit agent number place said kept
+  fit_of_rows place [] [] alone h = tt
+  fit_of_rows place [] (t ∷ kept) alone h = absurd h
+  fit_of_rows place (s ∷ said) [] alone h = absurd h
+  fit_of_rows place (s ∷ said) (t ∷ kept) alone h = (
+    fits_of_kept agent number place s t ms (All-head (IsAlone (placed ms)) (standing agent number place t) (placed_from agent number (place + 1) kept) alone) h.0,
+    fit_of_rows (place + 1) said kept (All-tail (IsAlone (placed ms)) (standing agent number place t) (placed_from agent number (place + 1) kept) alone) h.1,
+  )
+
+  rows_of_fit : (place : ℕ) (said kept : List Statement) → AllAlone place kept → Fit agent number place said kept → Pairwise (IsKept agent number ms) place said (rows_from place kept)
+  rows_of_fit place [] [] alone h = tt
+  rows_of_fit place [] (t ∷ kept) alone h = absurd h
+  rows_of_fit place (s ∷ said) [] alone h = absurd h
+  rows_of_fit place (s ∷ said) (t ∷ kept) alone h = (
+    kept_of_fits agent number place s t ms (All-head (IsAlone (placed ms)) (standing agent number place t) (placed_from agent number (place + 1) kept) alone) h.0,
+    rows_of_fit (place + 1) said kept (All-tail (IsAlone (placed ms)) (standing agent number place t) (placed_from agent number (place + 1) kept) alone) h.1,
+  )
+
+-- ---- of a register
+
+none_numbered : (number n : ℕ) (fs : List AcceptedFiling) → number < n → AreNumbered n fs → numbered number fs ≡ []
+none_numbered number n [] low h = refl
+none_numbered number n (f ∷ fs) low h = rw (other_number number f.number (let is = h.0 in omega (arith, is, low))) (none_numbered number (n + 1) fs (omega (arith, low)) h.1)
+
+abbrev statements_of : List AcceptedFiling → List Statement
+statements_of fs = flat_map (λ (f : AcceptedFiling). f.statements) fs
+
+filed : (agent : List ℕ) (number n : ℕ) (fs : List AcceptedFiling) → AreNumbered n fs → in_filing number (placed_by agent fs) ≡ placed_from agent number 1 (statements_of (numbered number fs))
+filed agent number n [] h = refl
+filed agent number n (f ∷ fs) h = filter-append (λ (p : Placed). p.at.filing == number) (placed_from agent f.number 1 f.statements) (placed_by agent fs) ∙ go (f.number == number) refl (filed agent number (n + 1) fs h.1)
+  where
+    go : (b : Bool) → (f.number == number) ≡ b → in_filing number (placed_by agent fs) ≡ placed_from agent number 1 (statements_of (numbered number fs))
+        → in_filing number (placed_from agent f.number 1 f.statements) ++ in_filing number (placed_by agent fs) ≡ placed_from agent number 1 (statements_of (numbered number (f ∷ fs)))
+    go true e more =
+        let same : f.number ≡ number = is_number f.number number e in
+        let low : number < n + 1 = let is = h.0 in omega (arith, is, same) in
+        let alone : statements_of (numbered number (f ∷ fs)) ≡ f.statements = rw e (ap (λ l. f.statements ++ statements_of l) (none_numbered number (n + 1) fs low h.1) ∙ append-nil f.statements) in
+        ap₂ (λ x y. x ++ y) (subst (λ m. in_filing number (placed_from agent m 1 f.statements) ≡ placed_from agent number 1 f.statements) (sym same) (own_filing agent number 1 f.statements)) (none_filed agent number (n + 1) fs low h.1)
+        ∙ append-nil (placed_from agent number 1 f.statements) ∙ ap (placed_from agent number 1) (sym alone)
+    go false e more = rw e (ap₂ (λ x y. x ++ y) (other_filing agent number f.number 1 f.statements e) more)
+
+module _ (agent : List ℕ) (number : ℕ) (r : Register) (stored : IsStored r) where
+  kept_filed : in_filing number (placed_of agent r) ≡ placed_from agent number 1 (statements_kept agent number r)
+  kept_filed = filed agent number 1 (filings_of agent r.members) (numbered_of agent r.members stored.numbered)
+
+  all_alone : All (IsAlone (placed r.members)) (placed_from agent number 1 (statements_kept agent number r))
+  all_alone = subst (All (IsAlone (placed r.members))) kept_filed (All-filter (λ (p : Placed). p.at.filing == number) (IsAlone (placed r.members)) (placed_of agent r) (own_alone_at agent r stored))
+
+  -- the rows that are found fit where the statements do
+  pub rows_fit : (said : List Statement) (rows : List Row) → rows ≡ map (λ p. statement_columns (bare p)) (in_filing number (placed_of agent r))
+      → Pairwise (IsKept agent number r.members) 1 said rows ↔ Fit agent number 1 said (statements_kept agent number r)
+  rows_fit said rows are =
+      let same : rows ≡ map (λ p. statement_columns (bare p)) (placed_from agent number 1 (statements_kept agent number r)) = are ∙ ap (map (λ p. statement_columns (bare p))) kept_filed in (
+        λ h. fit_of_rows agent number r.members 1 said (statements_kept agent number r) all_alone (subst (Pairwise (IsKept agent number r.members) 1 said) same h),
+        λ h. subst (Pairwise (IsKept agent number r.members) 1 said) (sym same) (rows_of_fit agent number r.members 1 said (statements_kept agent number r) all_alone h),
+      )
+
+-- what is kept of the one filing with the number
+pub kept_of_one : (agent : List ℕ) (number : ℕ) (r : Register) (f : AcceptedFiling) → numbered number (filings_of agent r.members) ≡ f ∷ [] → statements_kept agent number r ≡ f.statements
+kept_of_one agent number r f one = ap statements_of one ∙ append-nil f.statements

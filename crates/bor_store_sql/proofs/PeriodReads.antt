@@ -1,0 +1,150 @@
+-- What the queries on days of interests find, and the one on files.
+use Rattle.std.proofs.Common.{◌≡◌, ℕ, ℤ, pos, Bool, true, false, cond, ◌&&◌, ◌==◌, Option, Some, None, List, [], ◌∷◌, ◌++◌, map, filter, Vec, Result, refl, sym, ap, ap₂, ◌∙◌}
+use Rattle.std.specs.Prelude.{is_some, ◌||◌}
+use Rattle.std.specs.List.{flat_map}
+use Rattle.std.specs.declared.alloc.Global.{Global}
+use Rattle.std.proofs.Math.Bool.{and-true}
+use Rattle.std.proofs.lemmas.List.{map-append}
+use Rattle.std.proofs.lemmas.List.Concat.{flat_map-append}
+use Rattle.sqlite.specs.Order.{Row}
+use Rattle.sqlite.specs.Query.{output}
+use Rattle.sqlite.specs.State.{State}
+use Rattle.sqlite.specs.Term.{Term}
+use Rattle.sqlite.specs.declared.error.Error.{Error}
+use Rattle.sqlite.specs.declared.types.Value.TheVariants.{Null, Int, Text}
+use Rattle.sqlite_keyed.proofs.ListLemmas.{ascending-filter}
+use Rattle.sqlite_tied.specs.Compute.{everything}
+use Rattle.bor_register.specs.Publication.{filing_shown}
+use Rattle.bor_register.specs.Register.{Register, filings_of}
+use Rattle.bor_register.specs.declared.member.Member.{Member}
+use Rattle.bor_terms.specs.Texts.{is_same}
+use Rattle.bor_store_texts.specs.Meanings.{Asks}
+use Rattle.bor_store_texts.specs.Queries.{all_periods_query, all_periods_text, file_by_number_query, file_by_number_text, periods_of_statement_query, periods_of_statement_text, rising, shows_rows, table_query}
+use Rattle.bor_store_texts.proofs.QueryMeanings.{all_periods_is, file_by_number_is, periods_of_statement_is}
+use Rattle.bor_store_rows.specs.Encoding.{contents, period_columns, shown_columns}
+use Rattle.bor_store_rows.specs.Placed.{if_said, interest_rows, interests_of, period_of, period_rows, placed, same_place}
+use Rattle.bor_store_rows.specs.declared.places.At.{At}
+use Rattle.bor_store_rows.specs.declared.rows.InterestRow.{InterestRow}
+use Rattle.bor_store_rows.specs.declared.rows.PeriodRow.{PeriodRow}
+use Rattle.bor_store_rows.specs.declared.rows.Placed.{Placed}
+use Rattle.bor_store_sql.specs.Changing.{days_of, passes}
+use Rattle.bor_store_sql.specs.Found.{Asked, Finds, IsQuery}
+use Rattle.bor_store_sql.specs.Selected.{interests_at, numbered}
+use Rattle.bor_store_sql.specs.Shown.{ShowsIn}
+use Rattle.bor_store_sql.proofs.Finding.{Shows, answers, finds, has_now}
+use Rattle.bor_store_sql.proofs.FromTables.{from_filings}
+use Rattle.bor_store_sql.proofs.Orders.{IsInterestBefore, interest_rows_rise}
+use Rattle.bor_store_sql.proofs.Picking.{all_pass, picked_rows}
+use Rattle.bor_store_sql.proofs.Plain.{understood_never}
+use Rattle.bor_store_sql.proofs.Selects.{env, int_test, keeps, text_test}
+use Rattle.bor_store_sql.proofs.Selecting.{interests_stand, number_test, own_filings, rows_at}
+
+pub all_periods_asks : IsQuery all_periods_text
+unfolding everything
+all_periods_asks schema = understood_never schema all_periods_text refl
+
+pub periods_of_statement_asks : IsQuery periods_of_statement_text
+unfolding everything
+periods_of_statement_asks schema = understood_never schema periods_of_statement_text refl
+
+pub file_by_number_asks : IsQuery file_by_number_text
+unfolding everything
+file_by_number_asks schema = understood_never schema file_by_number_text refl
+
+-- ---- the interests of which a day is said
+
+abbrev is_said : InterestRow → Bool
+is_said i = is_some i.interest.starts || is_some i.interest.ends
+
+abbrev day_columns : InterestRow → Row
+day_columns i = period_columns (period_of i)
+
+-- its row, before those of others
+one_listed : (i : InterestRow) (rows : List PeriodRow) (is : List InterestRow) → map period_columns rows ≡ map day_columns (filter is_said is)
+    → map period_columns (period_rows i ++ rows) ≡ map day_columns (filter is_said (i ∷ is))
+one_listed i rows is more = go i.interest.starts i.interest.ends
+  where
+    go : (starts ends : Option ℤ) → map period_columns (if_said (period_of i) starts ends ++ rows) ≡ map day_columns (cond (is_some starts || is_some ends) (i ∷ filter is_said is) (filter is_said is))
+    go None None = more
+    go None (Some end) = ap (λ l. day_columns i ∷ l) more
+    go (Some start) ends = ap (λ l. day_columns i ∷ l) more
+
+listed : (is : List InterestRow) → map period_columns (flat_map period_rows is) ≡ map day_columns (filter is_said is)
+listed [] = refl
+listed (i ∷ is) = one_listed i (flat_map period_rows is) is (listed is)
+
+days_listed : (is : List InterestRow) → flat_map days_of is ≡ map period_columns (flat_map period_rows is)
+days_listed [] = refl
+days_listed (i ∷ is) = ap (λ l. days_of i ++ l) (days_listed is) ∙ sym (map-append period_columns (period_rows i) (flat_map period_rows is))
+
+all_listed : (ps : List Placed) → flat_map (λ (p : Placed). flat_map days_of (interest_rows p)) ps ≡ flat_map days_of (flat_map interest_rows ps)
+all_listed [] = refl
+all_listed (p ∷ ps) = ap (λ l. flat_map days_of (interest_rows p) ++ l) (all_listed ps) ∙ sym (flat_map-append days_of (interest_rows p) (flat_map interest_rows ps))
+
+abbrev all_interests : List Member → List InterestRow
+all_interests ms = flat_map interest_rows (placed ms)
+
+table_is : (ms : List Member) → flat_map (λ (p : Placed). flat_map days_of (interest_rows p)) (placed ms) ≡ map day_columns (filter is_said (all_interests ms))
+table_is ms = all_listed (placed ms) ∙ days_listed (all_interests ms) ∙ listed (all_interests ms)
+
+-- which of two tests comes first is the same
+in_turn : {X : Type 0} (p q : X → Bool) (xs : List X) → filter p (filter q xs) ≡ filter q (filter p xs)
+in_turn p q [] = refl
+in_turn p q (x ∷ xs) = go (p x) (q x) refl refl (in_turn p q xs)
+  where
+    go : (a b : Bool) → p x ≡ a → q x ≡ b → filter p (filter q xs) ≡ filter q (filter p xs) → filter p (filter q (x ∷ xs)) ≡ filter q (filter p (x ∷ xs))
+    go true true e f more = rw (e, f, e) (ap (λ l. x ∷ l) more)
+    go true false e f more = rw (e, f) more
+    go false true e f more = rw (e, f, e) more
+    go false false e f more = rw (e, f) more
+
+module _ (r : Register) (old new : State) (shows : ShowsIn r old) (rows : List Row) where
+  from_periods : (text : List ℕ) (params : Row) (names : List (List ℕ)) (tests project : List Term) (h : Shows text params old new rows) (p : InterestRow → Bool) → ((i : InterestRow) → passes tests params (day_columns i) ≡ p i)
+      → Asks text (shows_rows (table_query 19 tests project (rising 1 ∷ rising 2 ∷ rising 3 ∷ rising 4 ∷ [])) names)
+      → ((id : ℕ) (x : Row) → keeps 19 tests params (Int (pos id) ∷ x) ≡ passes tests params x)
+      → ((id : ℕ) (x : Row) → output (table_query 19 tests project (rising 1 ∷ rising 2 ∷ rising 3 ∷ rising 4 ∷ [])) (env 19 tests params (Int (pos id) ∷ x)) ≡ output (table_query 19 tests project (rising 1 ∷ rising 2 ∷ rising 3 ∷ rising 4 ∷ [])) (params ∷ (Null ∷ x) ∷ []))
+      → ((i : InterestRow) → (output (table_query 19 tests project (rising 1 ∷ rising 2 ∷ rising 3 ∷ rising 4 ∷ [])) (params ∷ (Null ∷ day_columns i) ∷ [])).1 ≡ day_columns i)
+      → rows ≡ map day_columns (filter p (filter is_said (all_interests r.members)))
+  from_periods text params names tests project h p same asks same_test same_out same_shown =
+      picked_rows 19 refl tests params project (rising 1 ∷ rising 2 ∷ rising 3 ∷ rising 4 ∷ []) same_test day_columns day_columns p same (filter is_said (all_interests r.members)) old.now.trees (contents r).periods rows (table_is r.members)
+      (has_now r old new shows h.0).periods same_out same_shown
+      (answers r old new shows h.0 text params (table_query 19 tests project (rising 1 ∷ rising 2 ∷ rising 3 ∷ rising 4 ∷ [])) names asks rows h.1) IsInterestBefore (λ a b lt. lt)
+      (ascending-filter IsInterestBefore p (filter is_said (all_interests r.members)) (ascending-filter IsInterestBefore is_said (all_interests r.members) (interest_rows_rise r.members shows.stored.ordered shows.stored.numbered)))
+
+  all_periods_found : Shows all_periods_text [] old new rows → rows ≡ map period_columns (flat_map period_rows (flat_map interest_rows (placed r.members)))
+  all_periods_found h =
+      from_periods all_periods_text [] _ all_periods_query.filter all_periods_query.project h (λ i. true) (λ i. refl) all_periods_is (λ id x. refl) (λ id x. refl) (λ i. refl)
+      ∙ ap (map day_columns) (all_pass (filter is_said (all_interests r.members))) ∙ sym (listed (all_interests r.members))
+
+  periods_of_statement_found : (at : At) → Shows periods_of_statement_text (Text at.agent ∷ Int (pos at.filing) ∷ Int (pos at.place) ∷ []) old new rows → rows ≡ map period_columns (flat_map period_rows (interests_at at r.members))
+  periods_of_statement_found at h =
+      from_periods periods_of_statement_text (Text at.agent ∷ Int (pos at.filing) ∷ Int (pos at.place) ∷ []) _ periods_of_statement_query.filter periods_of_statement_query.project h (λ i. same_place i.at at)
+      (λ i. ap₂ (λ x y. x && y) (text_test i.at.agent at.agent) (ap₂ (λ x y. x && y) (int_test (pos i.at.filing) (pos at.filing) ∙ number_test i.at.filing at.filing) (and-true _ ∙ int_test (pos i.at.place) (pos at.place) ∙ number_test i.at.place at.place)))
+      periods_of_statement_is (λ id x. refl) (λ id x. refl) (λ i. refl)
+      ∙ ap (map day_columns) (in_turn (λ (i : InterestRow). same_place i.at at) is_said (all_interests r.members)
+      ∙ ap (filter is_said) (rows_at (λ (i : InterestRow). i.at) (λ a. same_place a at) interest_rows (λ p. interests_stand p.at 1 (interests_of p.statement.details)) (placed r.members)))
+      ∙ sym (listed (interests_at at r.members))
+
+  file_by_number_found : (agent : List ℕ) (number : ℕ) → Shows file_by_number_text (Text agent ∷ Int (pos number) ∷ []) old new rows → rows ≡ map (λ f. shown_columns (filing_shown f)) (numbered number (filings_of agent r.members))
+  file_by_number_found agent number h =
+      from_filings r old new shows rows file_by_number_text (Text agent ∷ Int (pos number) ∷ []) _ file_by_number_query.filter file_by_number_query.project h (λ o. shown_columns (filing_shown o.filing)) (λ o. is_same o.agent agent && o.filing.number == number)
+      (λ o. ap₂ (λ x y. x && y) (text_test o.agent agent) (and-true _ ∙ int_test (pos o.filing.number) (pos number) ∙ number_test o.filing.number number)) file_by_number_is (λ id x. refl) (λ id x. refl) (λ o. refl)
+      ∙ own_filings agent r.members shows.stored.ordered (λ f. f.number == number) (λ o. shown_columns (filing_shown o.filing))
+
+-- ---- each finds what it is said to find
+
+pub all_periods_finds : (given : Row) (old new : State) (result : Result (Vec Row Global) Error) → Asked all_periods_text given old new result → given ≡ [] → Finds old new result (λ r. map period_columns (flat_map period_rows (flat_map interest_rows (placed r.members))))
+all_periods_finds given old new result asked is =
+    finds all_periods_text [] given (λ r. map period_columns (flat_map period_rows (flat_map interest_rows (placed r.members)))) old new result asked is (λ r rows shows h. all_periods_found r old new shows rows h)
+
+pub periods_of_statement_finds : (agent : List ℕ) (number place : ℕ) (old new : State) (result : Result (Vec Row Global) Error) → Asked periods_of_statement_text (Text agent ∷ Int (pos number) ∷ Int (pos place) ∷ []) old new result
+    → Finds old new result (λ r. map period_columns (flat_map period_rows (interests_at (record { agent = agent; filing = number; place = place }) r.members)))
+periods_of_statement_finds agent number place old new result asked =
+    finds periods_of_statement_text (Text agent ∷ Int (pos number) ∷ Int (pos place) ∷ []) (Text agent ∷ Int (pos number) ∷ Int (pos place) ∷ []) (λ r. map period_columns (flat_map period_rows (interests_at (record { agent = agent; filing = number; place = place }) r.members)))
+    old new result asked refl (λ r rows shows h. periods_of_statement_found r old new shows rows (record { agent = agent; filing = number; place = place }) h)
+
+pub file_by_number_finds : (agent : List ℕ) (number : ℕ) (old new : State) (result : Result (Vec Row Global) Error) → Asked file_by_number_text (Text agent ∷ Int (pos number) ∷ []) old new result
+    → Finds old new result (λ r. map (λ f. shown_columns (filing_shown f)) (numbered number (filings_of agent r.members)))
+file_by_number_finds agent number old new result asked =
+    finds file_by_number_text (Text agent ∷ Int (pos number) ∷ []) (Text agent ∷ Int (pos number) ∷ []) (λ r. map (λ f. shown_columns (filing_shown f)) (numbered number (filings_of agent r.members))) old new result asked refl
+    (λ r rows shows h. file_by_number_found r old new shows rows agent number h)

@@ -1,0 +1,94 @@
+-- What the UPDATE of the version does.
+use Rattle.std.proofs.Common.{◌≡◌, ◌≤◌, ℕ, ℤ, pos, Bool, true, false, cond, List, [], ◌∷◌, length, drop, ◌++◌, ◌==◌, map, Ok, arith, refl, ap, ap₂, ◌∙◌}
+use Rattle.std.specs.List.{flat_map, filter_map}
+use Rattle.std.proofs.Math.Bool.{and-true}
+use Rattle.sqlite.specs.declared.types.Value.TheVariants.{Null, Int}
+use Rattle.sqlite.specs.Order.{Row, column}
+use Rattle.sqlite.specs.Term.{Term, col}
+use Rattle.sqlite.specs.State.{State, Executes}
+use Rattle.sqlite_rules.specs.Action.{Work, works, work_by, pairs, deed_for}
+use Rattle.sqlite_schema.specs.Rules.{parent_key}
+use Rattle.sqlite_rules.specs.Cast.{cast_row}
+use Rattle.sqlite_schema.specs.declared.schema.Keys.TheVariants.{Enforced}
+use Rattle.bor_register.specs.Register.{Register}
+use Rattle.bor_store_texts.specs.Tables.{keep_schema, register_at}
+use Rattle.bor_store_texts.specs.Changes.{equals_number, update_version_program, update_version_text}
+use Rattle.bor_store_texts.specs.declared.changes.TheConstants.{FIRST_VERSION, VERSION}
+use Rattle.bor_store_rows.specs.Encoding.{Contents, contents, first_version, period_columns, register_columns, tables_version, versioned_columns}
+use Rattle.bor_store_rows.specs.Placed.{interest_rows, period_rows, placed, register_row}
+use Rattle.bor_store_rows.specs.declared.rows.Placed.{Placed}
+use Rattle.bor_store_sql.specs.Changing.{all_periods}
+use Rattle.std.proofs.lemmas.List.{map-append}
+use Rattle.sqlite_keyed.proofs.ListLemmas.{map-flat_map}
+use Rattle.bor_store_sql.proofs.Inserts.{cast_int}
+use Rattle.bor_store_sql.proofs.Writes.{updates}
+use Rattle.bor_store_sql.proofs.Tables.{updated}
+use Rattle.bor_store_sql.proofs.Selects.{int_test}
+use Rattle.bor_store_sql.specs.Moving.{IsOneVersion, is_the_row, versioned, with_version}
+use Rattle.bor_store_sql.specs.Shown.{Has, first_contents}
+use Rattle.bor_store_sql.proofs.Others.{with_register}
+use Rattle.bor_store_texts.proofs.ChangeMeanings.{update_version_is}
+
+-- the versions that the code names are these
+versions_are : (VERSION ≡ tables_version) × (FIRST_VERSION ≡ first_version)
+versions_are = (refl, refl)
+
+-- no key acts where the register's row changes
+abbrev works_by : List Row → List Row → Bool → List Work
+works_by olds news none = flat_map (λ child. filter_map (λ ref. work_by 0 0 (pairs olds news) child ref (deed_for Enforced none ref) (parent_key keep_schema.tables ref)) child.references) keep_schema.tables
+
+register_alone : (olds news : List Row) → works keep_schema Enforced 0 0 olds news ≡ []
+register_alone olds news = go (length news == 0)
+  where
+    go : (b : Bool) → works_by olds news b ≡ []
+    go true = refl
+    go false = refl
+
+abbrev one_tests : List Term
+one_tests = equals_number 1 1 ∷ []
+
+abbrev version_terms : List Term
+version_terms = col 1 0 ∷ col 1 0 ∷ col 1 1 ∷ col 0 0 ∷ col 1 3 ∷ col 1 4 ∷ []
+
+abbrev first_row : Register → Row
+first_row r = versioned_columns first_version (register_row r)
+
+module _ (version : ℤ) where
+  -- the row that the UPDATE writes for a row
+  abbrev version_of : Row → Row
+  version_of r = column r 0 ∷ column r 0 ∷ column r 1 ∷ Int version ∷ column r 3 ∷ column r 4 ∷ []
+
+  pub version_updated : (old new : State) (count : ℕ) (t : Contents) → Has t old.now → IsOneVersion version t → Executes update_version_text (Int version ∷ []) old new (Ok count)
+      → Has (with_version version t) new.now
+  version_updated old new count t has one h =
+      let params = Int version ∷ [] in
+      let done = updates update_version_text params keep_schema 0 update_version_program register_at update_version_is.0 update_version_is.1 refl register_alone old new count has.schema h in
+      let w = done.2 in
+      with_register t old.now new.now w.schema_is has w.others _
+      (updated 0 refl one_tests params (is_the_row version) (λ id x. refl) version_terms version_of (λ s. cast_row register_at (drop 1 s)) (versioned version)
+      (λ r. refl) (λ id x. refl) (λ id x. rw (cast_int (pos id)) refl) old.now.trees t.register done.0 (new.now.trees 0) has.register one (done.1.answer Null) w.rows_are)
+
+  pub one_version : (r : Register) → IsOneVersion version (first_contents r)
+  one_version r = go (is_the_row version (first_row r))
+    where
+      go : (b : Bool) → length (cond b (first_row r ∷ []) []) ≤ 1
+      go true = omega arith
+      go false = omega arith
+
+is_it : (r : Register) → is_the_row tables_version (first_row r) ≡ true
+is_it r = and-true _ ∙ int_test (pos 1) (pos 1)
+
+row_is : (r : Register) → cond (is_the_row tables_version (first_row r)) (versioned tables_version (first_row r)) (first_row r) ≡ register_columns r
+row_is r = rw (is_it r) (rw (cast_int (pos 1), cast_int tables_version, cast_int r.day) refl)
+
+-- the tables of a register, once its periods are there and the version is set
+pub moved_is : (r : Register) → with_version tables_version (record (first_contents r) { periods = (contents r).periods }) ≡ contents r
+moved_is r = ap (λ (x : Row). record (contents r) { register = x ∷ [] }) (row_is r)
+
+-- the rows of the table period are those of the days of all interests
+pub periods_are : (r : Register) → map period_columns (all_periods r.members) ≡ (contents r).periods
+periods_are r = go (placed r.members)
+  where
+    go : (ps : List Placed) → map period_columns (flat_map (λ (p : Placed). flat_map period_rows (interest_rows p)) ps) ≡ flat_map (λ (p : Placed). flat_map (λ i. map period_columns (period_rows i)) (interest_rows p)) ps
+    go [] = refl
+    go (p ∷ ps) = map-append period_columns (flat_map period_rows (interest_rows p)) (flat_map (λ (q : Placed). flat_map period_rows (interest_rows q)) ps) ∙ ap₂ (λ x y. x ++ y) (map-flat_map period_columns period_rows (interest_rows p)) (go ps)

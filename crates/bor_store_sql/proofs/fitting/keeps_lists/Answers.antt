@@ -1,0 +1,36 @@
+use Rattle.std.proofs.Common.{◌≡◌, List, map, sym, subst}
+use Rattle.bods_read.specs.declared.details.Identifier.{Identifier}
+use Rattle.bods_read.specs.declared.interest.Interest.{Interest}
+use Rattle.bor_register.specs.Register.{Register}
+use Rattle.bor_store_rows.specs.Encoding.{identifier_columns, interest_columns}
+use Rattle.bor_store_rows.specs.Placed.{identifiers_from, interests_from}
+use Rattle.bor_store_rows.specs.declared.places.At.{At}
+use Rattle.bor_store_sql.specs.Selected.{identifiers_at, interests_at}
+use Rattle.bor_store_sql.proofs.Told.{no_answer, told_after, told_unless}
+use Rattle.bor_store_sql.proofs.fitting.keeps_lists.Goals as goal
+
+abbrev HasInterests : At → Register → List Interest → Type 0
+HasInterests at r xs = map interest_columns (interests_from at 1 xs) ≡ map interest_columns (interests_at at r.members)
+
+abbrev HasIdentifiers : At → Register → List Identifier → Type 0
+HasIdentifiers at r xs = map identifier_columns (identifiers_from at 1 xs) ≡ map identifier_columns (identifiers_at at r.members)
+
+pub returns-in_err-keeps_interests-clause-tells : goal.returns-in_err-keeps_interests-clause-tells
+returns-in_err-keeps_interests-clause-tells g c = no_answer _ _ c.in_err-keeps_interests.ensures.tells.began c.in_err-keeps_interests.ensures.tells.kept c.from_residual.result c.from_residual.ensures.0
+
+pub returns-then-not-branch-clause-tells : goal.returns-then-not-branch-clause-tells
+returns-then-not-branch-clause-tells g c =
+    let at : At = record { agent = c.args.agent.now; filing = c.args.number; place = c.args.place } in
+    told_unless _ _ _ c.if-not-branch.true c.in_ok-keeps_interests.ensures.tells (λ r h. subst (HasInterests at r) (sym c.interests.ensures) h.interests)
+
+pub returns-clause-tells : goal.returns-clause-tells
+returns-clause-tells g c =
+    let at : At = record { agent = c.args.agent.now; filing = c.args.number; place = c.args.place } in
+    let first = c.in_ok-keeps_interests.ensures.tells in
+    told_after _ _ first.began first.kept _ c.keeps_identifiers.result c.keeps_identifiers.ensures.tells (λ clean r shows. (
+      λ ids. record {
+        interests = subst (HasInterests at r) c.interests.ensures ((first.told clean r shows).0 c.if-not-branch.false);
+        identifiers = subst (HasIdentifiers at r) c.identifiers.ensures ids;
+      },
+      λ h. subst (HasIdentifiers at r) (sym c.identifiers.ensures) h.identifiers,
+    ))

@@ -1,0 +1,86 @@
+//! What moves the tables of version 1 to those of version 2.
+
+ghost use Rattle.std.specs.Prelude.{◌≡◌, false, IsTrue, OnOk, OnErr, [], ◌∷◌};
+ghost use Rattle.sqlite.specs.Held.{state};
+ghost use Rattle.sqlite.specs.State.{HasCleanDisk};
+ghost use Rattle.bor_register.specs.Register.{Register};
+ghost use Rattle.bor_store_sql.specs.Changing.{all_periods};
+ghost use Rattle.bor_store_sql.specs.Moving.{Moves, PutsPeriods, SetsVersion, MovesRows};
+ghost use Rattle.bor_store_sql.specs.Shown.{IsClean, ShowsFirst, ShowsIn};
+
+use crate::columns::{period_values, version_value};
+use crate::creation::create_period;
+use crate::running::run;
+use bor_store_rows::PeriodRow;
+use bor_store_texts::changes::{INSERT_PERIOD, UPDATE_VERSION};
+use sqlite::{Alter, Connection, Error, Transaction};
+
+fn put_row<S: Alter>(tx: &mut Transaction<'_, S>, period: &PeriodRow) -> Result<usize, Error>
+    ensures same_reference { tx.new.conn.ghost_name ≡ tx.old.conn.ghost_name }
+    ensures clean { HasCleanDisk (state S.Store tx.new.conn.now) → HasCleanDisk (state S.Store tx.old.conn.now) }
+    ensures moves { HasCleanDisk (state S.Store tx.new.conn.now) → IsTrue (state S.Store tx.old.conn.now).in_transaction
+        → Moves (PutsPeriods (period.now ∷ [])) (state S.Store tx.old.conn.now) (state S.Store tx.new.conn.now) result }
+{
+    run(
+        tx,
+        INSERT_PERIOD,
+        &period_values(
+            period.at.agent.as_str(),
+            period.at.filing,
+            period.at.place,
+            period.item,
+            period.starts,
+            period.ends,
+        ),
+    )
+}
+
+fn put_rows<S: Alter>(tx: &mut Transaction<'_, S>, periods: &[PeriodRow]) -> Result<(), Error>
+    ensures same_reference { tx.new.conn.ghost_name ≡ tx.old.conn.ghost_name }
+    ensures clean { HasCleanDisk (state S.Store tx.new.conn.now) → HasCleanDisk (state S.Store tx.old.conn.now) }
+    ensures moves { HasCleanDisk (state S.Store tx.new.conn.now) → IsTrue (state S.Store tx.old.conn.now).in_transaction
+        → Moves (PutsPeriods periods.now) (state S.Store tx.old.conn.now) (state S.Store tx.new.conn.now) result }
+{
+    for period in periods {
+        put_row(tx, period)?;
+    }
+    Ok(())
+}
+
+fn set_version<S: Alter>(tx: &mut Transaction<'_, S>) -> Result<usize, Error>
+    ensures same_reference { tx.new.conn.ghost_name ≡ tx.old.conn.ghost_name }
+    ensures clean { HasCleanDisk (state S.Store tx.new.conn.now) → HasCleanDisk (state S.Store tx.old.conn.now) }
+    ensures moves { HasCleanDisk (state S.Store tx.new.conn.now) → IsTrue (state S.Store tx.old.conn.now).in_transaction
+        → Moves SetsVersion (state S.Store tx.old.conn.now) (state S.Store tx.new.conn.now) result }
+{
+    run(tx, UPDATE_VERSION, &version_value())
+}
+
+// Makes the table `period` with these rows, and sets the version.
+fn move_rows<S: Alter>(tx: &mut Transaction<'_, S>, periods: &[PeriodRow]) -> Result<(), Error>
+    ensures same_reference { tx.new.conn.ghost_name ≡ tx.old.conn.ghost_name }
+    ensures clean { HasCleanDisk (state S.Store tx.new.conn.now) → HasCleanDisk (state S.Store tx.old.conn.now) }
+    ensures moves { HasCleanDisk (state S.Store tx.new.conn.now) → IsTrue (state S.Store tx.old.conn.now).in_transaction
+        → Moves (MovesRows periods.now) (state S.Store tx.old.conn.now) (state S.Store tx.new.conn.now) result }
+{
+    create_period(tx)?;
+    put_rows(tx, periods)?;
+    set_version(tx)?;
+    Ok(())
+}
+
+/// Moves the tables of version 1 to those of version 2, with these rows of the days of interests, in a
+/// transaction of its own. After a failure the tables are as they were.
+pub fn move_tables<S: Alter>(conn: &mut Connection<S>, periods: &[PeriodRow]) -> Result<(), Error>
+    requires { conn.old.in_transaction ≡ false }
+    ensures mode { conn.new.in_transaction ≡ false }
+    ensures began { IsClean (state S.Store conn.new) → IsClean (state S.Store conn.old) }
+    ensures made { IsClean (state S.Store conn.new) → (r : Register) → ShowsFirst r (state S.Store conn.old)
+        → periods.now ≡ all_periods r.members → OnOk result (ShowsIn r (state S.Store conn.new)) }
+    ensures kept { IsClean (state S.Store conn.new) → OnErr result ((state S.Store conn.new).committed ≡ (state S.Store conn.old).committed) }
+{
+    let _settled = conn.is_autocommit();
+    let mut tx = conn.transaction();
+    move_rows(&mut tx, periods)?;
+    tx.commit()
+}
