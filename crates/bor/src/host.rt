@@ -5,9 +5,9 @@ ghost use Rattle.bor_register.specs.Register.{empty_register};
 ghost use Rattle.bor_program.specs.Failures.{IsOpeningOf};
 
 use crate::setup::set_up_on;
-use bor_machine::Keep;
+use bor_desk::operations::Keep;
+use bor_program::connections::serve_on;
 use bor_program::{Failure, Opened, Ports, Registers};
-use bor_serve::serve_on;
 use bor_store::{OpenFault, SqlKeep, migrate};
 use bor_terms::{Day, Token};
 use sqlite::{Connection, File, FileStore};

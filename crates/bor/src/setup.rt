@@ -4,9 +4,9 @@ ghost use Rattle.std.specs.Prelude.{◌≡◌, false, IfOk, IsTrue};
 ghost use Rattle.sqlite.specs.Held.{state};
 ghost use Rattle.bor_register.specs.Register.{empty_register};
 ghost use Rattle.bor_store_sql.specs.Shown.{IsClean};
-ghost use Rattle.bor_store_texts.specs.Tables.{no_schema};
+ghost use Rattle.bor_store_sql.specs.Texts.Tables.{no_schema};
 
-use bor_machine::Keep;
+use bor_desk::operations::Keep;
 use bor_program::Opened;
 use bor_store::{OpenFault, SqlKeep, set_up};
 use bor_terms::{Day, Token};

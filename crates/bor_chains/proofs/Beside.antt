@@ -12,18 +12,18 @@ use Rattle.bods_read.specs.declared.details.Details.{Details}
 use Rattle.bods_read.specs.declared.details.Details.TheVariants as details
 use Rattle.bods_read.specs.declared.interest.Interest.{Interest}
 use Rattle.bor_records.specs.declared.row.Row.{Row}
-use Rattle.bor_links.specs.declared.node.Node.{Node}
-use Rattle.bor_links.specs.declared.node.Link.{Link}
-use Rattle.bor_links.specs.declared.node.OpenNode.{OpenNode}
-use Rattle.bor_links.specs.Nodes.{same_node, node_cmp}
-use Rattle.bor_links.specs.Orders.{node_equiv, node_ties}
-use Rattle.bor_links.specs.Shown.{Shown, listed_at, info_in}
-use Rattle.bor_links.specs.Stakes.{is_stake, is_holding}
-use Rattle.bor_links.specs.Rows.{is_entity_info, is_some_info, beside, link_in, link_with}
-use Rattle.bor_links.specs.Answers.{AreLinksInto, only_into}
+use Rattle.bor_records.specs.declared.links.node.Node.{Node}
+use Rattle.bor_records.specs.declared.links.node.Link.{Link}
+use Rattle.bor_records.specs.declared.links.node.OpenNode.{OpenNode}
+use Rattle.bor_records.specs.Links.Nodes.{same_node, node_cmp}
+use Rattle.bor_records.specs.Links.Orders.{node_equiv, node_ties}
+use Rattle.bor_records.specs.Links.Shown.{Shown, listed_at, info_in}
+use Rattle.bor_records.specs.Links.Stakes.{is_stake, is_holding}
+use Rattle.bor_records.specs.Links.Rows.{is_entity_info, is_some_info, beside, link_in, link_with}
+use Rattle.bor_records.specs.Links.Answers.{AreLinksInto, only_into}
 use Rattle.bor_chains.specs.Tables.{placed, items_of, items_at, StayAt, ArePlaces, AreInto, IsBelow, links_at}
-use Rattle.bor_links.proofs.Found.{none, Contains-filter_map, Contains-from_filter_map}
-use Rattle.bor_links.proofs.SameNode.{same_node_is}
+use Rattle.bor_records.proofs.OnLinks.Found.{none, Contains-filter_map, Contains-from_filter_map}
+use Rattle.bor_records.proofs.OnLinks.SameNode.{same_node_is}
 
 -- what is told of a place is the link there, with the subject
 link_is : (n : Node) (o : Option Link) (l : Link) → only_into n o ≡ Some l → (o ≡ Some l) × (same_node l.subject n ≡ true)

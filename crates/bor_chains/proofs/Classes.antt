@@ -14,27 +14,27 @@ use Rattle.std.proofs.lemmas.List.Elements.{Contains-append_left, Contains-appen
 use Rattle.bor_terms.specs.Texts.{is_same}
 use Rattle.bor_terms.proofs.Texts.{is_same-of}
 use Rattle.bods_read.specs.declared.details.Identifier.{Identifier}
-use Rattle.bor_links.specs.declared.node.Node.{Node}
-use Rattle.bor_links.specs.declared.node.OpenNode.{OpenNode}
-use Rattle.bor_links.specs.declared.sign.Sign.{Sign}
-use Rattle.bor_links.specs.Nodes.{same_node}
-use Rattle.bor_links.specs.Shown.{Shown, listed_at, are_alike, is_like, is_entity, same_record, share_identifier, same_identifier}
-use Rattle.bor_links.specs.Aliases.{Alias, Same}
-use Rattle.bor_links.specs.Answers.{AreSame}
+use Rattle.bor_records.specs.declared.links.node.Node.{Node}
+use Rattle.bor_records.specs.declared.links.node.OpenNode.{OpenNode}
+use Rattle.bor_records.specs.declared.links.sign.Sign.{Sign}
+use Rattle.bor_records.specs.Links.Nodes.{same_node}
+use Rattle.bor_records.specs.Links.Shown.{Shown, listed_at, are_alike, is_like, is_entity, same_record, share_identifier, same_identifier}
+use Rattle.bor_records.specs.Links.Aliases.{Alias, Same}
+use Rattle.bor_records.specs.Links.Answers.{AreSame}
 use Rattle.bor_chains.specs.Laws.{SameAreAClass}
 use Rattle.bor_chains.specs.Tables.{placed}
-use Rattle.bor_links.specs.Signs.{sign_cmp, by_record, by_identifier, signs}
+use Rattle.bor_records.specs.Links.Signs.{sign_cmp, by_record, by_identifier, signs}
 use Rattle.bor_chains.specs.Likeness.{AreUnder}
 use Rattle.bor_chains.specs.Classes.{node_at, entity_in, place_in, IsAmong, HasSign, Expands, AreGathered, Visits, AreAllSame}
-use Rattle.bor_links.proofs.SameNode.{same_node_is}
-use Rattle.bor_links.proofs.Found.{Contains-filter_map, Contains-from_filter_map, none, here, cases, Contains-filter, Contains-from_filter, Contains-from_map}
-use Rattle.bor_links.proofs.Listed.{found_is}
+use Rattle.bor_records.proofs.OnLinks.SameNode.{same_node_is}
+use Rattle.bor_records.proofs.OnLinks.Found.{Contains-filter_map, Contains-from_filter_map, none, here, cases, Contains-filter, Contains-from_filter, Contains-from_map}
+use Rattle.bor_records.proofs.OnLinks.Listed.{found_is}
 use Rattle.bor_chains.proofs.Lists.{AreDistinct, listed_is}
-use Rattle.bor_links.proofs.Exact.{exact_sign}
-use Rattle.bor_links.proofs.Signs.{in_common}
+use Rattle.bor_records.proofs.OnLinks.Exact.{exact_sign}
+use Rattle.bor_records.proofs.OnLinks.Signs.{in_common}
 use Rattle.bor_chains.proofs.Signs.{identifiers_more, placed_in, in_place}
-use Rattle.bor_links.proofs.Growth.{Contains-take_more}
-use Rattle.bor_links.proofs.Sames.{same_more, same_reached, same_alone}
+use Rattle.bor_records.proofs.OnLinks.Growth.{Contains-take_more}
+use Rattle.bor_records.proofs.OnLinks.Sames.{same_more, same_reached, same_alone}
 
 -- ---- signs looked up
 

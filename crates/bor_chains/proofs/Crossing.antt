@@ -5,10 +5,10 @@ use Rattle.std.proofs.lemmas.List.Elements.{Contains-append_left, Contains-push,
 use Rattle.std.proofs.Math.ListN.{get_or-append}
 use Rattle.bor_chains.specs.declared.marks.Marked.{Marked}
 use Rattle.bor_chains.specs.declared.walk.Walk.{Walk}
-use Rattle.bor_links.specs.Shown.{Shown}
+use Rattle.bor_records.specs.Links.Shown.{Shown}
 use Rattle.bor_chains.specs.Marks.{LeadsByLink, Names}
 use Rattle.bor_chains.specs.Walk.{GoesOnClosed, LeadsFrom, NamesFrom}
-use Rattle.bor_links.proofs.Growth.{grown_none, grown_more}
+use Rattle.bor_records.proofs.OnLinks.Growth.{grown_none, grown_more}
 use Rattle.bor_chains.proofs.Meeting.{meets_none, meets_more}
 
 -- no mark

@@ -7,11 +7,11 @@ use Rattle.std.specs.List.{list_any}
 use Rattle.std.specs.Bool.{OnFalse}
 use Rattle.std.proofs.lemmas.Bool.{not-true}
 use Rattle.std.specs.BTreeSet.{insert_key}
-use Rattle.bor_links.specs.declared.node.Node.{Node}
-use Rattle.bor_links.specs.Nodes.{same_node}
-use Rattle.bor_links.specs.Orders.{node_equiv}
-use Rattle.bor_links.proofs.SameNode.{same_node_is}
-use Rattle.bor_links.proofs.Found.{here, there, cases, none}
+use Rattle.bor_records.specs.declared.links.node.Node.{Node}
+use Rattle.bor_records.specs.Links.Nodes.{same_node}
+use Rattle.bor_records.specs.Links.Orders.{node_equiv}
+use Rattle.bor_records.proofs.OnLinks.SameNode.{same_node_is}
+use Rattle.bor_records.proofs.OnLinks.Found.{here, there, cases, none}
 use Rattle.bor_chains.specs.declared.line.PersonLine.{PersonLine}
 use Rattle.bor_chains.specs.Lines.{line_cmp, line_ties}
 use Rattle.bor_chains.specs.Walk.{IsMet, Meets}

@@ -10,13 +10,13 @@ use Rattle.std.proofs.lemmas.List.{take_more, map-append}
 use Rattle.std.proofs.lemmas.Option.{same_Some, slice_get-get_or, slice_get_within, get_or_from_slice_get}
 use Rattle.std.proofs.lemmas.Bool.{ltb-true, ltb-false}
 use Rattle.bods_read.specs.declared.details.Identifier.{Identifier}
-use Rattle.bor_links.specs.declared.node.OpenNode.{OpenNode}
-use Rattle.bor_links.specs.declared.sign.Sign.{Sign}
+use Rattle.bor_records.specs.declared.links.node.OpenNode.{OpenNode}
+use Rattle.bor_records.specs.declared.links.sign.Sign.{Sign}
 use Rattle.bor_chains.specs.Tables.{items_of}
-use Rattle.bor_links.specs.Signs.{sign_cmp, by_record, by_identifier, signs}
+use Rattle.bor_records.specs.Links.Signs.{sign_cmp, by_record, by_identifier, signs}
 use Rattle.bor_chains.specs.Likeness.{Stays, IsUnder, AreUnder}
-use Rattle.bor_links.proofs.Found.{none, cases}
-use Rattle.bor_links.proofs.Exact.{exact_sign}
+use Rattle.bor_records.proofs.OnLinks.Found.{none, cases}
+use Rattle.bor_records.proofs.OnLinks.Exact.{exact_sign}
 
 abbrev pub under : BTreeMap Sign (Vec ℕ Global) → Sign → List ℕ
 under m k = items_of (λ v. v.items) (get sign_cmp m k)

@@ -1,12 +1,12 @@
 -- All nodes that are the same as one, while they are looked for sign by sign; for clauses of private functions alone.
 use Rattle.std.specs.Prelude.{◌≡◌, ◌⊎◌, ◌++◌, ℕ, Bool, true, List, Contains, IsTrue, Option, Some, None, option_map, if◌then◌else◌}
 use Rattle.std.specs.List.{slice_get}
-use Rattle.bor_links.specs.declared.node.Node.{Node}
-use Rattle.bor_links.specs.declared.node.OpenNode.{OpenNode}
-use Rattle.bor_links.specs.declared.sign.Sign.{Sign}
-use Rattle.bor_links.specs.Shown.{Shown, is_entity, is_like}
-use Rattle.bor_links.specs.Aliases.{Same}
-use Rattle.bor_links.specs.Signs.{signs}
+use Rattle.bor_records.specs.declared.links.node.Node.{Node}
+use Rattle.bor_records.specs.declared.links.node.OpenNode.{OpenNode}
+use Rattle.bor_records.specs.declared.links.sign.Sign.{Sign}
+use Rattle.bor_records.specs.Links.Shown.{Shown, is_entity, is_like}
+use Rattle.bor_records.specs.Links.Aliases.{Same}
+use Rattle.bor_records.specs.Links.Signs.{signs}
 
 abbrev pub node_at : Option OpenNode → Option Node
 node_at None = None

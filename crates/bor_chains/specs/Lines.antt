@@ -6,8 +6,8 @@ use Rattle.std.specs.declared.cmp.Ordering.TheVariants.{Less, Equal, Greater}
 use Rattle.std.specs.Cmp.{IsTotalOrder, IsEquivalence, IsPartialOrder, partial_order_from_total, on_total, then_total, on_equiv}
 use Rattle.std.specs.Cmp.Lexicographic.{nat_list_cmp_total, texts_ties}
 use Rattle.std.proofs.Common.{◌∙◌, sym, subst, Some}
-use Rattle.bor_links.specs.Nodes.{same_node, text_cmp}
-use Rattle.bor_links.specs.Orders.{node_equiv, all_three}
+use Rattle.bor_records.specs.Links.Nodes.{same_node, text_cmp}
+use Rattle.bor_records.specs.Links.Orders.{node_equiv, all_three}
 use Rattle.bor_chains.specs.declared.line.PersonLine.{PersonLine}
 
 -- a line stands where its node does

@@ -6,18 +6,18 @@ ghost use Rattle.std.specs.List.{slice_get, filter, filter_map, IsDistinct};
 ghost use Rattle.std.specs.BTreeMap.{get};
 ghost use Rattle.std.specs.BTreeSet.{contains};
 ghost use Rattle.std.specs.Ordering.{nat_cmp};
-ghost use Rattle.bor_links.specs.declared.node.Node.{Node};
-ghost use Rattle.bor_links.specs.declared.node.OpenNode.{OpenNode};
-ghost use Rattle.bor_links.specs.Nodes.{same_node, node_cmp};
-ghost use Rattle.bor_links.specs.Shown.{Shown, is_like};
-ghost use Rattle.bor_links.specs.Answers.{AreSame};
+ghost use Rattle.bor_records.specs.declared.links.node.Node.{Node};
+ghost use Rattle.bor_records.specs.declared.links.node.OpenNode.{OpenNode};
+ghost use Rattle.bor_records.specs.Links.Nodes.{same_node, node_cmp};
+ghost use Rattle.bor_records.specs.Links.Shown.{Shown, is_like};
+ghost use Rattle.bor_records.specs.Links.Answers.{AreSame};
 ghost use Rattle.bor_chains.specs.Tables.{items_of};
-ghost use Rattle.bor_links.specs.Signs.{sign_cmp, by_identifier, signs};
+ghost use Rattle.bor_records.specs.Links.Signs.{sign_cmp, by_identifier, signs};
 ghost use Rattle.bor_chains.specs.Likeness.{AreUnder};
 ghost use Rattle.bor_chains.specs.Classes.{node_at, entity_in, place_in, Expands, Visits, AreAllSame};
 
 use bods_read::Identifier;
-use bor_links::{Node, OpenNode, Sign, once};
+use bor_records::links::{Node, OpenNode, Sign, once};
 use std::alloc::{AllocError, Global};
 use std::collections::{BTreeMap, BTreeSet};
 

@@ -5,7 +5,7 @@ ghost use Rattle.std.specs.Cmp.{partial_equiv_from_equiv};
 ghost use Rattle.bor_chains.specs.Lines.{same_line, line_cmp, line_equiv, line_po, line_total, line_ties};
 
 use bods_read::FreeText;
-use bor_links::Node;
+use bor_records::links::Node;
 use std::cmp::Ordering;
 
 /// A person of a report.

@@ -3,12 +3,12 @@
 ghost use Rattle.std.specs.Prelude.{◌≡◌, ◌<◌, ℕ, Some, IfOk, OnOk, Contains, length, option_map};
 ghost use Rattle.std.specs.List.{slice_get};
 ghost use Rattle.std.specs.BTreeMap.{get};
-ghost use Rattle.bor_links.specs.declared.node.Link.{Link};
-ghost use Rattle.bor_links.specs.Nodes.{node_cmp};
-ghost use Rattle.bor_links.specs.Answers.{only_into};
+ghost use Rattle.bor_records.specs.declared.links.node.Link.{Link};
+ghost use Rattle.bor_records.specs.Links.Nodes.{node_cmp};
+ghost use Rattle.bor_records.specs.Links.Answers.{only_into};
 ghost use Rattle.bor_chains.specs.Tables.{ArePlaces, AreInto, IsBelow, StayAt, items_at, items_of, links_at};
 
-use bor_links::{Link, Node, OpenNode};
+use bor_records::links::{Link, Node, OpenNode};
 use std::alloc::{AllocError, Global};
 use std::collections::BTreeMap;
 

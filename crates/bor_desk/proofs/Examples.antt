@@ -12,14 +12,14 @@ use Rattle.bods_read.proofs.Examples.{worked_file, worked_day, worked_file-readi
 use Rattle.bor_records.specs.declared.row.Row.{Row}
 use Rattle.bor_records.specs.Words.{fault_name}
 use Rattle.bor_register.specs.Publication.{state_word}
-use Rattle.bor_machine.specs.Sight.{seen_by}
-use Rattle.bor_links.specs.declared.node.Node.{Node}
-use Rattle.bor_links.specs.declared.node.NodeInfo.TheVariants.{Entity, Person}
-use Rattle.bor_links.specs.declared.node.Link.{Link}
+use Rattle.bor_desk.specs.Operations.Sight.{seen_by}
+use Rattle.bor_records.specs.declared.links.node.Node.{Node}
+use Rattle.bor_records.specs.declared.links.node.NodeInfo.TheVariants.{Entity, Person}
+use Rattle.bor_records.specs.declared.links.node.Link.{Link}
 use Rattle.bor_chains.specs.declared.line.PersonLine.{PersonLine}
-use Rattle.bor_links.specs.Shown.{Shown, IsPerson, info_of}
+use Rattle.bor_records.specs.Links.Shown.{Shown, IsPerson, info_of}
 use Rattle.bor_chains.specs.Chains.{IsChain, IsJoinedBy, IsLeast, AreJoined}
-use Rattle.bor_links.proofs.Found.{none, here, cases}
+use Rattle.bor_records.proofs.OnLinks.Found.{none, here, cases}
 use Rattle.bor_desk.specs.declared.refusal.Refusal.TheVariants.{NoEntity}
 use Rattle.bor_desk.specs.Refusals.{refusal_name}
 use Rattle.bor_desk.specs.Texts.{answering, refusing}

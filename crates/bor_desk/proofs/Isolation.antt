@@ -9,13 +9,13 @@ use Rattle.bor_register.specs.declared.member.Member.{Member}
 use Rattle.bor_register.specs.declared.filing.AcceptedFiling.{AcceptedFiling}
 use Rattle.bor_register.specs.Register.{Register, caller_of, is_enrolled, is_taken, filings_of, with_filings, new_member, with_member}
 use Rattle.bor_register.proofs.Callers.{caller_is_enrolled}
-use Rattle.bor_machine.specs.Legality.{IsLegal}
-use Rattle.bor_machine.specs.Sight.{sight_of}
-use Rattle.bor_machine.specs.Registrar.{advance_step, enrol_step}
-use Rattle.bor_machine.specs.Solo.{published_beside, with_outwards, member_with, alone}
-use Rattle.bor_machine.specs.Laws.{KeepsAgents}
-use Rattle.bor_machine.proofs.Legality.{other-with_filings, leaves-with_filings, advance-keeps_agents, enrolment-keeps_agents}
-use Rattle.bor_machine.proofs.Alone.{filings-with_member, sight-alone}
+use Rattle.bor_desk.specs.Operations.Legality.{IsLegal}
+use Rattle.bor_desk.specs.Operations.Sight.{sight_of}
+use Rattle.bor_desk.specs.Operations.Registrar.{advance_step, enrol_step}
+use Rattle.bor_desk.specs.Operations.Solo.{published_beside, with_outwards, member_with, alone}
+use Rattle.bor_desk.specs.Operations.Laws.{KeepsAgents}
+use Rattle.bor_desk.proofs.OnOperations.Legality.{other-with_filings, leaves-with_filings, advance-keeps_agents, enrolment-keeps_agents}
+use Rattle.bor_desk.proofs.OnOperations.Alone.{filings-with_member, sight-alone}
 use Rattle.bor_desk.specs.declared.request.Request.{Request}
 use Rattle.bor_desk.specs.declared.request.Request.TheVariants as ask
 use Rattle.bor_desk.specs.Step.{own_after, agent_answer, agent_step, registrar_step, step}

@@ -9,3 +9,4 @@ pub mod Isolation
 pub mod Examples
 pub mod StepExamples
 pub mod Worlds
+pub mod OnOperations

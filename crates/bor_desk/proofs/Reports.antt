@@ -5,12 +5,12 @@ use Rattle.bor_register.specs.declared.fault.StoreFault.TheVariants.{Memory}
 use Rattle.bor_register.specs.declared.filing.Outward.{Outward}
 use Rattle.bor_register.specs.Register.{Register}
 use Rattle.bor_register.specs.Publication.{published}
-use Rattle.bor_machine.specs.declared.fault.LodgeFault.{LodgeFault}
-use Rattle.bor_machine.specs.declared.fault.LodgeFault.TheVariants as lodges
-use Rattle.bor_machine.specs.declared.lodging.Lodged.{Lodged}
-use Rattle.bor_machine.specs.Sight.{Outcome}
-use Rattle.bor_machine.specs.Lodging.{lodge_step}
-use Rattle.bor_machine.specs.Outcomes as machine
+use Rattle.bor_desk.specs.declared.operations.fault.LodgeFault.{LodgeFault}
+use Rattle.bor_desk.specs.declared.operations.fault.LodgeFault.TheVariants as lodges
+use Rattle.bor_desk.specs.declared.operations.lodging.Lodged.{Lodged}
+use Rattle.bor_desk.specs.Operations.Sight.{Outcome}
+use Rattle.bor_desk.specs.Operations.Lodging.{lodge_step}
+use Rattle.bor_desk.specs.Operations.Outcomes as machine
 use Rattle.bor_desk.specs.declared.text.Text.{Text}
 use Rattle.bor_desk.specs.declared.refusal.DeskFault.{DeskFault}
 use Rattle.bor_desk.specs.declared.refusal.DeskFault.TheVariants.{Refused, Failed}

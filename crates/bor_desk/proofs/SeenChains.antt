@@ -1,24 +1,24 @@
 -- Who stands behind an entity, by the nodes and links that a viewer sees.
 use Rattle.std.proofs.Common.{◌≡◌, ◌≢◌, ℕ, ℤ, cond, inl, inr, Option, Some, None, List, Result, Ok, Err, IsErr, IsErrAnd, Vec, Global, refl, sym, ap, subst}
-use Rattle.bor_links.specs.declared.node.Node.{Node}
-use Rattle.bor_links.specs.declared.node.NodeInfo.{NodeInfo}
-use Rattle.bor_links.specs.declared.node.NodeInfo.TheVariants.{Entity, Person}
+use Rattle.bor_records.specs.declared.links.node.Node.{Node}
+use Rattle.bor_records.specs.declared.links.node.NodeInfo.{NodeInfo}
+use Rattle.bor_records.specs.declared.links.node.NodeInfo.TheVariants.{Entity, Person}
 use Rattle.bor_records.specs.Promises.{Kept, Promised}
 use Rattle.bor_chains.specs.declared.line.PersonLine.{PersonLine}
 use Rattle.bor_chains.specs.declared.fault.ChainFault.{ChainFault}
 use Rattle.bor_chains.specs.declared.fault.ChainFault.TheVariants as chains
-use Rattle.bor_links.specs.Shown.{Shown, info_of, IsEntity}
-use Rattle.bor_links.specs.Rows.{is_entity_info, shown_of}
+use Rattle.bor_records.specs.Links.Shown.{Shown, info_of, IsEntity}
+use Rattle.bor_records.specs.Links.Rows.{is_entity_info, shown_of}
 use Rattle.bor_chains.specs.Chains.{AreJoined}
 use Rattle.bor_chains.specs.Promises.{chain_counted, OnNoEntity, OnSource}
 use Rattle.bor_register.specs.declared.fault.StoreFault.{StoreFault}
 use Rattle.bor_register.specs.Register.{Register}
 use Rattle.bor_register.specs.Seen.{seen_at}
-use Rattle.bor_machine.specs.declared.keep_source.KeepSource.{KeepSource}
-use Rattle.bor_machine.specs.Sight.{seen_by}
-use Rattle.bor_machine.specs.Outlook.{Outlook}
-use Rattle.bor_machine.specs.Outcomes.{ByStore, IsFaultOf, IsAccounted}
-use Rattle.bor_machine.proofs.SeenLinks.{numbers_make_no_links}
+use Rattle.bor_desk.specs.declared.operations.keep_source.KeepSource.{KeepSource}
+use Rattle.bor_desk.specs.Operations.Sight.{seen_by}
+use Rattle.bor_desk.specs.Operations.Outlook.{Outlook}
+use Rattle.bor_desk.specs.Operations.Outcomes.{ByStore, IsFaultOf, IsAccounted}
+use Rattle.bor_desk.proofs.OnOperations.SeenLinks.{numbers_make_no_links}
 use Rattle.bor_desk.specs.declared.refusal.Refusal.TheVariants.{NoEntity}
 use Rattle.bor_desk.specs.declared.refusal.DeskFault.{DeskFault}
 use Rattle.bor_desk.specs.Refusals.{IsOfChains, failed}

@@ -15,12 +15,12 @@ use Rattle.bor_records.specs.declared.row.Row.{Row}
 use Rattle.bor_records.specs.declared.row.Entry.{Entry}
 use Rattle.bor_records.specs.Admission.{is_of, is_closed}
 use Rattle.bor_records.specs.Snapshot.{is_dated, latest, series, unless_closed, open_row, entry_of, records, snapshot}
-use Rattle.bor_links.specs.ByKey.{rows_by}
+use Rattle.bor_records.specs.Links.ByKey.{rows_by}
 use Rattle.bor_register.specs.declared.filing.AcceptedFiling.{AcceptedFiling}
 use Rattle.bor_register.specs.declared.member.Member.{Member}
 use Rattle.bor_register.specs.Register.{Register, filings_of, AllAbove, IsOrdered}
 use Rattle.bor_register.specs.Rows.{is_visible, row_of, rows_from, rows_in, of_declaration, visible_in, rows_of, visible}
-use Rattle.bor_machine.specs.Sight.{unnumbered, seen_by}
+use Rattle.bor_desk.specs.Operations.Sight.{unnumbered, seen_by}
 use Rattle.bor_desk.specs.declared.reply.DeskReply.TheVariants as tell
 
 -- ---- lists

@@ -7,14 +7,14 @@ use Rattle.bor_register.specs.declared.filing.Filing.{Filing}
 use Rattle.bor_register.specs.Publication.{filing_shown}
 use Rattle.bor_register.specs.Register.{Register, IsOrdered, filings_of, with_filings}
 use Rattle.bor_register.proofs.Members.{with_filings_same}
-use Rattle.bor_machine.specs.Legality.{IsLegal}
-use Rattle.bor_machine.proofs.Legality.{lodging-stays_legal, withdrawal-stays_legal, advance-stays_legal, enrolment-stays_legal}
+use Rattle.bor_desk.specs.Operations.Legality.{IsLegal}
+use Rattle.bor_desk.proofs.OnOperations.Legality.{lodging-stays_legal, withdrawal-stays_legal, advance-stays_legal, enrolment-stays_legal}
 use Rattle.bor_desk.specs.declared.request.Request.{Request}
 use Rattle.bor_desk.specs.declared.request.Request.TheVariants as ask
 use Rattle.bor_desk.specs.declared.reply.DeskReply.{DeskReply}
 use Rattle.bor_desk.specs.declared.reply.DeskReply.TheVariants as tell
 use Rattle.bor_register.specs.declared.fault.StoreFault.{StoreFault}
-use Rattle.bor_machine.specs.Outcomes.{ByStore}
+use Rattle.bor_desk.specs.Operations.Outcomes.{ByStore}
 use Rattle.bor_desk.specs.declared.refusal.Refusal.TheVariants.{NoSuchFiling}
 use Rattle.bor_desk.specs.Step.{file_answer, step, agent_step, registrar_step}
 use Rattle.bor_desk.specs.Outcomes.{IsTold, IsOrderedFor, fault_of, IsLeft}

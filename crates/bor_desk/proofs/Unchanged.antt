@@ -7,11 +7,11 @@ use Rattle.bor_register.specs.declared.filing.AcceptedFiling.{AcceptedFiling}
 use Rattle.bor_register.specs.Register.{Register, is_enrolled, is_taken, filing_keyed, with_filings}
 use Rattle.bor_register.specs.Publication.{line_of}
 use Rattle.bor_register.specs.Withdrawal.{has_successor, as_withdrawn, with_withdrawn}
-use Rattle.bor_machine.specs.declared.fault.LodgeFault.{LodgeFault}
-use Rattle.bor_machine.specs.declared.fault.WithdrawFault.TheVariants as withdraws
-use Rattle.bor_machine.specs.Sight.{Sight, sight_of}
-use Rattle.bor_machine.specs.Lodging.{addition, told_added, own_added, lodging_at, own_lodged_at}
-use Rattle.bor_machine.specs.Withdrawing.{withdrawal_at, own_withdrawn_at}
+use Rattle.bor_desk.specs.declared.operations.fault.LodgeFault.{LodgeFault}
+use Rattle.bor_desk.specs.declared.operations.fault.WithdrawFault.TheVariants as withdraws
+use Rattle.bor_desk.specs.Operations.Sight.{Sight, sight_of}
+use Rattle.bor_desk.specs.Operations.Lodging.{addition, told_added, own_added, lodging_at, own_lodged_at}
+use Rattle.bor_desk.specs.Operations.Withdrawing.{withdrawal_at, own_withdrawn_at}
 use Rattle.bor_desk.specs.declared.request.Request.{Request}
 use Rattle.bor_desk.specs.declared.request.Request.TheVariants as ask
 use Rattle.bor_desk.specs.declared.reply.DeskReply.{DeskReply}

@@ -22,14 +22,14 @@ use Rattle.bor_register.specs.declared.filing.Outward.{Outward}
 use Rattle.bor_register.specs.declared.filing.State.{State}
 use Rattle.bor_register.specs.declared.filing.State.TheVariants.{Draft, Published, Withdrawn}
 use Rattle.bor_register.specs.Register.{Register, empty_register, new_member, with_member, filings_of}
-use Rattle.bor_links.specs.declared.node.Node.{Node}
-use Rattle.bor_links.specs.declared.node.NodeInfo.TheVariants as nodes
-use Rattle.bor_links.specs.declared.node.OpenNode.{OpenNode}
-use Rattle.bor_links.specs.declared.node.Link.{Link}
-use Rattle.bor_links.specs.Shown.{Shown}
-use Rattle.bor_links.specs.Aliases.{Alias}
+use Rattle.bor_records.specs.declared.links.node.Node.{Node}
+use Rattle.bor_records.specs.declared.links.node.NodeInfo.TheVariants as nodes
+use Rattle.bor_records.specs.declared.links.node.OpenNode.{OpenNode}
+use Rattle.bor_records.specs.declared.links.node.Link.{Link}
+use Rattle.bor_records.specs.Links.Shown.{Shown}
+use Rattle.bor_records.specs.Links.Aliases.{Alias}
 use Rattle.bor_chains.specs.Chains.{IsJoinedBy}
-use Rattle.bor_links.proofs.Found.{here, there}
+use Rattle.bor_records.proofs.OnLinks.Found.{here, there}
 use Rattle.bor_desk.specs.declared.request.Request.{Request}
 use Rattle.bor_desk.specs.declared.request.Request.TheVariants as ask
 use Rattle.bor_desk.specs.declared.reply.DeskReply.TheVariants as tell

@@ -4,9 +4,9 @@ use Rattle.std.specs.Fmt.{decimal}
 use Rattle.serde_json.specs.Data.{Data, null, string}
 use Rattle.serde_json.specs.Written.{compact_text}
 use Rattle.bor_terms.specs.Day.{IsSpelling}
-use Rattle.bor_links.specs.declared.node.Node.{Node}
+use Rattle.bor_records.specs.declared.links.node.Node.{Node}
 use Rattle.bor_chains.specs.declared.line.PersonLine.{PersonLine}
-use Rattle.bor_links.specs.Shown.{Shown}
+use Rattle.bor_records.specs.Links.Shown.{Shown}
 use Rattle.bor_chains.specs.Chains.{AreJoined}
 use Rattle.bor_desk.specs.declared.text.Text.{Text}
 use Rattle.bor_desk.specs.declared.reply.DeskReply.TheVariants as tell

@@ -4,10 +4,10 @@ use Rattle.bor_register.specs.declared.fault.StoreFault.{StoreFault}
 use Rattle.bor_register.specs.declared.fault.StoreFault.TheVariants.{Memory}
 use Rattle.bor_register.specs.Register.{Register, empty_register, new_member, with_member}
 use Rattle.bor_register.specs.Publication.{published}
-use Rattle.bor_machine.specs.declared.fault.LodgeFault.{LodgeFault}
-use Rattle.bor_machine.specs.declared.lodging.Lodged.{Lodged}
-use Rattle.bor_machine.specs.Sight.{Outcome}
-use Rattle.bor_machine.specs.Lodging.{lodge_step}
+use Rattle.bor_desk.specs.declared.operations.fault.LodgeFault.{LodgeFault}
+use Rattle.bor_desk.specs.declared.operations.lodging.Lodged.{Lodged}
+use Rattle.bor_desk.specs.Operations.Sight.{Outcome}
+use Rattle.bor_desk.specs.Operations.Lodging.{lodge_step}
 use Rattle.bor_desk.specs.declared.text.Text.{Text}
 use Rattle.bor_desk.specs.declared.refusal.DeskFault.{DeskFault}
 use Rattle.bor_desk.specs.declared.refusal.DeskFault.TheVariants.{Refused, Failed}

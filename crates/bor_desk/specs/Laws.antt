@@ -4,9 +4,9 @@ use Rattle.bor_terms.specs.Texts.{is_same}
 use Rattle.bor_register.specs.declared.caller.Caller.{Caller}
 use Rattle.bor_register.specs.declared.caller.Caller.TheVariants.{Agent}
 use Rattle.bor_register.specs.Register.{Register, caller_of, filings_of}
-use Rattle.bor_machine.specs.Legality.{IsLegal}
-use Rattle.bor_machine.specs.Laws.{KeepsAgents, LeavesOthers}
-use Rattle.bor_machine.specs.Solo.{alone}
+use Rattle.bor_desk.specs.Operations.Legality.{IsLegal}
+use Rattle.bor_desk.specs.Operations.Laws.{KeepsAgents, LeavesOthers}
+use Rattle.bor_desk.specs.Operations.Solo.{alone}
 use Rattle.bor_desk.specs.declared.request.Request.{Request}
 use Rattle.bor_desk.specs.declared.request.Request.TheVariants as ask
 use Rattle.bor_desk.specs.declared.reply.DeskReply.{DeskReply}

@@ -7,3 +7,4 @@ pub mod Laws
 pub mod Limits
 pub mod CheckReport
 pub mod ChainReport
+pub mod Operations

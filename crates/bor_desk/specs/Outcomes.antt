@@ -1,12 +1,12 @@
 -- What a reply has of the step.
 use Rattle.std.specs.Prelude.{◌≡◌, ℕ, ℤ, List, Option, Some, None, Result, Ok, Err}
-use Rattle.bor_links.specs.declared.node.Node.{Node}
+use Rattle.bor_records.specs.declared.links.node.Node.{Node}
 use Rattle.bor_chains.specs.declared.line.PersonLine.{PersonLine}
-use Rattle.bor_links.specs.Shown.{Shown}
+use Rattle.bor_records.specs.Links.Shown.{Shown}
 use Rattle.bor_chains.specs.Chains.{AreJoined}
 use Rattle.bor_register.specs.declared.fault.StoreFault.{StoreFault}
 use Rattle.bor_register.specs.Register.{Register, IsOrdered}
-use Rattle.bor_machine.specs.Outcomes.{ByStore, IsFaultOf}
+use Rattle.bor_desk.specs.Operations.Outcomes.{ByStore, IsFaultOf}
 use Rattle.bor_desk.specs.declared.request.Request.{Request}
 use Rattle.bor_desk.specs.declared.request.Request.TheVariants as ask
 use Rattle.bor_desk.specs.declared.reply.DeskReply.{DeskReply}

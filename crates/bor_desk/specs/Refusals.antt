@@ -5,14 +5,14 @@ use Rattle.bods_read.specs.Faults.{file_fault_word, file_fault_place, file_fault
 use Rattle.bor_records.specs.Words.{fault_name}
 use Rattle.bor_register.specs.declared.fault.StoreFault.{StoreFault}
 use Rattle.bor_register.specs.declared.fault.StoreFault.TheVariants as stores
-use Rattle.bor_machine.specs.declared.fault.LodgeFault.{LodgeFault}
-use Rattle.bor_machine.specs.declared.fault.LodgeFault.TheVariants as lodges
-use Rattle.bor_machine.specs.declared.fault.WithdrawFault.{WithdrawFault}
-use Rattle.bor_machine.specs.declared.fault.WithdrawFault.TheVariants as withdraws
-use Rattle.bor_machine.specs.declared.fault.AdvanceFault.{AdvanceFault}
-use Rattle.bor_machine.specs.declared.fault.AdvanceFault.TheVariants as advances
-use Rattle.bor_machine.specs.declared.fault.EnrolFault.{EnrolFault}
-use Rattle.bor_machine.specs.declared.fault.EnrolFault.TheVariants as enrols
+use Rattle.bor_desk.specs.declared.operations.fault.LodgeFault.{LodgeFault}
+use Rattle.bor_desk.specs.declared.operations.fault.LodgeFault.TheVariants as lodges
+use Rattle.bor_desk.specs.declared.operations.fault.WithdrawFault.{WithdrawFault}
+use Rattle.bor_desk.specs.declared.operations.fault.WithdrawFault.TheVariants as withdraws
+use Rattle.bor_desk.specs.declared.operations.fault.AdvanceFault.{AdvanceFault}
+use Rattle.bor_desk.specs.declared.operations.fault.AdvanceFault.TheVariants as advances
+use Rattle.bor_desk.specs.declared.operations.fault.EnrolFault.{EnrolFault}
+use Rattle.bor_desk.specs.declared.operations.fault.EnrolFault.TheVariants as enrols
 use Rattle.bor_chains.specs.declared.fault.ChainFault.{ChainFault}
 use Rattle.bor_chains.specs.declared.fault.ChainFault.TheVariants as chains
 use Rattle.bor_desk.specs.declared.refusal.Refusal.{Refusal}

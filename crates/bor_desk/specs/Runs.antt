@@ -6,8 +6,8 @@ use Rattle.bor_register.specs.declared.caller.Caller.TheVariants.{Registrar, Age
 use Rattle.bor_register.specs.declared.filing.AcceptedFiling.{AcceptedFiling}
 use Rattle.bor_register.specs.declared.filing.Outward.{Outward}
 use Rattle.bor_register.specs.Register.{Register, caller_of, filings_of}
-use Rattle.bor_machine.specs.Sight.{Outcome}
-use Rattle.bor_machine.specs.Solo.{published_beside, solo_register}
+use Rattle.bor_desk.specs.Operations.Sight.{Outcome}
+use Rattle.bor_desk.specs.Operations.Solo.{published_beside, solo_register}
 use Rattle.bor_desk.specs.declared.request.Request.{Request}
 use Rattle.bor_desk.specs.Step.{Answer, step, agent_step}
 

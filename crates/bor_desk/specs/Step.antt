@@ -2,19 +2,19 @@
 use Rattle.std.specs.Prelude.{ℕ, ℤ, Bool, true, false, List, map, Option, Some, None, unwrap_or, Result, Ok, Err, if◌then◌else◌}
 use Rattle.bor_records.specs.declared.row.Row.{Row}
 use Rattle.bor_records.specs.Snapshot.{snapshot}
-use Rattle.bor_links.specs.declared.node.Node.{Node}
-use Rattle.bor_links.specs.ByKey.{rows_by}
-use Rattle.bor_links.specs.Shown.{Shown, info_of}
-use Rattle.bor_links.specs.Rows.{is_entity_info, shown_of}
+use Rattle.bor_records.specs.declared.links.node.Node.{Node}
+use Rattle.bor_records.specs.Links.ByKey.{rows_by}
+use Rattle.bor_records.specs.Links.Shown.{Shown, info_of}
+use Rattle.bor_records.specs.Links.Rows.{is_entity_info, shown_of}
 use Rattle.bor_register.specs.declared.caller.Caller.{Caller}
 use Rattle.bor_register.specs.declared.caller.Caller.TheVariants.{Registrar, Agent}
 use Rattle.bor_register.specs.declared.filing.AcceptedFiling.{AcceptedFiling}
 use Rattle.bor_register.specs.Register.{Register, filing_keyed, with_filings}
 use Rattle.bor_register.specs.Publication.{line_of}
-use Rattle.bor_machine.specs.Sight.{Sight, sight_of, Outcome}
-use Rattle.bor_machine.specs.Lodging.{lodging, own_lodged}
-use Rattle.bor_machine.specs.Withdrawing.{withdrawal, own_withdrawn}
-use Rattle.bor_machine.specs.Registrar.{advance_step, enrol_step}
+use Rattle.bor_desk.specs.Operations.Sight.{Sight, sight_of, Outcome}
+use Rattle.bor_desk.specs.Operations.Lodging.{lodging, own_lodged}
+use Rattle.bor_desk.specs.Operations.Withdrawing.{withdrawal, own_withdrawn}
+use Rattle.bor_desk.specs.Operations.Registrar.{advance_step, enrol_step}
 use Rattle.bor_desk.specs.declared.request.Request.{Request}
 use Rattle.bor_desk.specs.declared.request.Request.TheVariants as ask
 use Rattle.bor_desk.specs.declared.reply.DeskReply.{DeskReply}

@@ -6,7 +6,7 @@ use Rattle.bods_read.specs.declared.statement.Status.{Status}
 use Rattle.bods_read.specs.declared.fault.Field.{Field}
 use Rattle.bods_read.specs.Words.{type_word, type_of, status_word, field_word}
 use Rattle.bor_register.specs.declared.filing.Outward.{Outward}
-use Rattle.bor_machine.specs.declared.lodging.Lodged.{Lodged}
+use Rattle.bor_desk.specs.declared.operations.lodging.Lodged.{Lodged}
 use Rattle.bor_desk.specs.declared.text.Text.{Text}
 use Rattle.bor_desk.specs.declared.refusal.Refusal.{Refusal}
 use Rattle.bor_desk.specs.Refusals.{refusal_name, refusal_place, refusal_field}

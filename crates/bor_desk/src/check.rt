@@ -5,9 +5,9 @@ ghost use Rattle.bor_register.specs.declared.fault.StoreFault.TheVariants.{Memor
 ghost use Rattle.bor_desk.specs.Texts.{answering, accepted_line, outward_lines};
 ghost use Rattle.bor_desk.specs.CheckReport.{check_day, check_register, check_step, outcome_text, check_report, IsFaultTold};
 
+use crate::operations::{Keep, ListKeep, Lodged, Outward, StoreFault, lodge};
 use crate::refusal::DeskFault;
 use crate::text::{Text, add_accepted, add_outwards, answering, refused_as, refused_text};
-use bor_machine::{Keep, ListKeep, Lodged, Outward, StoreFault, lodge};
 use bor_terms::{AgentName, Day, LodgeKey, Token};
 use std::alloc::{AllocError, Global};
 

@@ -3,19 +3,19 @@
 ghost use Rattle.std.specs.Prelude.{◌≡◌, IfOk, IfErr, unwrap_or, true, false};
 ghost use Rattle.bor_register.specs.Register.{Register, IsOrdered, caller_of, is_enrolled, filings_of, filing_keyed};
 ghost use Rattle.bor_records.specs.Promises.{Promised, Sure, Kept};
-ghost use Rattle.bor_machine.specs.Legality.{IsLegal};
-ghost use Rattle.bor_machine.specs.Sight.{seen_by, sight_of};
-ghost use Rattle.bor_machine.specs.Outcomes.{IsCounted};
+ghost use Rattle.bor_desk.specs.Operations.Legality.{IsLegal};
+ghost use Rattle.bor_desk.specs.Operations.Sight.{seen_by, sight_of};
+ghost use Rattle.bor_desk.specs.Operations.Outcomes.{IsCounted};
 ghost use Rattle.bor_desk.specs.Step.{step, agent_answer, agent_step, may_change_own, registrar_step, file_answer, chains_answer, snapshot_answer};
 ghost use Rattle.bor_desk.specs.Laws.{IsToldAlone};
 ghost use Rattle.bor_desk.specs.Outcomes.{IsAnswered, IsLeft, IsOrderedFor, IsReplyAccounted, reply_of, denial};
 
+use crate::operations::{Caller, Keep, StoreFault, advance, enrol, lodge, withdraw};
 use crate::refusal::{DeskFault, Refusal};
 use crate::reply::DeskReply;
 use crate::report::persons_seen;
 use crate::request::Request;
 use bor_chains::Node;
-use bor_machine::{Caller, Keep, StoreFault, advance, enrol, lodge, withdraw};
 use bor_records::snapshot;
 use bor_terms::{AgentName, Day, Ident, Listed, LodgeKey, Token};
 use std::alloc::Global;

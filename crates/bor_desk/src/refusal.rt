@@ -5,9 +5,9 @@ ghost use Rattle.bor_register.specs.declared.fault.StoreFault.TheVariants as sto
 ghost use Rattle.bor_desk.specs.declared.refusal.DeskFault.TheVariants as faults;
 ghost use Rattle.bor_desk.specs.Refusals.{refusal_name, refusal_place, refusal_field, of_lodging, of_withdrawal, of_advance, of_enrolment, IsOfChains};
 
+use crate::operations::{AdvanceFault, EnrolFault, LodgeFault, StoreFault, WithdrawFault};
 use bods_read::{Field, FileFault};
 use bor_chains::ChainFault;
-use bor_machine::{AdvanceFault, EnrolFault, LodgeFault, StoreFault, WithdrawFault};
 use bor_records::RecordFault;
 use std::alloc::AllocError;
 
@@ -22,7 +22,7 @@ pub enum Refusal {
     NotAgent,
     /// The agent has lodged another file under the key, or the same with another due day.
     KeyReused,
-    /// The agent has 999 filings, withdrawn ones included.
+    /// The agent has as many filings as one may have, withdrawn ones included.
     FilingsFull,
     /// The due day is before the register's day.
     DuePast,

@@ -1,8 +1,8 @@
 //! What a caller is answered.
 
+use crate::operations::{FilingLine, Lodged, Outward, StoreFault};
 use crate::refusal::Refusal;
 use bor_chains::{Node, PersonLine};
-use bor_machine::{FilingLine, Lodged, Outward, StoreFault};
 use bor_records::Entry;
 use bor_terms::{AgentName, Day, Listed};
 

@@ -3,21 +3,21 @@
 ghost use Rattle.std.specs.Prelude.{◌≡◌, ◌++◌, ℕ, List, Some, IfOk, OnOk, string_bytes};
 ghost use Rattle.serde_json.specs.Written.{compact_text};
 ghost use Rattle.bor_terms.specs.Day.{IsSpelling};
-ghost use Rattle.bor_links.specs.Rows.{shown_of};
+ghost use Rattle.bor_records.specs.Links.Rows.{shown_of};
 ghost use Rattle.bor_records.specs.Promises.{Kept, Promised};
-ghost use Rattle.bor_machine.specs.Sight.{seen_by};
-ghost use Rattle.bor_machine.specs.Outcomes.{IsAccounted};
+ghost use Rattle.bor_desk.specs.Operations.Sight.{seen_by};
+ghost use Rattle.bor_desk.specs.Operations.Outcomes.{IsAccounted};
 ghost use Rattle.bor_desk.specs.Refusals.{failed};
 ghost use Rattle.bor_desk.specs.Step.{chains_answer};
 ghost use Rattle.bor_desk.specs.Outcomes.{AreFound};
 ghost use Rattle.bor_desk.specs.Texts.{answering};
 ghost use Rattle.bor_desk.specs.ChainReport.{name_data, person_line, person_lines, report_lines, IsTextOf};
 
+use crate::operations::{Keep, KeepSource, StoreFault};
 use crate::refusal::DeskFault;
 use crate::text::{Text, answering, refused_text};
 use bods_read::FreeText;
 use bor_chains::{Node, PersonLine, persons_of};
-use bor_machine::{Keep, KeepSource, StoreFault};
 use bor_terms::{AgentName, Day};
 use serde_json::Value;
 use std::alloc::{AllocError, Global};

@@ -3,9 +3,9 @@
 ghost use Rattle.std.specs.Prelude.{◌≡◌, ◌++◌, IfOk, OnOk, string_bytes};
 ghost use Rattle.bor_desk.specs.Texts.{statement_line, statement_lines, outward_lines, accepted_line, refusal_line, place_part, field_part, settled_word, answering, refusing, refused_text};
 
+use crate::operations::{Lodged, Outward};
 use crate::refusal::Refusal;
 use bods_read::{Field, Statement, Status};
-use bor_machine::{Lodged, Outward};
 use bor_terms::Listed;
 use std::alloc::{AllocError, Global};
 

@@ -5,3 +5,4 @@ pub mod MetFailures
 pub mod Unread
 pub mod Replies
 pub mod Performed
+pub mod OnConnections

@@ -3,7 +3,7 @@ use Rattle.std.proofs.Common.{◌≡◌, ◌≤◌, ◌⊎◌, ℕ, List, Bool, 
 use Rattle.std.specs.Io.KnownBytes.{Keeps}
 use Rattle.std.specs.List.{list_any}
 use Rattle.bor_register.specs.Register.{Register}
-use Rattle.bor_serve.specs.Serving.{has_failed}
+use Rattle.bor_program.specs.Connections.Serving.{has_failed}
 use Rattle.bor_desk.specs.declared.text.Text.{Text}
 use Rattle.bor_words.specs.declared.command.Command.{Command}
 use Rattle.bor_words.specs.declared.command.Command.TheVariants.{Check, Exchange, Serve, Report, Migrate}

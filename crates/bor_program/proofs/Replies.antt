@@ -14,8 +14,8 @@ use Rattle.bor_program.specs.Replying.{AreAnswers, IsSentOrCutOff, EndsFiles, En
 use Rattle.bor_program.specs.Streams.{AppendsPart}
 use Rattle.bor_records.specs.Promises.{Kept, Promised}
 use Rattle.bor_register.specs.Register.{Register}
-use Rattle.bor_machine.specs.Legality.{IsLegal}
-use Rattle.bor_wire_spell.specs.Spell.{Spelled}
+use Rattle.bor_desk.specs.Operations.Legality.{IsLegal}
+use Rattle.bor_http.specs.Spelling.Spell.{Spelled}
 use Rattle.bor_wire.specs.Runs.{AreReplies, AreSpelled, full, register_left, served}
 use Rattle.bor_program.proofs.Ends.{part_none}
 use Rattle.bor_program.proofs.KnownBytes.{IsWritten}

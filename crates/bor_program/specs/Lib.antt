@@ -5,3 +5,4 @@ pub mod Failures
 pub mod Replying
 pub mod Reporting
 pub mod Performing
+pub mod Connections

@@ -7,7 +7,7 @@ use Rattle.bor_register.specs.Register.{Register, empty_register}
 use Rattle.bor_desk.specs.Texts.{answering}
 use Rattle.bor_desk.specs.declared.text.Text.{Text}
 use Rattle.bor_wire.specs.declared.replies.Reply.{Reply}
-use Rattle.bor_serve.specs.Serving.{IsServed}
+use Rattle.bor_program.specs.Connections.Serving.{IsServed}
 use Rattle.clap.specs.Words.{Text as Words}
 use Rattle.bor_words.specs.declared.command.Command.{Command}
 use Rattle.bor_words.specs.declared.command.Command.TheVariants as command

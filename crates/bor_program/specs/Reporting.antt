@@ -3,7 +3,7 @@ use Rattle.std.specs.Prelude.{◌⊎◌, ℤ, ℕ, List, Option, Some, None, Res
 use Rattle.std.specs.Io.KnownBytes.{Keeps}
 use Rattle.bor_records.specs.Promises.{Promised}
 use Rattle.bor_register.specs.Register.{Register}
-use Rattle.bor_machine.specs.Sight.{seen_by}
+use Rattle.bor_desk.specs.Operations.Sight.{seen_by}
 use Rattle.bor_desk.specs.Step.{chains_answer}
 use Rattle.bor_desk.specs.ChainReport.{IsTextOf}
 use Rattle.bor_desk.specs.declared.text.Text.{Text}

@@ -13,7 +13,7 @@ use crate::host::{OpenRegister, Opened, Registers};
 use crate::inputs::read_inputs;
 use crate::output::write_part;
 use crate::status::Status;
-use bor_machine::ListKeep;
+use bor_desk::operations::ListKeep;
 use bor_wire::{Reply, UNAVAILABLE};
 use bor_words::Exchange;
 use std::alloc::Global;

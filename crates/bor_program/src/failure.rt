@@ -8,7 +8,7 @@ ghost use Rattle.bor_program.specs.Streams.{AppendsPart};
 
 use crate::output::write_part;
 use crate::status::Status;
-use bor_machine::StoreFault;
+use bor_desk::operations::StoreFault;
 use bor_words::Source;
 use itoa::Buffer;
 use std::alloc::AllocError;

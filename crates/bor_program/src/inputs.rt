@@ -3,7 +3,7 @@
 ghost use Rattle.std.specs.Prelude.{◌≡◌, ◌+◌, ◌⊎◌, IfErr, IfOk, IfSome, OnOk, length, take};
 ghost use Rattle.std.specs.Io.KnownBytes.{Keeps};
 ghost use Rattle.bor_program.specs.Failures.{TellsUnread};
-ghost use Rattle.bor_wire_read.specs.Message.{request_limit};
+ghost use Rattle.bor_http.specs.Incoming.Message.{request_limit};
 
 use crate::failure::Failure;
 use crate::status::Status;

@@ -2,7 +2,7 @@
 
 ghost use Rattle.std.specs.Prelude.{◌≡◌, ◌⊎◌, IfErr, IfOk, OnOk};
 ghost use Rattle.std.specs.Io.KnownBytes.{Appends};
-ghost use Rattle.bor_serve.specs.Serving.{IsServed};
+ghost use Rattle.bor_program.specs.Connections.Serving.{IsServed};
 ghost use Rattle.bor_program.specs.Failures.{IsMetListening};
 ghost use Rattle.bor_program.specs.Performing.{Serves, listening};
 ghost use Rattle.bor_program.specs.Program.{exit_code};

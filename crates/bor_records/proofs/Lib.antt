@@ -6,3 +6,4 @@ pub mod Identifiers
 pub mod OpenRecords
 pub mod Settled
 pub mod KeptLaws
+pub mod OnLinks

@@ -6,3 +6,4 @@ pub mod Found
 pub mod OpenRows
 pub mod Seen
 pub mod Promises
+pub mod Links

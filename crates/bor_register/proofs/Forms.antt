@@ -11,6 +11,7 @@ use Rattle.bor_register.specs.declared.filing.AcceptedFiling.{AcceptedFiling}
 use Rattle.bor_register.specs.Register.{empty_register, filings_of, with_filings, new_member, with_member}
 use Rattle.bor_register.specs.Live.{accepted}
 use Rattle.bor_register.specs.Withdrawal.{as_withdrawn, with_withdrawn}
+use Rattle.bor_register.specs.Limits.{filings_limit}
 use Rattle.bor_register.specs.Forms.{IsFormedFiling, IsFormedMember, IsFormed}
 
 pub formed-empty_register : (registrar : List ℕ) (day : ℤ) → is_token registrar ≡ true → IsDay day → IsFormed (empty_register registrar day)
@@ -26,7 +27,7 @@ formed-filings_of name (m ∷ ms) h =
       | false ↦ formed-filings_of name ms (All-tail IsFormedMember m ms h)
     ]
 
-pub formed-accepted : (own : List AcceptedFiling) (key : List ℕ) (due : ℤ) (bytes : List ℕ) (ss : List Statement) → length own < 999 → is_lodge_key key ≡ true → IsDay due → All (λ b. b < 256) bytes →
+pub formed-accepted : (own : List AcceptedFiling) (key : List ℕ) (due : ℤ) (bytes : List ℕ) (ss : List Statement) → length own < filings_limit → is_lodge_key key ≡ true → IsDay due → All (λ b. b < 256) bytes →
     All IsFormedStatement ss → IsFormedFiling (accepted own key due bytes ss)
 formed-accepted own key due bytes ss room is_key is_due are_bytes formed = record { number = omega arith; key = is_key; due = is_due; bytes = are_bytes; statements = formed }
 

@@ -12,8 +12,8 @@ use Rattle.bor_register.specs.declared.filing.AcceptedFiling.{AcceptedFiling}
 use Rattle.bor_register.specs.declared.member.Member.{Member}
 use Rattle.bor_register.specs.Register.{IsOrdered, AllAbove, filings_of}
 use Rattle.bor_register.specs.Rows.{is_visible, row_of, rows_from, rows_in, visible_in, visible}
-use Rattle.bor_links.specs.declared.node.Node.{Node}
-use Rattle.bor_links.specs.Series.{series, is_of, open_at}
+use Rattle.bor_records.specs.declared.links.node.Node.{Node}
+use Rattle.bor_records.specs.Links.Series.{series, is_of, open_at}
 use Rattle.bor_register.specs.Seen.{SeriesIsOfOneAgent}
 
 -- another agent's rows have none of the series

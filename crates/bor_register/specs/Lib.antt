@@ -8,3 +8,4 @@ pub mod Withdrawal
 pub mod Forms
 pub mod Places
 pub mod Seen
+pub mod Keeping

@@ -1,9 +1,9 @@
 -- What a viewer sees of a register: its nodes and links, on a day.
 use Rattle.std.specs.Prelude.{◌≡◌, ℕ, ℤ, List}
-use Rattle.bor_links.specs.declared.node.Node.{Node}
-use Rattle.bor_links.specs.Series.{series}
-use Rattle.bor_links.specs.Shown.{Shown}
-use Rattle.bor_links.specs.Rows.{shown_of}
+use Rattle.bor_records.specs.declared.links.node.Node.{Node}
+use Rattle.bor_records.specs.Links.Series.{series}
+use Rattle.bor_records.specs.Links.Shown.{Shown}
+use Rattle.bor_records.specs.Links.Rows.{shown_of}
 use Rattle.bor_register.specs.declared.member.Member.{Member}
 use Rattle.bor_register.specs.Register.{Register, IsOrdered, filings_of}
 use Rattle.bor_register.specs.Rows.{visible_in, visible}

@@ -15,13 +15,14 @@
 //!
 //! Who keeps members calls what is told of them here, wherever it gets them from: who has a token
 //! ([`caller_with`]), filings and their lines, live statements ([`last_live`], [`any_live_has_id`]),
-//! the rows that a viewer sees, and what is published. What keeps a register is `bor_keep`.
+//! the rows that a viewer sees, and what is published. What keeps a register stands in [`keeping`].
 #![tactic(auto)]
 
 mod caller;
 mod fault;
 mod filing;
 mod filings;
+pub mod keeping;
 pub mod laws;
 mod live;
 mod member;

@@ -75,7 +75,8 @@ pub fn own_filings<'a>(members: &'a [Member], name: &AgentName) -> &'a [Accepted
     &[]
 }
 
-/// Adds a filing to those of an agent, who is enrolled and has fewer than 999, and gives its number.
+/// Adds a filing to those of an agent, who is enrolled and has room for one more, and gives its
+/// number.
 pub fn push_filing(
     alloc: Global,
     members: &mut [Member],

@@ -20,12 +20,12 @@ use Rattle.sqlite.specs.Term.{col}
 use Rattle.sqlite.proofs.Callers.{reads_as}
 use Rattle.sqlite_schema.specs.Names.{same_name}
 use Rattle.bor_register.specs.Register.{Register}
-use Rattle.bor_store_texts.specs.Meanings.{Asks, AsksIn}
-use Rattle.bor_store_texts.specs.Queries.{table_query, shows_rows}
-use Rattle.bor_store_texts.specs.Tables.{first_schema, keep_schema}
-use Rattle.bor_store_rows.specs.Encoding.{versioned_columns}
-use Rattle.bor_store_rows.specs.Placed.{register_row}
-use Rattle.bor_store_rows.specs.declared.rows.RegisterRow.{RegisterRow}
+use Rattle.bor_store_sql.specs.Texts.Meanings.{Asks, AsksIn}
+use Rattle.bor_store_sql.specs.Texts.Queries.{table_query, shows_rows}
+use Rattle.bor_store_sql.specs.Texts.Tables.{first_schema, keep_schema}
+use Rattle.bor_store_sql.specs.Rows.Encoding.{versioned_columns}
+use Rattle.bor_store_sql.specs.Rows.Placed.{register_row}
+use Rattle.bor_store_sql.specs.declared.rows.typed.RegisterRow.{RegisterRow}
 use Rattle.bor_store_sql.specs.Found.{IsQuery}
 use Rattle.bor_store_sql.specs.Kept.{Keeps}
 use Rattle.bor_store_sql.specs.Shown.{HasFirst, ShowsFirst, ShowsIn, first_contents}

@@ -6,8 +6,8 @@ use Rattle.sqlite.specs.Order.{Row}
 use Rattle.sqlite.specs.State.{State}
 use Rattle.sqlite.specs.declared.error.Error.{Error}
 use Rattle.bor_register.specs.Register.{Register}
-use Rattle.bor_store_rows.specs.Encoding.{contents}
-use Rattle.bor_store_rows.specs.Stored.{IsStored}
+use Rattle.bor_store_sql.specs.Rows.Encoding.{contents}
+use Rattle.bor_store_sql.specs.Rows.Stored.{IsStored}
 use Rattle.bor_store_sql.specs.Found.{FindsBoth}
 use Rattle.bor_store_sql.specs.Shown.{HasFirst, HasLists, ShowsFirst, ShowsLists, first_contents}
 use Rattle.bor_store_reads.specs.Answering.{IsNoDamage}

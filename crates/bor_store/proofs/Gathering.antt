@@ -4,10 +4,10 @@ use Rattle.std.specs.Prelude.{is_some, ◌||◌}
 use Rattle.std.specs.List.{flat_map}
 use Rattle.bods_read.specs.declared.interest.Interest.{Interest}
 use Rattle.bods_read.specs.declared.statement.Statement.{Statement}
-use Rattle.bor_store_rows.specs.Placed.{if_said, interest_rows, interests_from, period_of, period_rows, placed_from}
-use Rattle.bor_store_rows.specs.declared.places.At.{At}
-use Rattle.bor_store_rows.specs.declared.rows.InterestRow.{InterestRow}
-use Rattle.bor_store_rows.specs.declared.rows.PeriodRow.{PeriodRow}
+use Rattle.bor_store_sql.specs.Rows.Placed.{if_said, interest_rows, interests_from, period_of, period_rows, placed_from}
+use Rattle.bor_store_sql.specs.declared.rows.places.At.{At}
+use Rattle.bor_store_sql.specs.declared.rows.typed.InterestRow.{InterestRow}
+use Rattle.bor_store_sql.specs.declared.rows.typed.PeriodRow.{PeriodRow}
 use Rattle.bor_store_sql.specs.Fitting.{standing}
 use Rattle.bor_store.specs.Migrating.{days_of}
 

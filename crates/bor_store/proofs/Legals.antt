@@ -10,13 +10,13 @@ use Rattle.bods_read.specs.declared.statement.Statement.{Statement}
 use Rattle.bods_read.specs.declared.statement.Status.{Status}
 use Rattle.bor_records.specs.Admission.{Live}
 use Rattle.bor_records.specs.Settling.{PlacedRefusal, Refusal, ahead, as_live, as_settled, settled, settled_from, settled_then, verdict}
-use Rattle.bor_machine.specs.Legality.{AllLegal, AreRead, IsLegal, IsRead}
-use Rattle.bor_machine.specs.Lodging.{settled_reading, told_settled}
+use Rattle.bor_desk.specs.Operations.Legality.{AllLegal, AreRead, IsLegal, IsRead}
+use Rattle.bor_desk.specs.Operations.Lodging.{settled_reading, told_settled}
 use Rattle.bor_register.specs.Register.{Register}
 use Rattle.bor_register.specs.declared.filing.AcceptedFiling.{AcceptedFiling}
 use Rattle.bor_register.specs.declared.member.Member.{Member}
-use Rattle.bor_store_rows.specs.Placed.{interest_rows, period_rows, placed, placed_by, placed_from}
-use Rattle.bor_store_rows.specs.declared.rows.Placed.{Placed}
+use Rattle.bor_store_sql.specs.Rows.Placed.{interest_rows, period_rows, placed, placed_by, placed_from}
+use Rattle.bor_store_sql.specs.declared.rows.typed.Placed.{Placed}
 use Rattle.bor_store_sql.specs.Changing.{all_periods}
 use Rattle.bor_store_sql.specs.Shown.{ShowsIn}
 use Rattle.bor_store.proofs.SettledFits.{settled_fit}

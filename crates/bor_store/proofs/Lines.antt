@@ -12,11 +12,11 @@ use Rattle.bor_terms.proofs.Texts.{same_refl, same_sym}
 use Rattle.bor_register.specs.Register.{IsOrdered, filings_of}
 use Rattle.bor_register.specs.declared.filing.AcceptedFiling.{AcceptedFiling}
 use Rattle.bor_register.specs.declared.member.Member.{Member}
-use Rattle.bor_store_rows.proofs.Numbers.{same_number, other_number, before_number}
-use Rattle.bor_store_rows.specs.Placed.{filing_lines, filing_row, placed_from}
-use Rattle.bor_store_rows.specs.Stored.{AllNumbered, AreNumbered}
-use Rattle.bor_store_rows.specs.declared.rows.FilingRow.{FilingRow}
-use Rattle.bor_store_rows.specs.declared.rows.PeriodRow.{PeriodRow}
+use Rattle.bor_store_sql.proofs.OnRows.Numbers.{same_number, other_number, before_number}
+use Rattle.bor_store_sql.specs.Rows.Placed.{filing_lines, filing_row, placed_from}
+use Rattle.bor_store_sql.specs.Rows.Stored.{AllNumbered, AreNumbered}
+use Rattle.bor_store_sql.specs.declared.rows.typed.FilingRow.{FilingRow}
+use Rattle.bor_store_sql.specs.declared.rows.typed.PeriodRow.{PeriodRow}
 use Rattle.bor_store_sql.specs.Selected.{numbered}
 use Rattle.bor_store_sql.proofs.Members.{apart_names}
 use Rattle.bor_store_reads.specs.declared.fault.ReadError.{ReadError}

@@ -5,7 +5,7 @@ use Rattle.std.proofs.lemmas.Int.{ints}
 use Rattle.sqlite.specs.Order.{Row}
 use Rattle.sqlite.specs.State.{State}
 use Rattle.bor_register.specs.Register.{Register}
-use Rattle.bor_store_rows.specs.declared.rows.PeriodRow.{PeriodRow}
+use Rattle.bor_store_sql.specs.declared.rows.typed.PeriodRow.{PeriodRow}
 use Rattle.bor_store_reads.specs.declared.fault.ReadError.{ReadError}
 use Rattle.bor_store_reads.specs.declared.fault.ReadError.TheVariants as errors
 use Rattle.bor_store.specs.Opening.{AreVersions, IsFailure, has_all, has_first, is_period_used, version_in}

@@ -8,7 +8,7 @@ use Rattle.bor_terms.specs.Texts.{is_same}
 use Rattle.bor_register.specs.Register.{Register, filings_of}
 use Rattle.bor_register.specs.declared.filing.AcceptedFiling.{AcceptedFiling}
 use Rattle.bor_register.specs.declared.member.Member.{Member}
-use Rattle.bor_store_rows.specs.Stored.{AllNumbered, AreNumbered, IsStored}
+use Rattle.bor_store_sql.specs.Rows.Stored.{AllNumbered, AreNumbered, IsStored}
 use Rattle.bor_store_sql.specs.Fitting.{Fit, statements_kept}
 use Rattle.bor_store_sql.specs.Selected.{numbered}
 use Rattle.bor_store.specs.Migrating.{filed_at}

@@ -8,11 +8,11 @@ use Rattle.bods_read.specs.declared.statement.Statement.{Statement}
 use Rattle.bor_register.specs.Register.{Register, filings_of}
 use Rattle.bor_register.specs.declared.filing.AcceptedFiling.{AcceptedFiling}
 use Rattle.bor_register.specs.declared.member.Member.{Member}
-use Rattle.bor_store_rows.specs.Encoding.{first_version, tables_version}
-use Rattle.bor_store_rows.specs.Placed.{interest_rows, period_rows, placed_from}
-use Rattle.bor_store_rows.specs.declared.rows.FilingRow.{FilingRow}
-use Rattle.bor_store_rows.specs.declared.rows.PeriodRow.{PeriodRow}
-use Rattle.bor_store_rows.specs.declared.rows.Placed.{Placed}
+use Rattle.bor_store_sql.specs.Rows.Encoding.{first_version, tables_version}
+use Rattle.bor_store_sql.specs.Rows.Placed.{interest_rows, period_rows, placed_from}
+use Rattle.bor_store_sql.specs.declared.rows.typed.FilingRow.{FilingRow}
+use Rattle.bor_store_sql.specs.declared.rows.typed.PeriodRow.{PeriodRow}
+use Rattle.bor_store_sql.specs.declared.rows.typed.Placed.{Placed}
 use Rattle.bor_store_sql.specs.Changing.{all_periods}
 use Rattle.bor_store_sql.specs.Fitting.{Fit}
 use Rattle.bor_store_sql.specs.Selected.{numbered}

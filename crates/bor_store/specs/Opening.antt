@@ -10,8 +10,8 @@ use Rattle.sqlite.specs.Table.{Table}
 use Rattle.sqlite.specs.declared.types.Value.{Value}
 use Rattle.sqlite.specs.declared.types.Value.TheVariants.{Int}
 use Rattle.sqlite_schema.specs.Names.{same_name, table_named, index_named, view_named, column_named}
-use Rattle.bor_store_rows.specs.Encoding.{first_version, tables_version}
-use Rattle.bor_store_texts.specs.Tables.{first_schema, keep_schema, period_table, record_index, subject_index, identifier_index, line_index}
+use Rattle.bor_store_sql.specs.Rows.Encoding.{first_version, tables_version}
+use Rattle.bor_store_sql.specs.Texts.Tables.{first_schema, keep_schema, period_table, record_index, subject_index, identifier_index, line_index}
 use Rattle.bor_store.specs.declared.open_fault.OpenFault.{OpenFault}
 use Rattle.bor_store.specs.declared.open_fault.OpenFault.TheVariants as faults
 

@@ -6,7 +6,7 @@ ghost use Rattle.sqlite.specs.Held.{state};
 ghost use Rattle.sqlite.specs.State.{HasCleanDisk};
 ghost use Rattle.sqlite_schema.specs.Names.{same_name, column_named};
 ghost use Rattle.bor_register.specs.Register.{Register};
-ghost use Rattle.bor_store_rows.specs.Encoding.{tables_version};
+ghost use Rattle.bor_store_sql.specs.Rows.Encoding.{tables_version};
 ghost use Rattle.bor_store_sql.specs.Found.{Asked};
 ghost use Rattle.bor_store_sql.specs.Shown.{IsClean, ShowsFirst, ShowsIn};
 ghost use Rattle.bor_store_reads.specs.Answering.{ReadsOnly};
@@ -16,7 +16,7 @@ ghost use Rattle.bor_store.specs.declared.open_fault.OpenFault.TheVariants as fa
 use crate::open_fault::OpenFault;
 use crate::sql_keep::SqlKeep;
 use bor_store_keys::Lookup;
-use bor_store_texts::changes::VERSION;
+use bor_store_sql::texts::changes::VERSION;
 use sqlite::{Alter, Connection, Error, ErrorCode, File, FileStore, Row};
 use sqlite_schema::schema::{Schema, Table};
 use std::alloc::Global;

@@ -2,14 +2,14 @@
 
 ghost use Rattle.std.specs.Prelude.{◌≡◌, ◌+◌, ◌<◌, ◌^◌, ◌++◌, ◌||◌, is_some, OnOk, IfOk, IfErr};
 ghost use Rattle.std.specs.List.{flat_map};
-ghost use Rattle.bor_store_rows.specs.Placed.{interest_rows, interests_of, period_rows, placed_from};
+ghost use Rattle.bor_store_sql.specs.Rows.Placed.{interest_rows, interests_of, period_rows, placed_from};
 ghost use Rattle.bor_store_sql.specs.Fitting.{standing};
 ghost use Rattle.bor_store_reads.specs.Answering.{IsNoDamage};
 ghost use Rattle.bor_store.specs.Migrating.{days_of};
 
 use bods_read::{Details, Interest, Statement};
 use bor_store_reads::ReadError;
-use bor_store_rows::{At, PeriodRow};
+use bor_store_sql::rows::{At, PeriodRow};
 use bor_terms::AgentName;
 use std::alloc::Global;
 

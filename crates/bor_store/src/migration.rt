@@ -3,7 +3,7 @@
 ghost use Rattle.std.specs.Prelude.{◌≡◌, ◌⊎◌, true, false, Err, IfErr, IsErrAnd, IsTrue, MatchResult, OnErr};
 ghost use Rattle.sqlite.specs.Held.{state};
 ghost use Rattle.sqlite.specs.State.{HasCleanDisk};
-ghost use Rattle.bor_machine.specs.Legality.{IsLegal};
+ghost use Rattle.bor_desk.specs.Operations.Legality.{IsLegal};
 ghost use Rattle.bor_register.specs.Register.{Register};
 ghost use Rattle.bor_store_sql.specs.Shown.{IsClean, ShowsFirst, ShowsIn};
 ghost use Rattle.bor_store_reads.specs.Answering.{ReadsOnly};
@@ -16,7 +16,7 @@ use crate::files::days_in_files;
 use crate::open_fault::OpenFault;
 use crate::setup::is_used;
 use bor_store_sql::move_tables;
-use bor_store_texts::changes::{FIRST_VERSION, VERSION};
+use bor_store_sql::texts::changes::{FIRST_VERSION, VERSION};
 use sqlite::{Alter, Connection, Row};
 use std::alloc::Global;
 

@@ -4,7 +4,7 @@ ghost use Rattle.std.specs.Prelude.{◌≡◌, ◌↔◌, false, Err, OnOk, OnEr
 ghost use Rattle.std.specs.List.{list_any};
 ghost use Rattle.sqlite.specs.Held.{state};
 ghost use Rattle.bor_register.specs.Register.{empty_register};
-ghost use Rattle.bor_store_texts.specs.Tables.{no_schema};
+ghost use Rattle.bor_store_sql.specs.Texts.Tables.{no_schema};
 ghost use Rattle.bor_store_sql.specs.Shown.{IsClean, ShowsIn};
 ghost use Rattle.bor_store.specs.Opening.{is_used, is_taken};
 ghost use Rattle.bor_store.specs.declared.open_fault.OpenFault.TheVariants as faults;

@@ -2,8 +2,8 @@
 
 ghost use Rattle.std.specs.Prelude.{◌≡◌, ⊤, ◌+◌, ◌<◌, ◌++◌, ◌∷◌, [], None, IfOk, IfErr, length, map, option_map, true, false, Result};
 ghost use Rattle.sqlite.specs.Held.{state};
-ghost use Rattle.bor_links.specs.Answers.{AreLinksInto, AreSame};
-ghost use Rattle.bor_links.specs.Shown.{info_of};
+ghost use Rattle.bor_records.specs.Links.Answers.{AreLinksInto, AreSame};
+ghost use Rattle.bor_records.specs.Links.Shown.{info_of};
 ghost use Rattle.bor_records.specs.Admission.{last_of};
 ghost use Rattle.bor_records.specs.Promises.{counted, Changes, Promised, Reads, Sure};
 ghost use Rattle.bor_records.specs.Settling.{has_id};
@@ -19,9 +19,9 @@ ghost use Rattle.bor_store.specs.Telling.{tells, fails, TellsNoDamage};
 
 use crate::lodging::add_next_filing;
 use bods_read::Statement;
-use bor_keep::Keep;
-use bor_links::{Link, Node, NodeInfo};
+use bor_records::links::{Link, Node, NodeInfo};
 use bor_records::{Last, Row};
+use bor_register::keeping::Keep;
 use bor_register::{Caller, Filing, FilingLine, Outward, StoreFault};
 use bor_store_keys::{Lookup, read_links_into, read_node, read_same};
 use bor_store_reads::{

@@ -10,23 +10,23 @@ use Rattle.bods_read.specs.declared.details.Details.TheVariants as details
 use Rattle.bods_read.specs.declared.interest.Interest.{Interest}
 use Rattle.bor_records.specs.declared.row.Row.{Row}
 use Rattle.bor_records.specs.OpenRows.{open_rows}
-use Rattle.bor_links.specs.declared.node.Node.{Node}
-use Rattle.bor_links.specs.declared.node.OpenNode.{OpenNode}
-use Rattle.bor_links.specs.declared.node.Link.{Link}
-use Rattle.bor_links.specs.Nodes.{same_node}
-use Rattle.bor_links.specs.Orders.{node_equiv}
-use Rattle.bor_links.specs.Series.{series_of, open_at}
-use Rattle.bor_links.specs.Shown.{Shown, info_in, is_like}
-use Rattle.bor_links.specs.Rows.{is_entity_info, is_some_info, beside, link_between, link_with, link_in, nodes_of, shown_of}
-use Rattle.bor_links.specs.Answers.{AreSame, AreLinksInto, only_into}
-use Rattle.bor_links.specs.Stakes.{is_stake, is_holding}
-use Rattle.bor_links.specs.ByKey.{node_at, IsMade, CoverLinks}
-use Rattle.bor_links.specs.Growth.{Grown}
-use Rattle.bor_links.proofs.ByKey.{links_by_candidates}
-use Rattle.bor_links.proofs.Found.{none, Contains-filter_map, Contains-from_filter_map}
-use Rattle.bor_links.proofs.Growth.{grown_none, grown_like, grown_more, Contains-take_more, Contains-take_front, Contains-take_last}
-use Rattle.bor_links.proofs.Reached.{AreReached, reached_end}
-use Rattle.bor_links.proofs.SameNode.{same_node_is}
+use Rattle.bor_records.specs.declared.links.node.Node.{Node}
+use Rattle.bor_records.specs.declared.links.node.OpenNode.{OpenNode}
+use Rattle.bor_records.specs.declared.links.node.Link.{Link}
+use Rattle.bor_records.specs.Links.Nodes.{same_node}
+use Rattle.bor_records.specs.Links.Orders.{node_equiv}
+use Rattle.bor_records.specs.Links.Series.{series_of, open_at}
+use Rattle.bor_records.specs.Links.Shown.{Shown, info_in, is_like}
+use Rattle.bor_records.specs.Links.Rows.{is_entity_info, is_some_info, beside, link_between, link_with, link_in, nodes_of, shown_of}
+use Rattle.bor_records.specs.Links.Answers.{AreSame, AreLinksInto, only_into}
+use Rattle.bor_records.specs.Links.Stakes.{is_stake, is_holding}
+use Rattle.bor_records.specs.Links.ByKey.{node_at, IsMade, CoverLinks}
+use Rattle.bor_records.specs.Links.Growth.{Grown}
+use Rattle.bor_records.proofs.OnLinks.ByKey.{links_by_candidates}
+use Rattle.bor_records.proofs.OnLinks.Found.{none, Contains-filter_map, Contains-from_filter_map}
+use Rattle.bor_records.proofs.OnLinks.Growth.{grown_none, grown_like, grown_more, Contains-take_more, Contains-take_front, Contains-take_last}
+use Rattle.bor_records.proofs.OnLinks.Reached.{AreReached, reached_end}
+use Rattle.bor_records.proofs.OnLinks.SameNode.{same_node_is}
 use Rattle.bor_store_keys.specs.Candidates.{names, is_into, link_into, link_at, IsAlike, IsAlikeIn}
 
 -- ---- links

@@ -10,22 +10,22 @@ use Rattle.bods_read.specs.declared.details.Details.TheVariants as details
 use Rattle.bods_read.specs.declared.details.Identifier.{Identifier}
 use Rattle.bor_records.specs.declared.row.Row.{Row}
 use Rattle.bor_records.specs.OpenRows.{open_rows}
-use Rattle.bor_links.specs.declared.node.Node.{Node}
-use Rattle.bor_links.specs.declared.node.OpenNode.{OpenNode}
-use Rattle.bor_links.specs.declared.sign.Sign.{Sign}
-use Rattle.bor_links.specs.Aliases.{Alias}
-use Rattle.bor_links.specs.ByKey.{node_at}
-use Rattle.bor_links.specs.Growth.{Grown}
-use Rattle.bor_links.specs.Rows.{node_in, node_with, nodes_of, shown_of}
-use Rattle.bor_links.specs.Series.{open_at, series_of}
-use Rattle.bor_links.specs.Shown.{Shown, listed_at, is_entity, is_like, are_alike}
-use Rattle.bor_links.specs.Signs.{by_identifier, by_record, sign_cmp, signs}
-use Rattle.bor_links.proofs.ByKey.{alias_by_key, listed_by_key, open_at_in, open_row_at, open_row_is}
-use Rattle.bor_links.proofs.Exact.{exact_sign}
-use Rattle.bor_links.proofs.Found.{none, here, Contains-from_filter_map}
-use Rattle.bor_links.proofs.Growth.{grown_cases, Contains-take_more}
-use Rattle.bor_links.proofs.Reached.{AreGathered}
-use Rattle.bor_links.proofs.Sames.{same_more}
+use Rattle.bor_records.specs.declared.links.node.Node.{Node}
+use Rattle.bor_records.specs.declared.links.node.OpenNode.{OpenNode}
+use Rattle.bor_records.specs.declared.links.sign.Sign.{Sign}
+use Rattle.bor_records.specs.Links.Aliases.{Alias}
+use Rattle.bor_records.specs.Links.ByKey.{node_at}
+use Rattle.bor_records.specs.Links.Growth.{Grown}
+use Rattle.bor_records.specs.Links.Rows.{node_in, node_with, nodes_of, shown_of}
+use Rattle.bor_records.specs.Links.Series.{open_at, series_of}
+use Rattle.bor_records.specs.Links.Shown.{Shown, listed_at, is_entity, is_like, are_alike}
+use Rattle.bor_records.specs.Links.Signs.{by_identifier, by_record, sign_cmp, signs}
+use Rattle.bor_records.proofs.OnLinks.ByKey.{alias_by_key, listed_by_key, open_at_in, open_row_at, open_row_is}
+use Rattle.bor_records.proofs.OnLinks.Exact.{exact_sign}
+use Rattle.bor_records.proofs.OnLinks.Found.{none, here, Contains-from_filter_map}
+use Rattle.bor_records.proofs.OnLinks.Growth.{grown_cases, Contains-take_more}
+use Rattle.bor_records.proofs.OnLinks.Reached.{AreGathered}
+use Rattle.bor_records.proofs.OnLinks.Sames.{same_more}
 use Rattle.bor_chains.specs.Classes.{HasSign}
 use Rattle.bor_chains.proofs.Classes.{common_alike, one_of}
 use Rattle.bor_chains.proofs.Signs.{identifiers_more}

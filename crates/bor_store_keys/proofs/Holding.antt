@@ -6,7 +6,7 @@ use Rattle.std.specs.Ordering.{is_eq, nat_cmp, ordering_then}
 use Rattle.std.proofs.lemmas.Map.Lookups.{CmpEqualImpliesEq, exact_bytes, exact_pairs, exact_unsigned}
 use Rattle.std.proofs.lemmas.Option.{same_Some}
 use Rattle.sqlite.specs.State.{State}
-use Rattle.bor_links.specs.Nodes.{text_cmp}
+use Rattle.bor_records.specs.Links.Nodes.{text_cmp}
 use Rattle.bor_store_sql.specs.Shown.{IsClean}
 use Rattle.bor_store_reads.proofs.Found.{still_shows}
 use Rattle.bor_store_keys.specs.declared.found.FilingKey.{FilingKey}

@@ -3,12 +3,12 @@ use Rattle.std.proofs.Common.{◌≡◌, ◌∙◌, ℤ, List, Option, Some, Non
 use Rattle.bods_read.specs.declared.details.Details.{Details}
 use Rattle.bods_read.specs.declared.details.Details.TheVariants as details
 use Rattle.bor_records.specs.declared.row.Row.{Row}
-use Rattle.bor_links.specs.declared.node.Node.{Node}
-use Rattle.bor_links.specs.declared.node.OpenNode.{OpenNode}
-use Rattle.bor_links.specs.Rows.{info_stated, node_in, node_with, shown_of}
-use Rattle.bor_links.specs.Series.{open_at, stated}
-use Rattle.bor_links.specs.Shown.{info_of}
-use Rattle.bor_links.proofs.ByKey.{listed_by_key}
+use Rattle.bor_records.specs.declared.links.node.Node.{Node}
+use Rattle.bor_records.specs.declared.links.node.OpenNode.{OpenNode}
+use Rattle.bor_records.specs.Links.Rows.{info_stated, node_in, node_with, shown_of}
+use Rattle.bor_records.specs.Links.Series.{open_at, stated}
+use Rattle.bor_records.specs.Links.Shown.{info_of}
+use Rattle.bor_records.proofs.OnLinks.ByKey.{listed_by_key}
 
 -- it is told of the details
 stated_info : (n : Node) (d : Details) → info_stated d ≡ option_map (λ x. x.info) (node_with n d)

@@ -4,13 +4,13 @@ use Rattle.std.specs.Prelude.{if◌then◌else◌}
 use Rattle.std.specs.List.{cons_option, filter_map}
 use Rattle.std.proofs.lemmas.List.{at_drop_more}
 use Rattle.bods_read.specs.declared.interest.Interest.{Interest}
-use Rattle.bor_links.specs.declared.node.Node.{Node}
-use Rattle.bor_links.specs.declared.node.OpenNode.{OpenNode}
-use Rattle.bor_links.specs.Answers.{only_into}
-use Rattle.bor_links.specs.Nodes.{same_node}
-use Rattle.bor_links.specs.Rows.{is_entity_info, is_some_info, link_between}
-use Rattle.bor_links.specs.Shown.{info_in}
-use Rattle.bor_links.specs.Stakes.{is_holding, is_stake}
+use Rattle.bor_records.specs.declared.links.node.Node.{Node}
+use Rattle.bor_records.specs.declared.links.node.OpenNode.{OpenNode}
+use Rattle.bor_records.specs.Links.Answers.{only_into}
+use Rattle.bor_records.specs.Links.Nodes.{same_node}
+use Rattle.bor_records.specs.Links.Rows.{is_entity_info, is_some_info, link_between}
+use Rattle.bor_records.specs.Links.Shown.{info_in}
+use Rattle.bor_records.specs.Links.Stakes.{is_holding, is_stake}
 
 module _ (day : ℤ) (nodes : List OpenNode) (n party subject : Node) (interests : List Interest) where
   -- there is none where the subject is another node

@@ -9,18 +9,18 @@ use Rattle.bor_records.specs.declared.row.Row.{Row}
 use Rattle.bor_records.proofs.Lists.{last_or-append}
 use Rattle.bor_records.specs.Admission.{is_closed, status_of}
 use Rattle.bor_records.specs.Snapshot.{is_dated, latest, unless_closed as row_unless_closed}
-use Rattle.bor_links.specs.declared.node.Node.{Node}
-use Rattle.bor_links.specs.Series.{open_at, series}
-use Rattle.bor_links.proofs.ByKey.{open_at_in, open_row_is}
+use Rattle.bor_records.specs.declared.links.node.Node.{Node}
+use Rattle.bor_records.specs.Links.Series.{open_at, series}
+use Rattle.bor_records.proofs.OnLinks.ByKey.{open_at_in, open_row_is}
 use Rattle.bor_register.specs.Register.{Register, filings_of}
-use Rattle.bor_store_rows.specs.declared.rows.Placed.{Placed}
-use Rattle.bor_store_rows.specs.declared.rows.StatementRow.{StatementRow}
-use Rattle.bor_store_rows.specs.Placed.{bare}
-use Rattle.bor_store_rows.specs.Seen.{is_seen, row_placed}
-use Rattle.bor_store_rows.specs.Stored.{IsStored}
+use Rattle.bor_store_sql.specs.declared.rows.typed.Placed.{Placed}
+use Rattle.bor_store_sql.specs.declared.rows.typed.StatementRow.{StatementRow}
+use Rattle.bor_store_sql.specs.Rows.Placed.{bare}
+use Rattle.bor_store_sql.specs.Rows.Seen.{is_seen, row_placed}
+use Rattle.bor_store_sql.specs.Rows.Stored.{IsStored}
 use Rattle.bor_store_sql.specs.Selected.{in_series, placed_of}
-use Rattle.bor_store_rows.proofs.BySeries.{last_map}
-use Rattle.bor_store_rows.proofs.SeenPlaced.{filters_swap}
+use Rattle.bor_store_sql.proofs.OnRows.BySeries.{last_map}
+use Rattle.bor_store_sql.proofs.OnRows.SeenPlaced.{filters_swap}
 use Rattle.bor_store_sql.proofs.Picking.{filter_both}
 use Rattle.bor_store_keys.specs.declared.view.View.{View}
 use Rattle.bor_store_keys.specs.Latest.{bare_row, is_told, unless_closed}

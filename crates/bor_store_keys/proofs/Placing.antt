@@ -1,13 +1,13 @@
 -- A row that a record shows stands where the record's statement is found.
 use Rattle.std.proofs.Common.{◌≡◌, ◌∙◌, List, Some, option_map, slice_get, sym, ap}
 use Rattle.bor_records.specs.declared.row.Row.{Row}
-use Rattle.bor_links.specs.declared.node.Node.{Node}
-use Rattle.bor_links.specs.Series.{open_at, series_of}
-use Rattle.bor_links.proofs.ByKey.{open_at_in}
+use Rattle.bor_records.specs.declared.links.node.Node.{Node}
+use Rattle.bor_records.specs.Links.Series.{open_at, series_of}
+use Rattle.bor_records.proofs.OnLinks.ByKey.{open_at_in}
 use Rattle.bor_register.specs.Register.{Register}
-use Rattle.bor_store_rows.specs.declared.places.At.{At}
-use Rattle.bor_store_rows.specs.declared.rows.Placed.{Placed}
-use Rattle.bor_store_rows.specs.Stored.{IsStored}
+use Rattle.bor_store_sql.specs.declared.rows.places.At.{At}
+use Rattle.bor_store_sql.specs.declared.rows.typed.Placed.{Placed}
+use Rattle.bor_store_sql.specs.Rows.Stored.{IsStored}
 use Rattle.bor_store_keys.specs.declared.view.View.{View}
 use Rattle.bor_store_keys.specs.Recorded.{record_of}
 use Rattle.bor_store_keys.specs.Signed.{record_standing}

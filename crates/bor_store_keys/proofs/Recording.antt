@@ -6,16 +6,16 @@ use Rattle.bor_terms.proofs.Texts.{same_is}
 use Rattle.bods_read.specs.declared.details.Details.{Details}
 use Rattle.bods_read.specs.declared.details.Details.TheVariants as details
 use Rattle.bor_records.specs.declared.row.Row.{Row}
-use Rattle.bor_links.specs.declared.node.Node.{Node}
-use Rattle.bor_links.specs.Series.{series_of}
-use Rattle.bor_links.proofs.Found.{Contains-filter, Contains-from_filter, Contains-map}
+use Rattle.bor_records.specs.declared.links.node.Node.{Node}
+use Rattle.bor_records.specs.Links.Series.{series_of}
+use Rattle.bor_records.proofs.OnLinks.Found.{Contains-filter, Contains-from_filter, Contains-map}
 use Rattle.bor_register.specs.Register.{Register}
 use Rattle.bor_register.specs.Rows.{visible}
 use Rattle.bor_store_keys.specs.Candidates.{is_into, names}
-use Rattle.bor_store_rows.specs.declared.rows.Placed.{Placed}
-use Rattle.bor_store_rows.specs.declared.rows.StatementRow.{StatementRow}
-use Rattle.bor_store_rows.specs.Placed.{bare}
-use Rattle.bor_store_rows.specs.Stored.{IsStored}
+use Rattle.bor_store_sql.specs.declared.rows.typed.Placed.{Placed}
+use Rattle.bor_store_sql.specs.declared.rows.typed.StatementRow.{StatementRow}
+use Rattle.bor_store_sql.specs.Rows.Placed.{bare}
+use Rattle.bor_store_sql.specs.Rows.Stored.{IsStored}
 use Rattle.bor_store_sql.specs.Selected.{names_subject, placed_of, with_subject}
 use Rattle.bor_store_keys.specs.Recorded.{CoverRecords, record_at, record_of}
 use Rattle.bor_store_keys.proofs.SeriesSeen.{Stands, stands}

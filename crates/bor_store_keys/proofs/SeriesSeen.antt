@@ -8,20 +8,20 @@ use Rattle.bor_terms.specs.Texts.{is_same}
 use Rattle.bor_terms.proofs.Texts.{same_refl}
 use Rattle.bods_read.specs.declared.statement.Statement.{Statement}
 use Rattle.bor_records.specs.declared.row.Row.{Row}
-use Rattle.bor_links.specs.declared.node.Node.{Node}
-use Rattle.bor_links.specs.Orders.{node_equiv}
-use Rattle.bor_links.specs.Series.{series, series_of, is_of}
-use Rattle.bor_links.proofs.Found.{Contains-filter, Contains-from_filter, Contains-from_map}
+use Rattle.bor_records.specs.declared.links.node.Node.{Node}
+use Rattle.bor_records.specs.Links.Orders.{node_equiv}
+use Rattle.bor_records.specs.Links.Series.{series, series_of, is_of}
+use Rattle.bor_records.proofs.OnLinks.Found.{Contains-filter, Contains-from_filter, Contains-from_map}
 use Rattle.bor_register.specs.declared.filing.AcceptedFiling.{AcceptedFiling}
 use Rattle.bor_register.specs.declared.member.Member.{Member}
 use Rattle.bor_register.specs.Register.{Register, IsOrdered, filings_of}
 use Rattle.bor_register.specs.Rows.{is_visible, visible}
-use Rattle.bor_store_rows.specs.declared.rows.Placed.{Placed}
-use Rattle.bor_store_rows.specs.Placed.{placed, placed_by, placed_from}
-use Rattle.bor_store_rows.specs.Seen.{is_seen, row_placed}
-use Rattle.bor_store_rows.specs.Stored.{AllNumbered, IsStored}
-use Rattle.bor_store_rows.proofs.Apart.{all_apart}
-use Rattle.bor_store_rows.proofs.SeenPlaced.{rows_in-placed, visible_placed, filter_same, filters_swap}
+use Rattle.bor_store_sql.specs.declared.rows.typed.Placed.{Placed}
+use Rattle.bor_store_sql.specs.Rows.Placed.{placed, placed_by, placed_from}
+use Rattle.bor_store_sql.specs.Rows.Seen.{is_seen, row_placed}
+use Rattle.bor_store_sql.specs.Rows.Stored.{AllNumbered, IsStored}
+use Rattle.bor_store_sql.proofs.OnRows.Apart.{all_apart}
+use Rattle.bor_store_sql.proofs.OnRows.SeenPlaced.{rows_in-placed, visible_placed, filter_same, filters_swap}
 use Rattle.bor_store_sql.specs.Selected.{in_series, placed_of}
 use Rattle.bor_store_reads.proofs.FoundFilings.{own_numbered}
 use Rattle.bor_store_sql.proofs.Alone.{IsAlone, each_alone, own_placed}

@@ -10,23 +10,23 @@ use Rattle.bods_read.specs.declared.details.Details.{Details}
 use Rattle.bods_read.specs.declared.details.Details.TheVariants as details
 use Rattle.bods_read.specs.declared.details.Identifier.{Identifier}
 use Rattle.bor_records.specs.declared.row.Row.{Row}
-use Rattle.bor_links.specs.declared.node.Node.{Node}
-use Rattle.bor_links.specs.declared.node.OpenNode.{OpenNode}
-use Rattle.bor_links.specs.declared.sign.Sign.{Sign}
-use Rattle.bor_links.specs.Rows.{node_in}
-use Rattle.bor_links.specs.Signs.{by_identifier, by_record, signs}
-use Rattle.bor_links.proofs.Found.{none, here, there, cases, Contains-filter, Contains-from_filter, Contains-from_map, Contains-filter_map}
-use Rattle.bor_links.proofs.Signs.{same_any}
+use Rattle.bor_records.specs.declared.links.node.Node.{Node}
+use Rattle.bor_records.specs.declared.links.node.OpenNode.{OpenNode}
+use Rattle.bor_records.specs.declared.links.sign.Sign.{Sign}
+use Rattle.bor_records.specs.Links.Rows.{node_in}
+use Rattle.bor_records.specs.Links.Signs.{by_identifier, by_record, signs}
+use Rattle.bor_records.proofs.OnLinks.Found.{none, here, there, cases, Contains-filter, Contains-from_filter, Contains-from_map, Contains-filter_map}
+use Rattle.bor_records.proofs.OnLinks.Signs.{same_any}
 use Rattle.bor_chains.proofs.Classes.{any_is}
 use Rattle.bor_register.specs.Register.{Register}
-use Rattle.bor_store_rows.specs.declared.places.At.{At}
-use Rattle.bor_store_rows.specs.declared.rows.Placed.{Placed}
-use Rattle.bor_store_rows.specs.declared.rows.IdentifierRow.{IdentifierRow}
-use Rattle.bor_store_rows.specs.declared.rows.StatementRow.{StatementRow}
-use Rattle.bor_store_rows.specs.Placed.{bare, placed, identifier_rows, identifiers_from, identifiers_of}
-use Rattle.bor_store_rows.specs.Seen.{row_placed}
-use Rattle.bor_store_rows.specs.Stored.{IsStored}
-use Rattle.bor_store_rows.proofs.Apart.{all_apart}
+use Rattle.bor_store_sql.specs.declared.rows.places.At.{At}
+use Rattle.bor_store_sql.specs.declared.rows.typed.Placed.{Placed}
+use Rattle.bor_store_sql.specs.declared.rows.typed.IdentifierRow.{IdentifierRow}
+use Rattle.bor_store_sql.specs.declared.rows.typed.StatementRow.{StatementRow}
+use Rattle.bor_store_sql.specs.Rows.Placed.{bare, placed, identifier_rows, identifiers_from, identifiers_of}
+use Rattle.bor_store_sql.specs.Rows.Seen.{row_placed}
+use Rattle.bor_store_sql.specs.Rows.Stored.{IsStored}
+use Rattle.bor_store_sql.proofs.OnRows.Apart.{all_apart}
 use Rattle.bor_store_sql.specs.Selected.{identified_by, in_record, placed_of}
 use Rattle.bor_store_sql.proofs.Alone.{IsAlone, each_alone, own_placed}
 use Rattle.bor_store_keys.specs.Recorded.{CoverRecords, record_at, record_of}

@@ -3,17 +3,17 @@ use Rattle.std.proofs.Common.{◌≡◌, map, append-nil, Option, Some, None, op
 use Rattle.std.specs.List.{flat_map}
 use Rattle.std.proofs.lemmas.Option.{same_Some}
 use Rattle.bor_records.specs.declared.row.Row.{Row}
-use Rattle.bor_links.specs.declared.node.Node.{Node}
-use Rattle.bor_links.specs.Series.{open_at}
+use Rattle.bor_records.specs.declared.links.node.Node.{Node}
+use Rattle.bor_records.specs.Links.Series.{open_at}
 use Rattle.bor_register.specs.Register.{Register}
-use Rattle.bor_store_rows.specs.declared.rows.Placed.{Placed}
-use Rattle.bor_store_rows.specs.declared.rows.StatementRow.{StatementRow}
-use Rattle.bor_store_rows.specs.declared.rows.InterestRow.{InterestRow}
-use Rattle.bor_store_rows.specs.declared.rows.IdentifierRow.{IdentifierRow}
-use Rattle.bor_store_rows.specs.Placed.{bare, with_lists, placed, interest_rows, identifier_rows}
-use Rattle.bor_store_rows.specs.Seen.{row_placed}
-use Rattle.bor_store_rows.specs.Stored.{IsStored}
-use Rattle.bor_store_rows.proofs.Joins.{back}
+use Rattle.bor_store_sql.specs.declared.rows.typed.Placed.{Placed}
+use Rattle.bor_store_sql.specs.declared.rows.typed.StatementRow.{StatementRow}
+use Rattle.bor_store_sql.specs.declared.rows.typed.InterestRow.{InterestRow}
+use Rattle.bor_store_sql.specs.declared.rows.typed.IdentifierRow.{IdentifierRow}
+use Rattle.bor_store_sql.specs.Rows.Placed.{bare, with_lists, placed, interest_rows, identifier_rows}
+use Rattle.bor_store_sql.specs.Rows.Seen.{row_placed}
+use Rattle.bor_store_sql.specs.Rows.Stored.{IsStored}
+use Rattle.bor_store_sql.proofs.OnRows.Joins.{back}
 use Rattle.bor_store_sql.proofs.Alone.{IsAlone}
 use Rattle.bor_store_keys.specs.declared.view.View.{View}
 use Rattle.bor_store_keys.specs.Latest.{bare_row, listed_row}

@@ -1,13 +1,13 @@
 -- Nodes that stand for one entity, while they are looked for sign by sign; for clauses of private functions alone.
 use Rattle.std.specs.Prelude.{◌≡◌, ◌⊎◌, ◌++◌, ℤ, true, Bool, List, Contains, Some}
 use Rattle.bor_records.specs.declared.row.Row.{Row}
-use Rattle.bor_links.specs.declared.node.Node.{Node}
-use Rattle.bor_links.specs.declared.node.OpenNode.{OpenNode}
-use Rattle.bor_links.specs.declared.sign.Sign.{Sign}
-use Rattle.bor_links.specs.Aliases.{Alias}
-use Rattle.bor_links.specs.ByKey.{node_at}
-use Rattle.bor_links.specs.Shown.{Shown, are_alike, is_like, listed_at}
-use Rattle.bor_links.specs.Signs.{signs}
+use Rattle.bor_records.specs.declared.links.node.Node.{Node}
+use Rattle.bor_records.specs.declared.links.node.OpenNode.{OpenNode}
+use Rattle.bor_records.specs.declared.links.sign.Sign.{Sign}
+use Rattle.bor_records.specs.Links.Aliases.{Alias}
+use Rattle.bor_records.specs.Links.ByKey.{node_at}
+use Rattle.bor_records.specs.Links.Shown.{Shown, are_alike, is_like, listed_at}
+use Rattle.bor_records.specs.Links.Signs.{signs}
 use Rattle.bor_chains.specs.Classes.{HasSign}
 
 -- Nodes are added that are alike by their latest statements. These signs have been looked up, and of each that hadn't been before, all that have it and are alike are there.

@@ -5,14 +5,14 @@ use Rattle.bods_read.specs.declared.details.Details.{Details}
 use Rattle.bods_read.specs.declared.details.Details.TheVariants as details
 use Rattle.bods_read.specs.declared.statement.Statement.{Statement}
 use Rattle.bor_records.specs.declared.row.Row.{Row}
-use Rattle.bor_links.specs.declared.node.Node.{Node}
-use Rattle.bor_links.specs.declared.node.OpenNode.{OpenNode}
-use Rattle.bor_links.specs.declared.node.Link.{Link}
-use Rattle.bor_links.specs.Series.{open_at}
-use Rattle.bor_links.specs.Shown.{is_like}
-use Rattle.bor_links.specs.Answers.{only_into}
-use Rattle.bor_links.specs.Rows.{nodes_of, link_in}
-use Rattle.bor_links.specs.ByKey.{node_at}
+use Rattle.bor_records.specs.declared.links.node.Node.{Node}
+use Rattle.bor_records.specs.declared.links.node.OpenNode.{OpenNode}
+use Rattle.bor_records.specs.declared.links.node.Link.{Link}
+use Rattle.bor_records.specs.Links.Series.{open_at}
+use Rattle.bor_records.specs.Links.Shown.{is_like}
+use Rattle.bor_records.specs.Links.Answers.{only_into}
+use Rattle.bor_records.specs.Links.Rows.{nodes_of, link_in}
+use Rattle.bor_records.specs.Links.ByKey.{node_at}
 
 -- a relationship whose subject has the identifier
 abbrev pub names : List ℕ → Details → Bool

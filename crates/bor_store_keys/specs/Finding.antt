@@ -5,9 +5,9 @@ use Rattle.std.specs.Ordering.{nat_cmp, ordering_then}
 use Rattle.std.specs.declared.cmp.Ordering.{Ordering}
 use Rattle.sqlite.specs.State.{State}
 use Rattle.bor_records.specs.declared.row.Row.{Row}
-use Rattle.bor_links.specs.declared.node.Node.{Node}
-use Rattle.bor_links.specs.Nodes.{node_cmp, text_cmp}
-use Rattle.bor_links.specs.Series.{open_at}
+use Rattle.bor_records.specs.declared.links.node.Node.{Node}
+use Rattle.bor_records.specs.Links.Nodes.{node_cmp, text_cmp}
+use Rattle.bor_records.specs.Links.Series.{open_at}
 use Rattle.bor_register.specs.Register.{Register, filings_of}
 use Rattle.bor_store_sql.specs.Shown.{IsClean, ShowsIn}
 use Rattle.bor_store_reads.specs.Asking.{is_number_seen}

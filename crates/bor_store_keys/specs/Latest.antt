@@ -7,9 +7,9 @@ use Rattle.bor_records.specs.Admission.{is_closed}
 use Rattle.bor_register.specs.declared.filing.AcceptedFiling.{AcceptedFiling}
 use Rattle.bor_register.specs.declared.member.Member.{Member}
 use Rattle.bor_register.specs.Rows.{is_visible}
-use Rattle.bor_store_rows.specs.declared.rows.StatementRow.{StatementRow}
-use Rattle.bor_store_rows.specs.Placed.{bare, with_lists}
-use Rattle.bor_store_rows.specs.Seen.{row_placed}
+use Rattle.bor_store_sql.specs.declared.rows.typed.StatementRow.{StatementRow}
+use Rattle.bor_store_sql.specs.Rows.Placed.{bare, with_lists}
+use Rattle.bor_store_sql.specs.Rows.Seen.{row_placed}
 use Rattle.bor_store_sql.specs.Selected.{interests_at, identifiers_at}
 use Rattle.bor_store_keys.specs.declared.view.View.{View}
 

@@ -1,9 +1,9 @@
 -- The records that statements are of.
 use Rattle.std.specs.Prelude.{List, Contains}
-use Rattle.bor_links.specs.declared.node.Node.{Node}
-use Rattle.bor_links.specs.Series.{stated}
-use Rattle.bor_store_rows.specs.declared.rows.Placed.{Placed}
-use Rattle.bor_store_rows.specs.declared.rows.StatementRow.{StatementRow}
+use Rattle.bor_records.specs.declared.links.node.Node.{Node}
+use Rattle.bor_records.specs.Links.Series.{stated}
+use Rattle.bor_store_sql.specs.declared.rows.typed.Placed.{Placed}
+use Rattle.bor_store_sql.specs.declared.rows.typed.StatementRow.{StatementRow}
 
 -- the record that a statement is of
 abbrev pub record_of : Placed → Node

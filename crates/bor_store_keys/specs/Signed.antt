@@ -3,17 +3,17 @@ use Rattle.std.specs.Prelude.{◌≡◌, ℕ, List, Contains, filter, ◌&&◌, 
 use Rattle.std.specs.List.{list_any}
 use Rattle.bor_terms.specs.Texts.{is_same}
 use Rattle.bor_records.specs.declared.row.Row.{Row}
-use Rattle.bor_links.specs.declared.node.Node.{Node}
-use Rattle.bor_links.specs.declared.node.OpenNode.{OpenNode}
-use Rattle.bor_links.specs.declared.sign.Sign.{Sign}
-use Rattle.bor_links.specs.Rows.{node_in}
-use Rattle.bor_links.specs.Series.{series_of}
-use Rattle.bor_links.specs.Signs.{signs}
+use Rattle.bor_records.specs.declared.links.node.Node.{Node}
+use Rattle.bor_records.specs.declared.links.node.OpenNode.{OpenNode}
+use Rattle.bor_records.specs.declared.links.sign.Sign.{Sign}
+use Rattle.bor_records.specs.Links.Rows.{node_in}
+use Rattle.bor_records.specs.Links.Series.{series_of}
+use Rattle.bor_records.specs.Links.Signs.{signs}
 use Rattle.bor_register.specs.declared.member.Member.{Member}
 use Rattle.bor_register.specs.Register.{Register}
-use Rattle.bor_store_rows.specs.declared.places.At.{At}
-use Rattle.bor_store_rows.specs.declared.rows.Placed.{Placed}
-use Rattle.bor_store_rows.specs.Placed.{identifiers_of, placed}
+use Rattle.bor_store_sql.specs.declared.rows.places.At.{At}
+use Rattle.bor_store_sql.specs.declared.rows.typed.Placed.{Placed}
+use Rattle.bor_store_sql.specs.Rows.Placed.{identifiers_of, placed}
 use Rattle.bor_store_sql.specs.Selected.{in_record, placed_of, standing_at}
 use Rattle.bor_store_keys.specs.Recorded.{record_of}
 

@@ -1,8 +1,8 @@
 -- What a viewer sees of a register on a day.
 use Rattle.std.specs.Prelude.{List}
 use Rattle.bor_records.specs.declared.row.Row.{Row}
-use Rattle.bor_links.specs.Shown.{Shown}
-use Rattle.bor_links.specs.Rows.{shown_of}
+use Rattle.bor_records.specs.Links.Shown.{Shown}
+use Rattle.bor_records.specs.Links.Rows.{shown_of}
 use Rattle.bor_register.specs.Register.{Register}
 use Rattle.bor_register.specs.Rows.{visible}
 use Rattle.bor_store_keys.specs.declared.view.View.{View}

@@ -1,15 +1,15 @@
 //! What a report was last told, for one viewer and day.
 
 ghost use Rattle.std.specs.Prelude.{◌≡◌, Option, Some, IfOk, IfSome, OnOk};
-ghost use Rattle.bor_links.specs.declared.node.NodeInfo.{NodeInfo};
-ghost use Rattle.bor_links.specs.declared.node.OpenNode.{OpenNode};
-ghost use Rattle.bor_links.specs.ByKey.{node_at};
-ghost use Rattle.bor_links.specs.Series.{open_at};
-ghost use Rattle.bor_links.specs.Shown.{info_of};
+ghost use Rattle.bor_records.specs.declared.links.node.NodeInfo.{NodeInfo};
+ghost use Rattle.bor_records.specs.declared.links.node.OpenNode.{OpenNode};
+ghost use Rattle.bor_records.specs.Links.ByKey.{node_at};
+ghost use Rattle.bor_records.specs.Links.Series.{open_at};
+ghost use Rattle.bor_records.specs.Links.Shown.{info_of};
 ghost use Rattle.bor_register.specs.Register.{Register, filings_of};
 ghost use Rattle.bor_store_reads.specs.Asking.{is_number_seen};
-ghost use Rattle.bor_store_rows.specs.Stored.{IsStored};
-ghost use Rattle.bor_links.specs.declared.node.Node.{Node};
+ghost use Rattle.bor_store_sql.specs.Rows.Stored.{IsStored};
+ghost use Rattle.bor_records.specs.declared.links.node.Node.{Node};
 ghost use Rattle.bor_store_keys.specs.declared.view.View.{View};
 ghost use Rattle.bor_store_keys.specs.Finding.{AreOf, ArePlaces};
 ghost use Rattle.bor_store_keys.specs.Signed.{record_standing};
@@ -17,9 +17,9 @@ ghost use Rattle.bor_store_keys.specs.Viewed.{rows_seen, seen};
 
 use crate::view::View;
 use bor_chains::ListSource;
-use bor_links::{Node, NodeInfo, OpenNode, info_stated, node_of};
 use bor_records::Row;
-use bor_store_rows::At;
+use bor_records::links::{Node, NodeInfo, OpenNode, info_stated, node_of};
+use bor_store_sql::rows::At;
 use bor_terms::AgentName;
 use std::alloc::{AllocError, Global};
 use std::collections::BTreeMap;

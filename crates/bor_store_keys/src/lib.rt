@@ -5,7 +5,7 @@
 //! by a subject, by a record or by an identifier is confirmed by it. Where a report has met much of the
 //! register, all that the viewer sees is read at once, and lists in memory (`bor_chains`) answer the rest.
 //! Where the connection shows a register (`bor_store_sql`), the answers are those of the nodes and links of
-//! all rows that the viewer sees (`bor_links`), or memory or the store failed.
+//! all rows that the viewer sees (`bor_records::links`), or memory or the store failed.
 #![tactic(auto)]
 
 mod alike;

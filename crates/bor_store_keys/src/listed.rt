@@ -2,8 +2,8 @@
 
 ghost use Rattle.std.specs.Prelude.{◌≡◌};
 ghost use Rattle.sqlite.specs.Held.{state};
-ghost use Rattle.bor_links.specs.Answers.{AreLinksInto, AreSame};
-ghost use Rattle.bor_links.specs.Shown.{info_of};
+ghost use Rattle.bor_records.specs.Links.Answers.{AreLinksInto, AreSame};
+ghost use Rattle.bor_records.specs.Links.Shown.{info_of};
 ghost use Rattle.bor_store_reads.specs.Answering.{Answers};
 ghost use Rattle.bor_store_keys.specs.Finding.{Holds};
 ghost use Rattle.bor_store_keys.specs.Viewed.{seen};
@@ -11,7 +11,7 @@ ghost use Rattle.bor_store_keys.specs.Viewed.{seen};
 use crate::lookup::Lookup;
 use crate::view::View;
 use bor_chains::{LinkSource, ListSource};
-use bor_links::{Link, Node, NodeInfo};
+use bor_records::links::{Link, Node, NodeInfo};
 use bor_store_reads::ReadError;
 use sqlite::Alter;
 

@@ -2,15 +2,15 @@
 
 ghost use Rattle.std.specs.Prelude.{◌≡◌, false, length, map, nat_le, not, option_map, slice_get, Option, Some, IfOk, IfSome};
 ghost use Rattle.sqlite.specs.Held.{state};
-ghost use Rattle.bor_links.specs.declared.node.Node.{Node};
-ghost use Rattle.bor_links.specs.declared.node.NodeInfo.{NodeInfo};
-ghost use Rattle.bor_links.specs.declared.node.OpenNode.{OpenNode};
-ghost use Rattle.bor_links.specs.ByKey.{node_at};
-ghost use Rattle.bor_links.specs.Series.{open_at};
-ghost use Rattle.bor_links.specs.Shown.{info_of};
+ghost use Rattle.bor_records.specs.declared.links.node.Node.{Node};
+ghost use Rattle.bor_records.specs.declared.links.node.NodeInfo.{NodeInfo};
+ghost use Rattle.bor_records.specs.declared.links.node.OpenNode.{OpenNode};
+ghost use Rattle.bor_records.specs.Links.ByKey.{node_at};
+ghost use Rattle.bor_records.specs.Links.Series.{open_at};
+ghost use Rattle.bor_records.specs.Links.Shown.{info_of};
 ghost use Rattle.bor_register.specs.Register.{filings_of};
 ghost use Rattle.bor_register.specs.Rows.{visible};
-ghost use Rattle.bor_store_rows.specs.Placed.{bare, placed};
+ghost use Rattle.bor_store_sql.specs.Rows.Placed.{bare, placed};
 ghost use Rattle.bor_store_sql.specs.Selected.{identified_by, identifiers_at, in_record, in_series, interests_at, placed_of, standing_at, with_subject};
 ghost use Rattle.bor_store_reads.specs.Answering.{Answers, ReadsOnly};
 ghost use Rattle.bor_store_reads.specs.Asking.{is_number_seen};
@@ -21,13 +21,13 @@ ghost use Rattle.bor_store_keys.specs.Viewed.{rows_seen, seen};
 use crate::found::{FilingKey, Found};
 use crate::view::View;
 use bor_chains::ListSource;
-use bor_links::{Node, NodeInfo, OpenNode};
 use bor_records::Row;
+use bor_records::links::{Node, NodeInfo, OpenNode};
 use bor_store_reads::{
     ReadError, has_more, identifiers_of_one, interests_of_one, is_number_seen, read_day,
     read_identified, read_place, read_record, read_series, read_subject, read_visible,
 };
-use bor_store_rows::{At, IdentifierRow, InterestRow, StatementRow};
+use bor_store_sql::rows::{At, IdentifierRow, InterestRow, StatementRow};
 use bor_terms::{AgentName, Day};
 use sqlite::{Alter, Connection};
 use std::alloc::{AllocError, Global};

@@ -2,9 +2,9 @@
 
 ghost use Rattle.std.specs.Prelude.{◌≡◌, false, IfOk, option_and_then};
 ghost use Rattle.sqlite.specs.Held.{state};
-ghost use Rattle.bor_links.specs.ByKey.{node_at};
-ghost use Rattle.bor_links.specs.Rows.{is_entity_info, is_some_info, node_in};
-ghost use Rattle.bor_links.specs.Shown.{info_of};
+ghost use Rattle.bor_records.specs.Links.ByKey.{node_at};
+ghost use Rattle.bor_records.specs.Links.Rows.{is_entity_info, is_some_info, node_in};
+ghost use Rattle.bor_records.specs.Links.Shown.{info_of};
 ghost use Rattle.bor_register.specs.Seen.{seen_at};
 ghost use Rattle.bor_store_reads.specs.Answering.{Answers, ReadsOnly};
 ghost use Rattle.bor_store_keys.specs.Viewed.{rows_seen, seen};
@@ -14,8 +14,8 @@ use crate::lookup::Lookup;
 use crate::opened::open_row;
 use crate::view::View;
 use crate::views::view_of;
-use bor_links::{Node, NodeInfo, OpenNode, node_of};
 use bor_records::Row;
+use bor_records::links::{Node, NodeInfo, OpenNode, node_of};
 use bor_store_reads::ReadError;
 use bor_terms::{AgentName, Day};
 use sqlite::Alter;

@@ -2,7 +2,7 @@
 
 ghost use Rattle.std.specs.Prelude.{◌≡◌, false, map};
 ghost use Rattle.sqlite.specs.Held.{state};
-ghost use Rattle.bor_links.specs.Series.{open_at};
+ghost use Rattle.bor_records.specs.Links.Series.{open_at};
 ghost use Rattle.bor_store_sql.specs.Selected.{identifiers_at, interests_at};
 ghost use Rattle.bor_store_reads.specs.Answering.{Answers, ReadsOnly};
 ghost use Rattle.bor_store_keys.specs.Latest.{listed_row};
@@ -12,10 +12,10 @@ use crate::latest::open_statement;
 use crate::lookup::Lookup;
 use crate::view::View;
 use bods_read::{Identifier, Interest};
-use bor_links::Node;
 use bor_records::Row;
+use bor_records::links::Node;
 use bor_store_reads::ReadError;
-use bor_store_rows::{At, Part, StatementRow};
+use bor_store_sql::rows::{At, Part, StatementRow};
 use sqlite::Alter;
 use std::alloc::Global;
 

@@ -3,7 +3,7 @@
 ghost use Rattle.std.specs.Prelude.{◌≡◌, false, IfOk, map};
 ghost use Rattle.std.specs.List.{filter_map};
 ghost use Rattle.sqlite.specs.Held.{state};
-ghost use Rattle.bor_store_rows.specs.Placed.{placed};
+ghost use Rattle.bor_store_sql.specs.Rows.Placed.{placed};
 ghost use Rattle.bor_store_sql.specs.Selected.{in_record, placed_of, with_subject};
 ghost use Rattle.bor_store_reads.specs.Answering.{Answers, ReadsOnly};
 ghost use Rattle.bor_store_keys.specs.Recorded.{CoverRecords, record_at};
@@ -11,9 +11,9 @@ ghost use Rattle.bor_store_keys.specs.Signed.{record_standing, with_identifier, 
 
 use crate::list::push_some;
 use crate::lookup::Lookup;
-use bor_links::{Node, Sign, once};
+use bor_records::links::{Node, Sign, once};
 use bor_store_reads::ReadError;
-use bor_store_rows::{At, IdentifierRow, StatementRow};
+use bor_store_sql::rows::{At, IdentifierRow, StatementRow};
 use sqlite::Alter;
 use std::alloc::{AllocError, Global};
 

@@ -13,16 +13,16 @@ use Rattle.bor_register.specs.declared.filing.AcceptedFiling.{AcceptedFiling}
 use Rattle.bor_register.specs.declared.member.Member.{Member}
 use Rattle.bor_register.specs.Register.{Register}
 use Rattle.bor_register.specs.Rows.{is_visible}
-use Rattle.bor_store_rows.specs.declared.places.At.{At}
-use Rattle.bor_store_rows.specs.declared.rows.FilingRow.{FilingRow}
-use Rattle.bor_store_rows.specs.declared.rows.Part.{Part}
-use Rattle.bor_store_rows.specs.declared.rows.Placed.{Placed}
-use Rattle.bor_store_rows.specs.declared.rows.StatementRow.{StatementRow}
-use Rattle.bor_store_rows.specs.Placed.{bare, filing_row, identifier_rows, identifiers_from, identifiers_of, interest_rows, interests_from, interests_of, part_of, placed}
+use Rattle.bor_store_sql.specs.declared.rows.places.At.{At}
+use Rattle.bor_store_sql.specs.declared.rows.typed.FilingRow.{FilingRow}
+use Rattle.bor_store_sql.specs.declared.rows.typed.Part.{Part}
+use Rattle.bor_store_sql.specs.declared.rows.typed.Placed.{Placed}
+use Rattle.bor_store_sql.specs.declared.rows.typed.StatementRow.{StatementRow}
+use Rattle.bor_store_sql.specs.Rows.Placed.{bare, filing_row, identifier_rows, identifiers_from, identifiers_of, interest_rows, interests_from, interests_of, part_of, placed}
 use Rattle.bor_records.specs.declared.row.Row.{Row}
-use Rattle.bor_store_rows.specs.Seen.{is_line_visible, row_placed}
-use Rattle.bor_store_rows.specs.Stored.{AreNumbered, IsStored}
-use Rattle.bor_store_rows.proofs.Numbers.{other_number}
+use Rattle.bor_store_sql.specs.Rows.Seen.{is_line_visible, row_placed}
+use Rattle.bor_store_sql.specs.Rows.Stored.{AreNumbered, IsStored}
+use Rattle.bor_store_sql.proofs.OnRows.Numbers.{other_number}
 use Rattle.bor_store_sql.specs.Selected.{in_declaration, numbered, placed_of}
 use Rattle.bor_store_sql.proofs.Alone.{IsAlone, own_alone_at}
 use Rattle.bor_store_reads.specs.Asking.{is_number_seen, part_identifiers, part_interests}

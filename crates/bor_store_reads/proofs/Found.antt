@@ -8,8 +8,8 @@ use Rattle.sqlite.specs.Order.{Row}
 use Rattle.sqlite.specs.State.{State}
 use Rattle.sqlite.specs.declared.error.Error.{Error}
 use Rattle.bor_register.specs.Register.{Register}
-use Rattle.bor_store_rows.specs.Stored.{IsStored}
-use Rattle.bor_store_rows.specs.Encoding.{truth, contents}
+use Rattle.bor_store_sql.specs.Rows.Stored.{IsStored}
+use Rattle.bor_store_sql.specs.Rows.Encoding.{truth, contents}
 use Rattle.bor_store_sql.specs.Shown.{Has, ShowsIn}
 use Rattle.bor_store_sql.specs.Found.{Finds}
 use Rattle.bor_store_reads.specs.declared.fault.ReadError.{ReadError}

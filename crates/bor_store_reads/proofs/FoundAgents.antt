@@ -5,8 +5,8 @@ use Rattle.std.specs.List.{list_any}
 use Rattle.bor_terms.specs.Texts.{is_same}
 use Rattle.bor_register.specs.declared.member.Member.{Member}
 use Rattle.bor_register.specs.Register.{agent_with, is_enrolled}
-use Rattle.bor_store_rows.specs.declared.rows.AgentRow.{AgentRow}
-use Rattle.bor_store_rows.specs.Placed.{agent_row}
+use Rattle.bor_store_sql.specs.declared.rows.typed.AgentRow.{AgentRow}
+use Rattle.bor_store_sql.specs.Rows.Placed.{agent_row}
 use Rattle.bor_store_sql.specs.Selected.{with_token}
 
 -- the first agent with the token is the one that has it

@@ -10,14 +10,14 @@ use Rattle.bor_register.specs.Register.{Register, filings_of, filing_keyed}
 use Rattle.bor_register.specs.Forms.{IsFormedFiling}
 use Rattle.bor_register.specs.Publication.{line_of, filing_shown}
 use Rattle.bor_register.proofs.Forms.{formed-filings_of}
-use Rattle.bor_store_rows.specs.declared.rows.FilingRow.{FilingRow}
-use Rattle.bor_store_rows.specs.Placed.{filing_row}
-use Rattle.bor_store_rows.specs.RowForms.{IsFormedFilingRow, IsFormedShown}
-use Rattle.bor_store_rows.specs.Stored.{AreNumbered, AllNumbered, IsStored}
-use Rattle.bor_store_rows.proofs.ByKey.{count_is}
-use Rattle.bor_store_rows.proofs.Formed.{filings_formed}
+use Rattle.bor_store_sql.specs.declared.rows.typed.FilingRow.{FilingRow}
+use Rattle.bor_store_sql.specs.Rows.Placed.{filing_row}
+use Rattle.bor_store_sql.specs.Rows.RowForms.{IsFormedFilingRow, IsFormedShown}
+use Rattle.bor_store_sql.specs.Rows.Stored.{AreNumbered, AllNumbered, IsStored}
+use Rattle.bor_store_sql.proofs.OnRows.ByKey.{count_is}
+use Rattle.bor_store_sql.proofs.OnRows.Formed.{filings_formed}
 use Rattle.bor_store_sql.specs.Selected.{keyed, last}
-use Rattle.bor_store_rows.specs.Seen.{line_shown}
+use Rattle.bor_store_sql.specs.Rows.Seen.{line_shown}
 use Rattle.bor_store_reads.proofs.Lists.{all_mapped}
 
 -- the first filing under a key

@@ -19,18 +19,18 @@ use Rattle.bor_register.specs.Register.{Register}
 use Rattle.bor_register.specs.Live.{live_of}
 use Rattle.bor_register.specs.Withdrawal.{has_successor}
 use Rattle.bor_register.proofs.LiveStatements.{has_id-live_of}
-use Rattle.bor_store_rows.specs.declared.rows.FilingRow.{FilingRow}
-use Rattle.bor_store_rows.specs.declared.rows.Placed.{Placed}
-use Rattle.bor_store_rows.specs.declared.rows.StatementRow.{StatementRow}
-use Rattle.bor_store_rows.specs.Placed.{bare, part_of, filing_row, placed_from, placed_by}
-use Rattle.bor_store_rows.specs.RowForms.{IsFormedPlaced}
-use Rattle.bor_store_rows.specs.Stored.{AreNumbered, IsStored}
-use Rattle.bor_store_rows.proofs.BySeries.{last_map, any_map}
-use Rattle.bor_store_rows.proofs.Numbers.{same_number, before_number}
-use Rattle.bor_store_rows.proofs.Successors.{successor_is}
-use Rattle.bor_store_rows.proofs.Formed.{placed_formed}
+use Rattle.bor_store_sql.specs.declared.rows.typed.FilingRow.{FilingRow}
+use Rattle.bor_store_sql.specs.declared.rows.typed.Placed.{Placed}
+use Rattle.bor_store_sql.specs.declared.rows.typed.StatementRow.{StatementRow}
+use Rattle.bor_store_sql.specs.Rows.Placed.{bare, part_of, filing_row, placed_from, placed_by}
+use Rattle.bor_store_sql.specs.Rows.RowForms.{IsFormedPlaced}
+use Rattle.bor_store_sql.specs.Rows.Stored.{AreNumbered, IsStored}
+use Rattle.bor_store_sql.proofs.OnRows.BySeries.{last_map, any_map}
+use Rattle.bor_store_sql.proofs.OnRows.Numbers.{same_number, before_number}
+use Rattle.bor_store_sql.proofs.OnRows.Successors.{successor_is}
+use Rattle.bor_store_sql.proofs.OnRows.Formed.{placed_formed}
 use Rattle.bor_store_sql.specs.Selected.{numbered, in_filing, placed_of, in_series, identified, place_columns}
-use Rattle.bor_store_rows.specs.Seen.{known_at, type_of_part, is_later}
+use Rattle.bor_store_sql.specs.Rows.Seen.{known_at, type_of_part, is_later}
 use Rattle.bor_store_sql.proofs.Alone.{own_placed}
 use Rattle.bor_store_reads.proofs.Found.{any_left}
 use Rattle.bor_store_reads.proofs.LastOnes.{of_last}

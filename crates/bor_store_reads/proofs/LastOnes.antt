@@ -4,7 +4,7 @@ use Rattle.std.specs.Prelude.{All, IfSome}
 use Rattle.std.specs.List.{last_or}
 use Rattle.std.proofs.lemmas.Option.{slice_get-map}
 use Rattle.std.proofs.lemmas.List.Elements.{All-head, All-tail}
-use Rattle.bor_store_rows.proofs.ByKey.{last_is}
+use Rattle.bor_store_sql.proofs.OnRows.ByKey.{last_is}
 
 -- what holds of all holds of the last one
 pub of_last : {X : Type 0} (P : X → Type 0) (o : Option X) (xs : List X) → IfSome o P → All P xs → IfSome (last_or o xs) P

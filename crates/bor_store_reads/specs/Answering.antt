@@ -4,8 +4,8 @@ use Rattle.sqlite.specs.State.{State}
 use Rattle.bor_register.specs.Register.{Register}
 use Rattle.bor_register.specs.declared.fault.StoreFault.{StoreFault}
 use Rattle.bor_register.specs.declared.fault.StoreFault.TheVariants as store_faults
-use Rattle.bor_store_rows.specs.declared.fault.RowFault.{RowFault}
-use Rattle.bor_store_rows.specs.declared.fault.RowFault.TheVariants as row_faults
+use Rattle.bor_store_sql.specs.declared.rows.fault.RowFault.{RowFault}
+use Rattle.bor_store_sql.specs.declared.rows.fault.RowFault.TheVariants as row_faults
 use Rattle.bor_store_sql.specs.Shown.{IsClean, ShowsIn}
 use Rattle.bor_store_reads.specs.declared.fault.ReadError.{ReadError}
 use Rattle.bor_store_reads.specs.declared.fault.ReadError.TheVariants as errors

@@ -4,11 +4,11 @@ use Rattle.std.specs.List.{list_any}
 use Rattle.bor_register.specs.Rows.{is_visible}
 use Rattle.bor_register.specs.declared.filing.AcceptedFiling.{AcceptedFiling}
 use Rattle.bor_register.specs.declared.member.Member.{Member}
-use Rattle.bor_store_rows.specs.declared.places.At.{At}
-use Rattle.bor_store_rows.specs.declared.rows.IdentifierRow.{IdentifierRow}
-use Rattle.bor_store_rows.specs.declared.rows.InterestRow.{InterestRow}
-use Rattle.bor_store_rows.specs.declared.rows.Part.{Part}
-use Rattle.bor_store_rows.specs.declared.rows.Part.TheVariants as part
+use Rattle.bor_store_sql.specs.declared.rows.places.At.{At}
+use Rattle.bor_store_sql.specs.declared.rows.typed.IdentifierRow.{IdentifierRow}
+use Rattle.bor_store_sql.specs.declared.rows.typed.InterestRow.{InterestRow}
+use Rattle.bor_store_sql.specs.declared.rows.typed.Part.{Part}
+use Rattle.bor_store_sql.specs.declared.rows.typed.Part.TheVariants as part
 use Rattle.bor_store_sql.specs.Selected.{identifiers_at, interests_at}
 use Rattle.bor_store_reads.specs.declared.known.Known.{Known}
 

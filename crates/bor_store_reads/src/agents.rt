@@ -9,7 +9,7 @@ use crate::fault::ReadError;
 use crate::register::read_register;
 use crate::values::{any, first};
 use bor_register::Caller;
-use bor_store_rows::AgentRow;
+use bor_store_sql::rows::AgentRow;
 use bor_store_sql::{agent_by_name, agent_by_token};
 use bor_terms::{AgentName, Token};
 use sqlite::{Alter, Connection};

@@ -5,8 +5,8 @@ ghost use Rattle.std.specs.List.{flat_map};
 ghost use Rattle.sqlite.specs.Held.{state};
 ghost use Rattle.bor_register.specs.Register.{filings_of};
 ghost use Rattle.bor_register.specs.Rows.{rows_of};
-ghost use Rattle.bor_store_rows.specs.Placed.{bare, line_of, period_rows};
-ghost use Rattle.bor_store_rows.specs.Seen.{is_seen, row_placed};
+ghost use Rattle.bor_store_sql.specs.Rows.Placed.{bare, line_of, period_rows};
+ghost use Rattle.bor_store_sql.specs.Rows.Seen.{is_seen, row_placed};
 ghost use Rattle.bor_store_sql.specs.Selected.{identifiers_at, in_declaration, interests_at, placed_of};
 ghost use Rattle.bor_store_reads.specs.Answering.{Answers, IsNoDamage, ReadsOnly};
 ghost use Rattle.bor_store_reads.specs.Asking.{part_identifiers, part_interests};
@@ -16,7 +16,7 @@ use crate::known::{Known, known_of};
 use crate::register::read_day;
 use crate::values::all;
 use bor_records::Row;
-use bor_store_rows::{
+use bor_store_sql::rows::{
     At, IdentifierRow, InterestLine, InterestRow, Part, PeriodRow, Placed, StatementRow, joined,
     with_periods,
 };

@@ -4,7 +4,7 @@ ghost use Rattle.std.specs.Prelude.{◌≡◌};
 ghost use Rattle.bor_store_reads.specs.declared.fault.ReadError.TheVariants as errors;
 
 use bor_register::StoreFault;
-use bor_store_rows::RowFault;
+use bor_store_sql::rows::RowFault;
 use sqlite::{Error, ErrorCode};
 use std::alloc::{AllocError, AllocFailed};
 use thiserror::Error as ThisError;

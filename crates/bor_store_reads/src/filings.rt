@@ -4,14 +4,14 @@ ghost use Rattle.std.specs.Prelude.{◌≡◌, false, map, option_map, length, u
 ghost use Rattle.sqlite.specs.Held.{state};
 ghost use Rattle.bor_register.specs.Register.{filings_of, filing_keyed};
 ghost use Rattle.bor_register.specs.Publication.{line_of, filing_shown, has_bytes};
-ghost use Rattle.bor_store_rows.specs.Placed.{filing_row};
+ghost use Rattle.bor_store_sql.specs.Rows.Placed.{filing_row};
 ghost use Rattle.bor_store_reads.specs.Answering.{Answers, ReadsOnly};
 
 use crate::fault::ReadError;
 use crate::register::read_day;
 use crate::values::{all, first, flag};
 use bor_register::{Filing, FilingLine};
-use bor_store_rows::{FilingRow, lines_of};
+use bor_store_sql::rows::{FilingRow, lines_of};
 use bor_store_sql::{filing_by_key, filings_of_agent, last_filing, line_by_key, same_bytes};
 use bor_terms::{AgentName, LodgeKey};
 use sqlite::{Alter, Connection};

@@ -2,13 +2,13 @@
 
 ghost use Rattle.std.specs.Prelude.{◌≡◌, false, map, option_map, slice_get};
 ghost use Rattle.sqlite.specs.Held.{state};
-ghost use Rattle.bor_store_rows.specs.Placed.{bare};
+ghost use Rattle.bor_store_sql.specs.Rows.Placed.{bare};
 ghost use Rattle.bor_store_sql.specs.Selected.{identified_by, in_record, in_series, placed_of, standing_at, with_subject};
 ghost use Rattle.bor_store_reads.specs.Answering.{Answers, ReadsOnly};
 
 use crate::fault::ReadError;
 use crate::values::{all, first};
-use bor_store_rows::{At, IdentifierRow, StatementRow};
+use bor_store_sql::rows::{At, IdentifierRow, StatementRow};
 use bor_store_sql::{
     identifiers_by_id, statement_by_place, statements_of_record, statements_of_series,
     statements_of_subject,

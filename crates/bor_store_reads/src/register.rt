@@ -2,13 +2,13 @@
 
 ghost use Rattle.std.specs.Prelude.{◌≡◌, false, Some};
 ghost use Rattle.sqlite.specs.Held.{state};
-ghost use Rattle.bor_store_rows.specs.Placed.{register_row};
+ghost use Rattle.bor_store_sql.specs.Rows.Placed.{register_row};
 ghost use Rattle.bor_store_reads.specs.Answering.{Answers, ReadsOnly};
 
 use crate::fault::ReadError;
 use crate::values::first;
-use bor_store_rows::RegisterRow;
 use bor_store_sql::all_register;
+use bor_store_sql::rows::RegisterRow;
 use bor_terms::Day;
 use sqlite::{Alter, Connection};
 use std::alloc::Global;

@@ -8,14 +8,14 @@ ghost use Rattle.bor_records.specs.Admission.{last_of};
 ghost use Rattle.bor_records.specs.Settling.{has_id};
 ghost use Rattle.bor_register.specs.Register.{filings_of};
 ghost use Rattle.bor_register.specs.Live.{live_of};
-ghost use Rattle.bor_store_rows.specs.Placed.{bare, filing_row};
+ghost use Rattle.bor_store_sql.specs.Rows.Placed.{bare, filing_row};
 ghost use Rattle.bor_store_sql.specs.Selected.{in_series, numbered, placed_of};
 ghost use Rattle.bor_store_reads.specs.Answering.{Answers, ReadsOnly};
 
 use crate::fault::ReadError;
 use crate::values::{any, first};
 use bor_records::Last;
-use bor_store_rows::{FilingRow, StatementRow};
+use bor_store_sql::rows::{FilingRow, StatementRow};
 use bor_store_sql::{last_of_series, line_by_number, statement_by_id};
 use bor_terms::{AgentName, Ident};
 use sqlite::{Alter, Connection};

@@ -5,15 +5,15 @@ ghost use Rattle.std.specs.List.{last_or, list_any};
 ghost use Rattle.sqlite.specs.Held.{state};
 ghost use Rattle.bor_register.specs.Register.{filings_of};
 ghost use Rattle.bor_register.specs.Withdrawal.{has_successor};
-ghost use Rattle.bor_store_rows.specs.Placed.{bare};
-ghost use Rattle.bor_store_rows.specs.Seen.{is_later};
+ghost use Rattle.bor_store_sql.specs.Rows.Placed.{bare};
+ghost use Rattle.bor_store_sql.specs.Rows.Seen.{is_later};
 ghost use Rattle.bor_store_sql.specs.Selected.{in_filing, in_series, placed_of};
 ghost use Rattle.bor_store_reads.specs.Answering.{Answers, ReadsOnly};
 
 use crate::fault::ReadError;
 use crate::statements::found_statement;
 use crate::values::all;
-use bor_store_rows::StatementRow;
+use bor_store_sql::rows::StatementRow;
 use bor_store_sql::statements_of_filing;
 use bor_terms::AgentName;
 use sqlite::{Alter, Connection};

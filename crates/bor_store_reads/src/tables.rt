@@ -4,13 +4,13 @@
 ghost use Rattle.std.specs.Prelude.{◌≡◌, false, length, map, nat_le, not};
 ghost use Rattle.std.specs.List.{flat_map};
 ghost use Rattle.sqlite.specs.Held.{state};
-ghost use Rattle.bor_store_rows.specs.Placed.{agent_row, bare, filing_lines, identifier_rows, interest_rows, line_of, period_rows, placed, without_files};
+ghost use Rattle.bor_store_sql.specs.Rows.Placed.{agent_row, bare, filing_lines, identifier_rows, interest_rows, line_of, period_rows, placed, without_files};
 ghost use Rattle.bor_store_reads.specs.Answering.{Answers, ReadsOnly};
 
 use crate::fault::ReadError;
 use crate::values::{all, any};
 use bor_register::Member;
-use bor_store_rows::{
+use bor_store_sql::rows::{
     AgentRow, FilingRow, IdentifierRow, InterestLine, InterestRow, PeriodRow, Placed, StatementRow,
     joined, members_of, with_periods,
 };

@@ -2,11 +2,11 @@
 
 ghost use Rattle.std.specs.Prelude.{◌≡◌, List, [], ◌∷◌, Bool, false, unwrap_or, map, not, length, ◌==◌, All, IfOk, MatchResult, slice_get};
 ghost use Rattle.sqlite.specs.Order.{Row as SqlRow};
-ghost use Rattle.bor_store_rows.specs.Encoding.{truth};
+ghost use Rattle.bor_store_sql.specs.Rows.Encoding.{truth};
 ghost use Rattle.bor_store_reads.specs.Answering.{IsNoDamage};
 
 use crate::fault::ReadError;
-use bor_store_rows::{TableRow, first_flag, first_row, read_rows};
+use bor_store_sql::rows::{TableRow, first_flag, first_row, read_rows};
 use sqlite::{Error, Row};
 use std::alloc::Global;
 

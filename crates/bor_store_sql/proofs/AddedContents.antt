@@ -11,9 +11,9 @@ use Rattle.bods_read.specs.declared.statement.Statement.{Statement}
 use Rattle.bor_register.specs.declared.filing.AcceptedFiling.{AcceptedFiling}
 use Rattle.bor_register.specs.declared.member.Member.{Member}
 use Rattle.bor_register.specs.Register.{Register, is_enrolled, filings_of, with_filings, new_member, with_member}
-use Rattle.bor_store_rows.specs.declared.rows.Placed.{Placed}
-use Rattle.bor_store_rows.specs.Placed.{bare, placed_from, placed_by, placed, interest_rows, identifier_rows}
-use Rattle.bor_store_rows.specs.Encoding.{contents, agent_columns, filing_columns, filing_rows, statement_columns, interest_columns, identifier_columns}
+use Rattle.bor_store_sql.specs.declared.rows.typed.Placed.{Placed}
+use Rattle.bor_store_sql.specs.Rows.Placed.{bare, placed_from, placed_by, placed, interest_rows, identifier_rows}
+use Rattle.bor_store_sql.specs.Rows.Encoding.{contents, agent_columns, filing_columns, filing_rows, statement_columns, interest_columns, identifier_columns}
 use Rattle.bor_store_sql.specs.Kept.{Keeps}
 use Rattle.bor_store_sql.specs.Shown.{Has}
 use Rattle.bor_store_sql.specs.Changing.{days_of, live_filing, with_agent_row, with_filing_row, with_placed, added, enrolled}

@@ -9,16 +9,16 @@ use Rattle.bor_terms.specs.Span.{Range}
 use Rattle.bods_read.specs.Words.{status_word}
 use Rattle.bor_register.specs.declared.filing.AcceptedFiling.{AcceptedFiling}
 use Rattle.bor_register.specs.declared.member.Member.{Member}
-use Rattle.bor_store_texts.specs.Tables.{keep_schema, agent_at, filing_at, filing_table, statement_at, statement_table, interest_at, interest_table, identifier_at, identifier_table, period_at, period_table}
-use Rattle.bor_store_texts.specs.Changes.{insert_agent_text, insert_agent_terms, insert_filing_text, insert_filing_terms, insert_statement_text, insert_statement_terms, insert_interest_text, insert_interest_terms, insert_identifier_text, insert_identifier_terms, insert_period_text, insert_period_terms}
-use Rattle.bor_store_texts.proofs.ChangeMeanings.{insert_agent_is, insert_filing_is, insert_statement_is, insert_interest_is, insert_identifier_is, insert_period_is}
-use Rattle.bor_store_rows.specs.declared.rows.Part.{Part}
-use Rattle.bor_store_rows.specs.declared.rows.Part.TheVariants as part
-use Rattle.bor_store_rows.specs.declared.rows.StatementRow.{StatementRow}
-use Rattle.bor_store_rows.specs.declared.rows.InterestRow.{InterestRow}
-use Rattle.bor_store_rows.specs.declared.rows.IdentifierRow.{IdentifierRow}
-use Rattle.bor_store_rows.specs.declared.rows.PeriodRow.{PeriodRow}
-use Rattle.bor_store_rows.specs.Encoding.{Contents, agent_columns, filing_columns, statement_columns, interest_columns, identifier_columns, period_columns, day_or_null, or_null}
+use Rattle.bor_store_sql.specs.Texts.Tables.{keep_schema, agent_at, filing_at, filing_table, statement_at, statement_table, interest_at, interest_table, identifier_at, identifier_table, period_at, period_table}
+use Rattle.bor_store_sql.specs.Texts.Changes.{insert_agent_text, insert_agent_terms, insert_filing_text, insert_filing_terms, insert_statement_text, insert_statement_terms, insert_interest_text, insert_interest_terms, insert_identifier_text, insert_identifier_terms, insert_period_text, insert_period_terms}
+use Rattle.bor_store_sql.proofs.OnTexts.ChangeMeanings.{insert_agent_is, insert_filing_is, insert_statement_is, insert_interest_is, insert_identifier_is, insert_period_is}
+use Rattle.bor_store_sql.specs.declared.rows.typed.Part.{Part}
+use Rattle.bor_store_sql.specs.declared.rows.typed.Part.TheVariants as part
+use Rattle.bor_store_sql.specs.declared.rows.typed.StatementRow.{StatementRow}
+use Rattle.bor_store_sql.specs.declared.rows.typed.InterestRow.{InterestRow}
+use Rattle.bor_store_sql.specs.declared.rows.typed.IdentifierRow.{IdentifierRow}
+use Rattle.bor_store_sql.specs.declared.rows.typed.PeriodRow.{PeriodRow}
+use Rattle.bor_store_sql.specs.Rows.Encoding.{Contents, agent_columns, filing_columns, statement_columns, interest_columns, identifier_columns, period_columns, day_or_null, or_null}
 use Rattle.bor_store_sql.specs.Shown.{Has}
 use Rattle.bor_store_sql.specs.Changing.{live_filing, given_filing, with_agent_row, with_filing_row, with_statement_row, with_interest_rows, with_identifier_rows, with_period_row}
 use Rattle.bor_store_sql.proofs.Inserts.{inserts, cast_int, cast_null}

@@ -8,12 +8,12 @@ use Rattle.bor_terms.specs.Texts.{is_same}
 use Rattle.bor_terms.proofs.Texts.{same_is, same_refl, same_sym}
 use Rattle.bor_register.specs.Register.{Register, filings_of}
 use Rattle.bor_register.specs.declared.member.Member.{Member}
-use Rattle.bor_store_rows.specs.Placed.{AreApart, placed, placed_by, same_place}
-use Rattle.bor_store_rows.specs.Stored.{IsStored}
-use Rattle.bor_store_rows.specs.declared.places.At.{At}
-use Rattle.bor_store_rows.specs.declared.rows.Placed.{Placed}
-use Rattle.bor_store_rows.proofs.Apart.{all_apart}
-use Rattle.bor_store_rows.proofs.Numbers.{same_number}
+use Rattle.bor_store_sql.specs.Rows.Placed.{AreApart, placed, placed_by, same_place}
+use Rattle.bor_store_sql.specs.Rows.Stored.{IsStored}
+use Rattle.bor_store_sql.specs.declared.rows.places.At.{At}
+use Rattle.bor_store_sql.specs.declared.rows.typed.Placed.{Placed}
+use Rattle.bor_store_sql.proofs.OnRows.Apart.{all_apart}
+use Rattle.bor_store_sql.proofs.OnRows.Numbers.{same_number}
 use Rattle.bor_store_sql.specs.Selected.{placed_of}
 
 number_turned : (n m : ℕ) → (n == m) ≡ (m == n)

@@ -6,10 +6,10 @@ use Rattle.sqlite.specs.Effect.{Database}
 use Rattle.sqlite.specs.Held.{Held, state}
 use Rattle.sqlite.specs.State.{State, Executes, ExecutesInside, HasCleanDisk}
 use Rattle.sqlite.specs.Store.{Ghosts}
-use Rattle.bor_store_texts.specs.Tables.{first_schema, period_table}
-use Rattle.bor_store_texts.specs.declared.tables.TheConstants.{PERIOD_TABLE}
-use Rattle.bor_store_texts.proofs.TableMeanings.{period_is}
-use Rattle.bor_store_rows.specs.Encoding.{Contents}
+use Rattle.bor_store_sql.specs.Texts.Tables.{first_schema, period_table}
+use Rattle.bor_store_sql.specs.declared.texts.tables.TheConstants.{PERIOD_TABLE}
+use Rattle.bor_store_sql.proofs.OnTexts.TableMeanings.{period_is}
+use Rattle.bor_store_sql.specs.Rows.Encoding.{Contents}
 use Rattle.bor_store_sql.specs.Kept.{Keeps}
 use Rattle.bor_store_sql.specs.Moving.{MakesPeriod, Moves}
 use Rattle.bor_store_sql.specs.Ran.{Ran}

@@ -10,14 +10,14 @@ use Rattle.sqlite.specs.declared.types.Value.TheVariants.{Int, Text}
 use Rattle.sqlite_keyed.proofs.ListLemmas.{ascending-filter, map-flat_map}
 use Rattle.bor_register.specs.Register.{Register}
 use Rattle.bor_terms.specs.Texts.{is_same}
-use Rattle.bor_store_texts.specs.Queries.{identifiers_of_statement_query, identifiers_of_statement_text, interests_of_statement_query, interests_of_statement_text, rising, statements_of_filing_query, statements_of_filing_text}
-use Rattle.bor_store_texts.proofs.QueryMeanings.{identifiers_of_statement_both, interests_of_statement_both, statements_of_filing_both}
-use Rattle.bor_store_rows.specs.Encoding.{identifier_columns, interest_columns, statement_columns}
-use Rattle.bor_store_rows.specs.Placed.{bare, identifier_rows, identifiers_of, interest_rows, interests_of, placed, same_place}
-use Rattle.bor_store_rows.specs.declared.places.At.{At}
-use Rattle.bor_store_rows.specs.declared.rows.IdentifierRow.{IdentifierRow}
-use Rattle.bor_store_rows.specs.declared.rows.InterestRow.{InterestRow}
-use Rattle.bor_store_rows.specs.declared.rows.Placed.{Placed}
+use Rattle.bor_store_sql.specs.Texts.Queries.{identifiers_of_statement_query, identifiers_of_statement_text, interests_of_statement_query, interests_of_statement_text, rising, statements_of_filing_query, statements_of_filing_text}
+use Rattle.bor_store_sql.proofs.OnTexts.QueryMeanings.{identifiers_of_statement_both, interests_of_statement_both, statements_of_filing_both}
+use Rattle.bor_store_sql.specs.Rows.Encoding.{identifier_columns, interest_columns, statement_columns}
+use Rattle.bor_store_sql.specs.Rows.Placed.{bare, identifier_rows, identifiers_of, interest_rows, interests_of, placed, same_place}
+use Rattle.bor_store_sql.specs.declared.rows.places.At.{At}
+use Rattle.bor_store_sql.specs.declared.rows.typed.IdentifierRow.{IdentifierRow}
+use Rattle.bor_store_sql.specs.declared.rows.typed.InterestRow.{InterestRow}
+use Rattle.bor_store_sql.specs.declared.rows.typed.Placed.{Placed}
 use Rattle.bor_store_sql.specs.Found.{Asked, FindsBoth}
 use Rattle.bor_store_sql.specs.Selected.{identifiers_at, in_filing, interests_at, placed_of}
 use Rattle.bor_store_sql.specs.Shown.{ShowsLists}

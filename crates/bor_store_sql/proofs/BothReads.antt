@@ -13,11 +13,11 @@ use Rattle.sqlite_keyed.proofs.ListLemmas.{ascending-filter}
 use Rattle.bor_register.specs.Publication.{filing_shown}
 use Rattle.bor_register.specs.Register.{Register, filings_of}
 use Rattle.bor_terms.specs.Texts.{is_same}
-use Rattle.bor_store_texts.specs.Meanings.{AsksBoth}
-use Rattle.bor_store_texts.specs.Queries.{all_filings_query, all_filings_text, file_by_number_query, file_by_number_text, rising, shows_rows}
-use Rattle.bor_store_texts.proofs.QueryMeanings.{all_filings_both, file_by_number_both}
-use Rattle.bor_store_rows.specs.Encoding.{contents, filing_rows, line_columns, shown_columns}
-use Rattle.bor_store_rows.specs.Placed.{filing_lines, filing_row}
+use Rattle.bor_store_sql.specs.Texts.Meanings.{AsksBoth}
+use Rattle.bor_store_sql.specs.Texts.Queries.{all_filings_query, all_filings_text, file_by_number_query, file_by_number_text, rising, shows_rows}
+use Rattle.bor_store_sql.proofs.OnTexts.QueryMeanings.{all_filings_both, file_by_number_both}
+use Rattle.bor_store_sql.specs.Rows.Encoding.{contents, filing_rows, line_columns, shown_columns}
+use Rattle.bor_store_sql.specs.Rows.Placed.{filing_lines, filing_row}
 use Rattle.bor_store_sql.specs.Found.{Asked, FindsBoth}
 use Rattle.bor_store_sql.specs.Selected.{numbered}
 use Rattle.bor_store_sql.specs.Shown.{HasLists, IsOfVersion, ShowsFirst, ShowsIn, ShowsLists}

@@ -3,12 +3,12 @@ use Rattle.std.proofs.Common.{◌≡◌, ℕ, zero, suc, ◌+◌, ◌<◌, List,
 use Rattle.std.specs.Prelude.{All}
 use Rattle.std.proofs.lemmas.List.{take_more}
 use Rattle.std.proofs.lemmas.List.Elements.{All-push}
-use Rattle.bor_store_rows.specs.Stored.{IsCounted}
+use Rattle.bor_store_sql.specs.Rows.Stored.{IsCounted}
 use Rattle.bods_read.specs.declared.statement.Statement.{Statement}
 use Rattle.bods_read.specs.declared.details.Identifier.{Identifier}
 use Rattle.bods_read.specs.declared.interest.Interest.{Interest}
-use Rattle.bor_store_rows.specs.declared.places.At.{At}
-use Rattle.bor_store_rows.specs.Placed.{interests_from, identifiers_from, placed_from}
+use Rattle.bor_store_sql.specs.declared.rows.places.At.{At}
+use Rattle.bor_store_sql.specs.Rows.Placed.{interests_from, identifiers_from, placed_from}
 
 -- the elements of a list, each with its number
 module _ {X Y : Type 0} (make : ℕ → X → Y) (from : ℕ → List X → List Y) (none : (n : ℕ) → from n [] ≡ []) (some : (n : ℕ) (x : X) (xs : List X) → from n (x ∷ xs) ≡ make n x ∷ from (n + 1) xs) where

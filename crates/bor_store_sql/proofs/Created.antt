@@ -6,9 +6,9 @@ use Rattle.sqlite.specs.Order.{Row}
 use Rattle.sqlite.specs.State.{Executes, ExecutesInside, HasCleanDisk}
 use Rattle.sqlite.specs.Store.{Ghosts}
 use Rattle.sqlite.specs.declared.error.Error.{Error}
-use Rattle.bor_store_texts.specs.declared.tables.TheConstants.{AGENT_TABLE, FILING_TABLE, IDENTIFIER_INDEX, IDENTIFIER_TABLE, INTEREST_TABLE, LINE_INDEX, RECORD_INDEX, REGISTER_TABLE, STATEMENT_TABLE, SUBJECT_INDEX}
-use Rattle.bor_store_texts.specs.Tables.{agent_table, filing_at, filing_table, first_schema, identifier_at, identifier_index, identifier_table, interest_table, line_index, no_schema, record_index, register_table, schema_1, schema_2, schema_3, schema_4, schema_5, schema_6, schema_7, schema_8, schema_9, statement_at, statement_table, subject_index}
-use Rattle.bor_store_texts.proofs.TableMeanings.{agent_is, filing_is, identifier_index_is, identifier_is, interest_is, line_index_is, record_index_is, register_is, statement_is, subject_index_is}
+use Rattle.bor_store_sql.specs.declared.texts.tables.TheConstants.{AGENT_TABLE, FILING_TABLE, IDENTIFIER_INDEX, IDENTIFIER_TABLE, INTEREST_TABLE, LINE_INDEX, RECORD_INDEX, REGISTER_TABLE, STATEMENT_TABLE, SUBJECT_INDEX}
+use Rattle.bor_store_sql.specs.Texts.Tables.{agent_table, filing_at, filing_table, first_schema, identifier_at, identifier_index, identifier_table, interest_table, line_index, no_schema, record_index, register_table, schema_1, schema_2, schema_3, schema_4, schema_5, schema_6, schema_7, schema_8, schema_9, statement_at, statement_table, subject_index}
+use Rattle.bor_store_sql.proofs.OnTexts.TableMeanings.{agent_is, filing_is, identifier_index_is, identifier_is, interest_is, line_index_is, record_index_is, register_is, statement_is, subject_index_is}
 use Rattle.bor_store_sql.specs.Blank.{IsBlank, Leads}
 use Rattle.bor_store_sql.specs.Ran.{Ran}
 use Rattle.bor_store_sql.proofs.Creating.{index_made, one_lead, table_made}

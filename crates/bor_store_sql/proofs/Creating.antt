@@ -23,12 +23,12 @@ use Rattle.bor_terms.specs.Day.{IsDay}
 use Rattle.bor_terms.specs.Texts.{is_token}
 use Rattle.bor_register.proofs.Forms.{formed-empty_register}
 use Rattle.bor_register.specs.Register.{Register, empty_register}
-use Rattle.bor_store_texts.specs.Meanings.{MakesTable, MakesIndex}
-use Rattle.bor_store_texts.specs.Tables.{first_schema, keep_schema, register_at, register_table}
-use Rattle.bor_store_texts.specs.Changes.{insert_register_text, insert_register_terms}
-use Rattle.bor_store_texts.proofs.ChangeMeanings.{insert_register_is}
-use Rattle.bor_store_rows.specs.Encoding.{contents, register_columns, tables_version}
-use Rattle.bor_store_rows.specs.Stored.{IsStored}
+use Rattle.bor_store_sql.specs.Texts.Meanings.{MakesTable, MakesIndex}
+use Rattle.bor_store_sql.specs.Texts.Tables.{first_schema, keep_schema, register_at, register_table}
+use Rattle.bor_store_sql.specs.Texts.Changes.{insert_register_text, insert_register_terms}
+use Rattle.bor_store_sql.proofs.OnTexts.ChangeMeanings.{insert_register_is}
+use Rattle.bor_store_sql.specs.Rows.Encoding.{contents, register_columns, tables_version}
+use Rattle.bor_store_sql.specs.Rows.Stored.{IsStored}
 use Rattle.bor_store_sql.specs.Blank.{IsBlank, Leads, no_contents}
 use Rattle.bor_store_sql.specs.Kept.{Keeps}
 use Rattle.bor_store_sql.specs.Moving.{MakesPeriod, Moves}

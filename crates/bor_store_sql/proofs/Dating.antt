@@ -12,12 +12,12 @@ use Rattle.sqlite_schema.specs.Rules.{parent_key}
 use Rattle.sqlite_rules.specs.Cast.{cast_row}
 use Rattle.sqlite_schema.specs.declared.schema.Keys.TheVariants.{Enforced}
 use Rattle.bor_register.specs.Register.{Register}
-use Rattle.bor_store_texts.specs.Tables.{keep_schema, register_at}
-use Rattle.bor_store_texts.specs.Changes.{equals_number, update_day_text, update_day_program}
-use Rattle.bor_store_texts.proofs.ChangeMeanings.{update_day_is}
+use Rattle.bor_store_sql.specs.Texts.Tables.{keep_schema, register_at}
+use Rattle.bor_store_sql.specs.Texts.Changes.{equals_number, update_day_text, update_day_program}
+use Rattle.bor_store_sql.proofs.OnTexts.ChangeMeanings.{update_day_is}
 use Rattle.bor_terms.specs.Day.{IsDay}
-use Rattle.bor_store_rows.specs.Stored.{IsStored}
-use Rattle.bor_store_rows.specs.Encoding.{Contents, contents, register_columns, tables_version}
+use Rattle.bor_store_sql.specs.Rows.Stored.{IsStored}
+use Rattle.bor_store_sql.specs.Rows.Encoding.{Contents, contents, register_columns, tables_version}
 use Rattle.bor_store_sql.specs.Kept.{Keeps}
 use Rattle.bor_store_sql.specs.Shown.{Has}
 use Rattle.bor_store_sql.specs.Changing.{is_the_one, dated, with_day, IsOneRegister}

@@ -9,10 +9,10 @@ use Rattle.sqlite.specs.Program.{overlay}
 use Rattle.sqlite.specs.State.{State, Shown}
 use Rattle.sqlite.proofs.Callers.{reads_as}
 use Rattle.bor_register.specs.Register.{Register}
-use Rattle.bor_store_texts.specs.Tables.{keep_schema}
-use Rattle.bor_store_texts.specs.Queries.{shows_rows}
-use Rattle.bor_store_texts.specs.Meanings.{Asks}
-use Rattle.bor_store_rows.specs.Encoding.{contents}
+use Rattle.bor_store_sql.specs.Texts.Tables.{keep_schema}
+use Rattle.bor_store_sql.specs.Texts.Queries.{shows_rows}
+use Rattle.bor_store_sql.specs.Texts.Meanings.{Asks}
+use Rattle.bor_store_sql.specs.Rows.Encoding.{contents}
 use Rattle.bor_store_sql.specs.Shown.{Has, ShowsIn}
 use Rattle.bor_store_sql.specs.Found.{Asked, Finds}
 

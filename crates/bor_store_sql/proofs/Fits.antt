@@ -16,13 +16,13 @@ use Rattle.bods_read.specs.declared.statement.Status.{Status}
 use Rattle.bor_register.specs.Register.{Register, filings_of}
 use Rattle.bor_register.specs.declared.filing.AcceptedFiling.{AcceptedFiling}
 use Rattle.bor_register.specs.declared.member.Member.{Member}
-use Rattle.bor_store_rows.specs.Encoding.{identifier_columns, interest_columns, or_null, statement_columns}
-use Rattle.bor_store_rows.specs.Placed.{bare, identifier_rows, interest_rows, placed, placed_by, placed_from}
-use Rattle.bor_store_rows.specs.Stored.{AreNumbered, IsStored}
-use Rattle.bor_store_rows.specs.WordLaws.{status_back}
-use Rattle.bor_store_rows.specs.declared.rows.Placed.{Placed}
-use Rattle.bor_store_rows.proofs.Numbers.{other_number}
-use Rattle.bor_store_rows.proofs.Successors.{is_number, none_filed, other_filing, own_filing}
+use Rattle.bor_store_sql.specs.Rows.Encoding.{identifier_columns, interest_columns, or_null, statement_columns}
+use Rattle.bor_store_sql.specs.Rows.Placed.{bare, identifier_rows, interest_rows, placed, placed_by, placed_from}
+use Rattle.bor_store_sql.specs.Rows.Stored.{AreNumbered, IsStored}
+use Rattle.bor_store_sql.specs.Rows.WordLaws.{status_back}
+use Rattle.bor_store_sql.specs.declared.rows.typed.Placed.{Placed}
+use Rattle.bor_store_sql.proofs.OnRows.Numbers.{other_number}
+use Rattle.bor_store_sql.proofs.OnRows.Successors.{is_number, none_filed, other_filing, own_filing}
 use Rattle.bor_store_sql.specs.Fitting.{Fit, FitsAt, IsKept, Pairwise, columns_beside, standing, statements_kept, with_status}
 use Rattle.bor_store_sql.specs.Selected.{identifiers_at, in_filing, interests_at, numbered, placed_of}
 use Rattle.bor_store_sql.proofs.Alone.{IsAlone, own_alone_at}

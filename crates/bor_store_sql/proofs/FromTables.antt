@@ -10,16 +10,16 @@ use Rattle.sqlite_keyed.proofs.ListLemmas.{ascending-filter, map-flat_map}
 use Rattle.bor_terms.specs.Span.{Range}
 use Rattle.bor_register.specs.declared.member.Member.{Member}
 use Rattle.bor_register.specs.Register.{Register}
-use Rattle.bor_store_texts.specs.Queries.{table_query, rising, shows_rows, all_statements_query, all_interests_query}
-use Rattle.bor_store_texts.specs.Meanings.{Asks}
-use Rattle.bor_store_rows.specs.declared.rows.Placed.{Placed}
-use Rattle.bor_store_rows.specs.declared.rows.Part.{Part}
-use Rattle.bor_store_rows.specs.declared.rows.Part.TheVariants as part
-use Rattle.bor_store_rows.specs.declared.rows.StatementRow.{StatementRow}
-use Rattle.bor_store_rows.specs.declared.rows.InterestRow.{InterestRow}
-use Rattle.bor_store_rows.specs.declared.rows.IdentifierRow.{IdentifierRow}
-use Rattle.bor_store_rows.specs.Placed.{bare, placed, interest_rows, identifier_rows}
-use Rattle.bor_store_rows.specs.Encoding.{agent_columns, filing_rows, statement_columns, interest_columns, identifier_columns}
+use Rattle.bor_store_sql.specs.Texts.Queries.{table_query, rising, shows_rows, all_statements_query, all_interests_query}
+use Rattle.bor_store_sql.specs.Texts.Meanings.{Asks}
+use Rattle.bor_store_sql.specs.declared.rows.typed.Placed.{Placed}
+use Rattle.bor_store_sql.specs.declared.rows.typed.Part.{Part}
+use Rattle.bor_store_sql.specs.declared.rows.typed.Part.TheVariants as part
+use Rattle.bor_store_sql.specs.declared.rows.typed.StatementRow.{StatementRow}
+use Rattle.bor_store_sql.specs.declared.rows.typed.InterestRow.{InterestRow}
+use Rattle.bor_store_sql.specs.declared.rows.typed.IdentifierRow.{IdentifierRow}
+use Rattle.bor_store_sql.specs.Rows.Placed.{bare, placed, interest_rows, identifier_rows}
+use Rattle.bor_store_sql.specs.Rows.Encoding.{agent_columns, filing_rows, statement_columns, interest_columns, identifier_columns}
 use Rattle.bor_store_sql.specs.Changing.{passes}
 use Rattle.bor_store_sql.specs.Shown.{ShowsIn}
 use Rattle.bor_store_sql.proofs.Finding.{Shows, answers, has_now}

@@ -2,7 +2,7 @@
 use Rattle.std.proofs.Common.{◌≡◌, Ok, Err, Result, IsTrue, IsErr, true≢false, sym, subst, ◌∙◌}
 use Rattle.sqlite.specs.declared.error.Error.{Error}
 use Rattle.sqlite.specs.State.{State, HasCleanDisk}
-use Rattle.bor_store_rows.specs.Encoding.{Contents}
+use Rattle.bor_store_sql.specs.Rows.Encoding.{Contents}
 use Rattle.bor_store_sql.specs.Shown.{Has, Steps}
 use Rattle.bor_store_sql.specs.Changing.{Any}
 

@@ -8,9 +8,9 @@ use Rattle.sqlite.specs.State.{State}
 use Rattle.bor_terms.specs.Texts.{is_same}
 use Rattle.bor_register.specs.Register.{filings_of}
 use Rattle.bor_register.specs.Publication.{filing_shown}
-use Rattle.bor_store_texts.specs.Queries.{agent_by_name_text, agent_by_token_text, filing_by_key_text, line_by_key_text, line_by_number_text, same_bytes_text, filings_of_agent_text, last_filing_text, last_of_series_text, statement_by_id_text, statements_of_filing_text, statements_of_declaration_text, interests_of_statement_text, identifiers_of_statement_text, statements_of_series_text, statements_of_record_text, statements_of_subject_text, statement_by_place_text, identifiers_by_id_text}
-use Rattle.bor_store_rows.specs.Placed.{bare, filing_row}
-use Rattle.bor_store_rows.specs.Encoding.{truth, agent_columns, line_columns, shown_columns, statement_columns, interest_columns, identifier_columns}
+use Rattle.bor_store_sql.specs.Texts.Queries.{agent_by_name_text, agent_by_token_text, filing_by_key_text, line_by_key_text, line_by_number_text, same_bytes_text, filings_of_agent_text, last_filing_text, last_of_series_text, statement_by_id_text, statements_of_filing_text, statements_of_declaration_text, interests_of_statement_text, identifiers_of_statement_text, statements_of_series_text, statements_of_record_text, statements_of_subject_text, statement_by_place_text, identifiers_by_id_text}
+use Rattle.bor_store_sql.specs.Rows.Placed.{bare, filing_row}
+use Rattle.bor_store_sql.specs.Rows.Encoding.{truth, agent_columns, line_columns, shown_columns, statement_columns, interest_columns, identifier_columns}
 use Rattle.bor_store_sql.specs.Selected.{named, with_token, keyed, numbered, last, placed_of, in_filing, in_declaration, in_series, identified, interests_at, identifiers_at, place_columns, in_record, with_subject, standing_at, identified_by}
 use Rattle.bor_store_sql.specs.Found.{Asked, Finds}
 use Rattle.bor_store_sql.proofs.Finding.{finds}

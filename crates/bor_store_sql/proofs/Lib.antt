@@ -39,3 +39,5 @@ pub mod Pairs
 pub mod Told
 pub mod Alone
 pub mod Fits
+pub mod OnTexts
+pub mod OnRows

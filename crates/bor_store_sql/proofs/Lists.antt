@@ -8,13 +8,13 @@ use Rattle.sqlite.specs.Order.{Row}
 use Rattle.bods_read.specs.declared.statement.Statement.{Statement}
 use Rattle.bods_read.specs.declared.details.Identifier.{Identifier}
 use Rattle.bods_read.specs.declared.interest.Interest.{Interest}
-use Rattle.bor_store_rows.specs.declared.places.At.{At}
-use Rattle.bor_store_rows.specs.declared.rows.InterestRow.{InterestRow}
-use Rattle.bor_store_rows.specs.declared.rows.Placed.{Placed}
-use Rattle.bor_store_rows.specs.Placed.{bare, interests_of, identifiers_of, interest_rows, identifier_rows, interests_from, identifiers_from, if_said, period_of, placed_from}
-use Rattle.bor_store_rows.specs.Encoding.{Contents, statement_columns, interest_columns, identifier_columns, period_columns}
+use Rattle.bor_store_sql.specs.declared.rows.places.At.{At}
+use Rattle.bor_store_sql.specs.declared.rows.typed.InterestRow.{InterestRow}
+use Rattle.bor_store_sql.specs.declared.rows.typed.Placed.{Placed}
+use Rattle.bor_store_sql.specs.Rows.Placed.{bare, interests_of, identifiers_of, interest_rows, identifier_rows, interests_from, identifiers_from, if_said, period_of, placed_from}
+use Rattle.bor_store_sql.specs.Rows.Encoding.{Contents, statement_columns, interest_columns, identifier_columns, period_columns}
 use Rattle.bor_store_sql.specs.Changing.{days_of, with_period_row, with_period_rows, with_interest_rows, with_identifier_rows, with_one_placed, with_placed}
-use Rattle.bor_store_rows.specs.Stored.{IsCounted}
+use Rattle.bor_store_sql.specs.Rows.Stored.{IsCounted}
 use Rattle.bor_store_sql.proofs.Counted.{interests_more, identifiers_more, placed_more}
 
 pub no_interests : (t : Contents) → t ≡ with_interest_rows [] t

@@ -7,9 +7,9 @@ use Rattle.sqlite.specs.declared.error.Error.{Error}
 use Rattle.sqlite.specs.State.{State, ExecutesInside, Executes, HasCleanDisk, Shows, KeepsCounts}
 use Rattle.bor_store_sql.proofs.Stepping.{how_ended, ended_open, ended_committed}
 use Rattle.bor_store_sql.specs.Moving.{Moves, PutsPeriods}
-use Rattle.bor_store_rows.specs.Encoding.{period_columns}
+use Rattle.bor_store_sql.specs.Rows.Encoding.{period_columns}
 use Rattle.bor_store_sql.specs.Shown.{Has}
-use Rattle.bor_store_rows.specs.declared.rows.PeriodRow.{PeriodRow}
+use Rattle.bor_store_sql.specs.declared.rows.typed.PeriodRow.{PeriodRow}
 
 pub one_move : (Makes : Database → Database → Type 0) (sql : List ℕ) (params : Row) (old new : State) (result : Result ℕ Error) → ExecutesInside 0 sql params old new result
     → ((count : ℕ) → Executes sql params old new (Ok count) → Makes old.now new.now) → Moves Makes old new result

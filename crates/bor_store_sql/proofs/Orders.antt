@@ -21,13 +21,13 @@ use Rattle.bods_read.specs.declared.interest.Interest.{Interest}
 use Rattle.bor_register.specs.declared.filing.AcceptedFiling.{AcceptedFiling}
 use Rattle.bor_register.specs.declared.member.Member.{Member}
 use Rattle.bor_register.specs.Register.{IsOrdered, AllAbove}
-use Rattle.bor_store_rows.specs.declared.places.At.{At}
-use Rattle.bor_store_rows.specs.declared.rows.Placed.{Placed}
-use Rattle.bor_store_rows.specs.declared.rows.InterestRow.{InterestRow}
-use Rattle.bor_store_rows.specs.declared.rows.IdentifierRow.{IdentifierRow}
-use Rattle.bor_store_rows.specs.Placed.{placed_by, placed, interest_rows, identifier_rows, interests_from, identifiers_from, interests_of, identifiers_of}
-use Rattle.bor_store_rows.specs.Encoding.{filing_columns, filing_rows}
-use Rattle.bor_store_rows.specs.Stored.{AllNumbered}
+use Rattle.bor_store_sql.specs.declared.rows.places.At.{At}
+use Rattle.bor_store_sql.specs.declared.rows.typed.Placed.{Placed}
+use Rattle.bor_store_sql.specs.declared.rows.typed.InterestRow.{InterestRow}
+use Rattle.bor_store_sql.specs.declared.rows.typed.IdentifierRow.{IdentifierRow}
+use Rattle.bor_store_sql.specs.Rows.Placed.{placed_by, placed, interest_rows, identifier_rows, interests_from, identifiers_from, interests_of, identifiers_of}
+use Rattle.bor_store_sql.specs.Rows.Encoding.{filing_columns, filing_rows}
+use Rattle.bor_store_sql.specs.Rows.Stored.{AllNumbered}
 use Rattle.bor_store_sql.proofs.Rowids.{lower_id}
 use Rattle.bor_store_sql.proofs.Rising.{members_rise, lists_rise, filings_rise, statements_rise, owned_by}
 

@@ -5,9 +5,9 @@ use Rattle.sqlite.specs.Order.{Row}
 use Rattle.sqlite.specs.Edit.{IsNoIndex}
 use Rattle.sqlite.specs.Effect.{Database}
 use Rattle.sqlite_schema.specs.declared.schema.Index.{Index}
-use Rattle.bor_store_texts.specs.Tables.{keep_schema}
-use Rattle.bor_store_rows.specs.Encoding.{Contents}
-use Rattle.bor_store_rows.proofs.Numbers.{same_number}
+use Rattle.bor_store_sql.specs.Texts.Tables.{keep_schema}
+use Rattle.bor_store_sql.specs.Rows.Encoding.{Contents}
+use Rattle.bor_store_sql.proofs.OnRows.Numbers.{same_number}
 use Rattle.bor_store_sql.specs.Kept.{Keeps}
 use Rattle.bor_store_sql.specs.Shown.{Has}
 

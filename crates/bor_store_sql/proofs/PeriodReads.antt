@@ -18,15 +18,15 @@ use Rattle.bor_register.specs.Publication.{filing_shown}
 use Rattle.bor_register.specs.Register.{Register, filings_of}
 use Rattle.bor_register.specs.declared.member.Member.{Member}
 use Rattle.bor_terms.specs.Texts.{is_same}
-use Rattle.bor_store_texts.specs.Meanings.{Asks}
-use Rattle.bor_store_texts.specs.Queries.{all_periods_query, all_periods_text, file_by_number_query, file_by_number_text, periods_of_statement_query, periods_of_statement_text, rising, shows_rows, table_query}
-use Rattle.bor_store_texts.proofs.QueryMeanings.{all_periods_is, file_by_number_is, periods_of_statement_is}
-use Rattle.bor_store_rows.specs.Encoding.{contents, period_columns, shown_columns}
-use Rattle.bor_store_rows.specs.Placed.{if_said, interest_rows, interests_of, period_of, period_rows, placed, same_place}
-use Rattle.bor_store_rows.specs.declared.places.At.{At}
-use Rattle.bor_store_rows.specs.declared.rows.InterestRow.{InterestRow}
-use Rattle.bor_store_rows.specs.declared.rows.PeriodRow.{PeriodRow}
-use Rattle.bor_store_rows.specs.declared.rows.Placed.{Placed}
+use Rattle.bor_store_sql.specs.Texts.Meanings.{Asks}
+use Rattle.bor_store_sql.specs.Texts.Queries.{all_periods_query, all_periods_text, file_by_number_query, file_by_number_text, periods_of_statement_query, periods_of_statement_text, rising, shows_rows, table_query}
+use Rattle.bor_store_sql.proofs.OnTexts.QueryMeanings.{all_periods_is, file_by_number_is, periods_of_statement_is}
+use Rattle.bor_store_sql.specs.Rows.Encoding.{contents, period_columns, shown_columns}
+use Rattle.bor_store_sql.specs.Rows.Placed.{if_said, interest_rows, interests_of, period_of, period_rows, placed, same_place}
+use Rattle.bor_store_sql.specs.declared.rows.places.At.{At}
+use Rattle.bor_store_sql.specs.declared.rows.typed.InterestRow.{InterestRow}
+use Rattle.bor_store_sql.specs.declared.rows.typed.PeriodRow.{PeriodRow}
+use Rattle.bor_store_sql.specs.declared.rows.typed.Placed.{Placed}
 use Rattle.bor_store_sql.specs.Changing.{days_of, passes}
 use Rattle.bor_store_sql.specs.Found.{Asked, Finds, IsQuery}
 use Rattle.bor_store_sql.specs.Selected.{interests_at, numbered}

@@ -14,7 +14,7 @@ use Rattle.sqlite_sql.proofs.QueryLemmas.{output_cmp_total}
 use Rattle.sqlite_value.specs.declared.keys.Key.{Key}
 use Rattle.sqlite_keyed.proofs.ListLemmas.{map-map, map_same, filter-map, filter_same, ascending-map, ascending_weaker, all-append, all_map}
 use Rattle.sqlite_keyed.proofs.SortLemmas.{sorted_unique}
-use Rattle.bor_store_texts.specs.Queries.{table_query, first_query, later_query}
+use Rattle.bor_store_sql.specs.Texts.Queries.{table_query, first_query, later_query}
 use Rattle.bor_store_sql.specs.Kept.{Keeps}
 use Rattle.bor_store_sql.specs.Changing.{passes}
 use Rattle.bor_store_sql.proofs.Selects.{env, keeps}

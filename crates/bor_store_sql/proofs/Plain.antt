@@ -15,7 +15,7 @@ use Rattle.sqlite_schema.specs.declared.command.Returning.{Returning}
 use Rattle.sqlite_resolve.specs.Lowering.{and_then}
 use Rattle.sqlite_resolve.specs.Scope.{Name}
 use Rattle.sqlite.specs.Given.{Returns}
-use Rattle.bor_store_texts.specs.Queries.{all_register_text, all_agents_text, all_filings_text, all_statements_text, all_interests_text, all_identifiers_text, more_statements_text, agent_by_name_text, agent_by_token_text, filing_by_key_text, line_by_key_text, line_by_number_text, same_bytes_text, filings_of_agent_text, last_filing_text, last_of_series_text, statement_by_id_text, statements_of_filing_text, statements_of_declaration_text, interests_of_statement_text, identifiers_of_statement_text, statements_of_series_text, statements_of_record_text, statements_of_subject_text, statement_by_place_text, identifiers_by_id_text}
+use Rattle.bor_store_sql.specs.Texts.Queries.{all_register_text, all_agents_text, all_filings_text, all_statements_text, all_interests_text, all_identifiers_text, more_statements_text, agent_by_name_text, agent_by_token_text, filing_by_key_text, line_by_key_text, line_by_number_text, same_bytes_text, filings_of_agent_text, last_filing_text, last_of_series_text, statement_by_id_text, statements_of_filing_text, statements_of_declaration_text, interests_of_statement_text, identifiers_of_statement_text, statements_of_series_text, statements_of_record_text, statements_of_subject_text, statement_by_place_text, identifiers_by_id_text}
 use Rattle.bor_store_sql.specs.Found.{IsQuery}
 
 -- what comes of a command, where nothing is returned

@@ -8,10 +8,10 @@ use Rattle.bods_read.specs.declared.statement.Statement.{Statement}
 use Rattle.bor_register.specs.declared.filing.AcceptedFiling.{AcceptedFiling}
 use Rattle.bor_register.specs.declared.member.Member.{Member}
 use Rattle.bor_register.specs.Register.{IsOrdered, AllAbove}
-use Rattle.bor_store_rows.specs.declared.places.At.{At}
-use Rattle.bor_store_rows.specs.declared.rows.Placed.{Placed}
-use Rattle.bor_store_rows.specs.Placed.{placed_from, placed_by}
-use Rattle.bor_store_rows.specs.Stored.{AreNumbered, AllNumbered}
+use Rattle.bor_store_sql.specs.declared.rows.places.At.{At}
+use Rattle.bor_store_sql.specs.declared.rows.typed.Placed.{Placed}
+use Rattle.bor_store_sql.specs.Rows.Placed.{placed_from, placed_by}
+use Rattle.bor_store_sql.specs.Rows.Stored.{AreNumbered, AllNumbered}
 
 module _ {X : Type 0} (R : X → X → Type 0) (own : List ℕ → List AcceptedFiling → List X) (all : List Member → List X) (none : all [] ≡ []) (some : (m : Member) (ms : List Member) → all (m ∷ ms) ≡ own m.name m.filings ++ all ms)
     (owner : X → List ℕ) (owned : (name : List ℕ) (fs : List AcceptedFiling) → AllByRecursion (λ x. owner x ≡ name) (own name fs)) (by_name : (x y : X) → is_below (owner x) (owner y) ≡ true → R x y)

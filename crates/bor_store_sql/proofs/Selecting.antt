@@ -28,14 +28,14 @@ use Rattle.bor_register.specs.declared.filing.AcceptedFiling.{AcceptedFiling}
 use Rattle.bor_register.specs.declared.member.Member.{Member}
 use Rattle.bor_register.specs.Register.{Register, IsOrdered, filings_of}
 use Rattle.bor_register.specs.Publication.{filing_shown}
-use Rattle.bor_store_texts.specs.Queries.{falling, all_register_text, all_register_query, all_agents_text, all_agents_query, all_filings_text, all_filings_query, all_statements_text, all_statements_query, all_interests_text, all_interests_query, all_identifiers_text, all_identifiers_query, more_statements_text, more_statements_query, agent_by_name_text, agent_by_name_query, agent_by_token_text, agent_by_token_query, filing_by_key_text, filing_by_key_query, line_by_key_text, line_by_key_query, line_by_number_text, line_by_number_query, same_bytes_text, same_bytes_query, filings_of_agent_text, filings_of_agent_query, last_filing_text, last_filing_query, last_of_series_text, last_of_series_query, statement_by_id_text, statement_by_id_query, statements_of_filing_text, statements_of_filing_query, statements_of_declaration_text, statements_of_declaration_query, interests_of_statement_text, interests_of_statement_query, identifiers_of_statement_text, identifiers_of_statement_query, statements_of_series_text, statements_of_series_query, statements_of_record_text, statements_of_record_query, statements_of_subject_text, statements_of_subject_query, statement_by_place_text, statement_by_place_query, identifiers_by_id_text, identifiers_by_id_query}
-use Rattle.bor_store_texts.proofs.QueryMeanings.{all_register_is, all_agents_is, all_filings_is, all_statements_is, all_interests_is, all_identifiers_is, more_statements_is, agent_by_name_is, agent_by_token_is, filing_by_key_is, line_by_key_is, line_by_number_is, same_bytes_is, filings_of_agent_is, last_filing_is, last_of_series_is, statement_by_id_is, statements_of_filing_is, statements_of_declaration_is, interests_of_statement_is, identifiers_of_statement_is, statements_of_series_is, statements_of_record_is, statements_of_subject_is, statement_by_place_is, identifiers_by_id_is}
-use Rattle.bor_store_rows.specs.declared.places.At.{At}
-use Rattle.bor_store_rows.specs.declared.rows.Placed.{Placed}
-use Rattle.bor_store_rows.specs.declared.rows.InterestRow.{InterestRow}
-use Rattle.bor_store_rows.specs.declared.rows.IdentifierRow.{IdentifierRow}
-use Rattle.bor_store_rows.specs.Placed.{same_place, bare, filing_row, filing_lines, placed, placed_by, interest_rows, identifier_rows, interests_from, identifiers_from, interests_of, identifiers_of}
-use Rattle.bor_store_rows.specs.Encoding.{truth, register_columns, agent_columns, filing_rows, line_columns, shown_columns, statement_columns, interest_columns, identifier_columns}
+use Rattle.bor_store_sql.specs.Texts.Queries.{falling, all_register_text, all_register_query, all_agents_text, all_agents_query, all_filings_text, all_filings_query, all_statements_text, all_statements_query, all_interests_text, all_interests_query, all_identifiers_text, all_identifiers_query, more_statements_text, more_statements_query, agent_by_name_text, agent_by_name_query, agent_by_token_text, agent_by_token_query, filing_by_key_text, filing_by_key_query, line_by_key_text, line_by_key_query, line_by_number_text, line_by_number_query, same_bytes_text, same_bytes_query, filings_of_agent_text, filings_of_agent_query, last_filing_text, last_filing_query, last_of_series_text, last_of_series_query, statement_by_id_text, statement_by_id_query, statements_of_filing_text, statements_of_filing_query, statements_of_declaration_text, statements_of_declaration_query, interests_of_statement_text, interests_of_statement_query, identifiers_of_statement_text, identifiers_of_statement_query, statements_of_series_text, statements_of_series_query, statements_of_record_text, statements_of_record_query, statements_of_subject_text, statements_of_subject_query, statement_by_place_text, statement_by_place_query, identifiers_by_id_text, identifiers_by_id_query}
+use Rattle.bor_store_sql.proofs.OnTexts.QueryMeanings.{all_register_is, all_agents_is, all_filings_is, all_statements_is, all_interests_is, all_identifiers_is, more_statements_is, agent_by_name_is, agent_by_token_is, filing_by_key_is, line_by_key_is, line_by_number_is, same_bytes_is, filings_of_agent_is, last_filing_is, last_of_series_is, statement_by_id_is, statements_of_filing_is, statements_of_declaration_is, interests_of_statement_is, identifiers_of_statement_is, statements_of_series_is, statements_of_record_is, statements_of_subject_is, statement_by_place_is, identifiers_by_id_is}
+use Rattle.bor_store_sql.specs.declared.rows.places.At.{At}
+use Rattle.bor_store_sql.specs.declared.rows.typed.Placed.{Placed}
+use Rattle.bor_store_sql.specs.declared.rows.typed.InterestRow.{InterestRow}
+use Rattle.bor_store_sql.specs.declared.rows.typed.IdentifierRow.{IdentifierRow}
+use Rattle.bor_store_sql.specs.Rows.Placed.{same_place, bare, filing_row, filing_lines, placed, placed_by, interest_rows, identifier_rows, interests_from, identifiers_from, interests_of, identifiers_of}
+use Rattle.bor_store_sql.specs.Rows.Encoding.{truth, register_columns, agent_columns, filing_rows, line_columns, shown_columns, statement_columns, interest_columns, identifier_columns}
 use Rattle.bor_store_sql.specs.Selected.{named, with_token, keyed, numbered, last, placed_of, in_filing, in_declaration, in_series, identified, interests_at, identifiers_at, place_columns, in_record, names_subject, with_subject, standing_at, identified_by}
 use Rattle.bor_store_sql.specs.Changing.{passes}
 use Rattle.bor_store_sql.specs.Shown.{ShowsIn}

@@ -16,7 +16,7 @@ use Rattle.sqlite.specs.Ops.{binary, from_truth, is_true}
 use Rattle.sqlite.specs.Term.{Term, Env, col, eval, holds}
 use Rattle.sqlite.specs.Query.{Query, IsAnswer, as_count, output, output_cmp, Output}
 use Rattle.sqlite.specs.Program.{overlay}
-use Rattle.bor_store_texts.specs.Queries.{table_query, first_query, later_query}
+use Rattle.bor_store_sql.specs.Texts.Queries.{table_query, first_query, later_query}
 
 truth_back : (b : Bool) → is_true (from_truth (Some b)) ≡ b
 truth_back true = refl

@@ -7,8 +7,8 @@ use Rattle.sqlite.specs.State.{State, IsUnchanged, IsRolledBack, Executes, Execu
 use Rattle.sqlite.specs.Held.{Held, state}
 use Rattle.sqlite.specs.Store.{Ghosts}
 use Rattle.bor_register.specs.Register.{Register}
-use Rattle.bor_store_rows.specs.Encoding.{Contents, contents}
-use Rattle.bor_store_rows.specs.Stored.{IsStored}
+use Rattle.bor_store_sql.specs.Rows.Encoding.{Contents, contents}
+use Rattle.bor_store_sql.specs.Rows.Stored.{IsStored}
 use Rattle.bor_store_sql.specs.Shown.{Has, Steps, ShowsIn}
 use Rattle.bor_store_sql.specs.Blank.{Leads}
 use Rattle.bor_store_sql.specs.Changing.{Any}

@@ -13,7 +13,7 @@ use Rattle.bor_register.specs.declared.member.Member.{Member}
 use Rattle.bor_register.specs.Register.{Register, IsOrdered, AllAbove, is_enrolled, with_filings, filings_of, new_member, with_member}
 use Rattle.bor_register.proofs.Forms.{formed-filings_of, formed-accepted, formed-added, formed-with_filings, formed-new_member, formed-with_member}
 use Rattle.bor_register.proofs.Names.{ordered-with_member}
-use Rattle.bor_store_rows.specs.Stored.{AreNumbered, AllNumbered, AreCounted, IsStored}
+use Rattle.bor_store_sql.specs.Rows.Stored.{AreNumbered, AllNumbered, AreCounted, IsStored}
 use Rattle.bor_store_sql.specs.Changing.{added, enrolled}
 
 module _ (agent : List ℕ) where

@@ -17,7 +17,7 @@ use Rattle.sqlite.specs.Term.{Term, col, eval}
 use Rattle.sqlite.specs.Query.{Query, Output, as_count, output, output_cmp, IsAnswer}
 use Rattle.sqlite.specs.Program.{overlay}
 use Rattle.sqlite.proofs.Callers.{one_permutation}
-use Rattle.bor_store_texts.specs.Queries.{table_query, first_query, later_query}
+use Rattle.bor_store_sql.specs.Texts.Queries.{table_query, first_query, later_query}
 use Rattle.bor_store_sql.specs.Kept.{AreRows, Keeps}
 use Rattle.bor_store_sql.proofs.Rowids.{put_last, picked}
 use Rattle.bor_store_sql.proofs.Taken.{ids_in, taken_out, any_order}

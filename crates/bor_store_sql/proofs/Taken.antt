@@ -11,7 +11,7 @@ use Rattle.sqlite_trees.specs.Tree.{rowid, has_rowid, without_rowid}
 use Rattle.sqlite_rules.specs.Edit.{without_all, id_in}
 use Rattle.sqlite_keyed.proofs.ListLemmas.{along_permutation}
 use Rattle.sqlite_value.proofs.OrderLemmas.{value_cmp-Int, value_cmp_total}
-use Rattle.bor_store_rows.proofs.SeenPlaced.{filters_swap}
+use Rattle.bor_store_sql.proofs.OnRows.SeenPlaced.{filters_swap}
 use Rattle.bor_store_sql.specs.Kept.{AreRows}
 use Rattle.bor_store_sql.proofs.Rowids.{lower_id}
 

@@ -5,7 +5,7 @@ use Rattle.sqlite.specs.Order.{Row}
 use Rattle.sqlite.specs.State.{State}
 use Rattle.sqlite.specs.declared.error.Error.{Error}
 use Rattle.bor_register.specs.Register.{Register}
-use Rattle.bor_store_rows.specs.Encoding.{contents}
+use Rattle.bor_store_sql.specs.Rows.Encoding.{contents}
 use Rattle.bor_store_sql.specs.Fitting.{Tells}
 use Rattle.bor_store_sql.specs.Found.{FindsBoth}
 use Rattle.bor_store_sql.specs.Shown.{HasLists, IsClean, ShowsLists}

@@ -11,12 +11,12 @@ use Rattle.sqlite_schema.specs.Rules.{parent_key}
 use Rattle.sqlite_rules.specs.Cast.{cast_row}
 use Rattle.sqlite_schema.specs.declared.schema.Keys.TheVariants.{Enforced}
 use Rattle.bor_register.specs.Register.{Register}
-use Rattle.bor_store_texts.specs.Tables.{keep_schema, register_at}
-use Rattle.bor_store_texts.specs.Changes.{equals_number, update_version_program, update_version_text}
-use Rattle.bor_store_texts.specs.declared.changes.TheConstants.{FIRST_VERSION, VERSION}
-use Rattle.bor_store_rows.specs.Encoding.{Contents, contents, first_version, period_columns, register_columns, tables_version, versioned_columns}
-use Rattle.bor_store_rows.specs.Placed.{interest_rows, period_rows, placed, register_row}
-use Rattle.bor_store_rows.specs.declared.rows.Placed.{Placed}
+use Rattle.bor_store_sql.specs.Texts.Tables.{keep_schema, register_at}
+use Rattle.bor_store_sql.specs.Texts.Changes.{equals_number, update_version_program, update_version_text}
+use Rattle.bor_store_sql.specs.declared.texts.changes.TheConstants.{FIRST_VERSION, VERSION}
+use Rattle.bor_store_sql.specs.Rows.Encoding.{Contents, contents, first_version, period_columns, register_columns, tables_version, versioned_columns}
+use Rattle.bor_store_sql.specs.Rows.Placed.{interest_rows, period_rows, placed, register_row}
+use Rattle.bor_store_sql.specs.declared.rows.typed.Placed.{Placed}
 use Rattle.bor_store_sql.specs.Changing.{all_periods}
 use Rattle.std.proofs.lemmas.List.{map-append}
 use Rattle.sqlite_keyed.proofs.ListLemmas.{map-flat_map}
@@ -27,7 +27,7 @@ use Rattle.bor_store_sql.proofs.Selects.{int_test}
 use Rattle.bor_store_sql.specs.Moving.{IsOneVersion, is_the_row, versioned, with_version}
 use Rattle.bor_store_sql.specs.Shown.{Has, first_contents}
 use Rattle.bor_store_sql.proofs.Others.{with_register}
-use Rattle.bor_store_texts.proofs.ChangeMeanings.{update_version_is}
+use Rattle.bor_store_sql.proofs.OnTexts.ChangeMeanings.{update_version_is}
 
 -- the versions that the code names are these
 versions_are : (VERSION ≡ tables_version) × (FIRST_VERSION ≡ first_version)

@@ -6,9 +6,9 @@ use Rattle.sqlite.specs.declared.error.Error.{Error}
 use Rattle.sqlite.specs.declared.types.Value.TheVariants.{Int}
 use Rattle.sqlite.specs.Order.{Row}
 use Rattle.sqlite.specs.State.{State}
-use Rattle.bor_store_texts.specs.Queries.{all_register_text, all_agents_text, all_filings_text, all_statements_text, all_interests_text, all_identifiers_text, more_statements_text}
-use Rattle.bor_store_rows.specs.Placed.{bare, filing_lines, placed, interest_rows, identifier_rows}
-use Rattle.bor_store_rows.specs.Encoding.{register_columns, agent_columns, line_columns, statement_columns, interest_columns, identifier_columns}
+use Rattle.bor_store_sql.specs.Texts.Queries.{all_register_text, all_agents_text, all_filings_text, all_statements_text, all_interests_text, all_identifiers_text, more_statements_text}
+use Rattle.bor_store_sql.specs.Rows.Placed.{bare, filing_lines, placed, interest_rows, identifier_rows}
+use Rattle.bor_store_sql.specs.Rows.Encoding.{register_columns, agent_columns, line_columns, statement_columns, interest_columns, identifier_columns}
 use Rattle.bor_store_sql.specs.Found.{Asked, Finds}
 use Rattle.bor_store_sql.proofs.Finding.{finds}
 use Rattle.bor_store_sql.proofs.Selecting.{all_register_found, all_agents_found, all_filings_found, all_statements_found, all_interests_found, all_identifiers_found, more_statements_found}

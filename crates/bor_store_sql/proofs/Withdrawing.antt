@@ -12,11 +12,11 @@ use Rattle.sqlite_rules.specs.Action.{Work, works, work_by, pairs, deed_for}
 use Rattle.sqlite_schema.specs.Rules.{parent_key}
 use Rattle.sqlite_rules.specs.Cast.{cast_row}
 use Rattle.sqlite_schema.specs.declared.schema.Keys.TheVariants.{Enforced}
-use Rattle.bor_store_texts.specs.Tables.{keep_schema, filing_at, statement_at, interest_at, identifier_at, period_at}
-use Rattle.bor_store_texts.specs.Queries.{equals}
-use Rattle.bor_store_texts.specs.Changes.{mark_withdrawn_text, mark_withdrawn_program, delete_identifiers_text, delete_identifiers_program, delete_interests_text, delete_interests_program, delete_periods_text, delete_periods_program, delete_statements_text, delete_statements_program}
-use Rattle.bor_store_texts.proofs.ChangeMeanings.{mark_withdrawn_is, delete_identifiers_is, delete_interests_is, delete_periods_is, delete_statements_is}
-use Rattle.bor_store_rows.specs.Encoding.{Contents}
+use Rattle.bor_store_sql.specs.Texts.Tables.{keep_schema, filing_at, statement_at, interest_at, identifier_at, period_at}
+use Rattle.bor_store_sql.specs.Texts.Queries.{equals}
+use Rattle.bor_store_sql.specs.Texts.Changes.{mark_withdrawn_text, mark_withdrawn_program, delete_identifiers_text, delete_identifiers_program, delete_interests_text, delete_interests_program, delete_periods_text, delete_periods_program, delete_statements_text, delete_statements_program}
+use Rattle.bor_store_sql.proofs.OnTexts.ChangeMeanings.{mark_withdrawn_is, delete_identifiers_is, delete_interests_is, delete_periods_is, delete_statements_is}
+use Rattle.bor_store_sql.specs.Rows.Encoding.{Contents}
 use Rattle.bor_store_sql.specs.Ran.{Ran}
 use Rattle.bor_store_sql.specs.Shown.{Has, Steps}
 use Rattle.bor_store_sql.specs.Changing.{Any, is_of_filing, marked, with_mark, IsOnce, without_identifiers, without_interests, without_periods, without_statements}

@@ -20,15 +20,15 @@ use Rattle.bor_register.specs.declared.filing.AcceptedFiling.{AcceptedFiling}
 use Rattle.bor_register.specs.declared.member.Member.{Member}
 use Rattle.bor_register.specs.Register.{Register, IsOrdered, with_filings, filings_of}
 use Rattle.bor_register.specs.Withdrawal.{as_withdrawn, with_withdrawn}
-use Rattle.bor_store_rows.specs.declared.rows.Placed.{Placed}
+use Rattle.bor_store_sql.specs.declared.rows.typed.Placed.{Placed}
 use Rattle.bods_read.specs.declared.details.Identifier.{Identifier}
 use Rattle.bods_read.specs.declared.interest.Interest.{Interest}
-use Rattle.bor_store_rows.specs.declared.places.At.{At}
-use Rattle.bor_store_rows.specs.declared.rows.InterestRow.{InterestRow}
-use Rattle.bor_store_rows.specs.Placed.{bare, placed_from, placed_by, placed, interest_rows, identifier_rows, interests_from, identifiers_from, interests_of, identifiers_of, if_said, period_of}
-use Rattle.bor_store_rows.specs.Encoding.{contents, agent_columns, filing_columns, filing_rows, statement_columns, interest_columns, identifier_columns, period_columns}
+use Rattle.bor_store_sql.specs.declared.rows.places.At.{At}
+use Rattle.bor_store_sql.specs.declared.rows.typed.InterestRow.{InterestRow}
+use Rattle.bor_store_sql.specs.Rows.Placed.{bare, placed_from, placed_by, placed, interest_rows, identifier_rows, interests_from, identifiers_from, interests_of, identifiers_of, if_said, period_of}
+use Rattle.bor_store_sql.specs.Rows.Encoding.{contents, agent_columns, filing_columns, filing_rows, statement_columns, interest_columns, identifier_columns, period_columns}
 use Rattle.bor_register.proofs.Forms.{formed-with_filings, formed-with_withdrawn, formed-filings_of}
-use Rattle.bor_store_rows.specs.Stored.{AreNumbered, AllNumbered, IsCounted, AreCounted, IsStored}
+use Rattle.bor_store_sql.specs.Rows.Stored.{AreNumbered, AllNumbered, IsCounted, AreCounted, IsStored}
 use Rattle.bor_store_sql.specs.Changing.{days_of, is_of_filing, marked, others, withdrawn_in, withdrawn}
 use Rattle.bor_store_sql.proofs.Inserts.{cast_int}
 use Rattle.bor_store_sql.proofs.Members.{apart_names}

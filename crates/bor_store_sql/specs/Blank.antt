@@ -4,7 +4,7 @@ use Rattle.std.specs.List.{AllByRecursion}
 use Rattle.sqlite.specs.Effect.{Database}
 use Rattle.sqlite.specs.Schema.{Schema}
 use Rattle.sqlite.specs.State.{State}
-use Rattle.bor_store_rows.specs.Encoding.{Contents}
+use Rattle.bor_store_sql.specs.Rows.Encoding.{Contents}
 
 -- the schema is this one, and no table has a row
 pub record IsBlank (schema : Schema) (db : Database) : Type 0 where

@@ -5,22 +5,22 @@ use Rattle.sqlite.specs.declared.types.Value.TheVariants.{Null, Int, Text, Blob}
 use Rattle.sqlite.specs.Order.{Row, column}
 use Rattle.sqlite.specs.Term.{Term, holds}
 use Rattle.sqlite.specs.Cast.{cast_all}
-use Rattle.bor_store_texts.specs.Tables.{register_table, filing_table}
-use Rattle.bor_store_texts.specs.Queries.{equals}
-use Rattle.bor_store_texts.specs.Changes.{equals_number}
+use Rattle.bor_store_sql.specs.Texts.Tables.{register_table, filing_table}
+use Rattle.bor_store_sql.specs.Texts.Queries.{equals}
+use Rattle.bor_store_sql.specs.Texts.Changes.{equals_number}
 use Rattle.bor_register.specs.Register.{Register, with_filings, filings_of, new_member, with_member}
 use Rattle.bor_register.specs.Live.{accepted}
 use Rattle.bor_register.specs.Withdrawal.{with_withdrawn}
 use Rattle.bods_read.specs.declared.statement.Statement.{Statement}
 use Rattle.bor_register.specs.declared.filing.AcceptedFiling.{AcceptedFiling}
 use Rattle.bor_register.specs.declared.member.Member.{Member}
-use Rattle.bor_store_rows.specs.declared.rows.Placed.{Placed}
-use Rattle.bor_store_rows.specs.declared.rows.StatementRow.{StatementRow}
-use Rattle.bor_store_rows.specs.declared.rows.InterestRow.{InterestRow}
-use Rattle.bor_store_rows.specs.declared.rows.IdentifierRow.{IdentifierRow}
-use Rattle.bor_store_rows.specs.declared.rows.PeriodRow.{PeriodRow}
-use Rattle.bor_store_rows.specs.Placed.{bare, interest_rows, identifier_rows, period_rows, placed, placed_from}
-use Rattle.bor_store_rows.specs.Encoding.{Contents, filing_columns, statement_columns, interest_columns, identifier_columns, period_columns}
+use Rattle.bor_store_sql.specs.declared.rows.typed.Placed.{Placed}
+use Rattle.bor_store_sql.specs.declared.rows.typed.StatementRow.{StatementRow}
+use Rattle.bor_store_sql.specs.declared.rows.typed.InterestRow.{InterestRow}
+use Rattle.bor_store_sql.specs.declared.rows.typed.IdentifierRow.{IdentifierRow}
+use Rattle.bor_store_sql.specs.declared.rows.typed.PeriodRow.{PeriodRow}
+use Rattle.bor_store_sql.specs.Rows.Placed.{bare, interest_rows, identifier_rows, period_rows, placed, placed_from}
+use Rattle.bor_store_sql.specs.Rows.Encoding.{Contents, filing_columns, statement_columns, interest_columns, identifier_columns, period_columns}
 
 -- the register once the agent's filing with this number is withdrawn
 abbrev pub withdrawn : List ℕ → ℕ → Register → Register

@@ -9,9 +9,9 @@ use Rattle.bods_read.specs.declared.statement.Statement.{Statement}
 use Rattle.bods_read.specs.declared.statement.Status.{Status}
 use Rattle.bor_register.specs.declared.member.Member.{Member}
 use Rattle.bor_register.specs.Register.{Register, filings_of}
-use Rattle.bor_store_rows.specs.declared.rows.Placed.{Placed}
-use Rattle.bor_store_rows.specs.Placed.{bare, interest_rows, identifier_rows}
-use Rattle.bor_store_rows.specs.Encoding.{statement_columns, interest_columns, identifier_columns}
+use Rattle.bor_store_sql.specs.declared.rows.typed.Placed.{Placed}
+use Rattle.bor_store_sql.specs.Rows.Placed.{bare, interest_rows, identifier_rows}
+use Rattle.bor_store_sql.specs.Rows.Encoding.{statement_columns, interest_columns, identifier_columns}
 use Rattle.bor_store_sql.specs.Selected.{numbered, interests_at, identifiers_at}
 use Rattle.bor_store_sql.specs.Shown.{IsClean, ShowsLists}
 

@@ -7,3 +7,5 @@ pub mod Blank
 pub mod Ran
 pub mod Moving
 pub mod Fitting
+pub mod Texts
+pub mod Rows

@@ -4,13 +4,13 @@ use Rattle.sqlite.specs.Effect.{Database}
 use Rattle.sqlite.specs.Order.{Row, column}
 use Rattle.sqlite.specs.Cast.{cast_all}
 use Rattle.sqlite.specs.declared.types.Value.TheVariants.{Int}
-use Rattle.bor_store_texts.specs.Changes.{equals_number}
-use Rattle.bor_store_texts.specs.Tables.{register_table}
+use Rattle.bor_store_sql.specs.Texts.Changes.{equals_number}
+use Rattle.bor_store_sql.specs.Texts.Tables.{register_table}
 use Rattle.bor_store_sql.specs.Changing.{passes}
 use Rattle.sqlite.specs.State.{State}
-use Rattle.bor_store_rows.specs.Encoding.{Contents, period_columns, tables_version}
+use Rattle.bor_store_sql.specs.Rows.Encoding.{Contents, period_columns, tables_version}
 use Rattle.bor_store_sql.specs.Shown.{Has, HasFirst}
-use Rattle.bor_store_rows.specs.declared.rows.PeriodRow.{PeriodRow}
+use Rattle.bor_store_sql.specs.declared.rows.typed.PeriodRow.{PeriodRow}
 
 -- a statement of a transaction that is under way, which makes such a change, or may have ended the transaction by a failure
 pub record Moves {X E : Type 0} (Makes : Database → Database → Type 0) (old new : State) (result : Result X E) : Type 0 where

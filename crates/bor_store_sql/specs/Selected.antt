@@ -9,11 +9,11 @@ use Rattle.bods_read.specs.declared.details.Details.TheVariants as details
 use Rattle.bor_register.specs.declared.filing.AcceptedFiling.{AcceptedFiling}
 use Rattle.bor_register.specs.declared.member.Member.{Member}
 use Rattle.bor_register.specs.Register.{Register, filings_of}
-use Rattle.bor_store_rows.specs.declared.places.At.{At}
-use Rattle.bor_store_rows.specs.declared.rows.Placed.{Placed}
-use Rattle.bor_store_rows.specs.declared.rows.InterestRow.{InterestRow}
-use Rattle.bor_store_rows.specs.declared.rows.IdentifierRow.{IdentifierRow}
-use Rattle.bor_store_rows.specs.Placed.{same_place, placed, placed_by, interest_rows, identifier_rows}
+use Rattle.bor_store_sql.specs.declared.rows.places.At.{At}
+use Rattle.bor_store_sql.specs.declared.rows.typed.Placed.{Placed}
+use Rattle.bor_store_sql.specs.declared.rows.typed.InterestRow.{InterestRow}
+use Rattle.bor_store_sql.specs.declared.rows.typed.IdentifierRow.{IdentifierRow}
+use Rattle.bor_store_sql.specs.Rows.Placed.{same_place, placed, placed_by, interest_rows, identifier_rows}
 
 -- the agents of this name: at most one
 abbrev pub named : List ℕ → List Member → List Member

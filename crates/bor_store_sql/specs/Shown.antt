@@ -4,11 +4,11 @@ use Rattle.sqlite.specs.Effect.{Database}
 use Rattle.sqlite.specs.Schema.{Schema}
 use Rattle.sqlite.specs.State.{State, HasCleanDisk}
 use Rattle.bor_register.specs.Register.{Register}
-use Rattle.bor_store_texts.specs.Tables.{first_schema, keep_schema}
+use Rattle.bor_store_sql.specs.Texts.Tables.{first_schema, keep_schema}
 use Rattle.bor_store_sql.specs.Kept.{Keeps}
-use Rattle.bor_store_rows.specs.Encoding.{Contents, contents, first_version, versioned_columns}
-use Rattle.bor_store_rows.specs.Placed.{register_row}
-use Rattle.bor_store_rows.specs.Stored.{IsStored}
+use Rattle.bor_store_sql.specs.Rows.Encoding.{Contents, contents, first_version, versioned_columns}
+use Rattle.bor_store_sql.specs.Rows.Placed.{register_row}
+use Rattle.bor_store_sql.specs.Rows.Stored.{IsStored}
 
 -- the database has the seven tables with these rows
 pub record Has (t : Contents) (db : Database) : Type 0 where

@@ -3,21 +3,21 @@
 ghost use Rattle.std.specs.Prelude.{◌≡◌, ◌+◌, ◌<◌, ◌^◌, false, true, [], ◌∷◌, All, is_some, ◌||◌, length, IsTrue, IfOk, OnOk, OnErr};
 ghost use Rattle.sqlite.specs.Held.{state};
 ghost use Rattle.sqlite.specs.State.{HasCleanDisk};
-ghost use Rattle.bor_store_rows.specs.Placed.{bare, period_of, placed_from, interests_from, identifiers_from, interests_of, identifiers_of};
+ghost use Rattle.bor_store_sql.specs.Rows.Placed.{bare, period_of, placed_from, interests_from, identifiers_from, interests_of, identifiers_of};
 ghost use Rattle.bor_store_sql.specs.Shown.{Steps, IsClean, ShowsIn};
 ghost use Rattle.bor_store_sql.specs.Changing.{Any, live_filing, with_filing_row, with_statement_row, with_interest_rows, with_identifier_rows, with_period_row, with_period_rows, with_one_placed, with_placed, with_live_filing, added};
 ghost use Rattle.bor_register.specs.Register.{Register, is_enrolled, filings_of};
-ghost use Rattle.bor_store_rows.specs.Stored.{IsCounted, AreCounted};
+ghost use Rattle.bor_store_sql.specs.Rows.Stored.{IsCounted, AreCounted};
 ghost use Rattle.bods_read.specs.Forms.{IsFormedStatement};
 ghost use Rattle.bor_register.specs.Limits.{filings_limit};
 
 use crate::columns::{
     filing_values, identifier_values, interest_values, period_values, statement_values,
 };
-use bods_read::{Details, Identifier, Interest, Statement};
-use bor_store_texts::changes::{
+use crate::texts::changes::{
     INSERT_FILING, INSERT_IDENTIFIER, INSERT_INTEREST, INSERT_PERIOD, INSERT_STATEMENT,
 };
+use bods_read::{Details, Identifier, Interest, Statement};
 use bor_terms::{Day, LodgeKey};
 use sqlite::{Alter, Connection, Error, ErrorCode, Transaction};
 

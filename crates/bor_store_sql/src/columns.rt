@@ -6,12 +6,12 @@ ghost use Rattle.sqlite.specs.Values.{bound, bound_value};
 ghost use Rattle.sqlite.specs.declared.types.Value.TheVariants.{Int, Text, Blob};
 ghost use Rattle.bor_register.specs.Register.{new_member};
 ghost use Rattle.bods_read.specs.Words.{status_word};
-ghost use Rattle.bor_store_rows.specs.Placed.{bare, part_of};
-ghost use Rattle.bor_store_rows.specs.Encoding.{agent_columns, statement_columns, part_columns, interest_columns, identifier_columns, period_columns, day_or_null, or_null, share_columns, tables_version};
+ghost use Rattle.bor_store_sql.specs.Rows.Placed.{bare, part_of};
+ghost use Rattle.bor_store_sql.specs.Rows.Encoding.{agent_columns, statement_columns, part_columns, interest_columns, identifier_columns, period_columns, day_or_null, or_null, share_columns, tables_version};
 ghost use Rattle.bor_store_sql.specs.Changing.{given_filing};
 
+use crate::texts::changes::VERSION;
 use bods_read::{Details, FreeText, Identifier, Interest, Statement, Status};
-use bor_store_texts::changes::VERSION;
 use bor_terms::{Day, Ident, Span};
 use sqlite::types::ValueRef;
 

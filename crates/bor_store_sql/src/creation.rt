@@ -4,16 +4,16 @@ ghost use Rattle.std.specs.Prelude.{◌≡◌, false, true, IsTrue, OnOk, OnErr}
 ghost use Rattle.sqlite.specs.Held.{state};
 ghost use Rattle.sqlite.specs.State.{HasCleanDisk};
 ghost use Rattle.bor_register.specs.Register.{empty_register};
-ghost use Rattle.bor_store_texts.specs.Tables.{no_schema, schema_1, schema_2, schema_3, schema_4, schema_5, schema_6, schema_7, schema_8, schema_9, first_schema};
-ghost use Rattle.bor_store_rows.specs.Encoding.{contents};
+ghost use Rattle.bor_store_sql.specs.Texts.Tables.{no_schema, schema_1, schema_2, schema_3, schema_4, schema_5, schema_6, schema_7, schema_8, schema_9, first_schema};
+ghost use Rattle.bor_store_sql.specs.Rows.Encoding.{contents};
 ghost use Rattle.bor_store_sql.specs.Blank.{IsBlank, Leads, no_contents};
 ghost use Rattle.bor_store_sql.specs.Moving.{MakesPeriod, Moves};
 ghost use Rattle.bor_store_sql.specs.Shown.{Has, IsClean, ShowsIn};
 
 use crate::columns::register_values;
 use crate::running::run;
-use bor_store_texts::changes::INSERT_REGISTER;
-use bor_store_texts::tables::{
+use crate::texts::changes::INSERT_REGISTER;
+use crate::texts::tables::{
     AGENT_TABLE, FILING_TABLE, IDENTIFIER_INDEX, IDENTIFIER_TABLE, INTEREST_TABLE, LINE_INDEX,
     PERIOD_TABLE, RECORD_INDEX, REGISTER_TABLE, STATEMENT_TABLE, SUBJECT_INDEX,
 };

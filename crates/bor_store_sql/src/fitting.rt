@@ -4,17 +4,17 @@ ghost use Rattle.std.specs.Prelude.{◌≡◌, ◌↔◌, false, map, IsTrue, If
 ghost use Rattle.sqlite.specs.Held.{state};
 ghost use Rattle.sqlite.specs.Values.{bound, bound_value};
 ghost use Rattle.sqlite_value.specs.Value.{owned};
-ghost use Rattle.bor_store_rows.specs.declared.places.At.{At};
-ghost use Rattle.bor_store_rows.specs.Placed.{interests_from, identifiers_from};
-ghost use Rattle.bor_store_rows.specs.Encoding.{interest_columns, identifier_columns};
+ghost use Rattle.bor_store_sql.specs.declared.rows.places.At.{At};
+ghost use Rattle.bor_store_sql.specs.Rows.Placed.{interests_from, identifiers_from};
+ghost use Rattle.bor_store_sql.specs.Rows.Encoding.{interest_columns, identifier_columns};
 ghost use Rattle.bor_store_sql.specs.Fitting.{standing, Pairwise, Fit, statements_kept, Tells, IsRowOf, HasListsOf, IsKept};
 ghost use Rattle.bor_store_sql.specs.Selected.{interests_at, identifiers_at};
 
 use crate::additions::{identifiers, interests, next};
 use crate::columns::{STATUS, identifier_values, interest_values, statement_values};
 use crate::keyed::{identifiers_of_statement, interests_of_statement, statements_of_filing};
+use crate::rows::value_at;
 use bods_read::{Identifier, Interest, Statement};
-use bor_store_rows::value_at;
 use sqlite::types::ValueRef;
 use sqlite::{Alter, Connection, Error, Row};
 use sqlite_value::order::is_same;

@@ -6,15 +6,15 @@ ghost use Rattle.sqlite.specs.Held.{state};
 ghost use Rattle.bor_terms.specs.Texts.{is_same};
 ghost use Rattle.bor_register.specs.Register.{filings_of};
 ghost use Rattle.bor_register.specs.Publication.{filing_shown};
-ghost use Rattle.bor_store_rows.specs.Placed.{period_rows, bare, filing_row};
-ghost use Rattle.bor_store_rows.specs.Encoding.{truth, agent_columns, line_columns, shown_columns, statement_columns, interest_columns, period_columns, identifier_columns};
+ghost use Rattle.bor_store_sql.specs.Rows.Placed.{period_rows, bare, filing_row};
+ghost use Rattle.bor_store_sql.specs.Rows.Encoding.{truth, agent_columns, line_columns, shown_columns, statement_columns, interest_columns, period_columns, identifier_columns};
 ghost use Rattle.bor_store_sql.specs.Found.{Finds, FindsBoth};
 ghost use Rattle.bor_store_sql.specs.Selected.{named, with_token, keyed, numbered, last, placed_of, in_filing, in_declaration, in_series, identified, interests_at, identifiers_at, place_columns};
 
 use crate::queries::{
     query_by_file, query_by_filing, query_by_one, query_by_statement, query_by_three, query_by_two,
 };
-use bor_store_texts::queries::{
+use crate::texts::queries::{
     AGENT_BY_NAME, AGENT_BY_TOKEN, FILE_BY_NUMBER, FILING_BY_KEY, FILINGS_OF_AGENT,
     IDENTIFIERS_OF_STATEMENT, INTERESTS_OF_STATEMENT, LAST_FILING, LAST_OF_SERIES, LINE_BY_KEY,
     LINE_BY_NUMBER, PERIODS_OF_STATEMENT, SAME_BYTES, STATEMENT_BY_ID, STATEMENTS_OF_DECLARATION,

@@ -10,9 +10,9 @@ ghost use Rattle.bor_store_sql.specs.Shown.{IsClean, ShowsFirst, ShowsIn};
 
 use crate::columns::{period_values, version_value};
 use crate::creation::create_period;
+use crate::rows::PeriodRow;
 use crate::running::run;
-use bor_store_rows::PeriodRow;
-use bor_store_texts::changes::{INSERT_PERIOD, UPDATE_VERSION};
+use crate::texts::changes::{INSERT_PERIOD, UPDATE_VERSION};
 use sqlite::{Alter, Connection, Error, Transaction};
 
 fn put_row<S: Alter>(tx: &mut Transaction<'_, S>, period: &PeriodRow) -> Result<usize, Error>

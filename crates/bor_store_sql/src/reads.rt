@@ -4,13 +4,13 @@ ghost use Rattle.std.specs.Prelude.{◌≡◌, false, pos, [], ◌∷◌, drop, 
 ghost use Rattle.std.specs.List.{flat_map};
 ghost use Rattle.sqlite.specs.Held.{state};
 ghost use Rattle.sqlite.specs.declared.types.Value.TheVariants.{Int};
-ghost use Rattle.bor_store_rows.specs.Placed.{bare, filing_lines, placed, interest_rows, period_rows, identifier_rows};
-ghost use Rattle.bor_store_rows.specs.Encoding.{register_columns, agent_columns, line_columns, statement_columns, interest_columns, period_columns, identifier_columns};
+ghost use Rattle.bor_store_sql.specs.Rows.Placed.{bare, filing_lines, placed, interest_rows, period_rows, identifier_rows};
+ghost use Rattle.bor_store_sql.specs.Rows.Encoding.{register_columns, agent_columns, line_columns, statement_columns, interest_columns, period_columns, identifier_columns};
 ghost use Rattle.bor_store_sql.specs.Found.{Finds, FindsBoth};
 
 use crate::columns::one_number;
 use crate::queries::query;
-use bor_store_texts::queries::{
+use crate::texts::queries::{
     ALL_AGENTS, ALL_FILINGS, ALL_IDENTIFIERS, ALL_INTERESTS, ALL_PERIODS, ALL_REGISTER,
     ALL_STATEMENTS, MORE_STATEMENTS,
 };

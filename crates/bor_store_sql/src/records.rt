@@ -2,13 +2,13 @@
 
 ghost use Rattle.std.specs.Prelude.{◌≡◌, false, map};
 ghost use Rattle.sqlite.specs.Held.{state};
-ghost use Rattle.bor_store_rows.specs.Placed.{bare};
-ghost use Rattle.bor_store_rows.specs.Encoding.{statement_columns, identifier_columns};
+ghost use Rattle.bor_store_sql.specs.Rows.Placed.{bare};
+ghost use Rattle.bor_store_sql.specs.Rows.Encoding.{statement_columns, identifier_columns};
 ghost use Rattle.bor_store_sql.specs.Found.{Finds};
 ghost use Rattle.bor_store_sql.specs.Selected.{placed_of, in_series, in_record, with_subject, standing_at, identified_by};
 
 use crate::queries::{query_by_statement, query_by_three, query_by_two};
-use bor_store_texts::queries::{
+use crate::texts::queries::{
     IDENTIFIERS_BY_ID, STATEMENT_BY_PLACE, STATEMENTS_OF_RECORD, STATEMENTS_OF_SERIES,
     STATEMENTS_OF_SUBJECT,
 };

@@ -4,12 +4,12 @@ ghost use Rattle.std.specs.Prelude.{◌≡◌, false, IsTrue, OnOk, OnErr};
 ghost use Rattle.sqlite.specs.Held.{state};
 ghost use Rattle.sqlite.specs.State.{HasCleanDisk};
 ghost use Rattle.bor_register.specs.Register.{Register, is_enrolled, new_member};
-ghost use Rattle.bor_store_rows.specs.Encoding.{agent_columns};
+ghost use Rattle.bor_store_sql.specs.Rows.Encoding.{agent_columns};
 ghost use Rattle.bor_store_sql.specs.Shown.{Steps, IsClean, ShowsIn};
 ghost use Rattle.bor_store_sql.specs.Changing.{Any, IsOneRegister, with_day, with_agent_row, enrolled};
 
 use crate::columns::{agent_values, day_value};
-use bor_store_texts::changes::{INSERT_AGENT, UPDATE_DAY};
+use crate::texts::changes::{INSERT_AGENT, UPDATE_DAY};
 use bor_terms::{AgentName, Day, Token};
 use sqlite::{Alter, Connection, Error, Transaction};
 

@@ -8,7 +8,7 @@ ghost use Rattle.bor_store_sql.specs.Changing.{IsOnce, Any, with_mark, without_i
 ghost use Rattle.bor_register.specs.Register.{Register};
 
 use crate::running::run_by_filing;
-use bor_store_texts::changes::{
+use crate::texts::changes::{
     DELETE_IDENTIFIERS, DELETE_INTERESTS, DELETE_PERIODS, DELETE_STATEMENTS, MARK_WITHDRAWN,
 };
 use sqlite::{Alter, Connection, Error, Transaction};

@@ -1,7 +1,7 @@
 //! What the tests assert, each kind in one place: an assertion that stands in a test itself makes the
 //! proof of that test long.
 
-use bor_keep::StoreFault;
+use bor_register::StoreFault;
 use bor_store::OpenFault;
 use std::process::Abort;
 

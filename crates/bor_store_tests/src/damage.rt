@@ -2,7 +2,8 @@
 
 use crate::checks::{holds, reads};
 use crate::stores::{agent, register};
-use bor_keep::{Keep, StoreFault};
+use bor_register::StoreFault;
+use bor_register::keeping::Keep;
 
 // Changes of the first lodging's rows, each of which leaves a value that has no form.
 const DAMAGE: [&str; 16] = [

@@ -2,8 +2,8 @@
 
 use crate::checks::{begins, holds};
 use crate::stores::{agent, day, register};
-use bor_keep::Keep;
-use bor_links::Node;
+use bor_records::links::Node;
+use bor_register::keeping::Keep;
 use bor_store::SqlKeep;
 use bor_terms::Ident;
 use sqlite::MemStore;

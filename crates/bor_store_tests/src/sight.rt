@@ -2,7 +2,7 @@
 
 use crate::checks::holds;
 use crate::stores::{agent, day};
-use bor_store_rows::{FilingRow, any_visible};
+use bor_store_sql::rows::{FilingRow, any_visible};
 use bor_terms::LodgeKey;
 use std::alloc::Global;
 use std::process::Abort;

@@ -2,8 +2,8 @@
 
 use crate::files::file;
 use bor_chains::Node;
+use bor_desk::operations::{Keep, ListKeep};
 use bor_desk::{DeskReply, answer};
-use bor_machine::{Keep, ListKeep};
 use bor_terms::{Day, Form, Text};
 use bor_wire::{Counted, parse, read_request};
 use std::alloc::Global;

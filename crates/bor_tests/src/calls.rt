@@ -3,7 +3,7 @@
 use crate::asking::{ALDER, Ask, answered, day, keep_after, keep_of_two, node, read};
 use crate::failing_keep::FailingKeep;
 use bor_chains::{LinkSource, persons_of};
-use bor_machine::{Keep, KeepSource, ListKeep, StoreFault};
+use bor_desk::operations::{Keep, KeepSource, ListKeep, StoreFault};
 use std::alloc::Global;
 use std::process::Abort;
 

@@ -3,7 +3,7 @@
 use crate::asking::{Ask, keep_of_two, request};
 use crate::files::FIRST;
 use crate::streams::{Drip, Gate};
-use bor_machine::{Keep, ListKeep};
+use bor_desk::operations::{Keep, ListKeep};
 use bor_wire::{Counted, Outcome, exchange};
 use std::alloc::Global;
 use std::io::ErrorKind;

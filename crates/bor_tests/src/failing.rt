@@ -4,8 +4,8 @@
 use crate::asking::{ALDER, Ask, BIRCH, answered, day, keep_after, node, read, request};
 use crate::exchanges::{LODGING, exchanged};
 use crate::failing_keep::FailingKeep;
+use bor_desk::operations::{Keep, ListKeep, StoreFault};
 use bor_desk::{DeskReply, report_text};
-use bor_machine::{Keep, ListKeep, StoreFault};
 use bor_wire::{Outcome, Reply, UNAVAILABLE, render, replay};
 use std::alloc::Global;
 use std::process::Abort;

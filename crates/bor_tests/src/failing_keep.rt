@@ -5,7 +5,7 @@ ghost use Rattle.bor_records.specs.Promises.{counted};
 
 use bods_read::Statement;
 use bor_chains::{Link, Node, NodeInfo};
-use bor_machine::{Caller, Filing, FilingLine, Keep, Outward, StoreFault};
+use bor_desk::operations::{Caller, Filing, FilingLine, Keep, Outward, StoreFault};
 use bor_records::{Last, Row};
 use bor_terms::{AgentName, Day, Ident, LodgeKey, Token};
 use std::alloc::Global;

@@ -1,6 +1,7 @@
 //! Tests of the crates that know nothing of SQLite, of what can't be asked of the built program: keeps,
-//! streams, clients and clocks that fail, what a keep is asked for, and the example of each crate's first
-//! page, as it stands there.
+//! streams, clients and clocks that fail, what a keep is asked for, and the examples on the pages of
+//! crates and rooms. Those of `bor_program` and of its `connections` need the standard streams and a
+//! socket, and aren't run.
 //!
 //! Nothing else is here, and no crate stands on this one. What can be asked from outside is asked of the
 //! built program, by the files of `tests/`.

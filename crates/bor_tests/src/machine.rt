@@ -5,9 +5,9 @@ ghost use Rattle.bor_program.specs.Failures.{IsOpeningOf};
 
 use crate::clients::{Queue, Ticking};
 use bor_desk::Text;
-use bor_machine::{Keep, ListKeep, StoreFault};
+use bor_desk::operations::{Keep, ListKeep, StoreFault};
+use bor_program::connections::serve_on;
 use bor_program::{Failure, OpenRegister, Opened, Ports, Registers};
-use bor_serve::serve_on;
 use bor_terms::{Day, Token};
 use bor_wire::Reply;
 use bor_words::Report;

@@ -6,8 +6,10 @@ use bods_read::{
     Details, Fault, Field, FileFault, Interest, ReadFault, RecordType, Statement, Status, read_file,
 };
 use bor_chains::{ListSource, persons_of};
-use bor_links::{OpenNode, holding_of, node_of, stake_of};
-use bor_machine::{Keep, ListKeep, LodgeFault, Lodged, State, StoreFault, advance, enrol, lodge};
+use bor_desk::operations::{
+    FILINGS_LIMIT, Keep, ListKeep, LodgeFault, Lodged, State, StoreFault, advance, enrol, lodge,
+};
+use bor_records::links::{OpenNode, holding_of, node_of, stake_of};
 use bor_records::{Last, Row, admit, open_rows};
 use bor_register::{Member, all_published, enrol_member, is_enrolled, own_filings, push_filing};
 use bor_terms::{AgentName, Day, LodgeKey, Token};
@@ -116,7 +118,10 @@ fn the_page_of_chains(rt: HostRuntime) {
 // Adds a filing of one statement, due on a day, where there is room.
 fn add(rt: &impl Abort, alloc: Global, members: &mut Vec<Member>, agent: &AgentName, due: Day) {
     assert!(rt; is_enrolled(members, agent), "not enrolled");
-    assert!(rt; own_filings(members, agent).len() < 999, "no room");
+    assert!(rt;
+        own_filings(members, agent).len() < FILINGS_LIMIT,
+        "no room"
+    );
     let (key, statements) = (read(rt, alloc, "f1"), statements(rt, alloc, "E s1 e1"));
     push_filing(alloc, members, agent, &key, due, b"[]", &statements).expect(rt, "memory");
 }

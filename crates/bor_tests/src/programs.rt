@@ -4,7 +4,7 @@ use crate::asking::{ALDER, keep_of_two, request};
 use crate::failing_keep::FailingKeep;
 use crate::machine::{Machine, Starved};
 use crate::streams::{Drip, Gate};
-use bor_machine::StoreFault;
+use bor_desk::operations::StoreFault;
 use bor_program::{Failure, OpenRegister, Status, exchange_on, report_on, run};
 use bor_wire::UNAVAILABLE;
 use bor_words::{Command, HELP, Report, Unread};

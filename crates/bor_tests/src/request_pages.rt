@@ -1,11 +1,11 @@
 //! The examples of the first pages on the desk, on HTTP and on words, each as it stands there.
 
 use crate::asking::{day, read};
+use bor_desk::operations::ListKeep;
 use bor_desk::{DeskReply, Request, answer, check_text};
-use bor_machine::ListKeep;
+use bor_http::routes::{Paths, Route, allow_of, route_at};
+use bor_wire::rendering::{RESERVED, render_refusal};
 use bor_wire::{Counted, Outcome, Path, Refusal, exchange, parse, read_request};
-use bor_wire_reply::{RESERVED, render_refusal};
-use bor_wire_routes::{Paths, Route, allow_of, route_at};
 use bor_words::Command;
 
 #[test]

@@ -3,9 +3,9 @@ use Rattle.std.proofs.Common.{◌≡◌, ℕ, List, [], ◌∷◌, Ok, Err, refl
 use Rattle.bor_register.specs.Register.{Register}
 use Rattle.bor_desk.specs.Runs.{Asked}
 use Rattle.bor_desk.specs.declared.request.Request.TheVariants.{Filings}
-use Rattle.bor_wire_read.specs.declared.fault.Refusal.TheVariants.{NoPath}
-use Rattle.bor_wire_spell.specs.Spell.{Spelled}
-use Rattle.bor_wire_reply.specs.Replies.{refused, bytes_of}
+use Rattle.bor_http.specs.declared.incoming.fault.Refusal.TheVariants.{NoPath}
+use Rattle.bor_http.specs.Spelling.Spell.{Spelled}
+use Rattle.bor_wire.specs.Rendering.Replies.{refused, bytes_of}
 use Rattle.bor_wire.specs.declared.outcome.Outcome.TheVariants.{Replied, ReadFailed, WriteFailed}
 use Rattle.bor_wire.specs.declared.replies.Reply.{Reply}
 use Rattle.bor_wire.specs.declared.replies.Reply.TheVariants.{Full, Unavailable}

@@ -15,7 +15,7 @@ use Rattle.bor_register.specs.declared.filing.AcceptedFiling.{AcceptedFiling}
 use Rattle.bor_register.specs.Publication.{state_word}
 use Rattle.bor_register.specs.Register.{Register, filing_keyed, filings_of}
 use Rattle.bor_register.proofs.Examples.{two_agents, today, tomorrow}
-use Rattle.bor_machine.specs.Legality.{IsLegal, AreLegal}
+use Rattle.bor_desk.specs.Operations.Legality.{IsLegal, AreLegal}
 use Rattle.bor_desk.specs.declared.refusal.Refusal.TheVariants as refuse
 use Rattle.bor_desk.specs.declared.request.Request.{Request}
 use Rattle.bor_desk.specs.declared.request.Request.TheVariants as ask
@@ -25,12 +25,12 @@ use Rattle.bor_desk.specs.Refusals.{refusal_name}
 use Rattle.bor_desk.specs.Step.{Answer, exactly, report}
 use Rattle.bor_desk.specs.Outcomes.{IsTold}
 use Rattle.bor_desk.specs.Runs.{Asked, Occasion, exchange, history, solo}
-use Rattle.bor_wire_read.specs.declared.fault.Refusal.TheVariants.{NoPath}
-use Rattle.bor_wire_read.specs.Words.{refusal_word}
-use Rattle.bor_wire_reply.specs.Bodies.{filing_text, lines_text, published_text, moved_text, enrolled_text, refusal_text}
-use Rattle.bor_wire_reply.specs.Heads.{phrase, status_line, field_line, own_line, head_bytes}
-use Rattle.bor_wire_reply.specs.Replies.{Said, refused, answered, bytes_of}
-use Rattle.bor_wire_spell.specs.Spell.{Spelled}
+use Rattle.bor_http.specs.declared.incoming.fault.Refusal.TheVariants.{NoPath}
+use Rattle.bor_http.specs.Incoming.Words.{refusal_word}
+use Rattle.bor_wire.specs.Rendering.Bodies.{filing_text, lines_text, published_text, moved_text, enrolled_text, refusal_text}
+use Rattle.bor_wire.specs.Rendering.Heads.{phrase, status_line, field_line, own_line, head_bytes}
+use Rattle.bor_wire.specs.Rendering.Replies.{Said, refused, answered, bytes_of}
+use Rattle.bor_http.specs.Spelling.Spell.{Spelled}
 use Rattle.bor_wire.specs.Runs.{AreReplies}
 use Rattle.bor_wire.specs.Histories.{SameHistorySameBytes, asked_in, received}
 use Rattle.bor_wire.specs.Nobody.{IsNobodys}

@@ -2,15 +2,15 @@
 use Rattle.std.proofs.Common.{◌≡◌, ℕ, suc, List, [], ◌∷◌, length, Option, Some, None, Ok, Err, refl, sym, ap, subst, ◌∙◌, arith}
 use Rattle.std.specs.List.{AllZip}
 use Rattle.bor_register.specs.Register.{Register, filings_of}
-use Rattle.bor_machine.specs.Legality.{IsLegal}
+use Rattle.bor_desk.specs.Operations.Legality.{IsLegal}
 use Rattle.bor_desk.specs.declared.request.Request.{Request}
 use Rattle.bor_desk.specs.Step.{Answer}
 use Rattle.bor_desk.specs.Runs.{Asked, exchange, answers, request_of, told_then, told_to, history, solo}
 use Rattle.bor_desk.proofs.Isolation.{isolated}
 use Rattle.bor_desk.proofs.Lengths.{told_to-length}
 use Rattle.bor_desk.proofs.OneReply.{one_reply}
-use Rattle.bor_wire_spell.specs.Spell.{Spelled}
-use Rattle.bor_wire_reply.specs.Replies.{answered, bytes_of}
+use Rattle.bor_http.specs.Spelling.Spell.{Spelled}
+use Rattle.bor_wire.specs.Rendering.Replies.{answered, bytes_of}
 use Rattle.bor_wire.specs.Runs.{AreReplies}
 use Rattle.bor_wire.specs.Histories.{AreBytesOf, EachIsReceived, IsAlone, SameHistorySameBytes, asked_in, told_in, received}
 

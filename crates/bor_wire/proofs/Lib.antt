@@ -7,3 +7,4 @@ pub mod NobodyLaws
 pub mod SequenceLaws
 pub mod HistoryExamples
 pub mod Examples
+pub mod OnRendering

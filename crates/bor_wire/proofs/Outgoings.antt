@@ -12,11 +12,11 @@ use Rattle.bor_desk.specs.Step.{step}
 use Rattle.bor_desk.specs.Outcomes.{IsTold, IsOrderedFor}
 use Rattle.bor_desk.specs.Laws.{is_long}
 use Rattle.bor_desk.proofs.Unchanged.{reads}
-use Rattle.bor_wire_read.specs.declared.fault.Refusal.{Refusal}
-use Rattle.bor_wire_read.specs.Message.{◌>>=◌, Message, IsMessage}
-use Rattle.bor_wire_spell.specs.Spell.{Spelled, spell}
-use Rattle.bor_wire_spell.proofs.Messages.{message_spelled, one_spelling}
-use Rattle.bor_wire_reply.specs.Replies.{refused}
+use Rattle.bor_http.specs.declared.incoming.fault.Refusal.{Refusal}
+use Rattle.bor_http.specs.Incoming.Message.{◌>>=◌, Message, IsMessage}
+use Rattle.bor_http.specs.Spelling.Spell.{Spelled, spell}
+use Rattle.bor_http.proofs.OnSpelling.Messages.{message_spelled, one_spelling}
+use Rattle.bor_wire.specs.Rendering.Replies.{refused}
 use Rattle.bor_wire.specs.declared.outgoing.Outgoing.{Outgoing}
 use Rattle.bor_wire.specs.declared.outgoing.Outgoing.TheVariants.{Full, Unavailable}
 use Rattle.bor_wire.specs.Exchanges.{ByOutgoing, GoesOut, IfUnavailable, IsRefusal, IsSent, IsSpelled, OnRefusal}

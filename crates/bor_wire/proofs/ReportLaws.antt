@@ -1,24 +1,24 @@
 -- Whom a report names, from what is said.
 use Rattle.std.proofs.Common.{◌≡◌, ℕ, ℤ, List, [], ◌∷◌, Bool, true, false, Option, Some, None, Ok, Err, refl, sym, ap, subst, ◌∙◌, arith}
 use Rattle.std.specs.Prelude.{if◌then◌else◌, unwrap_or}
-use Rattle.bor_links.specs.declared.node.Node.{Node}
-use Rattle.bor_links.specs.Rows.{shown_of, is_entity_info}
-use Rattle.bor_links.specs.Shown.{Shown, info_of}
+use Rattle.bor_records.specs.declared.links.node.Node.{Node}
+use Rattle.bor_records.specs.Links.Rows.{shown_of, is_entity_info}
+use Rattle.bor_records.specs.Links.Shown.{Shown, info_of}
 use Rattle.bor_chains.specs.declared.line.PersonLine.{PersonLine}
 use Rattle.bor_chains.specs.Chains.{AreJoined}
 use Rattle.bor_register.specs.declared.caller.Caller.{Caller}
 use Rattle.bor_register.specs.declared.caller.Caller.TheVariants.{Registrar, Agent}
 use Rattle.bor_register.specs.Register.{Register, caller_of}
-use Rattle.bor_machine.specs.Sight.{seen_by}
+use Rattle.bor_desk.specs.Operations.Sight.{seen_by}
 use Rattle.bor_desk.specs.declared.refusal.Refusal.TheVariants.{NoEntity}
 use Rattle.bor_desk.specs.declared.request.Request.TheVariants as ask
 use Rattle.bor_desk.specs.declared.reply.DeskReply.{DeskReply}
 use Rattle.bor_desk.specs.declared.reply.DeskReply.TheVariants as tell
 use Rattle.bor_desk.specs.Step.{report, refused, step}
 use Rattle.bor_desk.specs.Outcomes.{IsTold}
-use Rattle.bor_wire_spell.specs.Spell.{Spelled}
-use Rattle.bor_wire_reply.specs.Statuses.{desk_status}
-use Rattle.bor_wire_reply.specs.Replies.{Said, answered, status_of}
+use Rattle.bor_http.specs.Spelling.Spell.{Spelled}
+use Rattle.bor_wire.specs.Rendering.Statuses.{desk_status}
+use Rattle.bor_wire.specs.Rendering.Replies.{Said, answered, status_of}
 use Rattle.bor_wire.specs.Inputs.{IsSaid, after}
 use Rattle.bor_wire.specs.Runs.{AreReplies}
 use Rattle.bor_wire.specs.Reports.{NamesTheJoined, IsExact, AreReports}

@@ -2,15 +2,15 @@
 use Rattle.std.specs.Prelude.{◌≡◌, ◌≢◌, ℕ, List, [], ◌∷◌, take, Option, Some, None, Err, IfSome, ⊤}
 use Rattle.std.specs.Io.KnownBytes.{Appends, Keeps}
 use Rattle.bor_register.specs.Register.{Register}
-use Rattle.bor_machine.specs.Legality.{IsLegal}
+use Rattle.bor_desk.specs.Operations.Legality.{IsLegal}
 use Rattle.bor_desk.specs.declared.reply.DeskReply.{DeskReply}
 use Rattle.bor_desk.specs.Outcomes.{IsTold}
 use Rattle.bor_desk.specs.Runs.{Asked, exchange}
-use Rattle.bor_wire_read.specs.Counted.{after_fault}
-use Rattle.bor_wire_read.specs.declared.fault.Refusal.{Refusal}
-use Rattle.bor_wire_spell.specs.Spell.{Spelled, Spells}
-use Rattle.bor_wire_reply.specs.Replies.{Said, refused, status_of, bytes_of}
-use Rattle.bor_wire_reply.specs.declared.reply.TheConstants.{UNAVAILABLE}
+use Rattle.bor_http.specs.Incoming.Counted.{after_fault}
+use Rattle.bor_http.specs.declared.incoming.fault.Refusal.{Refusal}
+use Rattle.bor_http.specs.Spelling.Spell.{Spelled, Spells}
+use Rattle.bor_wire.specs.Rendering.Replies.{Said, refused, status_of, bytes_of}
+use Rattle.bor_wire.specs.declared.rendering.reply.TheConstants.{UNAVAILABLE}
 use Rattle.bor_wire.specs.declared.outcome.Outcome.{Outcome}
 use Rattle.bor_wire.specs.declared.outcome.Outcome.TheVariants.{Replied, ReadFailed, WriteFailed}
 use Rattle.bor_wire.specs.declared.outgoing.Outgoing.{Outgoing}

@@ -2,13 +2,13 @@
 use Rattle.std.specs.Prelude.{◌≡◌, ℕ, List, [], ◌∷◌, length, Ok, Err}
 use Rattle.std.specs.List.{AllZip}
 use Rattle.bor_register.specs.Register.{Register, filings_of}
-use Rattle.bor_machine.specs.Legality.{IsLegal}
+use Rattle.bor_desk.specs.Operations.Legality.{IsLegal}
 use Rattle.bor_desk.specs.declared.reply.DeskReply.{DeskReply}
 use Rattle.bor_desk.specs.Step.{Answer}
 use Rattle.bor_desk.specs.Outcomes.{IsTold}
 use Rattle.bor_desk.specs.Runs.{Asked, Occasion, told_to, history, solo}
-use Rattle.bor_wire_spell.specs.Spell.{Spelled}
-use Rattle.bor_wire_reply.specs.Replies.{answered, bytes_of}
+use Rattle.bor_http.specs.Spelling.Spell.{Spelled}
+use Rattle.bor_wire.specs.Rendering.Replies.{answered, bytes_of}
 use Rattle.bor_wire.specs.Runs.{AreReplies}
 
 -- these are the bytes of a reply that tells the answer

@@ -4,8 +4,8 @@ use Rattle.bor_register.specs.Register.{Register}
 use Rattle.bor_desk.specs.declared.reply.DeskReply.{DeskReply}
 use Rattle.bor_desk.specs.Outcomes.{IsTold}
 use Rattle.bor_desk.specs.Runs.{exchange}
-use Rattle.bor_wire_spell.specs.Spell.{Spelled}
-use Rattle.bor_wire_reply.specs.Replies.{Said, refused, answered, bytes_of}
+use Rattle.bor_http.specs.Spelling.Spell.{Spelled}
+use Rattle.bor_wire.specs.Rendering.Replies.{Said, refused, answered, bytes_of}
 
 -- What is said to an input, by what it spells: of one that spells no request the refusal, whatever the register; else a reply that tells the step's answer.
 abbrev pub IsSaid : Register → Spelled → Said → Type 0

@@ -5,3 +5,4 @@ pub mod Histories
 pub mod Exchanges
 pub mod Nobody
 pub mod Sequences
+pub mod Rendering

@@ -4,7 +4,7 @@ ghost use Rattle.bor_wire.specs.Histories.{EachIsReceived, SameHistorySameBytes}
 ghost use Rattle.bor_wire.specs.Nobody.{NobodysInputs};
 ghost use Rattle.bor_wire.specs.Sequences.{ExchangesAreARun};
 
-use bor_machine::Keep;
+use bor_desk::operations::Keep;
 
 /// Two runs, from any two legal registers, in which an agent has the same filings at the start and the
 /// same history give it the same bytes in the same order.

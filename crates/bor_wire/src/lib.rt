@@ -16,17 +16,18 @@
 //! filings, its own exchanges, the day at each of them, and what the others had published then
 //! ([`laws`]).
 //!
-//! A connection serves one request: each reply has `Connection: close`. Nothing here knows of sockets
-//! or of how a register is kept.
+//! A connection serves one request, so each reply has `Connection: close`; [`rendering`] makes its bytes.
+//! Nothing here knows of sockets or of how a register is kept.
 #![tactic(auto)]
 
 pub mod laws;
 mod outcome;
 mod outgoing;
+pub mod rendering;
 mod replies;
 
-pub use bor_wire_read::{Counted, Name, Path, RawRequest, Refusal, WireFault, read_request};
-pub use bor_wire_reply::{UNAVAILABLE, render};
-pub use bor_wire_spell::{Asking, parse};
+pub use crate::rendering::{UNAVAILABLE, render};
+pub use bor_http::incoming::{Counted, Name, Path, RawRequest, Refusal, WireFault, read_request};
+pub use bor_http::spelling::{Asking, parse};
 pub use outcome::{Outcome, exchange};
 pub use replies::{Reply, replay};

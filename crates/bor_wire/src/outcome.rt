@@ -3,15 +3,15 @@
 ghost use Rattle.std.specs.Prelude.{◌≡◌};
 ghost use Rattle.bor_records.specs.Promises.{Promised};
 ghost use Rattle.bor_register.specs.Register.{IsOrdered};
-ghost use Rattle.bor_wire_read.specs.Message.{request_limit};
-ghost use Rattle.bor_wire_read.specs.Reading.{TakesAtMost};
+ghost use Rattle.bor_http.specs.Incoming.Message.{request_limit};
+ghost use Rattle.bor_http.specs.Incoming.Reading.{TakesAtMost};
 ghost use Rattle.bor_wire.specs.Exchanges.{IsExchanged, IsWritten, OnRefusal, TellsRefusal, TellsUnavailable, WithoutReply, read_faults, write_faults};
 
 use crate::outgoing::{Outgoing, read_reply};
-use bor_machine::Keep;
-use bor_wire_read::{Counted, send};
-use bor_wire_reply::UNAVAILABLE;
-use bor_wire_spell::Paths;
+use crate::rendering::UNAVAILABLE;
+use bor_desk::operations::Keep;
+use bor_http::incoming::{Counted, send};
+use bor_http::spelling::Paths;
 use std::alloc::Global;
 use std::io::{Read, Write};
 

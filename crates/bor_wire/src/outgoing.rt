@@ -4,21 +4,21 @@ ghost use Rattle.std.specs.Prelude.{◌≡◌, ◌≢◌, Ok, Err, IfSome};
 ghost use Rattle.bor_records.specs.Promises.{Promised};
 ghost use Rattle.bor_register.specs.Register.{IsOrdered};
 ghost use Rattle.bor_desk.specs.Outcomes.{IsOrderedFor};
-ghost use Rattle.bor_wire_read.specs.declared.fault.Refusal as fault;
-ghost use Rattle.bor_wire_read.specs.Message.{request_limit};
-ghost use Rattle.bor_wire_read.specs.Reading.{TakesAtMost};
-ghost use Rattle.bor_wire_spell.specs.Spell.{asked_view, spell};
-ghost use Rattle.bor_wire_spell.specs.Steps.{Finds};
-ghost use Rattle.bor_wire_reply.specs.Statuses.{desk_status};
+ghost use Rattle.bor_http.specs.declared.incoming.fault.Refusal as fault;
+ghost use Rattle.bor_http.specs.Incoming.Message.{request_limit};
+ghost use Rattle.bor_http.specs.Incoming.Reading.{TakesAtMost};
+ghost use Rattle.bor_http.specs.Spelling.Spell.{asked_view, spell};
+ghost use Rattle.bor_http.specs.Spelling.Steps.{Finds};
+ghost use Rattle.bor_wire.specs.Rendering.Statuses.{desk_status};
 ghost use Rattle.bor_wire.specs.Exchanges.{ByOutgoing, GoesOut, GoesOutRefused, HasStatus, IfUnavailable, IsRefusal, IsSent, OnRefusal, TellsAnswer, faults_unread, left_by};
 
-use bor_desk::{DeskReply, answer};
-use bor_machine::Keep;
-use bor_wire_read::{Counted, RawRequest, Refusal, WireFault, read_request};
-use bor_wire_reply::{
+use crate::rendering::{
     RESERVED, desk_status, is_long, refusal_status, render, render_refusal, render_short,
 };
-use bor_wire_spell::{Asking, Paths, parse_by};
+use bor_desk::operations::Keep;
+use bor_desk::{DeskReply, answer};
+use bor_http::incoming::{Counted, RawRequest, Refusal, WireFault, read_request};
+use bor_http::spelling::{Asking, Paths, parse_by};
 use std::alloc::Global;
 use std::io::Read;
 

@@ -3,18 +3,18 @@
 ghost use Rattle.std.specs.Prelude.{◌≡◌, ℕ, List, IfOk, OnErr, length, map};
 ghost use Rattle.bor_records.specs.Promises.{Kept, Promised};
 ghost use Rattle.bor_register.specs.Register.{IsOrdered};
-ghost use Rattle.bor_machine.specs.Legality.{IsLegal};
-ghost use Rattle.bor_wire_spell.specs.Spell.{Spelled};
+ghost use Rattle.bor_desk.specs.Operations.Legality.{IsLegal};
+ghost use Rattle.bor_http.specs.Spelling.Spell.{Spelled};
 ghost use Rattle.bor_wire.specs.Inputs.{IsReplyTo, after};
 ghost use Rattle.bor_wire.specs.Runs.{AreReplies, AreSpelled, ByReply, register_left, served, full};
 ghost use Rattle.bor_wire.specs.Reports.{AreReports};
 ghost use Rattle.bor_wire.specs.Histories.{IsAlone};
 
 use crate::outgoing::{Outgoing, read_reply};
-use bor_machine::Keep;
+use bor_desk::operations::Keep;
+use bor_http::incoming::Counted;
+use bor_http::spelling::Paths;
 use bor_terms::Listed;
-use bor_wire_read::Counted;
-use bor_wire_spell::Paths;
 use std::alloc::{AllocError, Global};
 
 /// The reply to an input.
@@ -23,7 +23,7 @@ pub enum Reply {
     /// The bytes of the whole reply.
     Full(Listed<u8>),
     /// Memory was wanting, or the keep failed. Nothing changed. What is sent is
-    /// [`UNAVAILABLE`](bor_wire_reply::UNAVAILABLE).
+    /// [`UNAVAILABLE`](crate::rendering::UNAVAILABLE).
     Unavailable,
 }
 

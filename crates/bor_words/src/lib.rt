@@ -8,8 +8,8 @@
 //! assert!(rt; asked.date.is_none());
 //! ```
 //!
-//! Which word is what is clap's; that is computed from the definition of the words in `specs/`, so
-//! that a contract can say what some words ask for. No file is opened here.
+//! `clap` says which word is what. `specs/Words.antt` defines the words for it, and what
+//! some words ask for is computed from that, so that a contract can say it. No file is opened here.
 #![tactic(auto)]
 
 mod command;

@@ -9,7 +9,7 @@ ghost use Rattle.bor_words.specs.Values.{first_unfit, report_values};
 use crate::matches::given;
 use crate::unread::Unread;
 use crate::values::{agent_name, date, ident};
-use bor_links::Node;
+use bor_records::links::Node;
 use bor_terms::{AgentName, Day};
 use clap::ArgMatches;
 use std::alloc::Global;

@@ -1,6 +1,6 @@
 use Rattle.std.proofs.Common.{take, map}
 use Rattle.std.specs.BTreeSet.{contains}
-use Rattle.bor_links.specs.Signs.{sign_cmp, by_identifier}
+use Rattle.bor_records.specs.Links.Signs.{sign_cmp, by_identifier}
 use Rattle.bor_chains.specs.Classes.{Expands}
 use Rattle.bor_chains.proofs.Signs.{under}
 use Rattle.bor_chains.proofs.class.add_identifiers.Given as goal

@@ -1,6 +1,6 @@
 use Rattle.std.proofs.Common.{◌≡◌, ◌++◌, drop}
 use Rattle.std.specs.List.{filter, slice_get}
-use Rattle.bor_links.specs.Shown.{is_like}
+use Rattle.bor_records.specs.Links.Shown.{is_like}
 use Rattle.bor_chains.proofs.class.add_like.Given as goal
 
 -- the places so far and those of what is left are all

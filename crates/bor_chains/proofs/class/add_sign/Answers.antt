@@ -1,6 +1,6 @@
 use Rattle.std.proofs.Common.{◌∙◌, sym}
 use Rattle.std.specs.BTreeSet.{contains}
-use Rattle.bor_links.specs.Signs.{sign_cmp}
+use Rattle.bor_records.specs.Links.Signs.{sign_cmp}
 use Rattle.bor_chains.proofs.Signs.{under}
 use Rattle.bor_chains.proofs.Classes.{expands_seen, expands_sign}
 use Rattle.bor_chains.proofs.class.add_sign.Goals as goal

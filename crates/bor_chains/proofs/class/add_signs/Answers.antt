@@ -1,7 +1,7 @@
 use Rattle.std.proofs.Common.{List, map, subst}
 use Rattle.std.specs.BTreeSet.{contains}
 use Rattle.bods_read.specs.declared.details.Identifier.{Identifier}
-use Rattle.bor_links.specs.Signs.{sign_cmp, by_identifier}
+use Rattle.bor_records.specs.Links.Signs.{sign_cmp, by_identifier}
 use Rattle.bor_chains.specs.Classes.{Expands}
 use Rattle.bor_chains.proofs.Signs.{under}
 use Rattle.bor_chains.proofs.Classes.{expands_signs}

@@ -2,10 +2,10 @@ use Rattle.std.proofs.Common.{◌≡◌, ◌-◌, ◌^◌, Some, length, map}
 use Rattle.std.specs.List.{slice_get, IsDistinct}
 use Rattle.std.specs.BTreeSet.{contains}
 use Rattle.std.specs.Ordering.{nat_cmp}
-use Rattle.bor_links.specs.declared.node.OpenNode.{OpenNode}
-use Rattle.bor_links.specs.Nodes.{same_node}
-use Rattle.bor_links.specs.Shown.{Shown}
-use Rattle.bor_links.specs.Signs.{sign_cmp}
+use Rattle.bor_records.specs.declared.links.node.OpenNode.{OpenNode}
+use Rattle.bor_records.specs.Links.Nodes.{same_node}
+use Rattle.bor_records.specs.Links.Shown.{Shown}
+use Rattle.bor_records.specs.Links.Signs.{sign_cmp}
 use Rattle.bor_chains.specs.Likeness.{AreUnder}
 use Rattle.bor_chains.proofs.Signs.{under}
 use Rattle.bor_chains.proofs.Classes.{IsUnderWay}

@@ -1,6 +1,6 @@
 use Rattle.std.proofs.Common.{ℕ, List, refl, sym, ap, ◌∙◌}
 use Rattle.std.specs.List.{filter_map, slice_get}
-use Rattle.bor_links.specs.declared.node.OpenNode.{OpenNode}
+use Rattle.bor_records.specs.declared.links.node.OpenNode.{OpenNode}
 use Rattle.bor_chains.specs.Classes.{node_at}
 use Rattle.bor_chains.proofs.Classes.{same_told}
 use Rattle.bor_chains.proofs.class.same_listed.Goals as goal

@@ -1,5 +1,5 @@
 use Rattle.std.proofs.Common.{refl, ◌∙◌, ap}
-use Rattle.bor_keep.specs.Holding.{Holding}
+use Rattle.bor_register.specs.Keeping.Holding.{Holding}
 use Rattle.bor_desk.proofs.check.check_keep.Goals as goal
 
 pub returns-clause-shown : goal.returns-clause-shown

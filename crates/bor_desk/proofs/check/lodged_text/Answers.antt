@@ -1,5 +1,5 @@
 use Rattle.std.proofs.Common.{◌≡◌, ◌++◌, refl, ap, ◌∙◌}
-use Rattle.bor_machine.specs.Lodging.{lodge_step}
+use Rattle.bor_desk.specs.Operations.Lodging.{lodge_step}
 use Rattle.bor_desk.specs.Texts.{answering, accepted_line, outward_lines}
 use Rattle.bor_desk.specs.CheckReport.{outcome_text}
 use Rattle.bor_desk.proofs.Reports.{lodge_step-check, accepted-text, refused-text, refused-err}

@@ -1,6 +1,6 @@
 use Rattle.std.proofs.Common.{◌≡◌, Option, Some, None, IfSome, [], ap, arith, inl, inr, length, refl}
 use Rattle.bor_register.specs.Register.{empty_register}
-use Rattle.bor_machine.proofs.Legality.{empty-legal}
+use Rattle.bor_desk.proofs.OnOperations.Legality.{empty-legal}
 use Rattle.bor_program.specs.Program.{exit_code}
 use Rattle.bor_program.proofs.Ends.{keeps_same, part_none}
 use Rattle.bor_program.proofs.MetFailures.{fails_to_open}

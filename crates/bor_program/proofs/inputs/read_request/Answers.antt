@@ -1,5 +1,5 @@
 use Rattle.bor_program.proofs.Replies.{read_whole}
-use Rattle.bor_wire_read.specs.Message.{request_limit}
+use Rattle.bor_http.specs.Incoming.Message.{request_limit}
 use Rattle.bor_program.proofs.inputs.read_request.Goals as goal
 
 pub returns : goal.returns

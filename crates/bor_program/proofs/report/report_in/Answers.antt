@@ -1,5 +1,5 @@
 use Rattle.std.proofs.Common.{IfOk, subst}
-use Rattle.bor_machine.specs.Sight.{seen_by}
+use Rattle.bor_desk.specs.Operations.Sight.{seen_by}
 use Rattle.bor_desk.specs.ChainReport.{IsTextOf}
 use Rattle.bor_desk.specs.Step.{chains_answer}
 use Rattle.bor_program.proofs.report.report_in.Goals as goal

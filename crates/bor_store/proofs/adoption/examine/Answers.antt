@@ -2,7 +2,7 @@ use Rattle.std.proofs.Common.{◌≡◌, ◌∙◌, Some, inl, pos, true, true�
 use Rattle.std.proofs.lemmas.Int.{ints, to_z-of_z}
 use Rattle.std.proofs.lemmas.Result.{err_from_is_err_and}
 use Rattle.sqlite.specs.Held.{state}
-use Rattle.bor_store_texts.specs.Tables.{first_schema, keep_schema}
+use Rattle.bor_store_sql.specs.Texts.Tables.{first_schema, keep_schema}
 use Rattle.bor_store.specs.Opening.{is_versioned, has_all, version_in}
 use Rattle.bor_store.proofs.Adopting.{first_found, first_is_versioned, keep_is_versioned, keep_has_all, version_found}
 use Rattle.bor_store.proofs.Judging.{failure_of, told_once, judge_first, judge_shown}

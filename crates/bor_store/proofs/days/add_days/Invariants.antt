@@ -1,5 +1,5 @@
 use Rattle.std.proofs.Common.{◌≡◌, ◌<◌, ◌^◌, ◌++◌, take}
-use Rattle.bor_store_rows.specs.Placed.{placed_from}
+use Rattle.bor_store_sql.specs.Rows.Placed.{placed_from}
 use Rattle.bor_store.specs.Migrating.{days_of}
 use Rattle.bor_store.proofs.days.add_days.Given as goal
 

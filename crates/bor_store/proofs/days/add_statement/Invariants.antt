@@ -1,6 +1,6 @@
 use Rattle.std.proofs.Common.{◌≡◌, ◌<◌, ◌^◌, ◌++◌, take}
 use Rattle.std.specs.List.{flat_map}
-use Rattle.bor_store_rows.specs.Placed.{interests_from, period_rows}
+use Rattle.bor_store_sql.specs.Rows.Placed.{interests_from, period_rows}
 use Rattle.bor_store.proofs.days.add_statement.Given as goal
 
 -- those so far are added

@@ -1,5 +1,5 @@
 use Rattle.std.proofs.Common.{◌≡◌, ◌++◌, true≢false, OnOk, sym, subst, ◌∙◌}
-use Rattle.bor_store_rows.specs.Placed.{placed_from}
+use Rattle.bor_store_sql.specs.Rows.Placed.{placed_from}
 use Rattle.bor_store.specs.Migrating.{days_of}
 use Rattle.bor_store.proofs.Owned.{fits_so}
 use Rattle.bor_store.proofs.Saying.{file_added, misfit}

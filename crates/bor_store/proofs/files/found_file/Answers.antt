@@ -8,8 +8,8 @@ use Rattle.bor_register.specs.Forms.{IsFormedFiling}
 use Rattle.bor_register.specs.Publication.{filing_shown}
 use Rattle.bor_register.specs.Register.{filings_of}
 use Rattle.bor_register.specs.declared.filing.AcceptedFiling.{AcceptedFiling}
-use Rattle.bor_store_rows.specs.Encoding.{shown_columns}
-use Rattle.bor_store_rows.specs.RowForms.{IsFormedShown}
+use Rattle.bor_store_sql.specs.Rows.Encoding.{shown_columns}
+use Rattle.bor_store_sql.specs.Rows.RowForms.{IsFormedShown}
 use Rattle.bor_store_sql.specs.Selected.{numbered}
 use Rattle.bor_store_reads.proofs.Lists.{all_mapped}
 use Rattle.bor_store.specs.Migrating.{filed_at}

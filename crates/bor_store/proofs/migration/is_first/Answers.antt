@@ -1,6 +1,6 @@
 use Rattle.std.proofs.Common.{◌≡◌, ◌∙◌, Some, pos, true, false, true≢false, IsTrue, codes, not, sym, ap}
 use Rattle.sqlite.specs.Held.{state}
-use Rattle.bor_store_texts.specs.Tables.{first_schema, keep_schema}
+use Rattle.bor_store_sql.specs.Texts.Tables.{first_schema, keep_schema}
 use Rattle.bor_store.specs.Opening.{has_all, has_first, is_used, is_versioned, version_in}
 use Rattle.bor_store.proofs.Adopting.{first_found, first_has_first, first_is_free, first_is_versioned, keep_has_all, keep_is_versioned, version_found}
 use Rattle.bor_store.proofs.Moving.{first_told, second_told, taken_told, version_judged}

@@ -1,7 +1,7 @@
 use Rattle.std.proofs.Common.{sym, ◌∙◌}
 use Rattle.std.specs.BTreeSet.{contains}
 use Rattle.sqlite.specs.Held.{state}
-use Rattle.bor_links.specs.Signs.{sign_cmp}
+use Rattle.bor_records.specs.Links.Signs.{sign_cmp}
 use Rattle.bor_store_reads.proofs.Found.{still_shows}
 use Rattle.bor_store_keys.specs.Viewed.{rows_seen}
 use Rattle.bor_store_keys.proofs.Answered.{answered}

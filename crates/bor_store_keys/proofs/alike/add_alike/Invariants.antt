@@ -1,6 +1,6 @@
 use Rattle.std.proofs.Common.{◌≡◌, false, take}
 use Rattle.sqlite.specs.Held.{state}
-use Rattle.bor_links.specs.Growth.{Grown}
+use Rattle.bor_records.specs.Links.Growth.{Grown}
 use Rattle.bor_store_keys.specs.Candidates.{IsAlikeIn}
 use Rattle.bor_register.specs.Register.{Register}
 use Rattle.bor_store_sql.specs.Shown.{IsClean, ShowsIn}

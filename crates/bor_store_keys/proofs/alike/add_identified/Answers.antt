@@ -3,7 +3,7 @@ use Rattle.std.specs.BTreeSet.{contains}
 use Rattle.std.proofs.lemmas.List.{take_all}
 use Rattle.sqlite.specs.Held.{state}
 use Rattle.bods_read.specs.declared.details.Identifier.{Identifier}
-use Rattle.bor_links.specs.Signs.{by_identifier, sign_cmp}
+use Rattle.bor_records.specs.Links.Signs.{by_identifier, sign_cmp}
 use Rattle.bor_store_reads.proofs.Found.{still_shows}
 use Rattle.bor_store_keys.specs.Alike.{Expands}
 use Rattle.bor_store_keys.specs.Viewed.{rows_seen}

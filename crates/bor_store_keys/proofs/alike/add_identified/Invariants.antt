@@ -1,7 +1,7 @@
 use Rattle.std.proofs.Common.{◌≡◌, false, map, take}
 use Rattle.std.specs.BTreeSet.{contains}
 use Rattle.sqlite.specs.Held.{state}
-use Rattle.bor_links.specs.Signs.{by_identifier, sign_cmp}
+use Rattle.bor_records.specs.Links.Signs.{by_identifier, sign_cmp}
 use Rattle.bor_register.specs.Register.{Register}
 use Rattle.bor_store_sql.specs.Shown.{IsClean, ShowsIn}
 use Rattle.bor_store_keys.specs.Alike.{Expands}

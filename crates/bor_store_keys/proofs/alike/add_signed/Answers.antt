@@ -1,9 +1,9 @@
 use Rattle.std.proofs.Common.{List, sym, subst, ◌∙◌}
 use Rattle.std.specs.BTreeSet.{contains}
 use Rattle.sqlite.specs.Held.{state}
-use Rattle.bor_links.specs.declared.node.Node.{Node}
-use Rattle.bor_links.specs.Growth.{Grown}
-use Rattle.bor_links.specs.Signs.{sign_cmp}
+use Rattle.bor_records.specs.declared.links.node.Node.{Node}
+use Rattle.bor_records.specs.Links.Growth.{Grown}
+use Rattle.bor_records.specs.Links.Signs.{sign_cmp}
 use Rattle.bor_store_keys.specs.Candidates.{IsAlikeIn}
 use Rattle.bor_store_reads.proofs.Found.{still_shows}
 use Rattle.bor_store_keys.specs.Viewed.{rows_seen}

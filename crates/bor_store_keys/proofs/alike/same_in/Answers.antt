@@ -2,8 +2,8 @@ use Rattle.std.proofs.Common.{arith, refl, ◌∙◌}
 use Rattle.std.specs.BTreeSet.{contains}
 use Rattle.sqlite.specs.Held.{state}
 use Rattle.bor_chains.proofs.Classes.{empty_has}
-use Rattle.bor_links.specs.Signs.{sign_cmp}
-use Rattle.bor_links.proofs.Reached.{gathered_reached}
+use Rattle.bor_records.specs.Links.Signs.{sign_cmp}
+use Rattle.bor_records.proofs.OnLinks.Reached.{gathered_reached}
 use Rattle.bor_store_keys.proofs.ByRecord.{reached_told}
 use Rattle.bor_store_reads.proofs.Found.{still_shows}
 use Rattle.bor_store_keys.specs.Viewed.{rows_seen, seen}

@@ -1,8 +1,8 @@
 use Rattle.std.proofs.Common.{◌≡◌, ◌-◌, ◌^◌, false}
 use Rattle.std.specs.BTreeSet.{contains}
 use Rattle.sqlite.specs.Held.{state}
-use Rattle.bor_links.specs.Signs.{sign_cmp}
-use Rattle.bor_links.proofs.Reached.{AreGathered}
+use Rattle.bor_records.specs.Links.Signs.{sign_cmp}
+use Rattle.bor_records.proofs.OnLinks.Reached.{AreGathered}
 use Rattle.bor_register.specs.Register.{Register}
 use Rattle.bor_store_sql.specs.Shown.{IsClean, ShowsIn}
 use Rattle.bor_store_keys.specs.Viewed.{seen}

@@ -1,6 +1,6 @@
 use Rattle.std.proofs.Common.{◌≡◌, ◌∙◌, ℕ, List, Some, sym, ap}
 use Rattle.std.specs.BTreeMap.{get}
-use Rattle.bor_store_rows.specs.declared.places.At.{At}
+use Rattle.bor_store_sql.specs.declared.rows.places.At.{At}
 use Rattle.bor_store_keys.specs.declared.found.PlaceKey.{PlaceKey}
 use Rattle.bor_store_keys.specs.Finding.{place_cmp}
 use Rattle.bor_store_keys.specs.Signed.{record_standing}

@@ -1,8 +1,8 @@
 use Rattle.std.proofs.Common.{◌≡◌, ◌++◌, true, false, drop}
 use Rattle.std.specs.List.{filter_map}
 use Rattle.sqlite.specs.Held.{state}
-use Rattle.bor_links.specs.Rows.{is_entity_info}
-use Rattle.bor_links.specs.Shown.{info_of}
+use Rattle.bor_records.specs.Links.Rows.{is_entity_info}
+use Rattle.bor_records.specs.Links.Shown.{info_of}
 use Rattle.bor_store_keys.specs.Candidates.{link_at}
 use Rattle.bor_register.specs.Register.{Register}
 use Rattle.bor_store_sql.specs.Shown.{IsClean, ShowsIn}

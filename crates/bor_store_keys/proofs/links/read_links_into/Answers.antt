@@ -1,6 +1,6 @@
 use Rattle.std.proofs.Common.{subst}
 use Rattle.sqlite.specs.Held.{state}
-use Rattle.bor_links.specs.Answers.{AreLinksInto}
+use Rattle.bor_records.specs.Links.Answers.{AreLinksInto}
 use Rattle.bor_store_reads.proofs.Found.{still_shows}
 use Rattle.bor_store_keys.specs.Viewed.{seen}
 use Rattle.bor_store_keys.specs.declared.view.View.{View}

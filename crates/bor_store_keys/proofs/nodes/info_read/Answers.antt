@@ -1,6 +1,6 @@
 use Rattle.std.proofs.Common.{Option, option_map, ap, sym, ◌∙◌}
-use Rattle.bor_links.specs.declared.node.OpenNode.{OpenNode}
-use Rattle.bor_links.proofs.ByKey.{listed_by_key}
+use Rattle.bor_records.specs.declared.links.node.OpenNode.{OpenNode}
+use Rattle.bor_records.proofs.OnLinks.ByKey.{listed_by_key}
 use Rattle.bor_store_keys.specs.Viewed.{rows_seen}
 use Rattle.bor_store_keys.proofs.nodes.info_read.Goals as goal
 

@@ -1,7 +1,7 @@
 use Rattle.std.proofs.Common.{◌∙◌, ap, List}
 use Rattle.std.specs.List.{filter_map}
 use Rattle.sqlite.specs.Held.{state}
-use Rattle.bor_store_rows.specs.declared.rows.IdentifierRow.{IdentifierRow}
+use Rattle.bor_store_sql.specs.declared.rows.typed.IdentifierRow.{IdentifierRow}
 use Rattle.bor_store_reads.proofs.Found.{still_shows}
 use Rattle.bor_store_keys.specs.Signed.{record_standing}
 use Rattle.bor_store_keys.proofs.Signing.{identified_cover}

@@ -1,8 +1,8 @@
 use Rattle.std.proofs.Common.{◌∙◌, arith, Option}
 use Rattle.std.specs.List.{filter_map}
 use Rattle.sqlite.specs.Held.{state}
-use Rattle.bor_links.specs.declared.node.Node.{Node}
-use Rattle.bor_store_rows.specs.declared.rows.IdentifierRow.{IdentifierRow}
+use Rattle.bor_records.specs.declared.links.node.Node.{Node}
+use Rattle.bor_store_sql.specs.declared.rows.typed.IdentifierRow.{IdentifierRow}
 use Rattle.bor_store_reads.proofs.Found.{still_shows}
 use Rattle.bor_store_keys.specs.Signed.{record_standing}
 use Rattle.bor_store_keys.proofs.Linking.{one_more}

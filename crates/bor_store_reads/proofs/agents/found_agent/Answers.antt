@@ -5,11 +5,11 @@ use Rattle.sqlite.specs.Held.{state}
 use Rattle.bor_register.specs.declared.member.Member.{Member}
 use Rattle.bor_register.specs.Register.{agent_with}
 use Rattle.bor_register.specs.Forms.{IsFormedMember}
-use Rattle.bor_store_rows.specs.declared.rows.AgentRow.{AgentRow}
-use Rattle.bor_store_rows.specs.Placed.{agent_row}
-use Rattle.bor_store_rows.specs.Encoding.{agent_columns, agent_row_columns}
-use Rattle.bor_store_rows.specs.RowForms.{IsFormedAgentRow}
-use Rattle.bor_store_rows.proofs.Formed.{agents_formed}
+use Rattle.bor_store_sql.specs.declared.rows.typed.AgentRow.{AgentRow}
+use Rattle.bor_store_sql.specs.Rows.Placed.{agent_row}
+use Rattle.bor_store_sql.specs.Rows.Encoding.{agent_columns, agent_row_columns}
+use Rattle.bor_store_sql.specs.Rows.RowForms.{IsFormedAgentRow}
+use Rattle.bor_store_sql.proofs.OnRows.Formed.{agents_formed}
 use Rattle.bor_store_sql.specs.Selected.{with_token}
 use Rattle.bor_terms.specs.Texts.{is_same}
 use Rattle.bor_store_reads.proofs.Found.{told, in_words}

@@ -2,7 +2,7 @@ use Rattle.std.proofs.Common.{map, length, not, ap, ◌∙◌}
 use Rattle.std.specs.Prelude.{◌==◌}
 use Rattle.sqlite.specs.Held.{state}
 use Rattle.bor_register.specs.Register.{is_enrolled}
-use Rattle.bor_store_rows.specs.Encoding.{agent_columns}
+use Rattle.bor_store_sql.specs.Rows.Encoding.{agent_columns}
 use Rattle.bor_store_sql.specs.Selected.{named}
 use Rattle.bor_terms.specs.Texts.{is_same}
 use Rattle.bor_store_reads.proofs.Found.{told_any, any_left}

@@ -2,12 +2,12 @@ use Rattle.std.proofs.Common.{◌≡◌, List, map, ap}
 use Rattle.std.specs.Prelude.{filter}
 use Rattle.std.proofs.lemmas.List.Elements.{All-filter}
 use Rattle.sqlite.specs.Held.{state}
-use Rattle.bor_store_rows.specs.declared.places.At.{At}
-use Rattle.bor_store_rows.specs.declared.rows.Placed.{Placed}
-use Rattle.bor_store_rows.specs.Placed.{placed, same_place}
-use Rattle.bor_store_rows.specs.Encoding.{identifier_columns}
-use Rattle.bor_store_rows.specs.RowForms.{IsFormedPlaced, IsFormedIdentifierRow}
-use Rattle.bor_store_rows.proofs.Formed.{placed_formed, all_identifiers_formed}
+use Rattle.bor_store_sql.specs.declared.rows.places.At.{At}
+use Rattle.bor_store_sql.specs.declared.rows.typed.Placed.{Placed}
+use Rattle.bor_store_sql.specs.Rows.Placed.{placed, same_place}
+use Rattle.bor_store_sql.specs.Rows.Encoding.{identifier_columns}
+use Rattle.bor_store_sql.specs.Rows.RowForms.{IsFormedPlaced, IsFormedIdentifierRow}
+use Rattle.bor_store_sql.proofs.OnRows.Formed.{placed_formed, all_identifiers_formed}
 use Rattle.bor_store_sql.specs.Selected.{identifiers_at}
 use Rattle.bor_store_reads.proofs.Found.{told}
 use Rattle.bor_store_reads.proofs.declarations.identifiers_of_one.Goals as goal

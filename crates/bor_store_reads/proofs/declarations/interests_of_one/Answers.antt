@@ -1,10 +1,10 @@
 use Rattle.std.proofs.Common.{◌∙◌}
 use Rattle.std.specs.Prelude.{filter}
 use Rattle.sqlite.specs.Held.{state}
-use Rattle.bor_store_rows.specs.declared.rows.Placed.{Placed}
-use Rattle.bor_store_rows.specs.Placed.{placed, same_place}
-use Rattle.bor_store_rows.proofs.Apart.{all_apart, apart_filter}
-use Rattle.bor_store_rows.proofs.Timings.{all_several}
+use Rattle.bor_store_sql.specs.declared.rows.typed.Placed.{Placed}
+use Rattle.bor_store_sql.specs.Rows.Placed.{placed, same_place}
+use Rattle.bor_store_sql.proofs.OnRows.Apart.{all_apart, apart_filter}
+use Rattle.bor_store_sql.proofs.OnRows.Timings.{all_several}
 use Rattle.bor_store_sql.specs.Selected.{interests_at}
 use Rattle.bor_store_reads.proofs.Found.{still_shows}
 use Rattle.bor_store_reads.proofs.declarations.interests_of_one.Goals as goal

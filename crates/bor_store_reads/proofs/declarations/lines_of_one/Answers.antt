@@ -3,12 +3,12 @@ use Rattle.std.specs.Prelude.{filter}
 use Rattle.std.proofs.lemmas.Simd.{map-map}
 use Rattle.std.proofs.lemmas.List.Elements.{All-filter}
 use Rattle.sqlite.specs.Held.{state}
-use Rattle.bor_store_rows.specs.declared.places.At.{At}
-use Rattle.bor_store_rows.specs.declared.rows.Placed.{Placed}
-use Rattle.bor_store_rows.specs.Placed.{line_of, placed, same_place}
-use Rattle.bor_store_rows.specs.Encoding.{interest_columns, interest_line_columns}
-use Rattle.bor_store_rows.specs.RowForms.{IsFormedPlaced, IsFormedInterestLine}
-use Rattle.bor_store_rows.proofs.Formed.{placed_formed, all_interests_formed, all_lines_formed}
+use Rattle.bor_store_sql.specs.declared.rows.places.At.{At}
+use Rattle.bor_store_sql.specs.declared.rows.typed.Placed.{Placed}
+use Rattle.bor_store_sql.specs.Rows.Placed.{line_of, placed, same_place}
+use Rattle.bor_store_sql.specs.Rows.Encoding.{interest_columns, interest_line_columns}
+use Rattle.bor_store_sql.specs.Rows.RowForms.{IsFormedPlaced, IsFormedInterestLine}
+use Rattle.bor_store_sql.proofs.OnRows.Formed.{placed_formed, all_interests_formed, all_lines_formed}
 use Rattle.bor_store_sql.specs.Selected.{interests_at}
 use Rattle.bor_store_reads.proofs.Found.{told}
 use Rattle.bor_store_reads.proofs.declarations.lines_of_one.Goals as goal

@@ -3,9 +3,9 @@ use Rattle.std.specs.List.{flat_map}
 use Rattle.sqlite.specs.Held.{state}
 use Rattle.bor_terms.specs.Texts.{is_same}
 use Rattle.bor_register.specs.Register.{filings_of}
-use Rattle.bor_store_rows.specs.declared.rows.Placed.{Placed}
-use Rattle.bor_store_rows.specs.declared.rows.StatementRow.{StatementRow}
-use Rattle.bor_store_rows.proofs.Apart.{apart_by, apart_filter}
+use Rattle.bor_store_sql.specs.declared.rows.typed.Placed.{Placed}
+use Rattle.bor_store_sql.specs.declared.rows.typed.StatementRow.{StatementRow}
+use Rattle.bor_store_sql.proofs.OnRows.Apart.{apart_by, apart_filter}
 use Rattle.bor_store_sql.specs.Selected.{in_declaration, placed_of}
 use Rattle.bor_store_reads.specs.Asking.{part_identifiers, part_interests}
 use Rattle.bor_store_reads.proofs.Declared.{declared_identifiers, declared_interests}

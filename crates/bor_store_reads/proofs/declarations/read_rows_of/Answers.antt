@@ -2,8 +2,8 @@ use Rattle.std.proofs.Common.{◌≡◌, map, sym, ap₂, subst, ◌∙◌, Matc
 use Rattle.std.specs.Prelude.{filter}
 use Rattle.sqlite.specs.Held.{state}
 use Rattle.bor_register.specs.Register.{filings_of}
-use Rattle.bor_store_rows.specs.Seen.{is_seen, row_placed}
-use Rattle.bor_store_rows.proofs.SeenPlaced.{rows_of-placed}
+use Rattle.bor_store_sql.specs.Rows.Seen.{is_seen, row_placed}
+use Rattle.bor_store_sql.proofs.OnRows.SeenPlaced.{rows_of-placed}
 use Rattle.bor_store_reads.specs.Answering.{IsNoDamage}
 use Rattle.bor_store_reads.proofs.Found.{still_shows}
 use Rattle.bor_store_reads.proofs.FoundFilings.{own_numbered}

@@ -2,7 +2,7 @@ use Rattle.std.proofs.Common.{◌≡◌, ◌∷◌, length, sym, ap, ◌∙◌, 
 use Rattle.std.specs.Vec.Iter.{into_iter_items}
 use Rattle.sqlite.specs.Held.{state}
 use Rattle.bor_register.specs.Register.{filings_of}
-use Rattle.bor_store_rows.specs.Seen.{is_seen}
+use Rattle.bor_store_sql.specs.Rows.Seen.{is_seen}
 use Rattle.bor_store_reads.specs.Asking.{is_number_seen}
 use Rattle.bor_store_reads.proofs.Declared.{next_seen, nothing_seen}
 use Rattle.bor_store_reads.proofs.Found.{still_shows}

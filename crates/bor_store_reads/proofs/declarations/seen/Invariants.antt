@@ -3,7 +3,7 @@ use Rattle.std.specs.Prelude.{filter}
 use Rattle.std.specs.Vec.Iter.{into_iter_items, into_iter_len}
 use Rattle.sqlite.specs.Held.{state}
 use Rattle.bor_register.specs.Register.{Register, filings_of}
-use Rattle.bor_store_rows.specs.Seen.{is_seen, row_placed}
+use Rattle.bor_store_sql.specs.Rows.Seen.{is_seen, row_placed}
 use Rattle.bor_store_sql.specs.Shown.{IsClean, ShowsIn}
 use Rattle.bor_store_reads.specs.Asking.{IsKnown}
 use Rattle.bor_store_reads.proofs.declarations.seen.Given as goal

@@ -3,11 +3,11 @@ use Rattle.std.proofs.lemmas.Simd.{map-map}
 use Rattle.std.proofs.lemmas.List.Elements.{All-filter}
 use Rattle.sqlite.specs.Held.{state}
 use Rattle.bor_terms.specs.Texts.{is_same}
-use Rattle.bor_store_rows.specs.declared.rows.Placed.{Placed}
-use Rattle.bor_store_rows.specs.Placed.{bare}
-use Rattle.bor_store_rows.specs.Encoding.{statement_columns}
-use Rattle.bor_store_rows.specs.RowForms.{IsFormedPlaced, IsFormedStatementRow}
-use Rattle.bor_store_rows.proofs.Formed.{all_bare_formed}
+use Rattle.bor_store_sql.specs.declared.rows.typed.Placed.{Placed}
+use Rattle.bor_store_sql.specs.Rows.Placed.{bare}
+use Rattle.bor_store_sql.specs.Rows.Encoding.{statement_columns}
+use Rattle.bor_store_sql.specs.Rows.RowForms.{IsFormedPlaced, IsFormedStatementRow}
+use Rattle.bor_store_sql.proofs.OnRows.Formed.{all_bare_formed}
 use Rattle.bor_store_sql.specs.Selected.{in_declaration, placed_of}
 use Rattle.bor_store_reads.proofs.Found.{told}
 use Rattle.bor_store_reads.proofs.FoundStatements.{own_formed}

@@ -1,13 +1,13 @@
 use Rattle.std.specs.Prelude.{unwrap_or, option_map}
-use Rattle.bor_store_rows.specs.declared.rows.FilingRow.{FilingRow}
+use Rattle.bor_store_sql.specs.declared.rows.typed.FilingRow.{FilingRow}
 use Rattle.std.proofs.Common.{◌≡◌, map, length, sym, ap, ◌∙◌, slice_get}
 use Rattle.std.proofs.lemmas.Simd.{map-map}
 use Rattle.sqlite.specs.Held.{state}
 use Rattle.bor_register.specs.Register.{filings_of}
 use Rattle.bor_register.specs.Forms.{IsFormedFiling}
-use Rattle.bor_store_rows.specs.Placed.{filing_row}
-use Rattle.bor_store_rows.specs.Encoding.{line_columns}
-use Rattle.bor_store_rows.specs.RowForms.{IsFormedFilingRow}
+use Rattle.bor_store_sql.specs.Rows.Placed.{filing_row}
+use Rattle.bor_store_sql.specs.Rows.Encoding.{line_columns}
+use Rattle.bor_store_sql.specs.Rows.RowForms.{IsFormedFilingRow}
 use Rattle.bor_store_sql.specs.Selected.{last}
 use Rattle.bor_store_reads.proofs.Found.{told, in_words}
 use Rattle.bor_store_reads.proofs.Lists.{all_taken}

@@ -6,9 +6,9 @@ use Rattle.bor_register.specs.declared.filing.AcceptedFiling.{AcceptedFiling}
 use Rattle.bor_terms.specs.Texts.{is_same}
 use Rattle.bor_register.specs.Register.{filings_of, filing_keyed}
 use Rattle.bor_register.specs.Forms.{IsFormedFiling}
-use Rattle.bor_store_rows.specs.Placed.{filing_row}
-use Rattle.bor_store_rows.specs.Encoding.{line_columns}
-use Rattle.bor_store_rows.specs.RowForms.{IsFormedFilingRow}
+use Rattle.bor_store_sql.specs.Rows.Placed.{filing_row}
+use Rattle.bor_store_sql.specs.Rows.Encoding.{line_columns}
+use Rattle.bor_store_sql.specs.Rows.RowForms.{IsFormedFilingRow}
 use Rattle.bor_store_sql.specs.Selected.{keyed}
 use Rattle.bor_store_reads.proofs.Found.{told, in_words}
 use Rattle.bor_store_reads.proofs.FoundFilings.{keyed_first, own_rows_formed}

@@ -2,9 +2,9 @@ use Rattle.std.proofs.Common.{◌≡◌, map, sym, ap, ◌∙◌}
 use Rattle.std.proofs.lemmas.Simd.{map-map}
 use Rattle.sqlite.specs.Held.{state}
 use Rattle.bor_register.specs.Register.{filings_of}
-use Rattle.bor_store_rows.specs.Placed.{filing_row}
-use Rattle.bor_store_rows.specs.Encoding.{line_columns}
-use Rattle.bor_store_rows.specs.RowForms.{IsFormedFilingRow}
+use Rattle.bor_store_sql.specs.Rows.Placed.{filing_row}
+use Rattle.bor_store_sql.specs.Rows.Encoding.{line_columns}
+use Rattle.bor_store_sql.specs.Rows.RowForms.{IsFormedFilingRow}
 use Rattle.bor_store_reads.proofs.Found.{told}
 use Rattle.bor_store_reads.proofs.FoundFilings.{own_rows_formed}
 use Rattle.bor_store_reads.proofs.filings.found_lines.Goals as goal

@@ -6,8 +6,8 @@ use Rattle.bor_terms.specs.Texts.{is_same}
 use Rattle.bor_register.specs.declared.filing.AcceptedFiling.{AcceptedFiling}
 use Rattle.bor_register.specs.Publication.{has_bytes}
 use Rattle.bor_register.specs.Register.{filings_of, filing_keyed}
-use Rattle.bor_store_rows.specs.Encoding.{truth}
-use Rattle.bor_store_rows.proofs.ByKey.{bytes_are}
+use Rattle.bor_store_sql.specs.Rows.Encoding.{truth}
+use Rattle.bor_store_sql.proofs.OnRows.ByKey.{bytes_are}
 use Rattle.bor_store_sql.specs.Selected.{keyed}
 use Rattle.bor_store_reads.proofs.Found.{told_flag}
 use Rattle.bor_store_reads.proofs.FoundFilings.{keyed_first}

@@ -3,8 +3,8 @@ use Rattle.std.proofs.lemmas.Simd.{map-map}
 use Rattle.sqlite.specs.Held.{state}
 use Rattle.bor_register.specs.Register.{filings_of, filing_keyed}
 use Rattle.bor_register.specs.Publication.{filing_shown}
-use Rattle.bor_store_rows.specs.Encoding.{shown_columns}
-use Rattle.bor_store_rows.specs.RowForms.{IsFormedShown}
+use Rattle.bor_store_sql.specs.Rows.Encoding.{shown_columns}
+use Rattle.bor_store_sql.specs.Rows.RowForms.{IsFormedShown}
 use Rattle.bor_store_sql.specs.Selected.{keyed}
 use Rattle.bor_store_reads.proofs.Found.{told, in_words}
 use Rattle.bor_store_reads.proofs.FoundFilings.{keyed_first, own_shown_formed}

@@ -4,11 +4,11 @@ use Rattle.std.specs.List.{flat_map}
 use Rattle.std.proofs.lemmas.List.Elements.{All-filter}
 use Rattle.sqlite.specs.Held.{state}
 use Rattle.bor_terms.specs.Texts.{is_same}
-use Rattle.bor_store_rows.specs.declared.rows.IdentifierRow.{IdentifierRow}
-use Rattle.bor_store_rows.specs.Placed.{placed, identifier_rows}
-use Rattle.bor_store_rows.specs.Encoding.{identifier_columns}
-use Rattle.bor_store_rows.specs.RowForms.{IsFormedIdentifierRow}
-use Rattle.bor_store_rows.proofs.Formed.{placed_formed, all_identifiers_formed}
+use Rattle.bor_store_sql.specs.declared.rows.typed.IdentifierRow.{IdentifierRow}
+use Rattle.bor_store_sql.specs.Rows.Placed.{placed, identifier_rows}
+use Rattle.bor_store_sql.specs.Rows.Encoding.{identifier_columns}
+use Rattle.bor_store_sql.specs.Rows.RowForms.{IsFormedIdentifierRow}
+use Rattle.bor_store_sql.proofs.OnRows.Formed.{placed_formed, all_identifiers_formed}
 use Rattle.bor_store_sql.specs.Selected.{identified_by}
 use Rattle.bor_store_reads.proofs.Found.{told}
 use Rattle.bor_store_reads.proofs.records.read_identified.Goals as goal

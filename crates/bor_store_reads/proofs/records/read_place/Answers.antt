@@ -3,14 +3,14 @@ use Rattle.std.proofs.lemmas.Simd.{map-map}
 use Rattle.std.proofs.lemmas.List.Elements.{All-filter}
 use Rattle.std.proofs.lemmas.Option.{slice_get-map}
 use Rattle.sqlite.specs.Held.{state}
-use Rattle.bor_store_rows.specs.declared.rows.Placed.{Placed}
-use Rattle.bor_store_rows.specs.Placed.{bare}
-use Rattle.bor_store_rows.specs.Encoding.{statement_columns}
-use Rattle.bor_store_rows.specs.RowForms.{IsFormedPlaced, IsFormedStatementRow}
-use Rattle.bor_store_rows.proofs.Formed.{all_bare_formed}
-use Rattle.bor_store_rows.specs.declared.places.At.{At}
-use Rattle.bor_store_rows.specs.Placed.{placed, same_place}
-use Rattle.bor_store_rows.proofs.Formed.{placed_formed}
+use Rattle.bor_store_sql.specs.declared.rows.typed.Placed.{Placed}
+use Rattle.bor_store_sql.specs.Rows.Placed.{bare}
+use Rattle.bor_store_sql.specs.Rows.Encoding.{statement_columns}
+use Rattle.bor_store_sql.specs.Rows.RowForms.{IsFormedPlaced, IsFormedStatementRow}
+use Rattle.bor_store_sql.proofs.OnRows.Formed.{all_bare_formed}
+use Rattle.bor_store_sql.specs.declared.rows.places.At.{At}
+use Rattle.bor_store_sql.specs.Rows.Placed.{placed, same_place}
+use Rattle.bor_store_sql.proofs.OnRows.Formed.{placed_formed}
 use Rattle.bor_store_sql.specs.Selected.{standing_at}
 use Rattle.bor_store_reads.proofs.Found.{told, in_words}
 use Rattle.bor_store_reads.proofs.records.read_place.Goals as goal

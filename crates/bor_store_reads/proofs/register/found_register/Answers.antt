@@ -1,10 +1,10 @@
 use Rattle.std.proofs.Common.{◌≡◌, [], ◌∷◌, refl, slice_get}
 use Rattle.std.proofs.lemmas.List.Elements.{All-nil, All-cons}
 use Rattle.sqlite.specs.Held.{state}
-use Rattle.bor_store_rows.specs.Placed.{register_row}
-use Rattle.bor_store_rows.specs.Encoding.{register_columns, register_row_columns}
-use Rattle.bor_store_rows.specs.RowForms.{IsFormedRegisterRow}
-use Rattle.bor_store_rows.proofs.Formed.{register_formed}
+use Rattle.bor_store_sql.specs.Rows.Placed.{register_row}
+use Rattle.bor_store_sql.specs.Rows.Encoding.{register_columns, register_row_columns}
+use Rattle.bor_store_sql.specs.Rows.RowForms.{IsFormedRegisterRow}
+use Rattle.bor_store_sql.proofs.OnRows.Formed.{register_formed}
 use Rattle.bor_store_reads.proofs.Found.{told}
 use Rattle.bor_store_reads.proofs.register.found_register.Goals as goal
 

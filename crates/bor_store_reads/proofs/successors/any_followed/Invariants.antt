@@ -2,7 +2,7 @@ use Rattle.std.proofs.Common.{◌≡◌, false, take, None}
 use Rattle.std.specs.List.{last_or, list_any}
 use Rattle.sqlite.specs.Held.{state}
 use Rattle.bor_register.specs.Register.{Register}
-use Rattle.bor_store_rows.specs.Seen.{is_later}
+use Rattle.bor_store_sql.specs.Rows.Seen.{is_later}
 use Rattle.bor_store_sql.specs.Shown.{IsClean, ShowsIn}
 use Rattle.bor_store_sql.specs.Selected.{in_series, placed_of}
 use Rattle.bor_store_reads.proofs.successors.any_followed.Given as goal

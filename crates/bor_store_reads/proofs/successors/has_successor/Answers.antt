@@ -2,8 +2,8 @@ use Rattle.std.proofs.Common.{◌≡◌, None, ap, subst, ◌∙◌, MatchResult
 use Rattle.std.specs.List.{last_or, list_any}
 use Rattle.sqlite.specs.Held.{state}
 use Rattle.bor_register.specs.Register.{filings_of}
-use Rattle.bor_store_rows.specs.declared.rows.StatementRow.{StatementRow}
-use Rattle.bor_store_rows.specs.Seen.{is_later}
+use Rattle.bor_store_sql.specs.declared.rows.typed.StatementRow.{StatementRow}
+use Rattle.bor_store_sql.specs.Rows.Seen.{is_later}
 use Rattle.bor_store_sql.specs.Selected.{in_series, placed_of}
 use Rattle.bor_store_reads.specs.Answering.{IsNoDamage}
 use Rattle.bor_store_reads.proofs.Found.{still_shows}

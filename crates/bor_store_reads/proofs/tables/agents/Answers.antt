@@ -1,10 +1,10 @@
 use Rattle.std.proofs.Common.{◌≡◌, map, sym}
 use Rattle.std.proofs.lemmas.Simd.{map-map}
 use Rattle.sqlite.specs.Held.{state}
-use Rattle.bor_store_rows.specs.Placed.{agent_row}
-use Rattle.bor_store_rows.specs.Encoding.{agent_columns, agent_row_columns}
-use Rattle.bor_store_rows.specs.RowForms.{IsFormedAgentRow}
-use Rattle.bor_store_rows.proofs.Formed.{agents_formed}
+use Rattle.bor_store_sql.specs.Rows.Placed.{agent_row}
+use Rattle.bor_store_sql.specs.Rows.Encoding.{agent_columns, agent_row_columns}
+use Rattle.bor_store_sql.specs.Rows.RowForms.{IsFormedAgentRow}
+use Rattle.bor_store_sql.proofs.OnRows.Formed.{agents_formed}
 use Rattle.bor_store_reads.proofs.Found.{told}
 use Rattle.bor_store_reads.proofs.tables.agents.Goals as goal
 

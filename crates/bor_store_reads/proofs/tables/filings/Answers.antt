@@ -1,9 +1,9 @@
 use Rattle.std.proofs.Common.{◌≡◌, map, refl}
 use Rattle.sqlite.specs.Held.{state}
-use Rattle.bor_store_rows.specs.Placed.{filing_lines}
-use Rattle.bor_store_rows.specs.Encoding.{line_columns}
-use Rattle.bor_store_rows.specs.RowForms.{IsFormedFilingRow}
-use Rattle.bor_store_rows.proofs.Formed.{lines_formed}
+use Rattle.bor_store_sql.specs.Rows.Placed.{filing_lines}
+use Rattle.bor_store_sql.specs.Rows.Encoding.{line_columns}
+use Rattle.bor_store_sql.specs.Rows.RowForms.{IsFormedFilingRow}
+use Rattle.bor_store_sql.proofs.OnRows.Formed.{lines_formed}
 use Rattle.bor_store_reads.proofs.Found.{told}
 use Rattle.bor_store_reads.proofs.tables.filings.Goals as goal
 

@@ -1,7 +1,7 @@
 use Rattle.std.proofs.Common.{pos, [], ◌∷◌, map, take, drop, length, nat_le, not}
 use Rattle.sqlite.specs.Held.{state}
 use Rattle.sqlite.specs.declared.types.Value.TheVariants.{Int}
-use Rattle.bor_store_rows.specs.Placed.{placed}
+use Rattle.bor_store_sql.specs.Rows.Placed.{placed}
 use Rattle.bor_store_reads.proofs.Found.{told_any, any_after}
 use Rattle.bor_store_reads.proofs.tables.has_more.Goals as goal
 

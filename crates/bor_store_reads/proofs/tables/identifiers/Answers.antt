@@ -1,10 +1,10 @@
 use Rattle.std.proofs.Common.{◌≡◌, map, refl}
 use Rattle.std.specs.List.{flat_map}
 use Rattle.sqlite.specs.Held.{state}
-use Rattle.bor_store_rows.specs.Placed.{identifier_rows, placed}
-use Rattle.bor_store_rows.specs.Encoding.{identifier_columns}
-use Rattle.bor_store_rows.specs.RowForms.{IsFormedIdentifierRow}
-use Rattle.bor_store_rows.proofs.Formed.{placed_formed, all_identifiers_formed}
+use Rattle.bor_store_sql.specs.Rows.Placed.{identifier_rows, placed}
+use Rattle.bor_store_sql.specs.Rows.Encoding.{identifier_columns}
+use Rattle.bor_store_sql.specs.Rows.RowForms.{IsFormedIdentifierRow}
+use Rattle.bor_store_sql.proofs.OnRows.Formed.{placed_formed, all_identifiers_formed}
 use Rattle.bor_store_reads.proofs.Found.{told}
 use Rattle.bor_store_reads.proofs.tables.identifiers.Goals as goal
 

@@ -2,10 +2,10 @@ use Rattle.std.proofs.Common.{◌≡◌, map, sym}
 use Rattle.std.specs.List.{flat_map}
 use Rattle.std.proofs.lemmas.Simd.{map-map}
 use Rattle.sqlite.specs.Held.{state}
-use Rattle.bor_store_rows.specs.Placed.{interest_rows, line_of, placed}
-use Rattle.bor_store_rows.specs.Encoding.{interest_columns, interest_line_columns}
-use Rattle.bor_store_rows.specs.RowForms.{IsFormedInterestLine}
-use Rattle.bor_store_rows.proofs.Formed.{placed_formed, all_interests_formed, all_lines_formed}
+use Rattle.bor_store_sql.specs.Rows.Placed.{interest_rows, line_of, placed}
+use Rattle.bor_store_sql.specs.Rows.Encoding.{interest_columns, interest_line_columns}
+use Rattle.bor_store_sql.specs.Rows.RowForms.{IsFormedInterestLine}
+use Rattle.bor_store_sql.proofs.OnRows.Formed.{placed_formed, all_interests_formed, all_lines_formed}
 use Rattle.bor_store_reads.proofs.Found.{told}
 use Rattle.bor_store_reads.proofs.tables.interest_lines.Goals as goal
 

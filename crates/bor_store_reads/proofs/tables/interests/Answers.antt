@@ -1,9 +1,9 @@
 use Rattle.std.proofs.Common.{◌∙◌}
 use Rattle.std.specs.List.{flat_map}
 use Rattle.sqlite.specs.Held.{state}
-use Rattle.bor_store_rows.specs.Placed.{interest_rows, placed}
-use Rattle.bor_store_rows.proofs.Apart.{all_apart}
-use Rattle.bor_store_rows.proofs.Timings.{all_several}
+use Rattle.bor_store_sql.specs.Rows.Placed.{interest_rows, placed}
+use Rattle.bor_store_sql.proofs.OnRows.Apart.{all_apart}
+use Rattle.bor_store_sql.proofs.OnRows.Timings.{all_several}
 use Rattle.bor_store_reads.proofs.Found.{still_shows}
 use Rattle.bor_store_reads.proofs.tables.interests.Goals as goal
 

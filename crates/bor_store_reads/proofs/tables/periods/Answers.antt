@@ -1,10 +1,10 @@
 use Rattle.std.proofs.Common.{◌≡◌, map, refl}
 use Rattle.std.specs.List.{flat_map}
 use Rattle.sqlite.specs.Held.{state}
-use Rattle.bor_store_rows.specs.Placed.{interest_rows, period_rows, placed}
-use Rattle.bor_store_rows.specs.Encoding.{period_columns}
-use Rattle.bor_store_rows.specs.RowForms.{IsFormedPeriodRow}
-use Rattle.bor_store_rows.proofs.Formed.{placed_formed, all_interests_formed, all_periods_formed}
+use Rattle.bor_store_sql.specs.Rows.Placed.{interest_rows, period_rows, placed}
+use Rattle.bor_store_sql.specs.Rows.Encoding.{period_columns}
+use Rattle.bor_store_sql.specs.Rows.RowForms.{IsFormedPeriodRow}
+use Rattle.bor_store_sql.proofs.OnRows.Formed.{placed_formed, all_interests_formed, all_periods_formed}
 use Rattle.bor_store_reads.proofs.Found.{told}
 use Rattle.bor_store_reads.proofs.tables.periods.Goals as goal
 

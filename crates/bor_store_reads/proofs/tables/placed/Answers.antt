@@ -1,7 +1,7 @@
 use Rattle.std.proofs.Common.{◌∙◌}
 use Rattle.sqlite.specs.Held.{state}
-use Rattle.bor_store_rows.specs.Placed.{placed}
-use Rattle.bor_store_rows.proofs.Apart.{all_apart}
+use Rattle.bor_store_sql.specs.Rows.Placed.{placed}
+use Rattle.bor_store_sql.proofs.OnRows.Apart.{all_apart}
 use Rattle.bor_store_reads.proofs.Found.{still_shows}
 use Rattle.bor_store_reads.proofs.tables.placed.Goals as goal
 

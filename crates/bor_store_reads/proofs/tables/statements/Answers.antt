@@ -1,10 +1,10 @@
 use Rattle.std.proofs.Common.{◌≡◌, map, sym}
 use Rattle.std.proofs.lemmas.Simd.{map-map}
 use Rattle.sqlite.specs.Held.{state}
-use Rattle.bor_store_rows.specs.Placed.{bare, placed}
-use Rattle.bor_store_rows.specs.Encoding.{statement_columns}
-use Rattle.bor_store_rows.specs.RowForms.{IsFormedStatementRow}
-use Rattle.bor_store_rows.proofs.Formed.{placed_formed, all_bare_formed}
+use Rattle.bor_store_sql.specs.Rows.Placed.{bare, placed}
+use Rattle.bor_store_sql.specs.Rows.Encoding.{statement_columns}
+use Rattle.bor_store_sql.specs.Rows.RowForms.{IsFormedStatementRow}
+use Rattle.bor_store_sql.proofs.OnRows.Formed.{placed_formed, all_bare_formed}
 use Rattle.bor_store_reads.proofs.Found.{told}
 use Rattle.bor_store_reads.proofs.tables.statements.Goals as goal
 

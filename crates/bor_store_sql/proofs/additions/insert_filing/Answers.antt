@@ -1,6 +1,6 @@
 use Rattle.sqlite.specs.Held.{state}
 use Rattle.sqlite.specs.State.{ExecutesInside}
-use Rattle.bor_store_texts.specs.Changes.{insert_filing_text}
+use Rattle.bor_store_sql.specs.Texts.Changes.{insert_filing_text}
 use Rattle.bor_store_sql.specs.Changing.{Any, given_filing, live_filing, with_filing_row}
 use Rattle.std.proofs.Common.{[]}
 use Rattle.bor_store_sql.proofs.Stepping.{one_step}

@@ -1,9 +1,9 @@
 use Rattle.sqlite.specs.Held.{state}
 use Rattle.sqlite.specs.State.{ExecutesInside}
-use Rattle.bor_store_texts.specs.Changes.{insert_identifier_text}
+use Rattle.bor_store_sql.specs.Texts.Changes.{insert_identifier_text}
 use Rattle.bor_store_sql.specs.Changing.{Any, with_identifier_rows}
 use Rattle.std.proofs.Common.{[], ◌∷◌}
-use Rattle.bor_store_rows.specs.Encoding.{identifier_columns}
+use Rattle.bor_store_sql.specs.Rows.Encoding.{identifier_columns}
 use Rattle.bor_store_sql.proofs.Stepping.{one_step}
 use Rattle.bor_store_sql.proofs.Adding.{identifier_put}
 use Rattle.bor_store_sql.proofs.additions.insert_identifier.Goals as goal

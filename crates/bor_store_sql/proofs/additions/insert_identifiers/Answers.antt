@@ -2,7 +2,7 @@ use Rattle.std.proofs.Common.{◌≡◌, ◌+◌, Ok, arith, refl, ap, subst, �
 use Rattle.std.proofs.lemmas.List.{take_all}
 use Rattle.sqlite.specs.Held.{state}
 use Rattle.sqlite.specs.declared.error.Error.{Error}
-use Rattle.bor_store_rows.specs.Placed.{identifiers_from}
+use Rattle.bor_store_sql.specs.Rows.Placed.{identifiers_from}
 use Rattle.bor_store_sql.specs.Shown.{Steps}
 use Rattle.bor_store_sql.specs.Changing.{Any, with_identifier_rows}
 use Rattle.bor_store_sql.proofs.Going.{none_went, one_went, one_failed, stopped}

@@ -1,6 +1,6 @@
 use Rattle.std.proofs.Common.{◌≡◌, ◌<◌, ◌^◌, take}
 use Rattle.sqlite.specs.Held.{state}
-use Rattle.bor_store_rows.specs.Placed.{identifiers_from}
+use Rattle.bor_store_sql.specs.Rows.Placed.{identifiers_from}
 use Rattle.bor_store_sql.specs.Changing.{with_identifier_rows}
 use Rattle.bor_store_sql.proofs.Going.{Went}
 use Rattle.bor_store_sql.proofs.additions.insert_identifiers.Given as goal

@@ -1,9 +1,9 @@
 use Rattle.sqlite.specs.Held.{state}
 use Rattle.sqlite.specs.State.{ExecutesInside}
-use Rattle.bor_store_texts.specs.Changes.{insert_interest_text}
+use Rattle.bor_store_sql.specs.Texts.Changes.{insert_interest_text}
 use Rattle.bor_store_sql.specs.Changing.{Any, with_interest_rows}
 use Rattle.std.proofs.Common.{[], ◌∷◌}
-use Rattle.bor_store_rows.specs.Encoding.{interest_columns}
+use Rattle.bor_store_sql.specs.Rows.Encoding.{interest_columns}
 use Rattle.bor_store_sql.proofs.Stepping.{one_step}
 use Rattle.bor_store_sql.proofs.Adding.{interest_put}
 use Rattle.bor_store_sql.proofs.additions.insert_interest.Goals as goal

@@ -1,6 +1,6 @@
 use Rattle.std.proofs.Common.{◌≡◌, ◌<◌, ◌^◌, take}
 use Rattle.sqlite.specs.Held.{state}
-use Rattle.bor_store_rows.specs.Placed.{interests_from}
+use Rattle.bor_store_sql.specs.Rows.Placed.{interests_from}
 use Rattle.bor_store_sql.specs.Changing.{with_interest_rows}
 use Rattle.bor_store_sql.proofs.Going.{Went}
 use Rattle.bor_store_sql.proofs.additions.insert_interests.Given as goal

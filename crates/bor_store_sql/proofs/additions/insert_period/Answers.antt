@@ -1,7 +1,7 @@
 use Rattle.std.proofs.Common.{sym, ◌∙◌}
 use Rattle.sqlite.specs.Held.{state}
-use Rattle.bor_store_rows.specs.Placed.{period_of}
-use Rattle.bor_store_rows.specs.declared.rows.InterestRow.{InterestRow}
+use Rattle.bor_store_sql.specs.Rows.Placed.{period_of}
+use Rattle.bor_store_sql.specs.declared.rows.typed.InterestRow.{InterestRow}
 use Rattle.bor_store_sql.specs.Changing.{with_period_row, with_period_rows}
 use Rattle.std.proofs.Common.{[], ◌∷◌}
 use Rattle.bor_store_sql.proofs.Lists.{one_said}

@@ -1,9 +1,9 @@
 use Rattle.std.proofs.Common.{Ok, subst}
 use Rattle.sqlite.specs.Held.{state}
 use Rattle.sqlite.specs.declared.error.Error.{Error}
-use Rattle.bor_store_rows.specs.declared.places.At.{At}
-use Rattle.bor_store_rows.specs.declared.rows.Placed.{Placed}
-use Rattle.bor_store_rows.specs.Placed.{bare, interest_rows, identifier_rows, interests_from, identifiers_from}
+use Rattle.bor_store_sql.specs.declared.rows.places.At.{At}
+use Rattle.bor_store_sql.specs.declared.rows.typed.Placed.{Placed}
+use Rattle.bor_store_sql.specs.Rows.Placed.{bare, interest_rows, identifier_rows, interests_from, identifiers_from}
 use Rattle.bor_store_sql.specs.Shown.{Steps}
 use Rattle.bor_store_sql.specs.Changing.{Any, with_statement_row, with_interest_rows, with_identifier_rows, with_period_rows}
 use Rattle.bor_store_sql.proofs.Lists.{counted, where_ok}

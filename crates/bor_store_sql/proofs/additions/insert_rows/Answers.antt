@@ -1,6 +1,6 @@
 use Rattle.sqlite.specs.Held.{state}
 use Rattle.std.proofs.Common.{[]}
-use Rattle.bor_store_rows.specs.Placed.{placed_from}
+use Rattle.bor_store_sql.specs.Rows.Placed.{placed_from}
 use Rattle.bor_store_sql.specs.Changing.{Any, live_filing, with_filing_row, with_placed}
 use Rattle.bor_store_sql.proofs.Stepping.{then_last}
 use Rattle.bor_store_sql.proofs.additions.insert_rows.Goals as goal

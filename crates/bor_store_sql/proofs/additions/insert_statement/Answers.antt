@@ -1,9 +1,9 @@
 use Rattle.sqlite.specs.Held.{state}
 use Rattle.sqlite.specs.State.{ExecutesInside}
-use Rattle.bor_store_texts.specs.Changes.{insert_statement_text}
+use Rattle.bor_store_sql.specs.Texts.Changes.{insert_statement_text}
 use Rattle.bor_store_sql.specs.Changing.{Any, with_statement_row}
-use Rattle.bor_store_rows.specs.Placed.{bare}
-use Rattle.bor_store_rows.specs.Encoding.{statement_columns}
+use Rattle.bor_store_sql.specs.Rows.Placed.{bare}
+use Rattle.bor_store_sql.specs.Rows.Encoding.{statement_columns}
 use Rattle.bor_store_sql.proofs.Stepping.{one_step}
 use Rattle.bor_store_sql.proofs.Adding.{statement_put}
 use Rattle.bor_store_sql.proofs.additions.insert_statement.Goals as goal

@@ -2,10 +2,10 @@ use Rattle.std.proofs.Common.{◌≡◌, ◌+◌, Ok, arith, refl, ap, subst, �
 use Rattle.std.proofs.lemmas.List.{take_all}
 use Rattle.sqlite.specs.Held.{state}
 use Rattle.sqlite.specs.declared.error.Error.{Error}
-use Rattle.bor_store_rows.specs.Placed.{placed_from}
+use Rattle.bor_store_sql.specs.Rows.Placed.{placed_from}
 use Rattle.std.specs.Prelude.{All}
 use Rattle.std.proofs.lemmas.List.Elements.{All-nil}
-use Rattle.bor_store_rows.specs.Stored.{IsCounted}
+use Rattle.bor_store_sql.specs.Rows.Stored.{IsCounted}
 use Rattle.bor_store_sql.proofs.Counted.{all_counted}
 use Rattle.bor_store_sql.specs.Shown.{Steps}
 use Rattle.bor_store_sql.specs.Changing.{Any, with_placed}

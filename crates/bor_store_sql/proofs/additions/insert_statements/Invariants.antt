@@ -1,8 +1,8 @@
 use Rattle.std.proofs.Common.{◌≡◌, ◌<◌, ◌^◌, take}
 use Rattle.std.specs.Prelude.{All}
-use Rattle.bor_store_rows.specs.Stored.{IsCounted}
+use Rattle.bor_store_sql.specs.Rows.Stored.{IsCounted}
 use Rattle.sqlite.specs.Held.{state}
-use Rattle.bor_store_rows.specs.Placed.{placed_from}
+use Rattle.bor_store_sql.specs.Rows.Placed.{placed_from}
 use Rattle.bor_store_sql.specs.Changing.{with_placed}
 use Rattle.bor_store_sql.proofs.Going.{Went}
 use Rattle.bor_store_sql.proofs.additions.insert_statements.Given as goal

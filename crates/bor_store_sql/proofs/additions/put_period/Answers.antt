@@ -1,9 +1,9 @@
 use Rattle.sqlite.specs.Held.{state}
 use Rattle.sqlite.specs.State.{ExecutesInside}
-use Rattle.bor_store_rows.specs.Encoding.{period_columns}
-use Rattle.bor_store_rows.specs.Placed.{period_of}
-use Rattle.bor_store_rows.specs.declared.rows.PeriodRow.{PeriodRow}
-use Rattle.bor_store_texts.specs.Changes.{insert_period_text}
+use Rattle.bor_store_sql.specs.Rows.Encoding.{period_columns}
+use Rattle.bor_store_sql.specs.Rows.Placed.{period_of}
+use Rattle.bor_store_sql.specs.declared.rows.typed.PeriodRow.{PeriodRow}
+use Rattle.bor_store_sql.specs.Texts.Changes.{insert_period_text}
 use Rattle.bor_store_sql.specs.Changing.{Any, with_period_row}
 use Rattle.bor_store_sql.proofs.Adding.{period_put}
 use Rattle.bor_store_sql.proofs.Stepping.{one_step}

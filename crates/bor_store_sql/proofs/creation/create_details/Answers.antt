@@ -1,5 +1,5 @@
 use Rattle.sqlite.specs.Held.{state}
-use Rattle.bor_store_texts.specs.Tables.{schema_3, schema_4, schema_5, schema_6}
+use Rattle.bor_store_sql.specs.Texts.Tables.{schema_3, schema_4, schema_5, schema_6}
 use Rattle.bor_store_sql.specs.Blank.{IsBlank}
 use Rattle.bor_store_sql.proofs.Creating.{both_lead, finished}
 use Rattle.bor_store_sql.proofs.creation.create_details.Goals as goal

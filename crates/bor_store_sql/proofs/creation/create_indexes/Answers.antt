@@ -1,5 +1,5 @@
 use Rattle.sqlite.specs.Held.{state}
-use Rattle.bor_store_texts.specs.Tables.{schema_6, schema_7, schema_8, schema_9, first_schema}
+use Rattle.bor_store_sql.specs.Texts.Tables.{schema_6, schema_7, schema_8, schema_9, first_schema}
 use Rattle.bor_store_sql.specs.Blank.{IsBlank}
 use Rattle.bor_store_sql.proofs.Creating.{both_lead, finished}
 use Rattle.bor_store_sql.proofs.creation.create_indexes.Goals as goal

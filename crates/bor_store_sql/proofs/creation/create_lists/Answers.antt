@@ -1,5 +1,5 @@
 use Rattle.sqlite.specs.Held.{state}
-use Rattle.bor_store_texts.specs.Tables.{no_schema, schema_1, schema_2, schema_3}
+use Rattle.bor_store_sql.specs.Texts.Tables.{no_schema, schema_1, schema_2, schema_3}
 use Rattle.bor_store_sql.specs.Blank.{IsBlank}
 use Rattle.bor_store_sql.proofs.Creating.{both_lead, finished}
 use Rattle.bor_store_sql.proofs.creation.create_lists.Goals as goal

@@ -1,8 +1,8 @@
 use Rattle.sqlite.specs.Held.{state}
 use Rattle.sqlite.specs.State.{ExecutesInside}
 use Rattle.bor_register.specs.Register.{empty_register}
-use Rattle.bor_store_texts.specs.Changes.{insert_register_text}
-use Rattle.bor_store_rows.specs.Encoding.{contents}
+use Rattle.bor_store_sql.specs.Texts.Changes.{insert_register_text}
+use Rattle.bor_store_sql.specs.Rows.Encoding.{contents}
 use Rattle.bor_store_sql.specs.Blank.{no_contents}
 use Rattle.bor_store_sql.specs.Shown.{Has}
 use Rattle.bor_store_sql.proofs.Creating.{given_register, register_put, one_lead}

@@ -1,7 +1,7 @@
 use Rattle.sqlite.specs.Held.{state}
-use Rattle.bor_store_texts.specs.Tables.{no_schema, schema_3, schema_6, first_schema}
+use Rattle.bor_store_sql.specs.Texts.Tables.{no_schema, schema_3, schema_6, first_schema}
 use Rattle.bor_register.specs.Register.{empty_register}
-use Rattle.bor_store_rows.specs.Encoding.{contents}
+use Rattle.bor_store_sql.specs.Rows.Encoding.{contents}
 use Rattle.bor_store_sql.specs.Shown.{Has}
 use Rattle.bor_store_sql.specs.Blank.{IsBlank, no_contents}
 use Rattle.bor_store_sql.proofs.Creating.{both_lead, finished, period_leads}

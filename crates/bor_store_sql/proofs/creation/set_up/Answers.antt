@@ -1,11 +1,11 @@
 use Rattle.std.proofs.Common.{◌≡◌, Ok, OnOk, IsTrue, not, ap, subst, ◌∙◌, rules, arith}
 use Rattle.sqlite.specs.Held.{state}
 use Rattle.sqlite.specs.declared.error.Error.{Error}
-use Rattle.bor_store_rows.specs.Encoding.{contents}
+use Rattle.bor_store_sql.specs.Rows.Encoding.{contents}
 use Rattle.sqlite.specs.State.{HasCleanDisk}
 use Rattle.bor_terms.specs.Day.{IsDay}
 use Rattle.bor_register.specs.Register.{empty_register}
-use Rattle.bor_store_texts.specs.Tables.{no_schema}
+use Rattle.bor_store_sql.specs.Texts.Tables.{no_schema}
 use Rattle.bor_store_sql.specs.Blank.{IsBlank, Leads}
 use Rattle.bor_store_sql.specs.Shown.{Has, ShowsIn}
 use Rattle.bor_store_sql.proofs.Creating.{empty_is_stored}

@@ -1,8 +1,8 @@
 use Rattle.std.proofs.Common.{◌≡◌, ◌+◌, ℕ, true≢false, sym, ap, ◌∙◌, arith}
 use Rattle.sqlite.specs.Order.{Row}
 use Rattle.bods_read.specs.declared.details.Identifier.{Identifier}
-use Rattle.bor_store_rows.specs.Encoding.{identifier_columns}
-use Rattle.bor_store_rows.specs.declared.places.At.{At}
+use Rattle.bor_store_sql.specs.Rows.Encoding.{identifier_columns}
+use Rattle.bor_store_sql.specs.declared.rows.places.At.{At}
 use Rattle.bor_store_sql.proofs.Pairs.{as_many, one_more, pair_at}
 use Rattle.bor_store_sql.proofs.fitting.are_identifiers.Goals as goal
 

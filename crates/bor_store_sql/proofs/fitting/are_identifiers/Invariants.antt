@@ -1,5 +1,5 @@
 use Rattle.std.proofs.Common.{◌≡◌, take}
-use Rattle.bor_store_rows.specs.Encoding.{identifier_columns}
+use Rattle.bor_store_sql.specs.Rows.Encoding.{identifier_columns}
 use Rattle.bor_store_sql.specs.Fitting.{Pairwise}
 use Rattle.bor_store_sql.proofs.fitting.are_identifiers.Given as goal
 

@@ -1,5 +1,5 @@
 use Rattle.std.proofs.Common.{◌≡◌, take}
-use Rattle.bor_store_rows.specs.Encoding.{interest_columns}
+use Rattle.bor_store_sql.specs.Rows.Encoding.{interest_columns}
 use Rattle.bor_store_sql.specs.Fitting.{Pairwise}
 use Rattle.bor_store_sql.proofs.fitting.are_interests.Given as goal
 

@@ -1,8 +1,8 @@
 use Rattle.std.proofs.Common.{◌≡◌, sym, ap, not, ◌∙◌}
 use Rattle.sqlite.specs.Order.{Row}
 use Rattle.sqlite.specs.Values.{bound}
-use Rattle.bor_store_rows.specs.Encoding.{statement_columns}
-use Rattle.bor_store_rows.specs.Placed.{bare}
+use Rattle.bor_store_sql.specs.Rows.Encoding.{statement_columns}
+use Rattle.bor_store_sql.specs.Rows.Placed.{bare}
 use Rattle.bor_store_sql.specs.Fitting.{columns_beside, standing}
 use Rattle.bor_store_sql.proofs.Fits.{beside_none, beside_some}
 use Rattle.bor_store_sql.proofs.fitting.is_statement.Goals.{then-is_none, else-is_none}

@@ -1,8 +1,8 @@
 use Rattle.std.proofs.Common.{◌≡◌, ℕ, List, map, refl}
 use Rattle.bods_read.specs.declared.interest.Interest.{Interest}
-use Rattle.bor_store_rows.specs.Encoding.{interest_columns}
-use Rattle.bor_store_rows.specs.Placed.{interests_from}
-use Rattle.bor_store_rows.specs.declared.places.At.{At}
+use Rattle.bor_store_sql.specs.Rows.Encoding.{interest_columns}
+use Rattle.bor_store_sql.specs.Rows.Placed.{interests_from}
+use Rattle.bor_store_sql.specs.declared.rows.places.At.{At}
 use Rattle.bor_store_sql.specs.Fitting.{Pairwise}
 use Rattle.bor_store_sql.specs.Selected.{interests_at}
 use Rattle.bor_store_sql.proofs.Pairs.{all_made, made_from}

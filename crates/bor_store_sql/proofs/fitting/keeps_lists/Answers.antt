@@ -2,9 +2,9 @@ use Rattle.std.proofs.Common.{◌≡◌, List, map, sym, subst}
 use Rattle.bods_read.specs.declared.details.Identifier.{Identifier}
 use Rattle.bods_read.specs.declared.interest.Interest.{Interest}
 use Rattle.bor_register.specs.Register.{Register}
-use Rattle.bor_store_rows.specs.Encoding.{identifier_columns, interest_columns}
-use Rattle.bor_store_rows.specs.Placed.{identifiers_from, interests_from}
-use Rattle.bor_store_rows.specs.declared.places.At.{At}
+use Rattle.bor_store_sql.specs.Rows.Encoding.{identifier_columns, interest_columns}
+use Rattle.bor_store_sql.specs.Rows.Placed.{identifiers_from, interests_from}
+use Rattle.bor_store_sql.specs.declared.rows.places.At.{At}
 use Rattle.bor_store_sql.specs.Selected.{identifiers_at, interests_at}
 use Rattle.bor_store_sql.proofs.Told.{no_answer, told_after, told_unless}
 use Rattle.bor_store_sql.proofs.fitting.keeps_lists.Goals as goal

@@ -1,7 +1,7 @@
 use Rattle.std.proofs.Common.{[], map}
 use Rattle.sqlite.specs.Effect.{Database}
 use Rattle.sqlite.specs.Held.{state}
-use Rattle.bor_store_rows.specs.Encoding.{Contents, period_columns}
+use Rattle.bor_store_sql.specs.Rows.Encoding.{Contents, period_columns}
 use Rattle.bor_store_sql.specs.Moving.{MakesPeriod, PutsPeriods, SetsVersion, MovesRows}
 use Rattle.bor_store_sql.specs.Shown.{Has, HasFirst}
 use Rattle.bor_store_sql.proofs.Moves.{both_move}

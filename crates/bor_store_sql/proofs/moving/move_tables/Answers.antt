@@ -1,7 +1,7 @@
 use Rattle.std.proofs.Common.{◌≡◌, map, OnOk, IsTrue, not, ap, subst, ◌∙◌, rules, arith}
 use Rattle.sqlite.specs.Held.{state}
 use Rattle.sqlite.specs.State.{HasCleanDisk}
-use Rattle.bor_store_rows.specs.Encoding.{contents, period_columns, tables_version}
+use Rattle.bor_store_sql.specs.Rows.Encoding.{contents, period_columns, tables_version}
 use Rattle.bor_store_sql.specs.Moving.{MovesRows, with_version}
 use Rattle.bor_store_sql.specs.Shown.{Has, ShowsIn, first_contents}
 use Rattle.bor_store_sql.proofs.Moves.{committed_moves, on_ok}

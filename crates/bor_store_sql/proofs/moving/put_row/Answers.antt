@@ -1,7 +1,7 @@
 use Rattle.std.proofs.Common.{[], ◌∷◌, ap, ◌∙◌}
 use Rattle.sqlite.specs.Held.{state}
-use Rattle.bor_store_rows.specs.Encoding.{period_columns}
-use Rattle.bor_store_texts.specs.Changes.{insert_period_text}
+use Rattle.bor_store_sql.specs.Rows.Encoding.{period_columns}
+use Rattle.bor_store_sql.specs.Texts.Changes.{insert_period_text}
 use Rattle.bor_store_sql.specs.Moving.{PutsPeriods}
 use Rattle.bor_store_sql.proofs.Adding.{period_put}
 use Rattle.bor_store_sql.proofs.Beside.{moves_by}

@@ -1,8 +1,8 @@
 use Rattle.std.proofs.Common.{[], ◌∷◌}
 use Rattle.sqlite.specs.Held.{state}
 use Rattle.sqlite.specs.declared.types.Value.TheVariants.{Int}
-use Rattle.bor_store_texts.specs.Changes.{update_version_text}
-use Rattle.bor_store_rows.specs.Encoding.{tables_version}
+use Rattle.bor_store_sql.specs.Texts.Changes.{update_version_text}
+use Rattle.bor_store_sql.specs.Rows.Encoding.{tables_version}
 use Rattle.bor_store_sql.specs.Moving.{SetsVersion}
 use Rattle.bor_store_sql.proofs.Versioning.{version_updated}
 use Rattle.bor_store_sql.proofs.Beside.{moves_by}

@@ -3,7 +3,7 @@ use Rattle.sqlite.specs.Held.{state}
 use Rattle.sqlite.specs.declared.error.Error.{Error}
 use Rattle.sqlite.specs.State.{HasCleanDisk}
 use Rattle.bor_register.specs.Register.{new_member}
-use Rattle.bor_store_rows.specs.Encoding.{agent_columns}
+use Rattle.bor_store_sql.specs.Rows.Encoding.{agent_columns}
 use Rattle.bor_store_sql.specs.Changing.{Any, with_agent_row, enrolled}
 use Rattle.bor_store_sql.proofs.AddedContents.{enrolled_has}
 use Rattle.bor_store_sql.specs.Shown.{Steps, ShowsIn}

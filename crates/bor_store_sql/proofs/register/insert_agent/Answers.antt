@@ -1,8 +1,8 @@
 use Rattle.sqlite.specs.Held.{state}
 use Rattle.sqlite.specs.State.{ExecutesInside}
 use Rattle.bor_register.specs.Register.{new_member}
-use Rattle.bor_store_texts.specs.Changes.{insert_agent_text}
-use Rattle.bor_store_rows.specs.Encoding.{agent_columns}
+use Rattle.bor_store_sql.specs.Texts.Changes.{insert_agent_text}
+use Rattle.bor_store_sql.specs.Rows.Encoding.{agent_columns}
 use Rattle.bor_store_sql.specs.Changing.{Any, with_agent_row}
 use Rattle.bor_store_sql.proofs.Stepping.{one_step}
 use Rattle.bor_store_sql.proofs.Adding.{agent_put}

@@ -3,7 +3,7 @@ use Rattle.sqlite.specs.Held.{state}
 use Rattle.sqlite.specs.Order.{Row}
 use Rattle.sqlite.specs.declared.types.Value.TheVariants.{Int}
 use Rattle.sqlite.specs.State.{ExecutesInside}
-use Rattle.bor_store_texts.specs.Changes.{update_day_text}
+use Rattle.bor_store_sql.specs.Texts.Changes.{update_day_text}
 use Rattle.bor_store_sql.specs.Changing.{IsOneRegister, with_day}
 use Rattle.bor_store_sql.proofs.Stepping.{one_step}
 use Rattle.bor_store_sql.proofs.Dating.{day_updated}

@@ -1,6 +1,6 @@
 use Rattle.std.proofs.Common.{refl, sym, subst, ◌∙◌}
 use Rattle.bor_register.specs.Register.{caller_of}
-use Rattle.bor_wire_reply.specs.Replies.{answered}
+use Rattle.bor_wire.specs.Rendering.Replies.{answered}
 use Rattle.bor_wire.proofs.Outgoings.{long_leaves}
 use Rattle.bor_wire.proofs.outgoing.answered.Goals as goal
 

@@ -1,5 +1,5 @@
 use Rattle.std.proofs.Common.{Ok, Err, refl}
-use Rattle.bor_wire_spell.specs.Spell.{spell}
+use Rattle.bor_http.specs.Spelling.Spell.{spell}
 use Rattle.bor_wire.proofs.Outgoings.{by_outgoing, if_unavailable, refusal_goes, spelled_known, refused_out, is_that, nothing_out}
 use Rattle.bor_wire.proofs.outgoing.read_reply.Goals as goal
 

@@ -1,7 +1,7 @@
 use Rattle.std.proofs.Common.{◌≡◌, ◌≤◌, ◌<◌, length, map, take, sym, subst, ◌∙◌, arith}
 use Rattle.std.proofs.lemmas.List.{map_more, length-take-le, length-map, take_all}
 use Rattle.std.proofs.lemmas.Grind.{common_steps}
-use Rattle.bor_machine.specs.Legality.{IsLegal}
+use Rattle.bor_desk.specs.Operations.Legality.{IsLegal}
 use Rattle.bor_wire.specs.Runs.{AreReplies, register_left, full}
 use Rattle.bor_wire.proofs.RunLaws.{legal_reply, so_far_more, spelled_once}
 use Rattle.bor_wire.proofs.HistoryLaws.{alone}

@@ -1,5 +1,5 @@
 use Rattle.std.proofs.Common.{◌≡◌, take, length, vec_capacity, map}
-use Rattle.bor_machine.specs.Legality.{IsLegal}
+use Rattle.bor_desk.specs.Operations.Legality.{IsLegal}
 use Rattle.bor_wire.proofs.RunLaws.{IsSoFar}
 use Rattle.bor_wire.proofs.replies.replay.Given as goal
 

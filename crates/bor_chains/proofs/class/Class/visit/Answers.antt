@@ -1,6 +1,6 @@
 use Rattle.std.proofs.Common.{Option, Bor, sym, ap, ◌∙◌}
 use Rattle.std.specs.Prelude.{option_map}
-use Rattle.bor_links.specs.declared.node.OpenNode.{OpenNode}
+use Rattle.bor_records.specs.declared.links.node.OpenNode.{OpenNode}
 use Rattle.bor_chains.proofs.Signs.{under}
 use Rattle.bor_chains.proofs.Classes.{visit_again, visit_none, visit_entity}
 use Rattle.bor_chains.proofs.class.Class.visit.Goals as goal

@@ -2,14 +2,14 @@ use Rattle.std.proofs.Common.{◌≡◌, ◌∙◌, ℕ, List, Contains, map, sy
 use Rattle.std.specs.List.{IsDistinct, filter_map}
 use Rattle.std.specs.BTreeMap.{get}
 use Rattle.bor_records.specs.declared.row.Row.{Row}
-use Rattle.bor_links.specs.declared.node.OpenNode.{OpenNode}
-use Rattle.bor_links.specs.declared.node.Link.{Link}
-use Rattle.bor_links.specs.Nodes.{same_node, node_cmp}
-use Rattle.bor_links.specs.Rows.{nodes_of, node_in, link_in}
+use Rattle.bor_records.specs.declared.links.node.OpenNode.{OpenNode}
+use Rattle.bor_records.specs.declared.links.node.Link.{Link}
+use Rattle.bor_records.specs.Links.Nodes.{same_node, node_cmp}
+use Rattle.bor_records.specs.Links.Rows.{nodes_of, node_in, link_in}
 use Rattle.bor_chains.specs.Tables.{ArePlaces, AreInto, IsBelow, items_at}
 use Rattle.bor_chains.specs.Likeness.{AreUnder}
 use Rattle.bor_chains.proofs.Signs.{under}
-use Rattle.bor_links.proofs.Series.{nodes_distinct}
+use Rattle.bor_records.proofs.OnLinks.Series.{nodes_distinct}
 use Rattle.bor_chains.proofs.Beside.{subject_placed}
 use Rattle.bor_chains.proofs.list_source.ListSource.from_rows.Goals as goal
 

@@ -1,10 +1,10 @@
 use Rattle.std.proofs.Common.{◌≡◌, ◌∙◌, ℕ, List, [], Option, sym, ap, subst, Bor, Vec, Global}
 use Rattle.std.specs.BTreeMap.{get}
-use Rattle.bor_links.specs.declared.node.Node.{Node}
-use Rattle.bor_links.specs.declared.node.Link.{Link}
-use Rattle.bor_links.specs.Nodes.{node_cmp}
-use Rattle.bor_links.specs.Shown.{Shown}
-use Rattle.bor_links.specs.Answers.{AreLinksInto}
+use Rattle.bor_records.specs.declared.links.node.Node.{Node}
+use Rattle.bor_records.specs.declared.links.node.Link.{Link}
+use Rattle.bor_records.specs.Links.Nodes.{node_cmp}
+use Rattle.bor_records.specs.Links.Shown.{Shown}
+use Rattle.bor_records.specs.Links.Answers.{AreLinksInto}
 use Rattle.bor_chains.specs.Listing.{Listing}
 use Rattle.bor_chains.specs.Tables.{items_of, items_at, links_at}
 use Rattle.bor_chains.proofs.Beside.{into_told}

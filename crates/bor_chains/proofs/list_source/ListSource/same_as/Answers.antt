@@ -1,15 +1,15 @@
 use Rattle.std.proofs.Common.{◌≡◌, None, Some, List, length, sym, ap, ◌∙◌, subst}
 use Rattle.std.specs.List.{slice_get}
 use Rattle.std.specs.BTreeMap.{get}
-use Rattle.bor_links.specs.declared.node.Node.{Node}
-use Rattle.bor_links.specs.declared.node.OpenNode.{OpenNode}
-use Rattle.bor_links.specs.Nodes.{node_cmp}
-use Rattle.bor_links.specs.Shown.{Shown, listed_at}
+use Rattle.bor_records.specs.declared.links.node.Node.{Node}
+use Rattle.bor_records.specs.declared.links.node.OpenNode.{OpenNode}
+use Rattle.bor_records.specs.Links.Nodes.{node_cmp}
+use Rattle.bor_records.specs.Links.Shown.{Shown, listed_at}
 use Rattle.bor_chains.specs.Listing.{Listing}
 use Rattle.bor_chains.specs.Tables.{placed}
 use Rattle.bor_chains.specs.Likeness.{AreUnder}
-use Rattle.bor_links.specs.Answers.{AreSame}
-use Rattle.bor_links.proofs.Listed.{found_is}
+use Rattle.bor_records.specs.Links.Answers.{AreSame}
+use Rattle.bor_records.proofs.OnLinks.Listed.{found_is}
 use Rattle.bor_chains.proofs.Signs.{under}
 use Rattle.bor_chains.proofs.Classes.{if_ok, place_is, place_none, same_unlisted}
 use Rattle.bor_chains.proofs.list_source.ListSource.same_as.Goals as goal

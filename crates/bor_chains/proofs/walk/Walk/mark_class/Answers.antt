@@ -1,6 +1,6 @@
 use Rattle.std.proofs.Common.{List, Contains, subst}
-use Rattle.bor_links.specs.declared.node.Node.{Node}
-use Rattle.bor_links.specs.Growth.{Grown}
+use Rattle.bor_records.specs.declared.links.node.Node.{Node}
+use Rattle.bor_records.specs.Links.Growth.{Grown}
 use Rattle.bor_chains.specs.Marks.{IsOneOf}
 use Rattle.bor_chains.proofs.Telling.{class_all, class_there}
 use Rattle.bor_chains.proofs.walk.Walk.mark_class.Goals as goal

@@ -1,7 +1,7 @@
 use Rattle.std.proofs.Common.{sym, subst}
 use Rattle.std.specs.Prelude.{◌↔◌}
 use Rattle.sqlite.specs.Held.{state}
-use Rattle.bor_links.specs.Answers.{AreLinksInto}
+use Rattle.bor_records.specs.Links.Answers.{AreLinksInto}
 use Rattle.bor_register.specs.Seen.{seen_at}
 use Rattle.bor_store_sql.specs.Shown.{IsClean, ShowsIn}
 use Rattle.bor_store.proofs.Kept.{still_kept}

@@ -1,6 +1,6 @@
 use Rattle.std.proofs.Common.{◌∙◌, ℕ, List, Some, sym, ap}
 use Rattle.std.specs.Prelude.{option_copied}
-use Rattle.bor_store_rows.specs.declared.places.At.{At}
+use Rattle.bor_store_sql.specs.declared.rows.places.At.{At}
 use Rattle.bor_store_keys.specs.declared.found.PlaceKey.{PlaceKey}
 use Rattle.bor_store_keys.specs.Signed.{record_standing}
 use Rattle.bor_store_keys.proofs.found.Found.placed.Goals as goal

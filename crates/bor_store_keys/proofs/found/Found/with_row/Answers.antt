@@ -1,8 +1,8 @@
 use Rattle.std.proofs.Common.{◌≡◌}
 use Rattle.std.specs.BTreeMap.{get}
-use Rattle.bor_links.specs.Nodes.{node_cmp}
-use Rattle.bor_links.specs.Series.{open_at}
-use Rattle.bor_links.proofs.Exact.{exact_node}
+use Rattle.bor_records.specs.Links.Nodes.{node_cmp}
+use Rattle.bor_records.specs.Links.Series.{open_at}
+use Rattle.bor_records.proofs.OnLinks.Exact.{exact_node}
 use Rattle.bor_store_keys.specs.Viewed.{rows_seen}
 use Rattle.bor_store_keys.proofs.Holding.{one_more}
 use Rattle.bor_store_keys.proofs.found.Found.with_row.Goals as goal

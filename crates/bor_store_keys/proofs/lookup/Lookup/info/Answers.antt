@@ -1,7 +1,7 @@
 use Rattle.std.proofs.Common.{◌≡◌, ap, subst}
 use Rattle.std.proofs.lemmas.Result.{IfOk-weaker}
 use Rattle.sqlite.specs.Held.{state}
-use Rattle.bor_links.specs.Shown.{info_of}
+use Rattle.bor_records.specs.Links.Shown.{info_of}
 use Rattle.bor_store_keys.specs.declared.view.View.{View}
 use Rattle.bor_store_keys.specs.Viewed.{seen}
 use Rattle.bor_store_keys.proofs.Holding.{of_found}

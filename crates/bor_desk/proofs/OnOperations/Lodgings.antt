@@ -1,0 +1,185 @@
+-- What a lodging is refused for, and what a refused one leaves.
+use Rattle.std.proofs.Common.{◌≡◌, ℕ, zero, suc, ℤ, ◌+◌, ◌<◌, ◌≤◌, subst, List, [], ◌∷◌, ◌++◌, length, take, drop, get_or, set, map, true, false, None, Result, Ok, Err, refl, ◌∙◌, sym, ap, append_assoc, arith}
+use Rattle.std.specs.Prelude.{◌≢◌, ◌%◌, ◌^◌, pos, Some, Bool, nat_le, int_lt, if◌then◌else◌}
+use Rattle.std.proofs.lemmas.Bool.{leb-false}
+use Rattle.std.proofs.lemmas.List.{take_more_set, drop_more, drop-set-lt, append-nil, map-append, take_all}
+use Rattle.bods_read.specs.declared.statement.Statement.{Statement}
+use Rattle.bods_read.specs.declared.statement.Status.{Status}
+use Rattle.bods_read.specs.declared.fault.FileFault.{FileFault}
+use Rattle.bods_read.specs.File.{reading}
+use Rattle.bor_records.specs.declared.fault.RecordFault.{RecordFault}
+use Rattle.bor_records.specs.Admission.{Live, last_of, refusals, settled_status, unless_refused, admission}
+use Rattle.bor_records.specs.Settling.{Refusal, by_record, PlacedRefusal, has_id, verdict, as_settled, as_live, ahead, settled_then, settled_from, settled}
+use Rattle.bor_desk.specs.declared.operations.fault.LodgeFault.{LodgeFault}
+use Rattle.bor_desk.specs.declared.operations.fault.LodgeFault.TheVariants.{FilingsFull, DuePast, StatementTwice, Record}
+use Rattle.bor_register.specs.declared.filing.AcceptedFiling.{AcceptedFiling}
+use Rattle.bor_register.specs.Register.{Register, filings_of, filing_keyed}
+use Rattle.bods_read.specs.declared.details.Details.TheVariants.{Person}
+use Rattle.bods_read.specs.declared.details.PersonKind.TheVariants.{KnownPerson}
+use Rattle.bor_register.specs.Live.{accepted, live_of}
+use Rattle.bor_desk.specs.Operations.Sight.{Sight}
+use Rattle.bor_desk.specs.Operations.Lodging.{fault_at, told_verdict, told_settled, settled_reading, as_read, repeated, filing_of, addition, lodge_step}
+use Rattle.bor_desk.specs.Operations.Outcomes.{of_lodging, IsOutcome, Refuses, IsDone}
+use Rattle.bor_desk.specs.declared.operations.lodging.Lodged.{Lodged}
+use Rattle.bor_register.specs.Limits.{filings_limit}
+use Rattle.bor_desk.proofs.OnOperations.Outcomes.{unless_store, refused}
+use Rattle.bor_register.proofs.Members.{with_filings_same}
+
+-- a count that goes up by one, modulo 2^64, is another
+pub moved : (n : ℕ) → (n + 1) % 2 ^ 64 ≢ n
+moved n = λ e. omega arith
+
+-- ---- one statement
+
+pub verdict-taken : (place : ℕ) (live : List Live) (s : Statement) (due : ℤ) → has_id s.id live ≡ true → told_verdict place (verdict live s due) ≡ Err (StatementTwice place)
+verdict-taken place live s due taken = rw taken refl
+
+by_rules-ok : (rs : List RecordFault) (x st : Status) (place : ℕ) → unless_refused rs x ≡ Ok st → told_verdict place (unless_refused (map by_record rs) x) ≡ Ok st
+by_rules-ok [] x st place h = ap (λ (y : Status). Ok y) cc
+by_rules-ok (r ∷ rs) x st place h = absurd cc
+
+by_rules-err : (rs : List RecordFault) (x : Status) (f : RecordFault) (place : ℕ) → unless_refused rs x ≡ Err f → told_verdict place (unless_refused (map by_record rs) x) ≡ Err (Record place f)
+by_rules-err [] x f place h = absurd cc
+by_rules-err (r ∷ rs) x f place h = ap (λ (y : RecordFault). Err (Record place y)) cc
+
+pub verdict-ok : (place : ℕ) (live : List Live) (s : Statement) (due : ℤ) (st : Status) → has_id s.id live ≡ false → admission (last_of s.declaration s.rec live) s due ≡ Ok st → told_verdict place (verdict live s due) ≡ Ok st
+verdict-ok place live s due st free h = rw free (by_rules-ok (refusals (last_of s.declaration s.rec live) s due) (settled_status (last_of s.declaration s.rec live) s.status) st place h)
+
+pub verdict-err : (place : ℕ) (live : List Live) (s : Statement) (due : ℤ) (f : RecordFault) → has_id s.id live ≡ false → admission (last_of s.declaration s.rec live) s due ≡ Err f → told_verdict place (verdict live s due) ≡ Err (Record place f)
+verdict-err place live s due f free h = rw free (by_rules-err (refusals (last_of s.declaration s.rec live) s due) (settled_status (last_of s.declaration s.rec live) s.status) f place h)
+
+pub ruleset verdict_rules = (verdict-taken, verdict-ok, verdict-err)
+
+-- ---- a file's statements, one after the other
+
+-- what is made of statements, behind those that are settled
+abbrev pub behind : List Statement → Result (List Statement) PlacedRefusal → Result (List Statement) PlacedRefusal
+behind front (Ok ss) = Ok (front ++ ss)
+behind front (Err refusal) = Err refusal
+
+-- the first i statements are settled, and the others are as they were read
+abbrev pub so_far : List Live → ℤ → List Statement → ℕ → Result (List Statement) PlacedRefusal
+so_far live due ss i = behind (take i ss) (settled_from (i + 1) (live ++ map (as_live due) (take i ss)) due (drop i ss))
+
+behind-nil : (x : Result (List Statement) PlacedRefusal) → behind [] x ≡ x
+behind-nil (Ok ss) = refl
+behind-nil (Err e) = refl
+
+pub so_far-begin : (live : List Live) (due : ℤ) (ss : List Statement) → so_far live due ss 0 ≡ settled live due ss
+so_far-begin live due ss = behind-nil (settled_from 1 (live ++ []) due ss) ∙ ap (λ ls. settled_from 1 ls due ss) (append-nil live)
+
+behind-ahead : (front : List Statement) (s : Statement) (x : Result (List Statement) PlacedRefusal) → behind front (ahead s x) ≡ behind (front ++ s ∷ []) x
+behind-ahead front s (Ok ss) = ap (λ (ys : List Statement). Ok ys) (sym (append_assoc front (s ∷ []) ss))
+behind-ahead front s (Err e) = refl
+
+verdict_is : (place : ℕ) (v : Result Status Refusal) (st : Status) → told_verdict place v ≡ Ok st → v ≡ Ok st
+verdict_is place (Ok x) st h = cc
+verdict_is place (Err w) st h = absurd cc
+
+live-more : (live : List Live) (due : ℤ) (front : List Statement) (s : Statement) → (live ++ map (as_live due) front) ++ as_live due s ∷ [] ≡ live ++ map (as_live due) (front ++ s ∷ [])
+live-more live due front s = append_assoc live (map (as_live due) front) (as_live due s ∷ []) ∙ ap (λ ls. live ++ ls) (sym (map-append (as_live due) front (s ∷ [])))
+
+pub so_far-more : (live : List Live) (due : ℤ) (ss : List Statement) (i place : ℕ) (d : Statement) (st : Status) → i < length ss →
+    told_verdict place (verdict (live ++ map (as_live due) (take i ss)) (get_or ss i d) due) ≡ Ok st → so_far live due ss i ≡ so_far live due (set ss i (as_settled st (get_or ss i d))) (i + 1)
+so_far-more live due ss i place d st lt told =
+    let s = get_or ss i d in
+    let front = take i ss in
+    let before = live ++ map (as_live due) front in
+    let next = as_settled st s in
+    let rest = drop (i + 1) ss in
+    let is = verdict_is place (verdict before s due) st told in
+    let below : i < i + 1 = omega arith in
+    ap (λ ys. behind front (settled_from (i + 1) before due ys)) (drop_more ss i d lt)
+    ∙ ap (λ v. behind front (settled_then (i + 1) s v (λ x. settled_from (i + 1 + 1) (before ++ as_live due x ∷ []) due rest))) is
+    ∙ behind-ahead front next (settled_from (i + 1 + 1) (before ++ as_live due next ∷ []) due rest)
+    ∙ ap (λ ls. behind (front ++ next ∷ []) (settled_from (i + 1 + 1) ls due rest)) (live-more live due front next)
+    ∙ sym (ap (λ ys. behind ys (settled_from (i + 1 + 1) (live ++ map (as_live due) ys) due (drop (i + 1) (set ss i next)))) (take_more_set ss i next lt)
+    ∙ ap (λ ys. behind (front ++ next ∷ []) (settled_from (i + 1 + 1) (live ++ map (as_live due) (front ++ next ∷ [])) due ys)) (drop-set-lt (i + 1) ss i next below))
+
+drop_past : (ss : List Statement) (i : ℕ) → length ss ≤ i → drop i ss ≡ []
+drop_past [] zero le = refl
+drop_past [] (suc i) le = refl
+drop_past (s ∷ ss) zero le = absurd (omega arith)
+drop_past (s ∷ ss) (suc i) le = drop_past ss i (omega arith)
+
+pub so_far-end : (live : List Live) (due : ℤ) (ss : List Statement) (i : ℕ) → length ss ≤ i → so_far live due ss i ≡ Ok ss
+so_far-end live due ss i le =
+    ap (λ ys. behind (take i ss) (settled_from (i + 1) (live ++ map (as_live due) (take i ss)) due ys)) (drop_past ss i le)
+    ∙ ap (λ (ys : List Statement). Ok ys) (append-nil (take i ss) ∙ take_all i ss le)
+
+refused_is : (e : LodgeFault) (front : List Statement) (place : ℕ) (s : Statement) (v : Result Status Refusal) (rest : Statement → Result (List Statement) PlacedRefusal) →
+    told_verdict place v ≡ Err e → told_settled (behind front (settled_then place s v rest)) ≡ Err e
+refused_is e front place s (Ok st) rest h = absurd cc
+refused_is e front place s (Err w) rest h = let same : fault_at place w ≡ e = cc in ap (λ (x : LodgeFault). Err x) same
+
+refused_then : (e : LodgeFault) (front : List Statement) (place : ℕ) (s : Statement) (v : Result Status Refusal) (rest : Statement → Result (List Statement) PlacedRefusal) →
+    Refuses of_lodging e (told_verdict place v) → Refuses of_lodging e (told_settled (behind front (settled_then place s v rest)))
+refused_then e front place s v rest h = unless_store (of_lodging e) _ _ (refused_is e front place s v rest) h
+
+pub so_far-refused : (e : LodgeFault) (live : List Live) (due : ℤ) (ss : List Statement) (i place : ℕ) (d : Statement) → i < length ss → place ≡ i + 1 →
+    Refuses of_lodging e (told_verdict place (verdict (live ++ map (as_live due) (take i ss)) (get_or ss i d) due)) → Refuses of_lodging e (told_settled (so_far live due ss i))
+so_far-refused e live due ss i place d lt at h =
+    let before = live ++ map (as_live due) (take i ss) in
+    let here = subst (λ p. Refuses of_lodging e (told_verdict p (verdict before (get_or ss i d) due))) at h in
+    let all = refused_then e (take i ss) (i + 1) (get_or ss i d) (verdict before (get_or ss i d) due) (λ x. settled_from (i + 1 + 1) (before ++ as_live due x ∷ []) due (drop (i + 1) ss)) here in
+    subst (λ ys. Refuses of_lodging e (told_settled (behind (take i ss) (settled_from (i + 1) before due ys)))) (sym (drop_more ss i d lt)) all
+
+-- ---- a file that isn't read
+
+unread_is : (e : LodgeFault) (live : List Live) (due : ℤ) (file : Result (List Statement) FileFault) → as_read file ≡ Err e → settled_reading live due file ≡ Err e
+unread_is e live due (Ok ss) h = absurd cc
+unread_is e live due (Err g) h = h
+
+-- a file that isn't read refuses the lodging
+pub refuses-unread : (e : LodgeFault) (live : List Live) (due : ℤ) (file : Result (List Statement) FileFault) → Refuses of_lodging e (as_read file) → Refuses of_lodging e (settled_reading live due file)
+refuses-unread e live due file h = unless_store (of_lodging e) _ _ (unread_is e live due file) h
+
+pub settled-read : (live : List Live) (due : ℤ) (ss : List Statement) (file : Result (List Statement) FileFault) → as_read file ≡ Ok ss → settled_reading live due file ≡ told_settled (settled live due ss)
+settled-read live due ss (Ok s) h = ap (λ (x : List Statement). told_settled (settled live due x)) cc
+settled-read live due ss (Err f) h = absurd cc
+
+pub ruleset reading_rules = (settled-read)
+
+-- ---- a key that is there
+
+repeated_step : (r : Register) (name key : List ℕ) (due : ℤ) (bytes : List ℕ) (f : AcceptedFiling) → filing_keyed key (filings_of name r.members) ≡ Some f →
+    ((lodge_step r name key due bytes).answer ≡ repeated r.day due bytes f) × ((lodge_step r name key due bytes).register ≡ r)
+repeated_step r name key due bytes f found = (rw found refl, rw (found, with_filings_same name r.members) refl)
+
+-- a filing that is told again leaves the register
+pub repeat_outcome : (told : Result Lodged LodgeFault) (shown : Register → Type 0) (r : Register) (name key : List ℕ) (due : ℤ) (bytes : List ℕ) (f : AcceptedFiling) →
+    filing_keyed key (filings_of name r.members) ≡ Some f → IsDone of_lodging (λ lodged. lodged) told (repeated r.day due bytes f) → shown r → IsOutcome of_lodging told shown r (lodge_step r name key due bytes)
+repeat_outcome (Ok lodged) shown r name key due bytes f found h is = let p = repeated_step r name key due bytes f found in (p.0 ∙ h, subst shown (sym p.1) is)
+repeat_outcome (Err e) shown r name key due bytes f found h is =
+    let p = repeated_step r name key due bytes f found in
+    refused of_lodging e shown r (lodge_step r name key due bytes) (unless_store (of_lodging e) _ _ (λ same. (p.0 ∙ same, p.1)) h) is
+
+-- ---- a key that is new
+
+-- an agent that adds a filing has room for it
+pub addition_room : (s : Sight) (key : List ℕ) (due : ℤ) (bytes : List ℕ) (f : AcceptedFiling) → addition s key due bytes ≡ Ok f → length s.own < filings_limit
+addition_room s key due bytes f h = by_test (nat_le filings_limit (length s.own)) _ refl h
+  where
+    by_test : (full : Bool) (rest : Result AcceptedFiling LodgeFault) → nat_le filings_limit (length s.own) ≡ full → (if full then Err FilingsFull else rest) ≡ Ok f → length s.own < filings_limit
+    by_test true rest e told = absurd cc
+    by_test false rest e told = leb-false filings_limit (length s.own) e
+
+-- what it adds has the statements of the file, settled, and is its next filing
+pub addition_is : (s : Sight) (key : List ℕ) (due : ℤ) (bytes : List ℕ) (f : AcceptedFiling) → addition s key due bytes ≡ Ok f →
+    (settled_reading (live_of s.own) due (reading bytes) ≡ Ok f.statements) × (f ≡ accepted s.own key due bytes f.statements)
+addition_is s key due bytes f h = by_tests (nat_le filings_limit (length s.own)) (int_lt due s.day) (settled_reading (live_of s.own) due (reading bytes)) h
+  where
+    by_tests : (full past : Bool) (read : Result (List Statement) LodgeFault) →
+        (if full then Err FilingsFull else (if past then Err DuePast else filing_of s.own key due bytes read)) ≡ Ok f →
+        (read ≡ Ok f.statements) × (f ≡ accepted s.own key due bytes f.statements)
+    by_tests true past read told = absurd cc
+    by_tests false true read told = absurd cc
+    by_tests false false (Err fault) told = absurd cc
+    by_tests false false (Ok ss) told =
+        let same : accepted s.own key due bytes ss ≡ f = cc in
+        let statements = ap (λ (g : AcceptedFiling). g.statements) same in
+        (ap (λ (xs : List Statement). Ok xs) statements, sym same ∙ ap (accepted s.own key due bytes) statements)
+
+-- a statement that stands for none
+pub no_statement : Statement
+no_statement = record { id = []; day = pos 0; declaration = []; rec = []; status = None; details = Person KnownPerson None }

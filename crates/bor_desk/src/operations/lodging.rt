@@ -1,0 +1,319 @@
+//! Lodging a file.
+
+ghost use Rattle.std.specs.Prelude.{◌≡◌, ◌<◌, ◌≤◌, ◌+◌, ◌++◌, take, slice_index_or, ℕ, List, Some, None, IfOk, map, length, true, nat_le, int_lt, Ok, Err, if◌then◌else◌};
+ghost use Rattle.bods_read.specs.File.{reading};
+ghost use Rattle.bods_read.specs.Limits.{statements_limit};
+ghost use Rattle.bods_read.specs.declared.statement.Statement.{Statement};
+ghost use Rattle.bor_records.specs.Admission.{last_of};
+ghost use Rattle.bor_records.specs.Settling.{as_live, has_id, settled, verdict};
+ghost use Rattle.bor_register.specs.declared.filing.AcceptedFiling.{AcceptedFiling};
+ghost use Rattle.bor_register.specs.Register.{Register, is_enrolled, filings_of, filing_keyed};
+ghost use Rattle.bor_register.specs.Live.{accepted, live_of};
+ghost use Rattle.bor_register.specs.Publication.{state_of_live, line_of};
+ghost use Rattle.bor_records.specs.Promises.{Kept, Promised, Reads, Sure};
+ghost use Rattle.bor_desk.specs.declared.operations.fault.LodgeFault.TheVariants as lodge_faults;
+ghost use Rattle.bor_register.specs.Limits.{filings_limit};
+ghost use Rattle.bor_desk.specs.Operations.Lodging.{as_read, told_settled, told_verdict, settled_reading, repeated, addition, lodge_step};
+ghost use Rattle.bor_desk.specs.Operations.Outcomes.{of_lodging, IsOutcome, IsAccounted, IsDone, IsMade};
+ghost use Rattle.bor_desk.specs.Operations.Legality.{IsLegal};
+ghost use Rattle.bor_desk.specs.Operations.Sight.{sight_of};
+
+use crate::operations::fault::LodgeFault;
+use bods_read::{ReadFault, Statement, Status, read_file};
+use bor_records::{Last, admit};
+use bor_register::keeping::Keep;
+use bor_register::{FilingLine, State, StoreFault, any_has_id, last_in};
+use bor_terms::{AgentName, Day, Ident, LodgeKey};
+use std::alloc::Global;
+
+/// The filings that an agent may have for good, withdrawn ones included.
+pub const FILINGS_LIMIT: usize = 999;
+
+/// What an agent is told of a filing that it lodged.
+#[derive(Clone, Copy, Debug, PartialEq, Eq)]
+pub struct Lodged {
+    pub number: u32,
+    pub due: Day,
+    pub state: State,
+    /// Whether the filing is new, and not one that was lodged before in the same way.
+    pub fresh: bool,
+}
+
+fn read(alloc: Global, bytes: &[u8]) -> Result<Vec<Statement>, LodgeFault>
+    ensures few { IfOk result (λ statements. length statements.items ≤ statements_limit) }
+    ensures read { IsMade (λ statements. statements.items) result (as_read (reading bytes.now)) }
+{
+    match read_file(alloc, bytes) {
+        Ok(statements) => Ok(statements),
+        Err(ReadFault::File(fault)) => Err(LodgeFault::Read(fault)),
+        Err(ReadFault::Memory) => Err(LodgeFault::Store(StoreFault::Memory)),
+    }
+}
+
+// Whether a live statement of the agent or an earlier one of the file has the identifier.
+#[tactic(auto, using(bor_register::proofs::LiveStatements::file_rules, crate::proofs::OnOperations::Lodgings::moved))]
+fn is_taken<K: Keep>(
+    keep: &mut K,
+    agent: &AgentName,
+    due: Day,
+    earlier: &[Statement],
+    id: &Ident,
+) -> Result<bool, StoreFault>
+    ensures { Reads K.shows K.is_clean K.fault_count K.may_tell keep.old keep.new result (λ r taken.
+        taken ≡ has_id id.now (live_of (filings_of agent.now r.members) ++ map (as_live due) earlier.now)) }
+{
+    if any_has_id(earlier, id) {
+        return Ok(true);
+    }
+    keep.has_statement(agent, id)
+}
+
+// What is known of the record's last statement, in the file or before it.
+#[tactic(auto, using(bor_register::proofs::LiveStatements::file_rules, crate::proofs::OnOperations::Lodgings::moved))]
+fn last<K: Keep>(
+    keep: &mut K,
+    agent: &AgentName,
+    due: Day,
+    earlier: &[Statement],
+    statement: &Statement,
+) -> Result<Option<Last>, StoreFault>
+    ensures { Reads K.shows K.is_clean K.fault_count K.may_tell keep.old keep.new result (λ r last.
+        last ≡ last_of statement.now.declaration statement.now.rec
+        (live_of (filings_of agent.now r.members) ++ map (as_live due) earlier.now)) }
+{
+    match last_in(earlier, due, &statement.declaration, &statement.rec) {
+        Some(last) => Ok(Some(last)),
+        None => keep.last(agent, &statement.declaration, &statement.rec),
+    }
+}
+
+// The status that a statement is settled as after those before it, or why it is refused.
+#[tactic(auto, using(crate::proofs::OnOperations::Lodgings::verdict_rules, crate::proofs::OnOperations::Lodgings::moved))]
+fn settled_status<K: Keep>(
+    keep: &mut K,
+    agent: &AgentName,
+    due: Day,
+    earlier: &[Statement],
+    statement: &Statement,
+    place: u32,
+) -> Result<Status, LodgeFault>
+    ensures kept { Kept K.shows K.is_clean keep.old keep.new }
+    ensures accounted { IsAccounted of_lodging K.may_tell result (K.fault_count keep.old) (K.fault_count keep.new) }
+    ensures answer { Promised K.shows K.is_clean keep.old keep.new (λ r.
+        IsDone of_lodging (λ status. status) result (told_verdict place
+        (verdict (live_of (filings_of agent.now r.members) ++ map (as_live due) earlier.now) statement.now due))) }
+{
+    if is_taken(keep, agent, due, earlier, &statement.id)? {
+        return Err(LodgeFault::StatementTwice(place));
+    }
+    match admit(last(keep, agent, due, earlier, statement)?, statement, due) {
+        Ok(status) => Ok(status),
+        Err(fault) => Err(LodgeFault::Record { place, fault }),
+    }
+}
+
+// The same of the statement at an index of a file.
+fn status_at<K: Keep>(
+    keep: &mut K,
+    agent: &AgentName,
+    due: Day,
+    statements: &[Statement],
+    i: usize,
+) -> Result<Status, LodgeFault>
+    requires within { i < length statements.now }
+    requires few { length statements.now ≤ statements_limit }
+    ensures kept { Kept K.shows K.is_clean keep.old keep.new }
+    ensures accounted { IsAccounted of_lodging K.may_tell result (K.fault_count keep.old) (K.fault_count keep.new) }
+    ensures answer { Promised K.shows K.is_clean keep.old keep.new (λ r.
+        (d : Statement) → IsDone of_lodging (λ status. status) result (told_verdict (i + 1)
+        (verdict (live_of (filings_of agent.now r.members) ++ map (as_live due) (take i statements.now))
+        (slice_index_or statements.now i d) due))) }
+{
+    settled_status(
+        keep,
+        agent,
+        due,
+        &statements[..i],
+        &statements[i],
+        i as u32 + 1,
+    )
+}
+
+// Settles the statements of a file, one after the other; or the first place that is refused.
+fn settle<K: Keep>(
+    keep: &mut K,
+    agent: &AgentName,
+    due: Day,
+    statements: &mut [Statement],
+) -> Result<(), LodgeFault>
+    requires few { length statements.old ≤ statements_limit }
+    ensures kept { Kept K.shows K.is_clean keep.old keep.new }
+    ensures accounted { IsAccounted of_lodging K.may_tell result (K.fault_count keep.old) (K.fault_count keep.new) }
+    ensures answer { Promised K.shows K.is_clean keep.old keep.new (λ r.
+        IsDone of_lodging (λ _. statements.new) result
+        (told_settled (settled (live_of (filings_of agent.now r.members)) due statements.old))) }
+{
+    for i in 0..statements.len() {
+        let status = status_at(keep, agent, due, statements, i)?;
+        statements[i].status = Some(status);
+    }
+    Ok(())
+}
+
+// The statements of a file with their statuses settled, or why it is refused.
+#[tactic(auto, using(crate::proofs::OnOperations::Lodgings::reading_rules))]
+fn settled<K: Keep>(
+    alloc: Global,
+    keep: &mut K,
+    agent: &AgentName,
+    due: Day,
+    bytes: &[u8],
+) -> Result<Vec<Statement>, LodgeFault>
+    ensures kept { Kept K.shows K.is_clean keep.old keep.new }
+    ensures accounted { IsAccounted of_lodging K.may_tell result (K.fault_count keep.old) (K.fault_count keep.new) }
+    ensures answer { Promised K.shows K.is_clean keep.old keep.new (λ r.
+        IsDone of_lodging (λ statements. statements.items) result
+        (settled_reading (live_of (filings_of agent.now r.members)) due (reading bytes.now))) }
+{
+    let mut statements = read(alloc, bytes)?;
+    settle(keep, agent, due, &mut statements)?;
+    Ok(statements)
+}
+
+// What is told where the agent has a filing under the key, by its line.
+fn repeat<K: Keep>(
+    keep: &mut K,
+    agent: &AgentName,
+    key: &LodgeKey,
+    due: Day,
+    bytes: &[u8],
+    line: &FilingLine,
+) -> Result<Lodged, LodgeFault>
+    ensures kept { Kept K.shows K.is_clean keep.old keep.new }
+    ensures accounted { IsAccounted of_lodging K.may_tell result (K.fault_count keep.old) (K.fault_count keep.new) }
+    ensures answer { Promised K.shows K.is_clean keep.old keep.new (λ r.
+        (f : AcceptedFiling) → filing_keyed key.now (filings_of agent.now r.members) ≡ Some f →
+        line.now ≡ line_of r.day f → IsDone of_lodging (λ lodged. lodged) result (repeated r.day due bytes.now f)) }
+{
+    if line.due != due || !keep.has_file(agent, key, bytes)? {
+        return Err(LodgeFault::KeyReused);
+    }
+    Ok(Lodged {
+        number: line.number,
+        due,
+        state: line.state,
+        fresh: false,
+    })
+}
+
+// The register's day, where the agent may have one more filing and the due day isn't past.
+fn day_for<K: Keep>(keep: &mut K, agent: &AgentName, due: Day) -> Result<Day, LodgeFault>
+    ensures kept { Kept K.shows K.is_clean keep.old keep.new }
+    ensures accounted { IsAccounted of_lodging K.may_tell result (K.fault_count keep.old) (K.fault_count keep.new) }
+    ensures answer { Promised K.shows K.is_clean keep.old keep.new (λ r.
+        IsDone of_lodging (λ day. day) result
+        (if nat_le filings_limit (length (filings_of agent.now r.members)) then Err lodge_faults.FilingsFull
+        else (if int_lt due r.day then Err lodge_faults.DuePast else Ok r.day))) }
+{
+    if keep.filing_count(agent)? >= FILINGS_LIMIT {
+        return Err(LodgeFault::FilingsFull);
+    }
+    let day = keep.day()?;
+    if due < day {
+        return Err(LodgeFault::DuePast);
+    }
+    Ok(day)
+}
+
+// What a lodging under a new key adds.
+#[derive(Drop)]
+struct Prepared {
+    statements: Vec<Statement>,
+    state: State,
+}
+
+// What a lodging adds, or why it is refused.
+fn prepare<K: Keep>(
+    alloc: Global,
+    keep: &mut K,
+    agent: &AgentName,
+    due: Day,
+    bytes: &[u8],
+) -> Result<Prepared, LodgeFault>
+    ensures kept { Kept K.shows K.is_clean keep.old keep.new }
+    ensures accounted { IsAccounted of_lodging K.may_tell result (K.fault_count keep.old) (K.fault_count keep.new) }
+    ensures answer { Promised K.shows K.is_clean keep.old keep.new (λ r.
+        (key : List ℕ) → IsDone of_lodging
+        (λ new. accepted (filings_of agent.now r.members) key due bytes.now new.statements.items)
+        result (addition (sight_of agent.now r) key due bytes.now)) }
+    ensures state { Promised K.shows K.is_clean keep.old keep.new (λ r.
+        IfOk result (λ new. new.state ≡ state_of_live due r.day)) }
+{
+    let day = day_for(keep, agent, due)?;
+    let statements = settled(alloc, keep, agent, due, bytes)?;
+    Ok(Prepared {
+        statements,
+        state: State::of_live(due, day),
+    })
+}
+
+// Lodges a file under a key that is new to the agent.
+fn lodge_new<K: Keep>(
+    alloc: Global,
+    keep: &mut K,
+    agent: &AgentName,
+    key: &LodgeKey,
+    due: Day,
+    bytes: &[u8],
+) -> Result<Lodged, LodgeFault>
+    requires enrolled { Sure K.shows K.is_clean keep.old (λ r. is_enrolled agent.now r.members ≡ true) }
+    requires new_key { Sure K.shows K.is_clean keep.old (λ r.
+        filing_keyed key.now (filings_of agent.now r.members) ≡ None) }
+    ensures began { K.is_clean keep.new → K.is_clean keep.old }
+    ensures step { Promised K.shows K.is_clean keep.old keep.new (λ r.
+        IsOutcome of_lodging result (K.shows keep.new) r (lodge_step r agent.now key.now due bytes.now)) }
+    ensures accounted { IsAccounted of_lodging K.may_tell result (K.fault_count keep.old) (K.fault_count keep.new) }
+{
+    let new = prepare(alloc, keep, agent, due, bytes)?;
+    let number = keep.add_filing(agent, key, due, bytes, &new.statements)?;
+    Ok(Lodged {
+        number,
+        due,
+        state: new.state,
+        fresh: true,
+    })
+}
+
+/// Lodges a file for an agent: reads it, settles its statements, adds it as the agent's next filing
+/// and tells its number, due day and state.
+///
+/// It asks that the agent is enrolled; `has_agent` is the test.
+///
+/// Where the agent has a filing under the key with the same due day and bytes, that filing is told
+/// with its state now, `fresh` is false and nothing changes. Else the refusals are, in their order:
+/// `KeyReused`; `FilingsFull`; `DuePast`; `Read` with the file's first fault; then by statement in
+/// file order `StatementTwice` and `Record`, each with its place. A refusal leaves the register as
+/// it was, and so does `Store`. The keep is asked at most once for each statement's identifier and
+/// once for its record, and is changed at most once, last; none of its calls lists the agent's
+/// filings or copies a file.
+pub fn lodge<K: Keep>(
+    alloc: Global,
+    keep: &mut K,
+    agent: &AgentName,
+    key: &LodgeKey,
+    due: Day,
+    bytes: &[u8],
+) -> Result<Lodged, LodgeFault>
+    requires enrolled { Sure K.shows K.is_clean keep.old (λ r. is_enrolled agent.now r.members ≡ true) }
+    ensures began { K.is_clean keep.new → K.is_clean keep.old }
+    ensures step { Promised K.shows K.is_clean keep.old keep.new (λ r.
+        IsOutcome of_lodging result (K.shows keep.new) r (lodge_step r agent.now key.now due bytes.now)) }
+    ensures accounted { IsAccounted of_lodging K.may_tell result (K.fault_count keep.old) (K.fault_count keep.new) }
+    ensures legal { Promised K.shows K.is_clean keep.old keep.new (λ r.
+        IsLegal r → (left : Register) × K.shows keep.new left × IsLegal left) }
+{
+    match keep.line(agent, key)? {
+        Some(line) => repeat(keep, agent, key, due, bytes, &line),
+        None => lodge_new(alloc, keep, agent, key, due, bytes),
+    }
+}

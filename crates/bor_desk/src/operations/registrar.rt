@@ -1,0 +1,64 @@
+//! What the registrar does: the day goes on, and agents are enrolled.
+
+ghost use Rattle.std.specs.Prelude.{◌≡◌};
+ghost use Rattle.bor_register.specs.Register.{Register, is_taken};
+ghost use Rattle.bor_records.specs.Promises.{Promised, Reads};
+ghost use Rattle.bor_desk.specs.Operations.Registrar.{advance_step, enrol_step};
+ghost use Rattle.bor_desk.specs.Operations.Outcomes.{of_advance, of_enrolment, IsOutcome, IsAccounted};
+ghost use Rattle.bor_desk.specs.Operations.Legality.{IsLegal};
+
+use crate::operations::fault::{AdvanceFault, EnrolFault};
+use bor_register::StoreFault;
+use bor_register::keeping::Keep;
+use bor_terms::{AgentName, Day, Token};
+
+/// Moves the register's day to this one, and hands it back. What is due by then is published.
+///
+/// `DayBack` is the one refusal: the day is before the register's; the same day is taken. It leaves
+/// the register as it was, and so does `Store`.
+pub fn advance<K: Keep>(keep: &mut K, day: Day) -> Result<Day, AdvanceFault>
+    ensures began { K.is_clean keep.new → K.is_clean keep.old }
+    ensures step { Promised K.shows K.is_clean keep.old keep.new (λ r.
+        IsOutcome of_advance result (K.shows keep.new) r (advance_step r day)) }
+    ensures accounted { IsAccounted of_advance K.may_tell result (K.fault_count keep.old) (K.fault_count keep.new) }
+    ensures legal { Promised K.shows K.is_clean keep.old keep.new (λ r.
+        IsLegal r → (left : Register) × K.shows keep.new left × IsLegal left) }
+{
+    if day < keep.day()? {
+        return Err(AdvanceFault::DayBack);
+    }
+    keep.set_day(day)?;
+    Ok(day)
+}
+
+// Whether an agent or the registrar has the token.
+#[tactic(auto, using(bor_register::proofs::Callers::callers))]
+fn is_taken<K: Keep>(keep: &mut K, token: &Token) -> Result<bool, StoreFault>
+    ensures { Reads K.shows K.is_clean K.fault_count K.may_tell keep.old keep.new result (λ r taken.
+        taken ≡ is_taken token.now r) }
+{
+    Ok(keep.who(token)?.is_some())
+}
+
+/// Enrols an agent under a name and a token, and hands the name back.
+///
+/// The refusals are, in their order: `NameTaken` where an agent has the name, and `TokenTaken` where
+/// an agent or the registrar has the token. A refusal leaves the register as it was, and so does
+/// `Store`; name and token are dropped then.
+pub fn enrol<K: Keep>(keep: &mut K, name: AgentName, token: Token) -> Result<AgentName, EnrolFault>
+    ensures began { K.is_clean keep.new → K.is_clean keep.old }
+    ensures step { Promised K.shows K.is_clean keep.old keep.new (λ r.
+        IsOutcome of_enrolment result (K.shows keep.new) r (enrol_step r name token)) }
+    ensures accounted { IsAccounted of_enrolment K.may_tell result (K.fault_count keep.old) (K.fault_count keep.new) }
+    ensures legal { Promised K.shows K.is_clean keep.old keep.new (λ r.
+        IsLegal r → (left : Register) × K.shows keep.new left × IsLegal left) }
+{
+    if keep.has_agent(&name)? {
+        return Err(EnrolFault::NameTaken);
+    }
+    if is_taken(keep, &token)? {
+        return Err(EnrolFault::TokenTaken);
+    }
+    keep.add_agent(&name, &token)?;
+    Ok(name)
+}

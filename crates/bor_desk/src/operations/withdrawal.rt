@@ -1,0 +1,71 @@
+//! Withdrawing a filing.
+
+ghost use Rattle.std.specs.Prelude.{◌≡◌, Some, IfOk, option_map};
+ghost use Rattle.bor_register.specs.Register.{Register, filings_of, filing_keyed};
+ghost use Rattle.bor_register.specs.Publication.{line_of};
+ghost use Rattle.bor_records.specs.Promises.{Kept, Promised};
+ghost use Rattle.bor_desk.specs.Operations.Sight.{sight_of};
+ghost use Rattle.bor_desk.specs.Operations.Withdrawing.{line_withdrawn, withdrawal, withdraw_step};
+ghost use Rattle.bor_desk.specs.Operations.Outcomes.{of_withdrawal, IsOutcome, IsAccounted, IsDone};
+ghost use Rattle.bor_desk.specs.Operations.Legality.{IsLegal};
+
+use crate::operations::fault::WithdrawFault;
+use bor_register::keeping::Keep;
+use bor_register::{FilingLine, State};
+use bor_terms::{AgentName, LodgeKey};
+
+// The line of the agent's filing under a key, where it is withdrawn already or may be.
+fn withdrawable<K: Keep>(
+    keep: &mut K,
+    agent: &AgentName,
+    key: &LodgeKey,
+) -> Result<FilingLine, WithdrawFault>
+    ensures kept { Kept K.shows K.is_clean keep.old keep.new }
+    ensures accounted { IsAccounted of_withdrawal K.may_tell result (K.fault_count keep.old) (K.fault_count keep.new) }
+    ensures answer { Promised K.shows K.is_clean keep.old keep.new (λ r.
+        IsDone of_withdrawal line_withdrawn result
+        (withdrawal (sight_of agent.now r) key.now)) }
+    ensures found { Promised K.shows K.is_clean keep.old keep.new (λ r. IfOk result (λ line.
+        Some line ≡ option_map (line_of r.day) (filing_keyed key.now (filings_of agent.now r.members)))) }
+{
+    let Some(line) = keep.line(agent, key)? else {
+        return Err(WithdrawFault::NoSuchFiling);
+    };
+    if line.state == State::Published {
+        return Err(WithdrawFault::Published);
+    }
+    if line.state == State::Draft && keep.has_successor(agent, line.number)? {
+        return Err(WithdrawFault::HasSuccessor);
+    }
+    Ok(line)
+}
+
+/// Withdraws an agent's draft: its statements are gone, its number, key, due day and bytes stay.
+///
+/// Tells the filing's line. A filing that is withdrawn already is told as the first time. The
+/// refusals are, in their order: `NoSuchFiling`; `Published`; `HasSuccessor` where a later live
+/// filing of the agent has a statement of one of its records. A refusal leaves the register as it
+/// was, and so does `Store`. No call of the keep is made twice, and the one that changes it last; none
+/// copies a file.
+pub fn withdraw<K: Keep>(
+    keep: &mut K,
+    agent: &AgentName,
+    key: &LodgeKey,
+) -> Result<FilingLine, WithdrawFault>
+    ensures began { K.is_clean keep.new → K.is_clean keep.old }
+    ensures step { Promised K.shows K.is_clean keep.old keep.new (λ r.
+        IsOutcome of_withdrawal result (K.shows keep.new) r (withdraw_step r agent.now key.now)) }
+    ensures accounted { IsAccounted of_withdrawal K.may_tell result (K.fault_count keep.old) (K.fault_count keep.new) }
+    ensures legal { Promised K.shows K.is_clean keep.old keep.new (λ r.
+        IsLegal r → (left : Register) × K.shows keep.new left × IsLegal left) }
+{
+    let line = withdrawable(keep, agent, key)?;
+    if line.state == State::Withdrawn {
+        return Ok(line);
+    }
+    keep.withdraw(agent, line.number)?;
+    Ok(FilingLine {
+        state: State::Withdrawn,
+        ..line
+    })
+}

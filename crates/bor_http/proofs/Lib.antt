@@ -1,0 +1,3 @@
+pub mod OnIncoming
+pub mod OnRoutes
+pub mod OnSpelling

@@ -1,0 +1,134 @@
+-- The table of routes computed: the path of a text, what it asks for by a method, and its methods.
+use Rattle.std.proofs.Common.{◌≡◌, ℕ, List, [], ◌∷◌, Option, Some, None, codes, map, refl}
+use Rattle.matchit.proofs.OnLiterals.{matchit_on_literals}
+use Rattle.bor_http.specs.declared.incoming.fault.Path.{Path}
+use Rattle.bor_http.specs.declared.incoming.fault.Path.TheVariants as paths
+use Rattle.bor_http.specs.declared.routes.route.Route.{Route}
+use Rattle.bor_http.specs.declared.routes.route.Route.TheVariants as asks
+use Rattle.bor_http.specs.Routes.Routes.{route_at, allow}
+use Rattle.bor_http.specs.Routes.Paths.{path_in, router}
+
+-- ---- texts beside their paths
+
+abbrev Cases : Type 0
+Cases = List (List ℕ × Option Path)
+
+abbrev found : Cases → List (Option Path)
+found cases = map (path_in router) (map (λ t. t.0) cases)
+
+abbrev expected : Cases → List (Option Path)
+expected cases = map (λ t. t.1) cases
+
+-- each path of the table
+abbrev each_path : Cases
+each_path =
+    (codes "/filings", Some paths.Filings)
+    ∷ (codes "/filings/f1", Some paths.Filing)
+    ∷ (codes "/filings/f1/file", Some paths.File)
+    ∷ (codes "/published", Some paths.Published)
+    ∷ (codes "/snapshot", Some paths.Snapshot)
+    ∷ (codes "/chains", Some paths.Chains)
+    ∷ (codes "/day", Some paths.Day)
+    ∷ (codes "/agents", Some paths.Agents)
+    ∷ []
+
+each_path_found : found each_path ≡ expected each_path
+unfolding matchit_on_literals router
+each_path_found = refl
+
+-- any segment stands for a key, whatever its bytes are; nothing is decoded
+abbrev as_it_stands : Cases
+as_it_stands =
+    (codes "/filings/file", Some paths.Filing)
+    ∷ (codes "/filings/file/file", Some paths.File)
+    ∷ (codes "/filings/f%31", Some paths.Filing)
+    ∷ (codes "/filings/f1%2Ffile", Some paths.Filing)
+    ∷ (codes "/filings/{key}", Some paths.Filing)
+    ∷ (codes "/filin%67s", None)
+    ∷ []
+
+as_it_stands_found : found as_it_stands ≡ expected as_it_stands
+unfolding matchit_on_literals router
+as_it_stands_found = refl
+
+-- no segment is empty
+abbrev empty_segments : Cases
+empty_segments =
+    (codes "/filings/", None)
+    ∷ (codes "/filings//file", None)
+    ∷ (codes "/filings/f1/", None)
+    ∷ (codes "//day", None)
+    ∷ []
+
+empty_segments_found : found empty_segments ≡ expected empty_segments
+unfolding matchit_on_literals router
+empty_segments_found = refl
+
+-- none is left over
+abbrev further_segments : Cases
+further_segments =
+    (codes "/filings/f/file/", None)
+    ∷ (codes "/filings/f/files", None)
+    ∷ (codes "/filings/f/g", None)
+    ∷ (codes "/filings/f/file/g", None)
+    ∷ []
+
+further_segments_found : found further_segments ≡ expected further_segments
+unfolding matchit_on_literals router
+further_segments_found = refl
+
+-- a path is neither longer nor shorter, and letters are compared as they stand
+abbrev other_texts : Cases
+other_texts =
+    (codes "/day/", None)
+    ∷ (codes "/Day", None)
+    ∷ (codes "/days", None)
+    ∷ (codes "/da", None)
+    ∷ (codes "day", None)
+    ∷ (codes "/", None)
+    ∷ ([], None)
+    ∷ []
+
+other_texts_found : found other_texts ≡ expected other_texts
+unfolding matchit_on_literals router
+other_texts_found = refl
+
+-- ---- what a path asks for by a method
+
+abbrev asked : List ((Path × List ℕ) × Option Route)
+asked =
+    ((paths.Filing, codes "PUT"), Some asks.Lodge)
+    ∷ ((paths.Filing, codes "DELETE"), Some asks.Withdraw)
+    ∷ ((paths.Filings, codes "GET"), Some asks.Filings)
+    ∷ ((paths.File, codes "GET"), Some asks.File)
+    ∷ ((paths.Published, codes "GET"), Some asks.Published)
+    ∷ ((paths.Snapshot, codes "GET"), Some asks.Snapshot)
+    ∷ ((paths.Chains, codes "GET"), Some asks.Chains)
+    ∷ ((paths.Day, codes "POST"), Some asks.Day)
+    ∷ ((paths.Agents, codes "POST"), Some asks.Enrol)
+    ∷ ((paths.Filings, codes "HEAD"), None)
+    ∷ ((paths.Filings, codes "get"), None)
+    ∷ ((paths.Filings, codes "GETS"), None)
+    ∷ ((paths.Filings, codes "POST"), None)
+    ∷ ((paths.Filings, codes "PUT"), None)
+    ∷ ((paths.Filing, codes "GET"), None)
+    ∷ ((paths.Filing, codes "PATCH"), None)
+    ∷ ((paths.Filing, []), None)
+    ∷ ((paths.File, codes "DELETE"), None)
+    ∷ ((paths.Day, codes "GET"), None)
+    ∷ ((paths.Agents, codes "PUT"), None)
+    ∷ []
+
+asked_found : map (λ a. route_at a.0.0 a.0.1) asked ≡ map (λ a. a.1) asked
+unfolding route_at
+asked_found = refl
+
+-- ---- the methods of a path
+
+abbrev every_path : List Path
+every_path = paths.Filing ∷ paths.Filings ∷ paths.File ∷ paths.Published ∷ paths.Snapshot ∷ paths.Chains ∷ paths.Day ∷ paths.Agents ∷ []
+
+methods : map allow every_path
+    ≡ codes "DELETE, PUT" ∷ codes "GET" ∷ codes "GET" ∷ codes "GET" ∷ codes "GET" ∷ codes "GET" ∷ codes "POST" ∷ codes "POST" ∷ []
+unfolding allow
+methods = refl

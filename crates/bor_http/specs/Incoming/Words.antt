@@ -1,0 +1,33 @@
+-- What names and refusals are told as.
+use Rattle.std.specs.Prelude.{ℕ, List, Option, Some, None, codes}
+use Rattle.bor_http.specs.declared.incoming.fault.Name.{Name}
+use Rattle.bor_http.specs.declared.incoming.fault.Name.TheVariants as names
+use Rattle.bor_http.specs.declared.incoming.fault.Refusal.{Refusal}
+use Rattle.bor_http.specs.declared.incoming.fault.Refusal.TheVariants.{HeadTooLarge, CutShort, BadHead, BadLength, BodyTooLarge, NoPath, WrongMethod, NoToken, BadQuery}
+
+-- the name as it stands in a query
+unfoldable pub name_word : Name → List ℕ
+name_word names.Key = codes "key"
+name_word names.Due = codes "due"
+name_word names.Agent = codes "agent"
+name_word names.Declaration = codes "declaration"
+name_word names.Record = codes "record"
+name_word names.Date = codes "date"
+name_word names.Name = codes "name"
+name_word names.Token = codes "token"
+
+unfoldable pub refusal_word : Refusal → List ℕ
+refusal_word HeadTooLarge = codes "HeadTooLarge"
+refusal_word CutShort = codes "CutShort"
+refusal_word BadHead = codes "BadHead"
+refusal_word BadLength = codes "BadLength"
+refusal_word BodyTooLarge = codes "BodyTooLarge"
+refusal_word NoPath = codes "NoPath"
+refusal_word (WrongMethod _) = codes "WrongMethod"
+refusal_word NoToken = codes "NoToken"
+refusal_word (BadQuery _) = codes "BadQuery"
+
+-- the name in a query that a refusal is about
+abbrev pub refused_name : Refusal → Option Name
+refused_name (BadQuery asked) = Some asked
+refused_name refusal = None

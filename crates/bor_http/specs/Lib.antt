@@ -1,0 +1,3 @@
+pub mod Incoming
+pub mod Routes
+pub mod Spelling

@@ -1,0 +1,62 @@
+//! The paths that there are, and which of them a text is.
+ghost use Rattle.std.specs.Prelude.{◌≡◌, ◌↔◌, Some, IfOk};
+ghost use Rattle.bor_http.specs.declared.incoming.fault.Path.{Path};
+ghost use Rattle.bor_http.specs.Routes.Paths.{IsPath, path_in, path_of, router};
+
+use crate::incoming::Path;
+use matchit::{InsertError, Router};
+use std::alloc::{AllocError, Global};
+
+/// The router that has all paths.
+fn router_of_paths(alloc: Global) -> Result<Router<Path>, InsertError>
+    ensures { IfOk result (λ paths. paths ≡ router) }
+{
+    let mut router = Router::new(alloc);
+    router.insert("/filings/{key}", Path::Filing)?;
+    router.insert("/filings", Path::Filings)?;
+    router.insert("/filings/{key}/file", Path::File)?;
+    router.insert("/published", Path::Published)?;
+    router.insert("/snapshot", Path::Snapshot)?;
+    router.insert("/chains", Path::Chains)?;
+    router.insert("/day", Path::Day)?;
+    router.insert("/agents", Path::Agents)?;
+    Ok(router)
+}
+
+/// The path of a router that a text matches.
+fn matched(router: &Router<Path>, text: &str) -> Option<Path>
+    ensures { result ≡ path_in router.now text.now }
+{
+    match router.at(text) {
+        Ok(found) => Some(*found.value),
+        Err(_) => None,
+    }
+}
+
+/// The paths that there are. They are made once and asked for any number of texts.
+#[derive(Drop)]
+pub struct Paths {
+    kept: Router<Path>,
+    ghost all: { kept ≡ router },
+}
+
+impl Paths {
+    /// All paths. It fails where memory is wanting.
+    pub fn new(alloc: Global) -> Result<Paths, AllocError> {
+        match router_of_paths(alloc) {
+            Ok(kept) => Ok(Paths { kept }),
+            Err(_) => Err(AllocError),
+        }
+    }
+
+    /// The path that a text is, if it is one. The text is what stands before a target's first `?`. No
+    /// memory is taken.
+    #[tactic(auto, unfolding(crate::specs::Routes::Paths::path_of))]
+    pub fn find(&self, text: &str) -> Option<Path>
+        ensures value { result ≡ path_of text.now }
+        // Of each path: it is found exactly where the text is the path as it is written.
+        ensures written { (path : Path) → (result ≡ Some path) ↔ IsPath path text.now }
+    {
+        matched(&self.kept, text)
+    }
+}

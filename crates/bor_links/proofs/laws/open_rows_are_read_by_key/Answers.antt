@@ -1,5 +1,0 @@
-use Rattle.bor_links.proofs.ByKey.{open_by_key}
-use Rattle.bor_links.proofs.laws.open_rows_are_read_by_key.Goals as goal
-
-pub returns : goal.returns
-returns c = open_by_key

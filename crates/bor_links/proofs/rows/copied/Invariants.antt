@@ -1,6 +1,0 @@
-use Rattle.std.proofs.Common.{◌≡◌, ◌++◌, drop}
-use Rattle.bor_links.proofs.rows.copied.Given as goal
-
--- what is copied and what is left are the whole
-abbrev pub invariant-loop-identifier : goal.invariant-loop-identifier
-invariant-loop-identifier l = l.copied.items ++ drop l.identifier-index l.identifiers ≡ l.identifiers

@@ -1,0 +1,18 @@
+-- What is listed of a node.
+use Rattle.std.proofs.Common.{◌≡◌, Bool, true, false, cond, Some, None, List, [], ◌∷◌, Contains, refl, subst}
+use Rattle.std.proofs.lemmas.Option.{same_Some}
+use Rattle.bor_records.specs.declared.links.node.Node.{Node}
+use Rattle.bor_records.specs.declared.links.node.OpenNode.{OpenNode}
+use Rattle.bor_records.specs.Links.Nodes.{same_node}
+use Rattle.bor_records.specs.Links.Shown.{listed_at}
+use Rattle.bor_records.proofs.OnLinks.Found.{here, there}
+use Rattle.bor_records.proofs.OnLinks.SameNode.{same_node_is}
+
+-- what is listed of a node is in the list, and of that node
+pub found_is : (nodes : List OpenNode) (b : Node) (y : OpenNode) → listed_at nodes b ≡ Some y → Contains nodes y × (y.node ≡ b)
+found_is [] b y h = let no : None ≡ Some y = h in cc
+found_is (x ∷ xs) b y h = at (λ k. found_is xs b y k) (same_node x.node b) refl h
+  where
+    at : (listed_at xs b ≡ Some y → Contains xs y × (y.node ≡ b)) → (t : Bool) → same_node x.node b ≡ t → cond t (Some x) (listed_at xs b) ≡ Some y → Contains (x ∷ xs) y × (y.node ≡ b)
+    at more true e k = let q = same_Some x y k in (subst (λ (z : OpenNode). Contains (x ∷ xs) z) q (here x xs), subst (λ (z : OpenNode). z.node ≡ b) q (same_node_is x.node b e))
+    at more false e k = let m = more k in (there x xs y m.0, m.1)

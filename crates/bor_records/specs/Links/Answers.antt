@@ -1,0 +1,29 @@
+-- What may be answered of a node.
+use Rattle.std.specs.Prelude.{◌≡◌, ◌↔◌, List, Contains, Option, None, Some, if◌then◌else◌}
+use Rattle.std.specs.List.{IsDistinct}
+use Rattle.bor_records.specs.declared.links.node.Node.{Node}
+use Rattle.bor_records.specs.declared.links.node.Link.{Link}
+use Rattle.bor_records.specs.Links.Nodes.{same_node}
+use Rattle.bor_records.specs.Links.Shown.{Shown}
+use Rattle.bor_records.specs.Links.Aliases.{Alias, Same}
+
+-- exactly the nodes one alias away, each once
+pub record AreAliases (s : Shown) (a : Node) (nodes : List Node) : Type 0 where
+  pub each : (b : Node) → Contains nodes b ↔ Alias s a b
+  pub once : IsDistinct same_node nodes
+
+-- exactly the nodes that stand for one entity with it, each once; it is one of them, listed or not
+pub record AreSame (s : Shown) (a : Node) (nodes : List Node) : Type 0 where
+  pub each : (b : Node) → Contains nodes b ↔ Same s a b
+  pub once : IsDistinct same_node nodes
+
+-- exactly the links with this subject
+abbrev pub AreLinksInto : Shown → Node → List Link → Type 0
+AreLinksInto s n links = (l : Link) → Contains links l ↔ (Contains s.links l × (l.subject ≡ n))
+
+-- ---- for clauses of private functions alone
+
+-- a link, where it is into the node
+abbrev pub only_into : Node → Option Link → Option Link
+only_into n None = None
+only_into n (Some l) = if same_node l.subject n then Some l else None

@@ -1,0 +1,86 @@
+-- The nodes and links of the rows of a register on a day.
+use Rattle.std.specs.Prelude.{ℕ, ℤ, List, [], Bool, true, false, ◌&&◌, Option, Some, None, if◌then◌else◌}
+use Rattle.std.specs.List.{filter_map}
+use Rattle.bods_read.specs.declared.details.Details.{Details}
+use Rattle.bods_read.specs.declared.details.Details.TheVariants as details
+use Rattle.bods_read.specs.declared.details.EntityKind.{EntityKind}
+use Rattle.bods_read.specs.declared.details.EntityKind.TheVariants as kinds
+use Rattle.bods_read.specs.declared.interest.Interest.{Interest}
+use Rattle.bor_records.specs.declared.row.Row.{Row}
+use Rattle.bor_records.specs.declared.links.node.Node.{Node}
+use Rattle.bor_records.specs.declared.links.node.NodeInfo.{NodeInfo}
+use Rattle.bor_records.specs.declared.links.node.NodeInfo.TheVariants.{Entity, Person}
+use Rattle.bor_records.specs.declared.links.node.OpenNode.{OpenNode}
+use Rattle.bor_records.specs.declared.links.node.Link.{Link}
+use Rattle.bor_records.specs.OpenRows.{open_rows}
+use Rattle.bor_records.specs.Links.Series.{stated}
+use Rattle.bor_records.specs.Links.Shown.{Shown, info_in, is_entity}
+use Rattle.bor_records.specs.Links.Stakes.{is_stake, is_holding}
+
+-- a legal entity: a registered entity or a legal entity (BODS 0.4), and nothing else
+abbrev pub is_legal_kind : EntityKind → Bool
+is_legal_kind kinds.RegisteredEntity = true
+is_legal_kind kinds.LegalEntity = true
+is_legal_kind kinds.Arrangement = false
+is_legal_kind kinds.AnonymousEntity = false
+is_legal_kind kinds.UnknownEntity = false
+is_legal_kind kinds.State = false
+is_legal_kind kinds.StateBody = false
+is_legal_kind kinds.Other = false
+
+-- what the details of an entity or a person say of its node
+abbrev pub node_with : Node → Details → Option OpenNode
+node_with n (details.Entity kind name identifiers) = Some (record { node = n; info = Entity (is_legal_kind kind); identifiers = identifiers })
+node_with n (details.Person kind name) = Some (record { node = n; info = Person name; identifiers = [] })
+node_with n (details.Relationship subject party interests) = None
+
+-- the node that a row's statement makes
+abbrev pub node_in : Row → Option OpenNode
+node_in r = node_with (stated r.agent r.statement) r.statement.details
+
+-- what a chain asks of it
+abbrev pub info_stated : Details → Option NodeInfo
+info_stated (details.Entity kind name identifiers) = Some (Entity (is_legal_kind kind))
+info_stated (details.Person kind name) = Some (Person name)
+info_stated (details.Relationship subject party interests) = None
+
+-- the open entities and persons
+abbrev pub nodes_of : ℤ → List Row → List OpenNode
+nodes_of day rows = filter_map node_in (open_rows day rows)
+
+abbrev pub is_entity_info : Option NodeInfo → Bool
+is_entity_info None = false
+is_entity_info (Some info) = is_entity info
+
+abbrev pub is_some_info : Option NodeInfo → Bool
+is_some_info None = false
+is_some_info (Some info) = true
+
+-- a record of the row's own declaration
+abbrev pub beside : Row → List ℕ → Node
+beside r rec = record { agent = r.agent; declaration = r.statement.declaration; rec = rec }
+
+-- a link on a day, where the subject is an open entity and the party an open entity or person
+abbrev pub link_between : ℤ → List OpenNode → Node → Node → List Interest → Option Link
+link_between day nodes party subject interests =
+    if is_entity_info (info_in nodes subject) && is_some_info (info_in nodes party) then Some (record { party = party; subject = subject; stake = is_stake day interests; holding = is_holding day interests })
+    else None
+
+-- the link that a relationship's details make; an end that names no record makes none
+abbrev pub link_with : ℤ → List OpenNode → Row → Details → Option Link
+link_with day nodes r (details.Entity kind name identifiers) = None
+link_with day nodes r (details.Person kind name) = None
+link_with day nodes r (details.Relationship None party interests) = None
+link_with day nodes r (details.Relationship (Some subject) None interests) = None
+link_with day nodes r (details.Relationship (Some subject) (Some party) interests) = link_between day nodes (beside r party) (beside r subject) interests
+
+abbrev pub link_in : ℤ → List OpenNode → Row → Option Link
+link_in day nodes r = link_with day nodes r r.statement.details
+
+-- the open relationships between two of them, of one declaration
+abbrev pub links_of : ℤ → List Row → List Link
+links_of day rows = filter_map (link_in day (nodes_of day rows)) (open_rows day rows)
+
+-- the nodes and links of the rows on the day
+abbrev pub shown_of : ℤ → List Row → Shown
+shown_of day rows = record { nodes = nodes_of day rows; links = links_of day rows }

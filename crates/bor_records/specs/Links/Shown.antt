@@ -1,0 +1,63 @@
+-- What a source shows: the open entities and persons, and the links between them.
+use Rattle.std.specs.Prelude.{◌≡◌, ℕ, List, Bool, true, false, ◌&&◌, ◌||◌, not, Option, None, Some, find, option_map}
+use Rattle.std.specs.List.{list_any}
+use Rattle.bor_terms.specs.Texts.{is_same}
+use Rattle.bods_read.specs.declared.details.Identifier.{Identifier}
+use Rattle.bor_records.specs.declared.links.node.Node.{Node}
+use Rattle.bor_records.specs.declared.links.node.NodeInfo.{NodeInfo}
+use Rattle.bor_records.specs.declared.links.node.NodeInfo.TheVariants.{Entity, Person}
+use Rattle.bor_records.specs.declared.links.node.OpenNode.{OpenNode}
+use Rattle.bor_records.specs.declared.links.node.Link.{Link}
+use Rattle.bor_records.specs.Links.Nodes.{same_node}
+
+-- two finite lists: of distinct open nodes, and of the links between them
+pub record Shown : Type 0 where
+  pub nodes : List OpenNode
+  pub links : List Link
+
+-- what is listed of a node
+abbrev pub listed_at : List OpenNode → Node → Option OpenNode
+listed_at nodes n = find (λ x. same_node x.node n) nodes
+
+abbrev pub info_in : List OpenNode → Node → Option NodeInfo
+info_in nodes n = option_map (λ x. x.info) (listed_at nodes n)
+
+abbrev pub info_of : Shown → Node → Option NodeInfo
+info_of s n = info_in s.nodes n
+
+abbrev pub is_entity : NodeInfo → Bool
+is_entity (Entity legal) = true
+is_entity (Person name) = false
+
+-- the node is an open entity, of whatever kind
+abbrev pub IsEntity : Shown → Node → Type 0
+IsEntity s n = (legal : Bool) × (info_of s n ≡ Some (Entity legal))
+
+-- a registered entity or a legal entity
+abbrev pub IsLegalEntity : Shown → Node → Type 0
+IsLegalEntity s n = info_of s n ≡ Some (Entity true)
+
+-- an open person, with the name that is shown
+abbrev pub IsPerson : Shown → Node → Option (List ℕ) → Type 0
+IsPerson s n name = info_of s n ≡ Some (Person name)
+
+-- equal scheme and equal id, byte for byte
+abbrev pub same_identifier : Identifier → Identifier → Bool
+same_identifier i j = is_same i.scheme j.scheme && is_same i.id j.id
+
+abbrev pub share_identifier : List Identifier → List Identifier → Bool
+share_identifier xs ys = list_any (λ i. list_any (λ j. same_identifier i j) ys) xs
+
+-- equal record of one agent in different declarations
+abbrev pub same_record : Node → Node → Bool
+same_record a b = is_same a.agent b.agent && (is_same a.rec b.rec && not (is_same a.declaration b.declaration))
+
+-- one step between two open nodes that stand for one entity
+abbrev pub are_alike : OpenNode → OpenNode → Bool
+are_alike a b =
+    is_entity a.info && is_entity b.info && (same_record a.node b.node || share_identifier a.identifiers b.identifiers && not (same_node a.node b.node))
+
+-- an open node is there, and is one step away
+abbrev pub is_like : OpenNode → Option OpenNode → Bool
+is_like one None = false
+is_like one (Some x) = are_alike one x

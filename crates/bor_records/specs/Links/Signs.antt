@@ -1,0 +1,23 @@
+-- By what two entities may be alike.
+use Rattle.std.specs.Prelude.{true, false, ◌∷◌, List, map}
+use Rattle.std.specs.Ordering.{ordering_then, bool_cmp}
+use Rattle.std.specs.declared.cmp.Ordering.{Ordering}
+use Rattle.bods_read.specs.declared.details.Identifier.{Identifier}
+use Rattle.bor_records.specs.declared.links.node.Node.{Node}
+use Rattle.bor_records.specs.declared.links.node.OpenNode.{OpenNode}
+use Rattle.bor_records.specs.declared.links.sign.Sign.{Sign}
+use Rattle.bor_records.specs.Links.Nodes.{text_cmp}
+
+-- by record or identifier, then agent or scheme, then kind
+abbrev pub sign_cmp : Sign → Sign → Ordering
+sign_cmp a b = ordering_then (text_cmp a.name b.name) (ordering_then (text_cmp a.group b.group) (bool_cmp a.of_record b.of_record))
+
+abbrev pub by_record : Node → Sign
+by_record n = record { of_record = true; group = n.agent; name = n.rec }
+
+abbrev pub by_identifier : Identifier → Sign
+by_identifier i = record { of_record = false; group = i.scheme; name = i.id }
+
+-- the agent with the record, and each identifier
+abbrev pub signs : OpenNode → List Sign
+signs x = by_record x.node ∷ map by_identifier x.identifiers

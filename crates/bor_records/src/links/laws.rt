@@ -1,0 +1,53 @@
+//! Laws of nodes and links. Each function does nothing: its contract is the law, and it is proved for
+//! all lists.
+
+ghost use Rattle.bor_records.specs.Links.Laws.{EveryStakeIsAHolding, OpenRowsAreTheLatest, OpenRowsAreReadByKey, SnapshotsShowTheOpenRows, NodesAreReadByKey, AliasesAreReadByKey, AliasesAreReadByCandidates, LinksAreReadByCandidates, NodesAreDistinct};
+
+/// The interests of a majority stake are a holding, where each share has points: a chain of stakes
+/// alone is a chain.
+pub fn every_stake_is_a_holding()
+    ensures { EveryStakeIsAHolding }
+{}
+
+/// The rows from which nodes and links are made are, of each series, its latest statement where it
+/// is open, and no others.
+pub fn open_rows_are_the_latest()
+    ensures { OpenRowsAreTheLatest }
+{}
+
+/// A series is open with a row exactly where that row is one of the open rows, and of the series.
+pub fn open_rows_are_read_by_key()
+    ensures { OpenRowsAreReadByKey }
+{}
+
+/// A record is open for chains exactly where a snapshot of its agent's rows shows it, with that row.
+pub fn snapshots_show_the_open_rows()
+    ensures { SnapshotsShowTheOpenRows }
+{}
+
+/// What is listed of a node is what the latest statement of its series says.
+pub fn nodes_are_read_by_key()
+    ensures { NodesAreReadByKey }
+{}
+
+/// The aliases of a node are those that are alike by the latest statements.
+pub fn aliases_are_read_by_key()
+    ensures { AliasesAreReadByKey }
+{}
+
+/// The aliases of a node are the candidates that are alike by the latest statements, where the
+/// candidates have the series of each row that, were it the latest, would be alike.
+pub fn aliases_are_read_by_candidates()
+    ensures { AliasesAreReadByCandidates }
+{}
+
+/// The links into a node are those that candidates make, where the candidates have the series of
+/// each row that, were it the latest, would make one.
+pub fn links_are_read_by_candidates()
+    ensures { LinksAreReadByCandidates }
+{}
+
+/// The nodes of rows are distinct.
+pub fn nodes_are_distinct()
+    ensures { NodesAreDistinct }
+{}

@@ -1,0 +1,34 @@
+//! Nodes and links: what the rows of a register say on a day of entities, persons and who holds what,
+//! and which entities are one (UK Companies Act 2006, Schedule 1A, paragraph 18; BODS 0.4).
+//!
+//! A node is an open record of an entity or a person, a link an open relationship between two of
+//! them, with what its interests are on the day:
+//!
+//! ```
+//! // e1 and a1 have one number of one scheme; `votes` are 60 percent of the votes.
+//! let latest = open_rows(alloc, &rows, day)?;
+//! let e1 = node_of(alloc, latest[0])?.ok_or("no node")?;
+//! let a1 = node_of(alloc, latest[1])?.ok_or("no node")?;
+//! assert!(rt; e1.is_alias(&a1));
+//! assert!(rt; stake_of(&votes, day));
+//! assert!(rt; holding_of(&votes, day));
+//! ```
+//!
+//! `specs/Links` says which nodes and links all rows have, and what a source may answer of one node. By
+//! the [`laws`] a node and its aliases can be read by their keys, and the links into a node by
+//! candidates, with no list of all rows.
+//!
+//! Left out: how links are followed, and who may see which rows.
+
+mod class;
+pub mod laws;
+mod node;
+mod rows;
+mod sign;
+mod stake;
+
+pub use class::{Class, once};
+pub use node::{Link, Node, NodeInfo, OpenNode};
+pub use rows::{info_stated, node_of, record_of};
+pub use sign::Sign;
+pub use stake::{holding_of, stake_of};

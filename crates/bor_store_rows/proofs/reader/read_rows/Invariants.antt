@@ -1,8 +1,0 @@
-use Rattle.std.proofs.Common.{◌≡◌, List, drop}
-use Rattle.std.specs.Prelude.{map, All}
-use Rattle.bor_store_rows.proofs.Lists.{ToRead}
-use Rattle.bor_store_rows.proofs.reader.read_rows.Given as goal
-
--- the values that are left are those of the rows that are left
-abbrev pub invariant-loop-row : goal.invariant-loop-row
-invariant-loop-row g l = (xs : List _) → l.rows ≡ map g.T.TableRow.columns xs → All g.T.TableRow.is_formed xs → ToRead g.T.TableRow.columns g.T.TableRow.is_formed xs l.read.items (drop l.row-index l.rows)

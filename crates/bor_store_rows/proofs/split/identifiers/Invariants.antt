@@ -1,5 +1,0 @@
-use Rattle.std.proofs.Common.{◌≡◌, map, take}
-use Rattle.bor_store_rows.proofs.split.identifiers.Given as goal
-
-abbrev pub invariant-loop-row : goal.invariant-loop-row
-invariant-loop-row l = l.identifiers.items ≡ map (λ row. row.identifier) (take l.row-index l.rows)

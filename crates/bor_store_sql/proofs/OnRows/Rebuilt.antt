@@ -1,0 +1,176 @@
+-- Filings and members from rows, one after the other.
+use Rattle.std.proofs.Common.{◌≡◌, ℕ, ◌+◌, ◌<◌, ◌==◌, Bool, true, false, List, [], ◌∷◌, ◌++◌, map, append-nil, append_assoc, refl, sym, ap, ◌∙◌, arith}
+use Rattle.std.specs.List.{AllByRecursion}
+use Rattle.std.proofs.lemmas.Bool.Decides.{nat_tests}
+use Rattle.sqlite_keyed.proofs.ListLemmas.{all-append}
+use Rattle.bor_terms.specs.Texts.{is_same, is_below}
+use Rattle.bor_terms.proofs.Texts.{same_refl, same_sym, below_differs}
+use Rattle.bods_read.specs.declared.statement.Statement.{Statement}
+use Rattle.bor_register.specs.Register.{AllAbove, IsOrdered}
+use Rattle.bor_register.specs.declared.filing.AcceptedFiling.{AcceptedFiling}
+use Rattle.bor_register.specs.declared.member.Member.{Member}
+use Rattle.bor_store_sql.specs.declared.rows.typed.AgentRow.{AgentRow}
+use Rattle.bor_store_sql.specs.declared.rows.typed.FilingRow.{FilingRow}
+use Rattle.bor_store_sql.specs.declared.rows.typed.Placed.{Placed}
+use Rattle.bor_store_sql.specs.Rows.Placed.{agent_row, filing_row, filing_lines, placed_from, placed_by, placed, without_file, member_without_files, without_files}
+use Rattle.bor_store_sql.specs.Rows.Stored.{AreNumbered, AllNumbered}
+use Rattle.bor_store_sql.proofs.OnRows.Numbers.{same_number}
+
+-- rows are split into those of a key and those that follow
+abbrev pub Splits : {R : Type 0} → (R → Bool) → List R → List R → List R → Type 0
+Splits {R} is_own rows own rest = (mine more : List R) → rows ≡ mine ++ more → AllByRecursion (λ row. is_own row ≡ true) mine
+    → AllByRecursion (λ row. is_own row ≡ false) more → (own ≡ mine) × (rest ≡ more)
+
+-- ---- the statements of a filing
+
+statements_at : (agent : List ℕ) (number place : ℕ) (ss : List Statement) → AllByRecursion (λ (p : Placed). (p.at.filing == number) ≡ true) (placed_from agent number place ss)
+statements_at agent number place [] = tt
+statements_at agent number place (s ∷ ss) = (same_number number, statements_at agent number (place + 1) ss)
+
+other_statements : (agent : List ℕ) (number other place : ℕ) (ss : List Statement) → number < other → AllByRecursion (λ (p : Placed). (p.at.filing == number) ≡ false) (placed_from agent other place ss)
+other_statements agent number other place [] low = tt
+other_statements agent number other place (s ∷ ss) low = (grind (arith, nat_tests), other_statements agent number other (place + 1) ss low)
+
+later_statements : (agent : List ℕ) (number n : ℕ) (fs : List AcceptedFiling) → number < n → AreNumbered n fs → AllByRecursion (λ (p : Placed). (p.at.filing == number) ≡ false) (placed_by agent fs)
+later_statements agent number n [] low numbered = tt
+later_statements agent number n (f ∷ fs) low numbered =
+    all-append _ (placed_from agent f.number 1 f.statements) (placed_by agent fs)
+    (other_statements agent number f.number 1 f.statements (let is = numbered.0 in omega (arith, is)))
+    (later_statements agent number (n + 1) fs (omega arith) numbered.1)
+
+statements_back : (agent : List ℕ) (number place : ℕ) (ss : List Statement) → map (λ (p : Placed). p.statement) (placed_from agent number place ss) ≡ ss
+statements_back agent number place [] = refl
+statements_back agent number place (s ∷ ss) = ap (λ l. s ∷ l) (statements_back agent number (place + 1) ss)
+
+-- a filing of its row and its statements
+abbrev pub filing_with : FilingRow → List Placed → AcceptedFiling
+filing_with row own = record {
+  number = row.number;
+  key = row.key;
+  due = row.due;
+  withdrawn = row.withdrawn;
+  bytes = [];
+  statements = map (λ (p : Placed). p.statement) own;
+}
+
+-- some filings are made of all, and the rows are those of the others
+pub record FilingsLeft (agent : List ℕ) (all out : List AcceptedFiling) (rows : List FilingRow) (statements : List Placed) : Type 0 where
+  pub left : List AcceptedFiling
+  pub from : ℕ
+  pub numbered : AreNumbered from left
+  pub whole : out ++ map without_file left ≡ map without_file all
+  pub rows_are : rows ≡ map (filing_row agent) left
+  pub statements_are : statements ≡ placed_by agent left
+
+pub one_filing : (agent : List ℕ) (all out : List AcceptedFiling) (row : FilingRow) (rows : List FilingRow) (statements own rest : List Placed) (made : AcceptedFiling)
+    → FilingsLeft agent all out (row ∷ rows) statements → Splits (λ (p : Placed). p.at.filing == row.number) statements own rest → made ≡ filing_with row own
+    → FilingsLeft agent all (out ++ made ∷ []) rows rest
+one_filing agent all out row rows statements own rest made l split made_is = go l.left l.from l.numbered l.whole l.rows_are l.statements_are
+  where
+    go : (left : List AcceptedFiling) (n : ℕ) → AreNumbered n left → out ++ map without_file left ≡ map without_file all → row ∷ rows ≡ map (filing_row agent) left → statements ≡ placed_by agent left
+        → FilingsLeft agent all (out ++ made ∷ []) rows rest
+    go [] n numbered whole e s = absurd cc
+    go (f ∷ left) n numbered whole e s =
+        let same : row ≡ filing_row agent f = cc in
+        let more : rows ≡ map (filing_row agent) left = cc in
+        let number : row.number ≡ f.number = ap (λ (r : FilingRow). r.number) same in
+        let one = (rw number at split) (placed_from agent f.number 1 f.statements) (placed_by agent left) s (statements_at agent f.number 1 f.statements)
+        (later_statements agent f.number (n + 1) left (let is = numbered.0 in omega (arith, is)) numbered.1) in
+        let it : made ≡ without_file f = made_is ∙ rw (same, one.0, statements_back agent f.number 1 f.statements) refl in
+        record {
+          left = left;
+          from = n + 1;
+          numbered = numbered.1;
+          whole = append_assoc out (made ∷ []) (map without_file left) ∙ ap (λ x. out ++ x ∷ map without_file left) it ∙ whole;
+          rows_are = more;
+          statements_are = one.1;
+        }
+
+pub all_filings : (agent : List ℕ) (all out : List AcceptedFiling) (statements : List Placed) → FilingsLeft agent all out [] statements → out ≡ map without_file all
+all_filings agent all out statements l = go l.left l.whole l.rows_are
+  where
+    go : (left : List AcceptedFiling) → out ++ map without_file left ≡ map without_file all → [] ≡ map (filing_row agent) left → out ≡ map without_file all
+    go [] whole e = sym (append-nil out) ∙ whole
+    go (f ∷ left) whole e = absurd cc
+
+-- ---- the rows of an agent
+
+filings_at : (agent : List ℕ) (fs : List AcceptedFiling) → AllByRecursion (λ (row : FilingRow). is_same row.agent agent ≡ true) (map (filing_row agent) fs)
+filings_at agent [] = tt
+filings_at agent (f ∷ fs) = (same_refl agent, filings_at agent fs)
+
+other_filings : (agent other : List ℕ) (fs : List AcceptedFiling) → is_same other agent ≡ false → AllByRecursion (λ (row : FilingRow). is_same row.agent agent ≡ false) (map (filing_row other) fs)
+other_filings agent other [] e = tt
+other_filings agent other (f ∷ fs) e = (e, other_filings agent other fs e)
+
+agent_from : (agent : List ℕ) (number place : ℕ) (ss : List Statement) → AllByRecursion (λ (p : Placed). is_same p.at.agent agent ≡ true) (placed_from agent number place ss)
+agent_from agent number place [] = tt
+agent_from agent number place (s ∷ ss) = (same_refl agent, agent_from agent number (place + 1) ss)
+
+agent_by : (agent : List ℕ) (fs : List AcceptedFiling) → AllByRecursion (λ (p : Placed). is_same p.at.agent agent ≡ true) (placed_by agent fs)
+agent_by agent [] = tt
+agent_by agent (f ∷ fs) = all-append _ (placed_from agent f.number 1 f.statements) (placed_by agent fs) (agent_from agent f.number 1 f.statements) (agent_by agent fs)
+
+other_from : (agent other : List ℕ) (number place : ℕ) (ss : List Statement) → is_same other agent ≡ false → AllByRecursion (λ (p : Placed). is_same p.at.agent agent ≡ false) (placed_from other number place ss)
+other_from agent other number place [] e = tt
+other_from agent other number place (s ∷ ss) e = (e, other_from agent other number (place + 1) ss e)
+
+other_by : (agent other : List ℕ) (fs : List AcceptedFiling) → is_same other agent ≡ false → AllByRecursion (λ (p : Placed). is_same p.at.agent agent ≡ false) (placed_by other fs)
+other_by agent other [] e = tt
+other_by agent other (f ∷ fs) e = all-append _ (placed_from other f.number 1 f.statements) (placed_by other fs) (other_from agent other f.number 1 f.statements e) (other_by agent other fs e)
+
+differs : (agent other : List ℕ) → is_below agent other ≡ true → is_same other agent ≡ false
+differs agent other h = same_sym other agent ∙ below_differs agent other h
+
+above_filings : (agent : List ℕ) (ms : List Member) → AllAbove agent ms → AllByRecursion (λ (row : FilingRow). is_same row.agent agent ≡ false) (filing_lines ms)
+above_filings agent [] h = tt
+above_filings agent (m ∷ ms) h = all-append _ (map (filing_row m.name) m.filings) (filing_lines ms) (other_filings agent m.name m.filings (differs agent m.name h.0)) (above_filings agent ms h.1)
+
+above_statements : (agent : List ℕ) (ms : List Member) → AllAbove agent ms → AllByRecursion (λ (p : Placed). is_same p.at.agent agent ≡ false) (placed ms)
+above_statements agent [] h = tt
+above_statements agent (m ∷ ms) h = all-append _ (placed_by m.name m.filings) (placed ms) (other_by agent m.name m.filings (differs agent m.name h.0)) (above_statements agent ms h.1)
+
+-- some members are made of all, and the rows are those of the others
+pub record MembersLeft (all out : List Member) (rows : List AgentRow) (filings : List FilingRow) (statements : List Placed) : Type 0 where
+  pub left : List Member
+  pub ordered : IsOrdered left
+  pub numbered : AllNumbered left
+  pub whole : out ++ without_files left ≡ without_files all
+  pub rows_are : rows ≡ map agent_row left
+  pub filings_are : filings ≡ filing_lines left
+  pub statements_are : statements ≡ placed left
+
+pub one_member : (all out : List Member) (row : AgentRow) (rows : List AgentRow) (filings own_filings more_filings : List FilingRow) (statements own_statements more_statements : List Placed) (made : Member)
+    → MembersLeft all out (row ∷ rows) filings statements → Splits (λ (r : FilingRow). is_same r.agent row.name) filings own_filings more_filings
+    → Splits (λ (p : Placed). is_same p.at.agent row.name) statements own_statements more_statements
+    → ((m : Member) → AreNumbered 1 m.filings → row ≡ agent_row m → own_filings ≡ map (filing_row m.name) m.filings → own_statements ≡ placed_by m.name m.filings → made ≡ member_without_files m)
+    → MembersLeft all (out ++ made ∷ []) rows more_filings more_statements
+one_member all out row rows filings own_filings more_filings statements own_statements more_statements made l split_f split_s made_is =
+    go l.left l.ordered l.numbered l.whole l.rows_are l.filings_are l.statements_are
+  where
+    go : (left : List Member) → IsOrdered left → AllNumbered left → out ++ without_files left ≡ without_files all → row ∷ rows ≡ map agent_row left → filings ≡ filing_lines left → statements ≡ placed left
+        → MembersLeft all (out ++ made ∷ []) rows more_filings more_statements
+    go [] ordered numbered whole e f s = absurd cc
+    go (m ∷ left) ordered numbered whole e f s =
+        let same : row ≡ agent_row m = cc in
+        let more : rows ≡ map agent_row left = cc in
+        let name : row.name ≡ m.name = ap (λ (r : AgentRow). r.name) same in
+        let one = (rw name at split_f) (map (filing_row m.name) m.filings) (filing_lines left) f (filings_at m.name m.filings) (above_filings m.name left ordered.0) in
+        let two = (rw name at split_s) (placed_by m.name m.filings) (placed left) s (agent_by m.name m.filings) (above_statements m.name left ordered.0) in
+        let it : made ≡ member_without_files m = made_is m numbered.0 same one.0 two.0 in
+        record {
+          left = left;
+          ordered = ordered.1;
+          numbered = numbered.1;
+          whole = append_assoc out (made ∷ []) (without_files left) ∙ ap (λ x. out ++ x ∷ without_files left) it ∙ whole;
+          rows_are = more;
+          filings_are = one.1;
+          statements_are = two.1;
+        }
+
+pub all_members : (all out : List Member) (filings : List FilingRow) (statements : List Placed) → MembersLeft all out [] filings statements → out ≡ without_files all
+all_members all out filings statements l = go l.left l.whole l.rows_are
+  where
+    go : (left : List Member) → out ++ without_files left ≡ without_files all → [] ≡ map agent_row left → out ≡ without_files all
+    go [] whole e = sym (append-nil out) ∙ whole
+    go (m ∷ left) whole e = absurd cc

@@ -1,0 +1,115 @@
+-- What a viewer sees of an agent is what it sees statement by statement.
+use Rattle.std.proofs.Common.{◌≡◌, ℕ, ℤ, ◌+◌, ◌<◌, ◌==◌, Bool, true, false, ◌&&◌, ◌||◌, List, [], ◌∷◌, ◌++◌, map, refl, sym, ap, ap₂, ◌∙◌, arith, if◌then◌else◌}
+use Rattle.std.specs.Prelude.{filter}
+use Rattle.std.specs.List.{AllByRecursion, list_any}
+use Rattle.std.proofs.Math.Bool.{or-false}
+use Rattle.std.proofs.lemmas.List.{map-append}
+use Rattle.std.proofs.lemmas.List.Elements.{filter-append}
+use Rattle.sqlite_keyed.proofs.ListLemmas.{all-append, filter-map, filter_all, filter_none}
+use Rattle.bor_terms.specs.Texts.{is_same}
+use Rattle.bods_read.specs.declared.statement.Statement.{Statement}
+use Rattle.bor_register.specs.Rows.{row_of, rows_from, rows_in, rows_of, of_declaration, is_visible}
+use Rattle.bor_register.specs.declared.filing.AcceptedFiling.{AcceptedFiling}
+use Rattle.bor_store_sql.specs.declared.rows.typed.Placed.{Placed}
+use Rattle.bor_store_sql.specs.declared.rows.typed.FilingRow.{FilingRow}
+use Rattle.bor_store_sql.specs.Rows.Placed.{filing_row, placed_from, placed_by}
+use Rattle.bor_store_sql.specs.Rows.Seen.{row_placed, is_of_declaration, is_seen, is_line_visible}
+use Rattle.bor_store_sql.specs.Rows.Stored.{AreNumbered}
+use Rattle.bor_store_sql.proofs.OnRows.Numbers.{same_number, other_number, before_number}
+
+rows_from-placed : (agent : List ℕ) (number place : ℕ) (ss : List Statement) → rows_from agent number place ss ≡ map row_placed (placed_from agent number place ss)
+rows_from-placed agent number place [] = refl
+rows_from-placed agent number place (s ∷ ss) = ap (λ l. row_of agent number place s ∷ l) (rows_from-placed agent number (place + 1) ss)
+
+pub rows_in-placed : (agent : List ℕ) (fs : List AcceptedFiling) → rows_in agent fs ≡ map row_placed (placed_by agent fs)
+rows_in-placed agent [] = refl
+rows_in-placed agent (f ∷ fs) =
+    ap₂ (λ xs ys. xs ++ ys) (rows_from-placed agent f.number 1 f.statements) (rows_in-placed agent fs)
+    ∙ sym (map-append row_placed (placed_from agent f.number 1 f.statements) (placed_by agent fs))
+
+pub filter_same : {X : Type 0} (p q : X → Bool) (xs : List X) → AllByRecursion (λ x. p x ≡ q x) xs → filter p xs ≡ filter q xs
+filter_same p q [] h = refl
+filter_same p q (x ∷ xs) h = rw (h.0, filter_same p q xs h.1) refl
+
+pub filters_swap : {X : Type 0} (p q : X → Bool) (xs : List X) → filter p (filter q xs) ≡ filter q (filter p xs)
+filters_swap p q [] = refl
+filters_swap p q (x ∷ xs) = go (p x) (q x) refl refl (filters_swap p q xs)
+  where
+    go : (a b : Bool) → p x ≡ a → q x ≡ b → filter p (filter q xs) ≡ filter q (filter p xs) → filter p (filter q (x ∷ xs)) ≡ filter q (filter p (x ∷ xs))
+    go true true e h rest = rw (e, h, e) (ap (λ l. x ∷ l) rest)
+    go true false e h rest = rw (e, h) rest
+    go false true e h rest = rw (e, h, e) rest
+    go false false e h rest = rw (e, h) rest
+
+module _ (viewer : List ℕ) (day : ℤ) (agent : List ℕ) where
+  seen_by : List AcceptedFiling → Placed → Bool
+  seen_by fs p = is_seen viewer day agent fs p
+
+  -- no later filing has the number
+  none_later : (number n : ℕ) (fs : List AcceptedFiling) → number < n → AreNumbered n fs → list_any (λ f. f.number == number && is_visible viewer day agent f) fs ≡ false
+  none_later number n [] low numbered = refl
+  none_later number n (f ∷ fs) low numbered =
+      rw (other_number number f.number (let is = numbered.0 in omega (arith, is))) (none_later number (n + 1) fs (omega arith) numbered.1)
+
+  own_seen : (f : AcceptedFiling) (fs : List AcceptedFiling) (n place : ℕ) → f.number < n → AreNumbered n fs → (ss : List Statement)
+      → AllByRecursion (λ (p : Placed). is_seen viewer day agent (f ∷ fs) p ≡ is_visible viewer day agent f) (placed_from agent f.number place ss)
+  own_seen f fs n place low numbered [] = tt
+  own_seen f fs n place low numbered (s ∷ ss) =
+      (rw (same_number f.number, none_later f.number n fs low numbered) (or-false (is_visible viewer day agent f)), own_seen f fs n (place + 1) low numbered ss)
+
+  later_from : (f : AcceptedFiling) (fs : List AcceptedFiling) (number place : ℕ) → f.number < number → (ss : List Statement)
+      → AllByRecursion (λ (p : Placed). is_seen viewer day agent (f ∷ fs) p ≡ is_seen viewer day agent fs p) (placed_from agent number place ss)
+  later_from f fs number place low [] = tt
+  later_from f fs number place low (s ∷ ss) = (rw (before_number f.number number low) refl, later_from f fs number (place + 1) low ss)
+
+  later_by : (f : AcceptedFiling) (fs : List AcceptedFiling) (n : ℕ) (gs : List AcceptedFiling) → f.number < n → AreNumbered n gs
+      → AllByRecursion (λ (p : Placed). is_seen viewer day agent (f ∷ fs) p ≡ is_seen viewer day agent fs p) (placed_by agent gs)
+  later_by f fs n [] low numbered = tt
+  later_by f fs n (g ∷ gs) low numbered =
+      all-append _ (placed_from agent g.number 1 g.statements) (placed_by agent gs)
+      (later_from f fs g.number 1 (let is = numbered.0 in omega (arith, is)) g.statements)
+      (later_by f fs (n + 1) gs (omega arith) numbered.1)
+
+  all_own : (b : Bool) (q : Placed → Bool) (ps : List Placed) → AllByRecursion (λ p. q p ≡ b) ps → filter q ps ≡ (if b then ps else [])
+  all_own true q ps h = filter_all q ps h
+  all_own false q ps h = filter_none q ps h
+
+  pub visible_placed : (n : ℕ) (fs : List AcceptedFiling) → AreNumbered n fs → placed_by agent (filter (is_visible viewer day agent) fs) ≡ filter (is_seen viewer day agent fs) (placed_by agent fs)
+  visible_placed n [] numbered = refl
+  visible_placed n (f ∷ fs) numbered =
+      let low : f.number < n + 1 = let is = numbered.0 in omega (arith, is) in
+      let own = all_own (is_visible viewer day agent f) (is_seen viewer day agent (f ∷ fs)) (placed_from agent f.number 1 f.statements) (own_seen f fs (n + 1) 1 low numbered.1 f.statements) in
+      let rest = filter_same (is_seen viewer day agent (f ∷ fs)) (is_seen viewer day agent fs) (placed_by agent fs) (later_by f fs (n + 1) fs low numbered.1) ∙ sym (visible_placed (n + 1) fs numbered.1) in
+      first_case (is_visible viewer day agent f) f (filter (is_visible viewer day agent) fs)
+      ∙ sym (filter-append (is_seen viewer day agent (f ∷ fs)) (placed_from agent f.number 1 f.statements) (placed_by agent fs) ∙ ap₂ (λ xs ys. xs ++ ys) own rest)
+    where
+      first_case : (b : Bool) (g : AcceptedFiling) (gs : List AcceptedFiling) → placed_by agent (if b then g ∷ gs else gs) ≡ (if b then placed_from agent g.number 1 g.statements else []) ++ placed_by agent gs
+      first_case true g gs = refl
+      first_case false g gs = refl
+
+  -- the rows of a declaration that the viewer sees, from the declaration's statements
+  pub rows_of-placed : (declaration : List ℕ) (n : ℕ) (fs : List AcceptedFiling) → AreNumbered n fs
+      → rows_of viewer day agent declaration fs ≡ map row_placed (filter (is_seen viewer day agent fs) (filter (is_of_declaration declaration) (placed_by agent fs)))
+  rows_of-placed declaration n fs numbered =
+      ap (of_declaration declaration) (rows_in-placed agent (filter (is_visible viewer day agent) fs) ∙ ap (map row_placed) (visible_placed n fs numbered))
+      ∙ filter-map (λ row. is_same row.statement.declaration declaration) row_placed (filter (is_seen viewer day agent fs) (placed_by agent fs))
+      ∙ ap (map row_placed) (filters_swap (is_of_declaration declaration) (is_seen viewer day agent fs) (placed_by agent fs))
+
+any_kept : {X : Type 0} (p q : X → Bool) (xs : List X) → list_any (λ x. p x && q x) xs ≡ list_any q (filter p xs)
+any_kept p q [] = refl
+any_kept p q (x ∷ xs) = go (p x) (any_kept p q xs)
+  where
+    go : (b : Bool) → list_any (λ y. p y && q y) xs ≡ list_any q (filter p xs) → ((b && q x) || list_any (λ y. p y && q y) xs) ≡ list_any q (if b then x ∷ filter p xs else filter p xs)
+    go true rest = ap (λ c. q x || c) rest
+    go false rest = rest
+
+any_row : (p : FilingRow → Bool) (agent : List ℕ) (fs : List AcceptedFiling) → list_any (λ f. p (filing_row agent f)) fs ≡ list_any p (map (filing_row agent) fs)
+any_row p agent [] = refl
+any_row p agent (f ∷ fs) = ap (λ c. p (filing_row agent f) || c) (any_row p agent fs)
+
+-- a statement is seen where the row of its filing, found by its number, is visible
+pub seen_by_number : (viewer : List ℕ) (day : ℤ) (agent : List ℕ) (fs : List AcceptedFiling) (p : Placed)
+    → is_seen viewer day agent fs p ≡ list_any (is_line_visible viewer day) (map (filing_row agent) (filter (λ f. f.number == p.at.filing) fs))
+seen_by_number viewer day agent fs p =
+    any_kept (λ f. f.number == p.at.filing) (is_visible viewer day agent) fs
+    ∙ any_row (is_line_visible viewer day) agent (filter (λ f. f.number == p.at.filing) fs)

@@ -1,0 +1,101 @@
+-- Interests to which their days are put, one by one.
+use Rattle.std.proofs.Common.{◌≡◌, ◌<◌, ◌+◌, ◌==◌, ◌&&◌, ℕ, ℤ, Bool, true, false, Option, Some, None, List, [], ◌∷◌, ◌++◌, map, append-nil, append_assoc, refl, sym, ap, ap₂, subst, ◌∙◌, arith}
+use Rattle.std.specs.List.{AllByRecursion, flat_map}
+use Rattle.sqlite_keyed.proofs.ListLemmas.{all-append}
+use Rattle.bor_store_sql.specs.declared.rows.typed.InterestLine.{InterestLine}
+use Rattle.bor_store_sql.specs.declared.rows.typed.InterestRow.{InterestRow}
+use Rattle.bor_store_sql.specs.declared.rows.typed.PeriodRow.{PeriodRow}
+use Rattle.bods_read.specs.declared.interest.Interest.{Interest}
+use Rattle.bor_store_sql.specs.declared.rows.places.At.{At}
+use Rattle.bor_store_sql.specs.declared.rows.typed.Placed.{Placed}
+use Rattle.bor_store_sql.proofs.OnRows.Numbers.{other_number}
+use Rattle.bor_store_sql.specs.Rows.Placed.{AreApart, interest_rows, interests_from, interests_of, same_place, AreSeveral, Misses, OfNext, if_said, line_of, period_of, period_rows, same_interest}
+
+-- the periods of other interests miss this one
+one_missed : (i j : InterestRow) → same_interest j.at j.item i.at i.item ≡ false → Misses i (period_rows j)
+one_missed i j e = go j.interest.starts j.interest.ends
+  where
+    go : (starts ends : Option ℤ) → Misses i (if_said (period_of j) starts ends)
+    go None None = tt
+    go None (Some end) = (e, tt)
+    go (Some start) ends = (e, tt)
+
+pub all_missed : (i : InterestRow) (is : List InterestRow) → AllByRecursion (λ (j : InterestRow). same_interest j.at j.item i.at i.item ≡ false) is → Misses i (flat_map period_rows is)
+all_missed i [] h = tt
+all_missed i (j ∷ is) h = all-append _ (period_rows j) (flat_map period_rows is) (one_missed i j h.0) (all_missed i is h.1)
+
+-- some interests are made of all, and the rows of both tables are those of the others
+pub record Left (all out : List InterestRow) (lines : List InterestLine) (periods : List PeriodRow) : Type 0 where
+  pub left : List InterestRow
+  pub whole : out ++ left ≡ all
+  pub several : AreSeveral left
+  pub lines_are : lines ≡ map line_of left
+  pub periods_are : periods ≡ flat_map period_rows left
+
+pub none_left : (all out : List InterestRow) (lines : List InterestLine) (periods : List PeriodRow) → Left all out lines periods → lines ≡ [] → out ≡ all
+none_left all out lines periods l none = go l.left l.whole (sym l.lines_are ∙ none)
+  where
+    go : (left : List InterestRow) → out ++ left ≡ all → map line_of left ≡ [] → out ≡ all
+    go [] whole e = sym (append-nil out) ∙ whole
+    go (i ∷ left) whole e = absurd cc
+
+abbrev pub timed : InterestLine → Option ℤ → Option ℤ → InterestRow
+timed l starts ends = record { at = l.at; item = l.item; interest = record { kind = l.kind; directness = l.directness; share = l.share; starts = starts; ends = ends } }
+
+pub one_more : (all out : List InterestRow) (line : InterestLine) (rows lines : List InterestLine) (periods rest : List PeriodRow) (starts ends : Option ℤ) (made : InterestRow)
+    → Left all out rows periods → rows ≡ line ∷ lines → OfNext line periods (λ i others. (starts ≡ i.interest.starts) × (ends ≡ i.interest.ends)) → OfNext line periods (λ i others. rest ≡ others)
+    → made ≡ timed line starts ends → Left all (out ++ made ∷ []) lines rest
+one_more all out line rows lines periods rest starts ends made l first days more made_is = go l.left l.whole l.several (sym first ∙ l.lines_are) l.periods_are
+  where
+    go : (left : List InterestRow) → out ++ left ≡ all → AreSeveral left → line ∷ lines ≡ map line_of left → periods ≡ flat_map period_rows left → Left all (out ++ made ∷ []) lines rest
+    go [] whole several e s = absurd cc
+    go (i ∷ left) whole several e s =
+        let same : line ≡ line_of i = cc in
+        let others : lines ≡ map line_of left = cc in
+        let missed = all_missed i left several.0 in
+        let day = days i (flat_map period_rows left) same s missed in
+        let then = more i (flat_map period_rows left) same s missed in
+        let it : made ≡ i = made_is ∙ rw (same, day.0, day.1) refl in
+        record {
+          left = left;
+          whole = append_assoc out (made ∷ []) left ∙ ap (λ x. out ++ x ∷ left) it ∙ whole;
+          several = several.1;
+          lines_are = others;
+          periods_are = then;
+        }
+
+-- ---- the interests of statements that stand apart are several
+
+other_item : (at : At) (m n : ℕ) → m < n → same_interest at n at m ≡ false
+other_item at m n lt = rw (other_number m n lt) refl
+
+later_items : (at : At) (m n : ℕ) (is : List Interest) → m < n → (i : InterestRow) → i.at ≡ at → i.item ≡ m → AllByRecursion (λ (j : InterestRow). same_interest j.at j.item i.at i.item ≡ false) (interests_from at n is)
+later_items at m n [] lt i here e = tt
+later_items at m n (x ∷ is) lt i here e = (rw (here, e) (other_item at m n lt), later_items at m (n + 1) is (omega (arith, lt)) i here e)
+
+several_from : (at : At) (n : ℕ) (is : List Interest) → AreSeveral (interests_from at n is)
+several_from at n [] = tt
+several_from at n (x ∷ is) = (later_items at n (n + 1) is (omega arith) (record { at = at; item = n; interest = x }) refl refl, several_from at (n + 1) is)
+
+and_false : (b : Bool) → (b && false) ≡ false
+and_false true = refl
+and_false false = refl
+
+-- of another place
+elsewhere : (i : InterestRow) (at : At) (n : ℕ) (is : List Interest) → same_place at i.at ≡ false → AllByRecursion (λ (j : InterestRow). same_interest j.at j.item i.at i.item ≡ false) (interests_from at n is)
+elsewhere i at n [] e = tt
+elsewhere i at n (x ∷ is) e = (rw e (and_false (n == i.item)), elsewhere i at (n + 1) is e)
+
+all_elsewhere : (i : InterestRow) (ps : List Placed) → AllByRecursion (λ (q : Placed). same_place q.at i.at ≡ false) ps → AllByRecursion (λ (j : InterestRow). same_interest j.at j.item i.at i.item ≡ false) (flat_map interest_rows ps)
+all_elsewhere i [] h = tt
+all_elsewhere i (p ∷ ps) h = all-append _ (interest_rows p) (flat_map interest_rows ps) (elsewhere i p.at 1 (interests_of p.statement.details) h.0) (all_elsewhere i ps h.1)
+
+several_then : (at : At) (n : ℕ) (is : List Interest) (ps : List Placed) → AllByRecursion (λ (q : Placed). same_place q.at at ≡ false) ps → AreSeveral (flat_map interest_rows ps) → AreSeveral (interests_from at n is ++ flat_map interest_rows ps)
+several_then at n [] ps apart several = several
+several_then at n (x ∷ is) ps apart several =
+    let i : InterestRow = record { at = at; item = n; interest = x } in
+    (all-append _ (interests_from at (n + 1) is) (flat_map interest_rows ps) (later_items at n (n + 1) is (omega arith) i refl refl) (all_elsewhere i ps apart), several_then at (n + 1) is ps apart several)
+
+pub all_several : (ps : List Placed) → AreApart ps → AreSeveral (flat_map interest_rows ps)
+all_several [] h = tt
+all_several (p ∷ ps) h = several_then p.at 1 (interests_of p.statement.details) ps h.0 (all_several ps h.1)

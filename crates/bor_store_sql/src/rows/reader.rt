@@ -1,0 +1,268 @@
+//! Rows of the tables, read column by column.
+
+ghost use Rattle.std.specs.Prelude.{◌≡◌, pos, Ok, List, map, All, MatchResult, Option, Some, option_map, IfSome};
+ghost use Rattle.sqlite.specs.declared.types.Value.TheVariants.{Int, Text};
+ghost use Rattle.sqlite_value.specs.Order.{column};
+ghost use Rattle.bods_read.specs.Forms.{IsShare};
+ghost use Rattle.bods_read.specs.Words.{status_word};
+ghost use Rattle.bor_terms.specs.Span.{Range};
+ghost use Rattle.bor_store_sql.specs.declared.rows.fault.RowFault.TheVariants.{Memory};
+ghost use Rattle.bor_store_sql.specs.Rows.Encoding.{share_columns, or_null};
+ghost use Rattle.bor_store_sql.specs.Rows.Reading.{IsRead, HasFour};
+ghost use Rattle.bor_store_sql.specs.Rows.RowForms.{IsFormedAt};
+
+use crate::rows::fault::RowFault;
+use crate::rows::parts::part_of;
+use crate::rows::places::At;
+use crate::rows::typed::{
+    AgentRow, FilingRow, IdentifierRow, InterestLine, PeriodRow, RegisterRow, StatementRow,
+};
+use crate::rows::values::{blob, day, day_or_null, flag, number, percent, text, value_at};
+use crate::rows::words::by_word;
+use bods_read::{Identifier, Status};
+use bor_register::Filing;
+use bor_terms::Span;
+use sqlite::Row;
+use sqlite::types::ValueRef;
+use std::alloc::Global;
+
+/// A row that can be read from the columns of a table.
+pub trait TableRow: Sized {
+    ghost use Rattle.std.specs.Prelude.{◌≡◌, List};
+    ghost use Rattle.sqlite.specs.declared.types.Value.{Value as SqlValue};
+    ghost use Rattle.bor_store_sql.specs.Rows.Reading.{IsRead};
+
+    ghost columns: { Self → List SqlValue };
+
+    ghost is_formed: { Self → Type 0 };
+
+    /// The value whose columns these are. A row that is no value's is read as another value, or is
+    /// `Damaged`.
+    fn read(alloc: Global, row: &Row) -> Result<Self, RowFault>
+        ensures { (x : Self) → row.now ≡ columns x → is_formed x → IsRead result x };
+}
+
+impl TableRow for AgentRow {
+    ghost use Rattle.bor_store_sql.specs.Rows.Encoding.{agent_row_columns};
+    ghost use Rattle.bor_store_sql.specs.Rows.RowForms.{IsFormedAgentRow};
+
+    ghost columns = { agent_row_columns };
+
+    ghost is_formed = { IsFormedAgentRow };
+
+    #[tactic(auto, using(crate::proofs::OnRows::Utf8::name_utf8, crate::proofs::OnRows::Utf8::token_utf8))]
+    fn read(alloc: Global, row: &Row) -> Result<AgentRow, RowFault> {
+        Ok(AgentRow {
+            name: text(alloc, value_at(row, 0))?,
+            token: text(alloc, value_at(row, 1))?,
+        })
+    }
+}
+
+impl TableRow for RegisterRow {
+    ghost use Rattle.bor_store_sql.specs.Rows.Encoding.{register_row_columns};
+    ghost use Rattle.bor_store_sql.specs.Rows.RowForms.{IsFormedRegisterRow};
+
+    ghost columns = { register_row_columns };
+
+    ghost is_formed = { IsFormedRegisterRow };
+
+    #[tactic(auto, using(crate::proofs::OnRows::Utf8::token_utf8))]
+    fn read(alloc: Global, row: &Row) -> Result<RegisterRow, RowFault> {
+        Ok(RegisterRow {
+            day: day(value_at(row, 2))?,
+            registrar: text(alloc, value_at(row, 3))?,
+        })
+    }
+}
+
+/// A filing without its file: agent, number, key, due day, and whether it is withdrawn.
+impl TableRow for FilingRow {
+    ghost use Rattle.bor_store_sql.specs.Rows.Encoding.{line_columns};
+    ghost use Rattle.bor_store_sql.specs.Rows.RowForms.{IsFormedFilingRow};
+
+    ghost columns = { line_columns };
+
+    ghost is_formed = { IsFormedFilingRow };
+
+    #[tactic(auto, using(crate::proofs::OnRows::Utf8::name_utf8, crate::proofs::OnRows::Utf8::key_utf8))]
+    fn read(alloc: Global, row: &Row) -> Result<FilingRow, RowFault> {
+        Ok(FilingRow {
+            agent: text(alloc, value_at(row, 0))?,
+            number: number(value_at(row, 1))?,
+            key: text(alloc, value_at(row, 2))?,
+            due: day(value_at(row, 3))?,
+            withdrawn: flag(value_at(row, 4))?,
+        })
+    }
+}
+
+/// A filing with its file: number, due day, whether it is withdrawn, and bytes.
+impl TableRow for Filing {
+    ghost use Rattle.bor_store_sql.specs.Rows.Encoding.{shown_columns};
+    ghost use Rattle.bor_store_sql.specs.Rows.RowForms.{IsFormedShown};
+
+    ghost columns = { shown_columns };
+
+    ghost is_formed = { IsFormedShown };
+
+    fn read(alloc: Global, row: &Row) -> Result<Filing, RowFault> {
+        Ok(Filing {
+            number: number(value_at(row, 0))?,
+            due: day(value_at(row, 1))?,
+            withdrawn: flag(value_at(row, 2))?,
+            bytes: blob(alloc, value_at(row, 3))?,
+        })
+    }
+}
+
+/// An identifier with where it stands.
+impl TableRow for IdentifierRow {
+    ghost use Rattle.bor_store_sql.specs.Rows.Encoding.{identifier_columns};
+    ghost use Rattle.bor_store_sql.specs.Rows.RowForms.{IsFormedIdentifierRow};
+
+    ghost columns = { identifier_columns };
+
+    ghost is_formed = { IsFormedIdentifierRow };
+
+    #[tactic(auto, using(crate::proofs::OnRows::Utf8::free_utf8))]
+    fn read(alloc: Global, row: &Row) -> Result<IdentifierRow, RowFault> {
+        Ok(IdentifierRow {
+            at: place_at(alloc, row)?,
+            item: number(value_at(row, 3))?,
+            identifier: Identifier {
+                scheme: text(alloc, value_at(row, 4))?,
+                id: text(alloc, value_at(row, 5))?,
+            },
+        })
+    }
+}
+
+/// Where a statement stands, by the first three columns.
+#[tactic(auto, using(crate::proofs::OnRows::Utf8::name_utf8))]
+fn place_at(alloc: Global, row: &Row) -> Result<At, RowFault>
+    ensures { (at : At) → column row.now 0 ≡ Text at.agent → column row.now 1 ≡ Int (pos at.filing) → column row.now 2 ≡ Int (pos at.place)
+        → IsFormedAt at → IsRead result at }
+{
+    Ok(At {
+        agent: text(alloc, value_at(row, 0))?,
+        filing: number(value_at(row, 1))?,
+        place: number(value_at(row, 2))?,
+    })
+}
+
+/// A share, by the last four columns of an interest.
+#[tactic(auto, using(crate::proofs::OnRows::Shares::low_small))]
+fn span_of(row: &Row) -> Result<Span, RowFault>
+    ensures { (s : Range) → HasFour row.now 6 (share_columns (Some s)) → IsShare s → result ≡ Ok s }
+{
+    let low = percent(value_at(row, 6))?;
+    let low_open = flag(value_at(row, 7))?;
+    let high = percent(value_at(row, 8))?;
+    let high_open = flag(value_at(row, 9))?;
+    match Span::new(low, low_open, high, high_open) {
+        Some(span) => Ok(span),
+        None => Err(RowFault::Damaged),
+    }
+}
+
+/// The share of an interest; none where its columns are null.
+fn share_of(row: &Row) -> Result<Option<Span>, RowFault>
+    ensures { (o : Option Range) → HasFour row.now 6 (share_columns o) → IfSome o IsShare → result ≡ Ok o }
+{
+    match (
+        value_at(row, 6),
+        value_at(row, 7),
+        value_at(row, 8),
+        value_at(row, 9),
+    ) {
+        (ValueRef::Null, ValueRef::Null, ValueRef::Null, ValueRef::Null) => Ok(None),
+        _ => Ok(Some(span_of(row)?)),
+    }
+}
+
+/// All of an interest but its days, with where it stands.
+impl TableRow for InterestLine {
+    ghost use Rattle.bor_store_sql.specs.Rows.Encoding.{interest_line_columns};
+    ghost use Rattle.bor_store_sql.specs.Rows.RowForms.{IsFormedInterestLine};
+
+    ghost columns = { interest_line_columns };
+
+    ghost is_formed = { IsFormedInterestLine };
+
+    fn read(alloc: Global, row: &Row) -> Result<InterestLine, RowFault> {
+        Ok(InterestLine {
+            at: place_at(alloc, row)?,
+            item: number(value_at(row, 3))?,
+            kind: by_word(value_at(row, 4))?,
+            directness: by_word(value_at(row, 5))?,
+            share: share_of(row)?,
+        })
+    }
+}
+
+/// The days of an interest, with where it stands.
+impl TableRow for PeriodRow {
+    ghost use Rattle.bor_store_sql.specs.Rows.Encoding.{period_columns};
+    ghost use Rattle.bor_store_sql.specs.Rows.RowForms.{IsFormedPeriodRow};
+
+    ghost columns = { period_columns };
+
+    ghost is_formed = { IsFormedPeriodRow };
+
+    fn read(alloc: Global, row: &Row) -> Result<PeriodRow, RowFault> {
+        Ok(PeriodRow {
+            at: place_at(alloc, row)?,
+            item: number(value_at(row, 3))?,
+            starts: day_or_null(value_at(row, 4))?,
+            ends: day_or_null(value_at(row, 5))?,
+        })
+    }
+}
+
+/// A statement without its lists.
+impl TableRow for StatementRow {
+    ghost use Rattle.bor_store_sql.specs.Rows.Encoding.{statement_columns};
+    ghost use Rattle.bor_store_sql.specs.Rows.RowForms.{IsFormedStatementRow};
+
+    ghost columns = { statement_columns };
+
+    ghost is_formed = { IsFormedStatementRow };
+
+    #[tactic(auto, using(crate::proofs::OnRows::Utf8::ident_utf8))]
+    fn read(alloc: Global, row: &Row) -> Result<StatementRow, RowFault> {
+        Ok(StatementRow {
+            at: place_at(alloc, row)?,
+            id: text(alloc, value_at(row, 3))?,
+            day: day(value_at(row, 4))?,
+            declaration: text(alloc, value_at(row, 5))?,
+            rec: text(alloc, value_at(row, 6))?,
+            status: status_of(row)?,
+            part: part_of(alloc, row)?,
+        })
+    }
+}
+
+/// The status of a statement; none where it is null.
+fn status_of(row: &Row) -> Result<Option<Status>, RowFault>
+    ensures { (o : Option Status) → column row.now 8 ≡ or_null (option_map status_word o) → result ≡ Ok o }
+{
+    match value_at(row, 8) {
+        ValueRef::Null => Ok(None),
+        value => Ok(Some(by_word(value)?)),
+    }
+}
+
+/// The values whose columns these rows are, in order.
+pub fn read_rows<T: TableRow + Drop>(alloc: Global, rows: &[Row]) -> Result<Vec<T>, RowFault>
+    ensures { (xs : List T) → rows.now ≡ map T.columns xs → All T.is_formed xs → MatchResult result (λ read. read.items ≡ xs) (λ fault. fault ≡ Memory) }
+{
+    let mut read = Vec::new(alloc);
+    for row in rows {
+        let value = T::read(alloc, row)?;
+        if read.push(value).is_err() {
+            return Err(RowFault::Memory);
+        }
+    }
+    Ok(read)
+}

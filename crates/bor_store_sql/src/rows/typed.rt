@@ -1,0 +1,147 @@
+//! Rows of the tables, each value of its type.
+
+ghost use Rattle.std.specs.Prelude.{◌≡◌};
+ghost use Rattle.bor_store_sql.specs.Rows.Placed.{with_lists, details_with};
+
+use crate::rows::places::At;
+use bods_read::{
+    Details, Directness, EntityKind, FreeText, Identifier, Interest, InterestKind, PersonKind,
+    Statement, Status,
+};
+use bor_terms::{AgentName, Day, Ident, Listed, LodgeKey, Span, Token};
+
+/// The row of the table `register`.
+#[derive(Debug, Drop)]
+pub struct RegisterRow {
+    /// The register's day.
+    pub day: Day,
+    /// The registrar's token.
+    pub registrar: Token,
+}
+
+/// A row of the table `agent`.
+#[derive(Debug, Drop)]
+pub struct AgentRow {
+    pub name: AgentName,
+    pub token: Token,
+}
+
+/// A row of the table `filing` without its file.
+#[derive(Debug, Drop)]
+pub struct FilingRow {
+    pub agent: AgentName,
+    /// From 1; each agent's filings are numbered in order of acceptance.
+    pub number: u32,
+    pub key: LodgeKey,
+    pub due: Day,
+    pub withdrawn: bool,
+}
+
+/// A statement with where it stands.
+#[derive(Debug, Drop)]
+pub struct Placed {
+    pub at: At,
+    pub statement: Statement,
+}
+
+/// What the table `statement` has of a statement's details.
+#[derive(Debug, Drop)]
+pub enum Part {
+    Entity {
+        kind: EntityKind,
+        name: Option<FreeText>,
+    },
+    Person {
+        kind: PersonKind,
+        name: Option<FreeText>,
+    },
+    Relationship {
+        subject: Option<Ident>,
+        party: Option<Ident>,
+    },
+}
+
+/// A row of the table `statement`.
+#[derive(Debug, Drop)]
+pub struct StatementRow {
+    pub at: At,
+    pub id: Ident,
+    pub day: Day,
+    pub declaration: Ident,
+    pub rec: Ident,
+    pub status: Option<Status>,
+    pub part: Part,
+}
+
+/// A row of the table `interest`, which has all of an interest but its days.
+#[derive(Debug, Drop)]
+pub struct InterestLine {
+    pub at: At,
+    pub item: u32,
+    pub kind: InterestKind,
+    pub directness: Directness,
+    pub share: Option<Span>,
+}
+
+/// A row of the table `period`: the days of an interest that has at least one.
+#[derive(Debug, Drop)]
+pub struct PeriodRow {
+    pub at: At,
+    pub item: u32,
+    pub starts: Option<Day>,
+    pub ends: Option<Day>,
+}
+
+/// An interest with where it stands. It has a row of the table `interest`, and one of the table `period`
+/// where it has a day.
+#[derive(Debug, Drop)]
+pub struct InterestRow {
+    pub at: At,
+    pub item: u32,
+    pub interest: Interest,
+}
+
+/// A row of the table `identifier`.
+#[derive(Debug, Drop)]
+pub struct IdentifierRow {
+    pub at: At,
+    pub item: u32,
+    pub identifier: Identifier,
+}
+
+impl StatementRow {
+    /// The statement with these interests and identifiers.
+    pub fn with(self, interests: Vec<Interest>, identifiers: Vec<Identifier>) -> Placed
+        ensures { result ≡ with_lists self interests.items identifiers.items }
+    {
+        Placed {
+            at: self.at,
+            statement: Statement {
+                id: self.id,
+                day: self.day,
+                declaration: self.declaration,
+                rec: self.rec,
+                status: self.status,
+                details: details(self.part, interests, identifiers),
+            },
+        }
+    }
+}
+
+fn details(part: Part, interests: Vec<Interest>, identifiers: Vec<Identifier>) -> Details
+    ensures { result ≡ details_with part interests.items identifiers.items }
+{
+    match part {
+        Part::Entity { kind, name } => Details::Entity {
+            kind,
+            name,
+            identifiers: Listed::new(identifiers),
+        },
+        Part::Person { kind, name } => Details::Person { kind, name },
+        Part::Relationship { subject, party } => Details::Relationship {
+            subject,
+            party,
+            interests: Listed::new(interests),
+        },
+    }
+}

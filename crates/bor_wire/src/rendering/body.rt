@@ -1,0 +1,112 @@
+//! The bodies of replies to requests that only read.
+
+ghost use Rattle.std.specs.Prelude.{◌≡◌, IfOk, OnOk};
+ghost use Rattle.serde_json.specs.Written.{compact_text};
+ghost use Rattle.bor_wire.specs.Rendering.Values.{list_data, snapshot_data, chains_data};
+ghost use Rattle.bor_wire.specs.Rendering.Bodies.{snapshot_text, chains_text, desk_body};
+ghost use Rattle.bor_wire.specs.Rendering.Parts.{Adds, data_tokens};
+
+use crate::rendering::head::HEAD_ROOM;
+use crate::rendering::reply::RESERVED;
+use crate::rendering::short::put_body;
+use crate::rendering::shown::{Shown, write_array, write_day, write_text};
+use bor_chains::{Node, PersonLine};
+use bor_desk::DeskReply;
+use bor_records::Entry;
+use bor_terms::Day;
+use json::Writer;
+use std::alloc::{AllocError, Global};
+
+// What is shown of each item, in order, as an array.
+fn array_body<T: Shown>(alloc: Global, items: &[T]) -> Result<Vec<u8>, AllocError>
+    ensures { IfOk result (λ body. body.items ≡ compact_text (list_data T.as_data items.now)) }
+{
+    let mut out = Writer::new(Vec::new(alloc));
+    write_array(&mut out, items)?;
+    Ok(out.into_inner())
+}
+
+fn write_snapshot(out: &mut Writer, date: Day, records: &[Entry]) -> Result<(), AllocError>
+    ensures { Adds result out.old out.new (data_tokens (snapshot_data date records.now)) }
+{
+    out.begin_object()?;
+    out.key("date")?;
+    write_day(out, date)?;
+    out.key("records")?;
+    write_array(out, records)?;
+    out.end_object()
+}
+
+// The open records on a date.
+fn snapshot_body(alloc: Global, date: Day, records: &[Entry]) -> Result<Vec<u8>, AllocError>
+    ensures { IfOk result (λ body. body.items ≡ snapshot_text date records.now) }
+{
+    let mut out = Writer::new(Vec::new(alloc));
+    write_snapshot(&mut out, date, records)?;
+    Ok(out.into_inner())
+}
+
+fn write_chains(
+    out: &mut Writer,
+    entity: &Node,
+    date: Day,
+    persons: &[PersonLine],
+) -> Result<(), AllocError>
+    ensures { Adds result out.old out.new (data_tokens (chains_data entity.now date persons.now)) }
+{
+    out.begin_object()?;
+    write_text(out, "agent", entity.agent.as_str())?;
+    out.key("date")?;
+    write_day(out, date)?;
+    write_text(out, "declaration", entity.declaration.as_str())?;
+    out.key("persons")?;
+    write_array(out, persons)?;
+    write_text(out, "record", entity.rec.as_str())?;
+    out.end_object()
+}
+
+// The persons behind an entity on a date.
+fn chains_body(
+    alloc: Global,
+    entity: &Node,
+    date: Day,
+    persons: &[PersonLine],
+) -> Result<Vec<u8>, AllocError>
+    ensures { IfOk result (λ body. body.items ≡ chains_text entity.now date persons.now) }
+{
+    let mut out = Writer::new(Vec::new(alloc));
+    write_chains(&mut out, entity, date, persons)?;
+    Ok(out.into_inner())
+}
+
+// The file as it was lodged, with room for the head of the reply.
+fn file_body(alloc: Global, file: &[u8]) -> Result<Vec<u8>, AllocError>
+    ensures { IfOk result (λ body. body.items ≡ file.now) }
+{
+    let mut body = Vec::with_capacity(alloc, file.len() + HEAD_ROOM)?;
+    body.extend_from_slice(file)?;
+    Ok(body)
+}
+
+/// The body of a reply.
+#[tactic(auto, unfolding(crate::specs::Rendering::Bodies::lines_text, crate::specs::Rendering::Bodies::published_text))]
+pub(crate) fn body_of(alloc: Global, reply: &DeskReply) -> Result<Vec<u8>, AllocError>
+    ensures { IfOk result (λ body. body.items ≡ desk_body reply.now) }
+{
+    match reply {
+        DeskReply::Filings(lines) => array_body(alloc, lines.as_slice()),
+        DeskReply::File(file) => file_body(alloc, file.as_slice()),
+        DeskReply::Published(outwards) => array_body(alloc, outwards.as_slice()),
+        DeskReply::Snapshot { date, records } => snapshot_body(alloc, *date, records.as_slice()),
+        DeskReply::Chains {
+            entity,
+            date,
+            persons,
+        } => chains_body(alloc, entity, *date, persons.as_slice()),
+        short => {
+            let mut body = Vec::with_capacity(alloc, RESERVED)?;
+            put_body(&mut body, short);
+            Ok(body)
+        }
+    }
+}

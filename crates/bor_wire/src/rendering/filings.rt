@@ -1,0 +1,65 @@
+//! Filings, as their agent and as all see them.
+
+ghost use Rattle.std.specs.Prelude.{◌≡◌};
+ghost use Rattle.bor_desk.specs.Texts.{settled_word};
+ghost use Rattle.bor_wire.specs.Rendering.Values.{line_data, statement_data, outward_data};
+
+use crate::rendering::shown::{Shown, write_array, write_day, write_text};
+use bods_read::{Statement, Status};
+use bor_desk::operations::{FilingLine, Outward};
+use json::Writer;
+use std::alloc::AllocError;
+
+impl Shown for FilingLine {
+    ghost as_data = { line_data };
+
+    fn write(&self, out: &mut Writer) -> Result<(), AllocError> {
+        out.begin_object()?;
+        out.key("due")?;
+        write_day(out, self.due)?;
+        out.key("filing")?;
+        out.u64(u64::from(self.number))?;
+        write_text(out, "key", self.key.as_str())?;
+        write_text(out, "state", self.state.as_str())?;
+        out.end_object()
+    }
+}
+
+fn settled_word(status: Option<Status>) -> &'static str
+    ensures { result.now ≡ settled_word status }
+{
+    match status {
+        Some(status) => status.as_str(),
+        None => "",
+    }
+}
+
+impl Shown for Statement {
+    ghost as_data = { statement_data };
+
+    fn write(&self, out: &mut Writer) -> Result<(), AllocError> {
+        out.begin_object()?;
+        out.key("date")?;
+        write_day(out, self.day)?;
+        write_text(out, "declaration", self.declaration.as_str())?;
+        write_text(out, "id", self.id.as_str())?;
+        write_text(out, "record", self.rec.as_str())?;
+        write_text(out, "status", settled_word(self.status))?;
+        write_text(out, "type", self.record_type().as_str())?;
+        out.end_object()
+    }
+}
+
+impl Shown for Outward {
+    ghost as_data = { outward_data };
+
+    fn write(&self, out: &mut Writer) -> Result<(), AllocError> {
+        out.begin_object()?;
+        write_text(out, "agent", self.agent.as_str())?;
+        out.key("due")?;
+        write_day(out, self.due)?;
+        out.key("statements")?;
+        write_array(out, self.statements.as_slice())?;
+        out.end_object()
+    }
+}

@@ -1,9 +1,0 @@
-use Rattle.std.specs.Prelude.{⊤}
-use Rattle.matchit.proofs.OnLiterals.{matchit_on_literals}
-use Rattle.bor_wire_routes.specs.Routes.{route_at, allow}
-use Rattle.bor_wire_routes.specs.Paths.{router, path_of}
-
--- what an answer unfolds to compute a route of literals
-unfoldable pub routes_on_literals : ⊤
-unfolding matchit_on_literals route_at allow router path_of
-routes_on_literals = tt

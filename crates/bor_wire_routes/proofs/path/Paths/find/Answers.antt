@@ -1,8 +1,0 @@
-use Rattle.std.proofs.Common.{rules}
-use Rattle.bor_wire_routes.specs.Paths.{path_of}
-use Rattle.bor_wire_routes.proofs.AsWritten.{written}
-use Rattle.bor_wire_routes.proofs.path.Paths.find.Goals as goal
-
-pub returns-clause-written : goal.returns-clause-written
-unfolding path_of
-returns-clause-written c = written c.args.text.now c.utf8.text _ (search rules)
