@@ -9,7 +9,7 @@ use Rattle.bor_records.specs.Links.Shown.{Shown}
 use Rattle.bor_chains.specs.Marks.{LeadsByLink, Names}
 use Rattle.bor_chains.specs.Walk.{GoesOnClosed, LeadsFrom, NamesFrom}
 use Rattle.bor_records.proofs.OnLinks.Growth.{grown_none, grown_more}
-use Rattle.bor_chains.proofs.Meeting.{meets_none, meets_more}
+use Rattle.bor_chains.proofs.Growing.{lines_none, lines_more}
 
 -- no mark
 pub cross_none : (s : Shown) (start count : ℕ) (w : Walk) → GoesOnClosed s (LeadsFrom s (drop start (take start w.marks))) (NamesFrom s (drop start (take start w.marks))) count w w
@@ -17,7 +17,7 @@ cross_none s start count w closed = (
   closed,
   record {
     marks = grown_none (LeadsFrom s front) w.marks (λ n h. absurd (empty h.0 h.1));
-    found = meets_none (NamesFrom s front) count w.found.keys (λ person name h. absurd (empty h.0 h.1));
+    found = lines_none (NamesFrom s front) count w.found.items (λ person name h. empty h.0 h.1);
   },
 )
   where
@@ -43,7 +43,7 @@ cross_more s start i count m a b c le lt at first then closed = let f = first cl
     marks = grown_more (LeadsFrom s before) (LeadsByLink s m) (LeadsFrom s after) a.marks b.marks c.marks g.marks h.marks
         (λ n. elim [ inl p ↦ (p.0, old p.0 p.1, p.2) | inr q ↦ (m, here g.marks.rest g.marks.begins, q) ])
         (λ n r. elim (split g.marks.rest g.marks.begins r.0 r.1) [ inl o ↦ inl (r.0, o, r.2) | inr e ↦ inr (subst (λ (x : Marked). LeadsByLink s x n) (sym e) r.2) ]);
-    found = meets_more (NamesFrom s before) (Names s m) (NamesFrom s after) count a.found.keys b.found.keys c.found.keys g.found h.found
+    found = lines_more (NamesFrom s before) (Names s m) (NamesFrom s after) count a.found.items b.found.items c.found.items g.found h.found
         (λ person name. elim [ inl p ↦ (p.0, old p.0 p.1, p.2) | inr q ↦ (m, here g.marks.rest g.marks.begins, q) ])
         (λ person name r. elim (split g.marks.rest g.marks.begins r.0 r.1) [ inl o ↦ inl (r.0, o, r.2) | inr e ↦ inr (subst (λ (x : Marked). Names s x person name) (sym e) r.2) ]);
   },
