@@ -8,3 +8,4 @@ pub mod SequenceLaws
 pub mod HistoryExamples
 pub mod Examples
 pub mod OnRendering
+pub mod HeadlineLaws

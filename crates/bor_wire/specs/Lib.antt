@@ -6,3 +6,4 @@ pub mod Exchanges
 pub mod Nobody
 pub mod Sequences
 pub mod Rendering
+pub mod Headline

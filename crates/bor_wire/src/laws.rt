@@ -1,10 +1,24 @@
 //! Laws of runs. Each function does nothing: its contract is the law.
 
+ghost use Rattle.bor_wire.specs.Headline.{DraftsStayInvisible, ReportsNameTheJoined};
 ghost use Rattle.bor_wire.specs.Histories.{EachIsReceived, SameHistorySameBytes};
 ghost use Rattle.bor_wire.specs.Nobody.{NobodysInputs};
 ghost use Rattle.bor_wire.specs.Sequences.{ExchangesAreARun};
 
 use bor_desk::operations::Keep;
+
+/// An agent's drafts stay invisible to every other agent, to the last byte of a reply. Of two lists of
+/// requests, each answered from a new register: where an agent's own are the same, on the same days and
+/// with the same published by the others at each, it receives the same bytes.
+pub fn drafts_stay_invisible()
+    ensures { DraftsStayInvisible }
+{}
+
+/// A chain report omits nobody and invents nobody. Of requests that are answered from a new register,
+/// each reply with status 200 to one for chains names exactly the persons joined to the entity.
+pub fn reports_name_the_joined()
+    ensures { ReportsNameTheJoined }
+{}
 
 /// Two runs, from any two legal registers, in which an agent has the same filings at the start and the
 /// same history give it the same bytes in the same order.
