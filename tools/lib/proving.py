@@ -1,0 +1,217 @@
+"""Proves libraries and leaves them built, side by side, and tells how far that is.
+
+`rt lib` proves a library and leaves it built in one pass, but holds the folders of all crates below it
+meanwhile, so two of them in one checkout take turns. So the scripts here hold the folders themselves, and
+call what `rt lib` calls for a library (build_rlib) and what `rt ci` calls for many (in_lanes).
+"""
+import contextlib
+import ctypes
+import importlib.machinery
+import importlib.util
+import os
+import shutil
+import signal
+import sys
+import threading
+import time
+from pathlib import Path
+
+TOP = Path(__file__).resolve().parent.parent.parent
+MEMORY = 2_500_000_000  # that a check takes, in bytes; with each job more, 0.6 of it
+# The seconds of processor time that a crate was seen to take: each, for a line of its src, for such a line where
+# it stands on SQLite, and for linking the program. An earlier check saves two thirds.
+ANY, LINE, SQL_LINE, LINK = 30, 0.11, 0.09, 300
+ERRORS = sys.stderr
+
+
+def toolchain():
+    """The functions of `rt`; None where there is no such command."""
+    path = shutil.which("rt")
+    if path is None:
+        return None
+    loader = importlib.machinery.SourceFileLoader("rt", os.path.realpath(path))
+    module = importlib.util.module_from_spec(importlib.util.spec_from_loader("rt", loader))
+    loader.exec_module(module)
+    # What checks in other checkouts on this machine kept of the same text is taken from there.
+    module.share_work(True)
+    module.rtlib.guarded()
+    return module
+
+
+def end_with_the_caller():
+    """Ends this process where the one that called it ends (PR_SET_PDEATHSIG), and at Ctrl-C at once."""
+    ctypes.CDLL(None).prctl(1, signal.SIGTERM)
+    if signal.getsignal(signal.SIGINT) is signal.default_int_handler:
+        signal.signal(signal.SIGINT, signal.SIG_DFL)
+
+
+def say(text):
+    with contextlib.suppress(OSError):  # (whoever read it may have gone)
+        ERRORS.write(text)
+        ERRORS.flush()
+
+
+def crate_of(rt, name, known=None):
+    """The crate of this name, with those that it stands on."""
+    return rt.rtlib.Crate(str(TOP / "crates" / name), str(TOP), {} if known is None else known)
+
+
+def listed():
+    """The repository's crates in crates.txt, each with those of them that it stands on."""
+    rows = [line.partition("#")[0].partition(":") for line in (TOP / "crates.txt").read_text().splitlines()]
+    below = {head.split()[0]: tail.replace(",", " ").split() for head, _, tail in rows if head.strip()}
+    return {name: [it for it in words if it in below] for name, words in below.items()}
+
+
+# ---- how long it takes
+
+
+def seconds(crate, lib):
+    """About how long a crate takes."""
+    lines = sum((lib.text_of(file) or "").count("\n") for file in lib.files_of(crate.folder) if file.endswith(".rt"))
+    whole = ANY + (LINE + SQL_LINE * ("sqlite" in crate.of_kit)) * lines + LINK * crate.is_program
+    return whole / 3 if os.path.isdir(f"{crate.folder}/out/incremental") else whole
+
+
+class Progress:
+    """How far the work is. The crates stand with their expected seconds, each after those that it waits for."""
+
+    def __init__(self, rt, crates):
+        self.lanes = lanes_of(rt)
+        self.expected = {it.name: seconds(it, rt.rtlib) for it in crates}
+        self.waits = {it.name: [below.name for below in it.below() if below in crates] for it in crates}
+        self.began, self.took, self.failed, self.minutes, self.told = {}, {}, set(), 0, ""
+        self.turn, self.is_over = threading.RLock(), threading.Event()
+        threading.Thread(target=self.follow, daemon=True).start()
+
+    def begin(self, name):
+        with self.turn:
+            self.began[name] = time.monotonic()
+            self.tell()
+
+    def end(self, name, is_proved=True):
+        """A crate is proved, or it isn't, which may be since one below it isn't."""
+        with self.turn:
+            began = self.began.get(name)
+            self.took[name] = self.expected[name] if began is None else time.monotonic() - began
+            self.failed |= set() if is_proved else {name}
+            self.tell()
+
+    def chains(self, each):
+        """For each crate how long the longest chain of those that it waits for takes, and itself."""
+        found = {}
+        for name in self.expected:
+            found[name] = each(name) + max((found[it] for it in self.waits[name]), default=0)
+        return found
+
+    def longest_chain(self):
+        """The crates of the chain that takes longest."""
+        chains, names = self.chains(self.expected.get), set()
+        last = max(chains, key=chains.get, default=None)
+        while last:
+            names.add(last)
+            last = max(self.waits[last], key=chains.get, default=None)
+        return names
+
+    def left(self):
+        """The seconds left, by the longest chain and by the work over the lanes, at the pace of what has ended."""
+        # (what was expected counts as much as a first crate of five minutes)
+        pace = (300 + sum(self.took.values())) / (300 + sum(self.expected[it] for it in self.took))
+        now, left = time.monotonic(), {}
+        for name, wanted in self.expected.items():
+            rest = pace * wanted - (now - self.began.get(name, now))
+            left[name] = 0 if name in self.took else max(rest, pace * wanted / 10)
+        return max(max(self.chains(left.get).values()), sum(left.values()) / self.lanes)
+
+    def tell(self):
+        """Tells how far the work is, where that has changed: on a terminal in one line, else in a line each."""
+        with self.turn:
+            if len(self.took) == len(self.expected):
+                return
+            minutes = max(round(self.left() / 60), 1)
+            # (it goes down, unless what was told was wrong by a third)
+            self.minutes = self.minutes if self.minutes < minutes <= self.minutes * 4 / 3 else minutes
+            time_left = f"about {self.minutes} minute{'s' * (self.minutes > 1)} left"
+            proved = len(self.took) - len(self.failed)
+            text = f"proved {proved} of {len(self.expected)} crates, {time_left}"
+            if text != self.told and not self.is_over.is_set():
+                self.told = text
+                say(f"\r\033[K{text}" if ERRORS.isatty() else f"{text}\n")
+
+    def follow(self):
+        while not self.is_over.wait(5):
+            self.tell()
+
+    def stop(self, ending):
+        """Tells nothing more, and ends a terminal's line."""
+        with self.turn:
+            self.is_over.set()
+            say(ending if ERRORS.isatty() else "")
+
+
+# ---- proving
+
+
+def lanes_of(rt):
+    """How many checks go side by side (as in_lanes, which takes a number of lanes from RT_JOBS too)."""
+    number = os.environ.get("RT_JOBS", "")
+    fixed = int(number) if number.isdigit() else 0
+    return fixed or max(1, min(rt.processors(), rt.free() // MEMORY))
+
+
+def give_way(call):
+    """Makes a call in a thread of its own, all commands of which let others have the processors first."""
+    given = []
+
+    def last():
+        os.setpriority(os.PRIO_PROCESS, threading.get_native_id(), 10)
+        given.append(call())
+
+    thread = threading.Thread(target=last)
+    thread.start()
+    thread.join()
+    return given[0]
+
+
+def prove(crate, progress, jobs):
+    """Proves a library and leaves it built; what was said where it couldn't be. Its out/build.log has that too."""
+    progress.begin(crate.name)
+    os.makedirs(f"{crate.folder}/out", exist_ok=True)
+    with open(f"{crate.folder}/out/build.log", "w+", encoding="utf-8") as crate.out:
+        try:
+            status = crate.build_rlib(["--jobs", str(jobs)], anew=False)
+        except (SystemExit, OSError) as error:
+            print(error, file=crate.out)
+            status = 2
+        crate.out.seek(0)
+        said = crate.out.read()
+    progress.end(crate.name, not status)
+    return said if status else None
+
+
+def prove_all(rt, crates, progress, failed):
+    """Has each library proved and left built once those of them below it are, the longest chain first.
+
+    Where one isn't, `failed` gets it with what was said, and those above it are not tried. Gives whether each is.
+    """
+    most = max(1, min(progress.lanes, 1 + int((rt.free() / MEMORY - progress.lanes) / 0.6)))
+    tasks, chain = {}, progress.longest_chain()
+
+    def one(crate, given, jobs):
+        if not all(given[it, "proof"] for it in progress.waits[crate.name]):
+            progress.end(crate.name, False)
+            return False
+        # All wait for the longest chain: a crate of it gets every processor, where that leaves memory for others.
+        if crate.name in chain:
+            said = prove(crate, progress, max(jobs, most))
+        else:
+            said = give_way(lambda: prove(crate, progress, jobs))
+        if said is not None:
+            failed(crate, said)
+        return said is None
+
+    for crate in crates:
+        waits = [(it, "proof") for it in progress.waits[crate.name]]
+        call = lambda given, jobs, it=crate: one(it, given, jobs)
+        tasks[crate.name, "proof"] = (waits, progress.expected[crate.name], MEMORY, call)
+    return {name: is_proved for (name, _), is_proved in rt.in_lanes(tasks).items()}
