@@ -20,7 +20,7 @@ TOP = Path(__file__).resolve().parent.parent.parent
 MEMORY = 2_500_000_000  # that a check takes, in bytes; with each job more, 0.6 of it
 # The seconds of processor time that a crate was seen to take: each, for a line of its src, for such a line where
 # it stands on SQLite, and for linking the program. An earlier check saves two thirds.
-ANY, LINE, SQL_LINE, LINK = 30, 0.11, 0.09, 300
+ANY, LINE, SQL_LINE, LINK = 30, 0.11, 0.09, 200
 ERRORS = sys.stderr
 
 
