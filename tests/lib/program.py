@@ -24,16 +24,20 @@ class Ended:
 
 
 class Bor:
-    """The program at a path."""
+    """The program at a path, which sees these variables beside those of the tests."""
 
-    def __init__(self, path):
+    def __init__(self, path, variables=None):
         self.path = str(Path(path).resolve())
+        self.variables = variables or {}
+
+    def under(self, variables):
+        """The same program, which sees these variables too."""
+        return type(self)(self.path, variables)
 
     def run(self, words, folder, stdin=b""):
         """A run on these words in a folder."""
-        return Ended(
-            subprocess.run([self.path, *words], cwd=folder, input=stdin, capture_output=True, timeout=SECONDS)
-        )
+        how = {"cwd": folder, "capture_output": True, "timeout": SECONDS, "env": {**os.environ, **self.variables}}
+        return Ended(subprocess.run([self.path, *words], input=stdin, **how))
 
     def exchange(self, requests, folder, db=None):
         """The requests in one run, each in a file of its own."""
@@ -78,9 +82,9 @@ class Server:
     def __init__(self, bor, folder, db, connections):
         self.port = free_port()
         words = ["serve", "--db", db, "--port", str(self.port), "--connections", str(connections)]
-        self.ran = subprocess.Popen(
-            [bor.path, *words], cwd=folder, stdin=subprocess.DEVNULL, stdout=subprocess.PIPE, stderr=subprocess.PIPE
-        )
+        streams = {"stdin": subprocess.DEVNULL, "stdout": subprocess.PIPE, "stderr": subprocess.PIPE}
+        variables = {**os.environ, **bor.variables}
+        self.ran = subprocess.Popen([bor.path, *words], cwd=folder, env=variables, **streams)
         atexit.register(self.ran.kill)
         limit = threading.Timer(SECONDS, self.ran.kill)
         limit.start()
