@@ -173,7 +173,8 @@ def request_of(ask):
     if ask == "raw":
         return b""
     if ask.startswith("raw @"):
-        return (ROWS / ask[5:]).read_bytes()
+        name, _, behind = ask[5:].partition(" ")
+        return (ROWS / name).read_bytes() + unescaped(behind)
     if ask.startswith("raw "):
         return unescaped(ask[4:])
     if ask.startswith("cut "):

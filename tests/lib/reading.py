@@ -1,5 +1,6 @@
 """A second answer to what a file says: the first line of the table of members that fails, or statements."""
 import json
+import re
 from dataclasses import dataclass
 
 DAY_LENGTH = 10
@@ -251,10 +252,52 @@ def statement(value, place):
     return Statement(name, day, declaration, record, kind, status, shown, interests)
 
 
+# A pair of surrogates, or another letter behind a backslash.
+ESCAPE = re.compile(r"\\u[dD][89abAB][\da-fA-F]{2}\\u[dD][c-fC-F][\da-fA-F]{2}|\\(?:u([\da-fA-F]{4})|.)", re.DOTALL)
+STRING = re.compile(r'"(?:[^"\\]|\\.)*"', re.DOTALL)
+LEVELS = 127
+
+
+def depth_of(text):
+    """How deep lists and objects stand in each other in a text of JSON."""
+    depth = deepest = 0
+    for letter in re.findall(r"[\[\]{}]", STRING.sub("", text)):
+        depth += 1 if letter in "[{" else -1
+        deepest = max(deepest, depth)
+    return deepest
+
+
+def whole(digits):
+    """A whole number; one that is greater than all of 64 bits' floats is none, and -0 is a float."""
+    fraction(digits)
+    return -0.0 if digits == "-0" else int(digits)
+
+
+def fraction(digits):
+    value = float(digits)
+    if value in (float("inf"), float("-inf")):
+        raise ValueError
+    return value
+
+
+def constant(_word):
+    raise ValueError
+
+
+def json_of(data):
+    """The value of a text of JSON in UTF-8: no constants, no half of a pair of surrogates, and 127 levels."""
+    text = data.decode()
+    if depth_of(text) > LEVELS:
+        raise ValueError
+    if any(0xD800 <= int(found[1] or "0", 16) <= 0xDFFF for found in ESCAPE.finditer(text)):
+        raise ValueError
+    return json.loads(text, parse_int=whole, parse_float=fraction, parse_constant=constant)
+
+
 def read(data):
     """The statements of a file, or its first fault."""
     try:
-        value = json.loads(data.decode())
+        value = json_of(data)
     except ValueError:
         raise Refused("NotJson") from None
     if not isinstance(value, list):

@@ -66,7 +66,11 @@ class Register:
 
     def answer(self, caller, wish, *words):
         """The reply to what a caller wishes, as bytes."""
-        name = self.tokens.get(token_of(caller))
+        return self.answer_to(token_of(caller), wish, words)
+
+    def answer_to(self, token, wish, words):
+        """The same of whoever has the token."""
+        name = self.tokens.get(token)
         try:
             if name is None:
                 raise Refused("NoAgent")
