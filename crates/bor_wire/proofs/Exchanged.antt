@@ -1,5 +1,5 @@
 -- What an exchange did, from what went out.
-use Rattle.std.proofs.Common.{◌≡◌, ◌≢◌, ℕ, List, [], ◌∷◌, Option, Some, None, take, sym, ◌∙◌}
+use Rattle.std.proofs.Common.{◌≡◌, ◌≢◌, ◌≤◌, ℕ, List, [], ◌∷◌, Option, Some, None, take, sym, subst, ◌∙◌}
 use Rattle.std.specs.Io.KnownBytes.{Appends}
 use Rattle.bor_register.specs.Register.{Register}
 use Rattle.bor_http.specs.declared.incoming.fault.Refusal.{Refusal}
@@ -8,7 +8,7 @@ use Rattle.bor_wire.specs.Rendering.Replies.{refused, status_of, bytes_of}
 use Rattle.bor_wire.specs.declared.rendering.reply.TheConstants.{UNAVAILABLE}
 use Rattle.bor_wire.specs.declared.outcome.Outcome.{Outcome}
 use Rattle.bor_wire.specs.declared.outcome.Outcome.TheVariants.{Replied, ReadFailed, WriteFailed}
-use Rattle.bor_wire.specs.Exchanges.{IsSpelled, IsSent, IsReplySent, IsReplied, IsExchanged, IsWritten, TellsUnavailable, TellsRefusal, WithoutReply, OnRefusal}
+use Rattle.bor_wire.specs.Exchanges.{IfRefused, IsSpelled, IsSent, IsReplySent, IsReplied, IsExchanged, IsWritten, TellsUnavailable, TellsRefusal, WithoutReply, OnRefusal}
 use Rattle.bor_wire.proofs.HistoryLaws.{alone}
 use Rattle.bor_wire.proofs.ReportLaws.{exact}
 
@@ -56,6 +56,17 @@ pub without_reply : (outcome : Outcome) (P : Type 0) → P → WithoutReply outc
 without_reply (Replied told) P h = λ _. h
 without_reply ReadFailed P h = h
 without_reply (WriteFailed told) P h = λ _. h
+
+pub if_refused : (outcome : Outcome) (P : Type 0) → P → IfRefused outcome P
+if_refused (Replied told) P h = λ _. h
+if_refused ReadFailed P h = h
+if_refused (WriteFailed told) P h = λ _. h
+
+-- what holds where the status that was written is a refusal's
+pub refused_kept : (outcome : Outcome) (status : ℕ) (bytes : List ℕ) (old new : Option (List ℕ)) (P : Type 0) → (400 ≤ status → P) → IsWritten outcome status bytes old new → IfRefused outcome P
+refused_kept (Replied told) status bytes old new P h w = λ least. h (subst (λ n. 400 ≤ n) w.0 least)
+refused_kept ReadFailed status bytes old new P h w = absurd w
+refused_kept (WriteFailed told) status bytes old new P h w = λ least. h (subst (λ n. 400 ≤ n) w.0 least)
 
 -- with another status than 503 there is a reply
 pub with_reply : (outcome : Outcome) (status : ℕ) (bytes : List ℕ) (old new : Option (List ℕ)) (P : Type 0) → status ≢ 503 → IsWritten outcome status bytes old new → WithoutReply outcome P

@@ -2,6 +2,10 @@ pub mod Outgoings
 pub mod ReportLaws
 pub mod Exchanged
 pub mod RunLaws
+pub mod RefusalLaws
+pub mod AllRefusalLaws
+pub mod RepeatLaws
+pub mod ReportBytes
 pub mod HistoryLaws
 pub mod NobodyLaws
 pub mod SequenceLaws

@@ -1,5 +1,6 @@
 pub mod Writing
 pub mod Bodies
+pub mod ReadBack
 pub mod ShortTexts
 pub mod LengthTold
 pub mod Examples

@@ -19,7 +19,7 @@ use Rattle.bor_http.proofs.OnSpelling.Messages.{message_spelled, one_spelling}
 use Rattle.bor_wire.specs.Rendering.Replies.{refused}
 use Rattle.bor_wire.specs.declared.outgoing.Outgoing.{Outgoing}
 use Rattle.bor_wire.specs.declared.outgoing.Outgoing.TheVariants.{Full, Unavailable}
-use Rattle.bor_wire.specs.Exchanges.{ByOutgoing, GoesOut, IfUnavailable, IsRefusal, IsSent, IsSpelled, OnRefusal}
+use Rattle.bor_wire.specs.Exchanges.{ByOutgoing, GoesOut, IfRefusing, IsRefusal, IsSent, IsSpelled, OnRefusal}
 
 -- what was read is spelled, where the input is known
 pub spelled_known : (known : Option (List ℕ)) (read : Result Message Refusal) → IfSome known (λ input. IsMessage input read) → IsSpelled known (read >>= spell)
@@ -28,15 +28,15 @@ spelled_known (Some input) read h = message_spelled input read h
 
 -- what goes out for something that the input spells goes out for the input
 pub by_outgoing : {K : Type 0} (shows : K → Register → Type 0) (is_clean : K → Type 0) (old new : K) (o : Outgoing) (known : Option (List ℕ)) (s : Spelled) → IsSpelled known s
-    → Promised shows is_clean old new (λ r. IsOrdered r.members → GoesOut o (shows new) r s) → Promised shows is_clean old new (λ r. IfUnavailable o (shows new r))
+    → Promised shows is_clean old new (λ r. IsOrdered r.members → GoesOut o (shows new) r s) → Promised shows is_clean old new (λ r. IfRefusing o (shows new r))
     → ByOutgoing (Some o) known (λ t status bytes. Promised shows is_clean old new (λ r. IsOrdered r.members → IsSent (shows new) r t status bytes)) (Promised shows is_clean old new (shows new))
 by_outgoing shows is_clean old new (Full status bytes) known s spells h kept = (s, spells, h)
 by_outgoing shows is_clean old new Unavailable known s spells h kept = kept
 
 -- what holds whatever goes out
-pub if_unavailable : (o : Outgoing) (P : Type 0) → P → IfUnavailable o P
-if_unavailable (Full status bytes) P h = tt
-if_unavailable Unavailable P h = h
+pub if_refusing : (o : Outgoing) (P : Type 0) → P → IfRefusing o P
+if_refusing (Full status bytes) P h = λ _. h
+if_refusing Unavailable P h = h
 
 -- a long reply leaves the register, also where a snapshot's isn't known to be told
 pub long_leaves : (r : Register) (caller : Option Caller) (request : Request) (reply : DeskReply) → (IsOrderedFor request r → IsTold (step r caller request).answer reply) → is_long reply ≡ true

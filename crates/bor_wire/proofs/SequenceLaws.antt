@@ -14,6 +14,7 @@ use Rattle.bor_wire.specs.Exchanges.{IsReplied, IsExchanged, IsSpelled}
 use Rattle.bor_wire.specs.Sequences.{Exchanged, AreExchanged, AreSpelledBy, AreWritten, ExchangesAreARun, IsWrittenBy, answered, is_answered, keep_left}
 use Rattle.bor_wire.proofs.HistoryLaws.{alone}
 use Rattle.bor_wire.proofs.ReportLaws.{reports}
+use Rattle.bor_wire.proofs.RefusalLaws.{refusals_leave}
 use Rattle.bor_wire.proofs.RunLaws.{after_legal, left_legal}
 
 -- ---- one exchange
@@ -109,4 +110,5 @@ a_run shows is_clean keep es h = λ r is clean legal.
       legal = left_legal r run.spelled legal;
       alone = λ name. alone name r run.spelled run.sent legal run.replies;
       reports = reports r run.spelled run.sent run.replies;
+      refused = refusals_leave r run.spelled run.sent run.replies;
     }

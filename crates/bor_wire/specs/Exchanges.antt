@@ -1,5 +1,5 @@
 -- What one exchange over a reader and a writer does.
-use Rattle.std.specs.Prelude.{◌≡◌, ◌≢◌, ℕ, List, [], ◌∷◌, take, Option, Some, None, Err, IfSome, ⊤}
+use Rattle.std.specs.Prelude.{◌≡◌, ◌≢◌, ◌≤◌, ℕ, List, [], ◌∷◌, take, Option, Some, None, Err, IfSome, ⊤}
 use Rattle.std.specs.Io.KnownBytes.{Appends, Keeps}
 use Rattle.bor_register.specs.Register.{Register}
 use Rattle.bor_desk.specs.Operations.Legality.{IsLegal}
@@ -55,10 +55,15 @@ abbrev pub left_by : Option DeskReply → Register → Asked → Register
 left_by (Some reply) r asked = (exchange r asked).register
 left_by None r asked = r
 
--- where there is no whole reply, P holds
-abbrev pub IfUnavailable : Outgoing → Type 0 → Type 0
-IfUnavailable (outgoing.Full status bytes) P = ⊤
-IfUnavailable outgoing.Unavailable P = P
+-- where there is no whole reply, or one with a status of 400 or more, P holds
+abbrev pub IfRefusing : Outgoing → Type 0 → Type 0
+IfRefusing (outgoing.Full status bytes) P = 400 ≤ status → P
+IfRefusing outgoing.Unavailable P = P
+
+-- the same, and where the reader failed
+abbrev pub IfNoChange : Option Outgoing → Type 0 → Type 0
+IfNoChange (Some out) P = IfRefusing out P
+IfNoChange None P = P
 
 -- of a whole reply there is something that the input spells, of which P holds with its status and bytes; of anything else Q does
 abbrev pub ByOutgoing : Option Outgoing → Option (List ℕ) → (Spelled → ℕ → List ℕ → Type 0) → Type 0 → Type 0
@@ -107,6 +112,12 @@ abbrev pub WithoutReply : Outcome → Type 0 → Type 0
 WithoutReply (Replied status) P = status ≡ 503 → P
 WithoutReply ReadFailed P = P
 WithoutReply (WriteFailed status) P = status ≡ 503 → P
+
+-- with a status of 400 or more, 503 too, and where the reader failed, P holds
+abbrev pub IfRefused : Outcome → Type 0 → Type 0
+IfRefused (Replied status) P = 400 ≤ status → P
+IfRefused ReadFailed P = P
+IfRefused (WriteFailed status) P = 400 ≤ status → P
 
 -- an input that spells a refusal is told it, where the status isn't 503
 abbrev pub TellsRefusal : Outcome → Refusal → Option (List ℕ) → Option (List ℕ) → Type 0

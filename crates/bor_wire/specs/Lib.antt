@@ -4,6 +4,10 @@ pub mod Reports
 pub mod Histories
 pub mod Exchanges
 pub mod Nobody
+pub mod AllRefusals
+pub mod Refused
+pub mod Repeats
+pub mod ReportBytes
 pub mod Sequences
 pub mod Rendering
 pub mod Headline

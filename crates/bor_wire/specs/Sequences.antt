@@ -11,6 +11,7 @@ use Rattle.bor_wire.specs.declared.outcome.Outcome.TheVariants.{Replied, ReadFai
 use Rattle.bor_wire.specs.Runs.{AreReplies, register_left}
 use Rattle.bor_wire.specs.Histories.{IsAlone}
 use Rattle.bor_wire.specs.Reports.{AreReports}
+use Rattle.bor_wire.specs.Refused.{RefusalsLeave}
 use Rattle.bor_wire.specs.Exchanges.{IsExchanged, IsSpelled}
 
 -- One exchange of a sequence: the bytes that its reader had, how it ended, what its writer held before it and after it, and the keep that it left. Bytes that a reader or a writer doesn't tell, as a socket doesn't, aren't known.
@@ -67,6 +68,7 @@ pub record IsRun {K : Type 0} (shown : Register → Type 0) (r : Register) (exch
   pub legal : IsLegal (register_left r spelled)
   pub alone : (name : List ℕ) → IsAlone name r spelled sent
   pub reports : AreReports r spelled sent
+  pub refused : RefusalsLeave r spelled sent
 
 -- Exchanges one after the other, from a keep of a legal register, are a run over what their inputs spell.
 abbrev pub ExchangesAreARun : {K : Type 0} → (K → Register → Type 0) → (K → Type 0) → Type 0

@@ -1,8 +1,11 @@
 //! Laws of runs. Each function does nothing: its contract is the law.
 
-ghost use Rattle.bor_wire.specs.Headline.{DraftsStayInvisible, ReportsNameTheJoined};
+ghost use Rattle.bor_wire.specs.AllRefusals.{TheFirstRefusalIsSaid};
+ghost use Rattle.bor_wire.specs.Headline.{DraftsStayInvisible, ExchangesKeepDraftsInvisible, ReportsNameTheJoined};
 ghost use Rattle.bor_wire.specs.Histories.{EachIsReceived, SameHistorySameBytes};
 ghost use Rattle.bor_wire.specs.Nobody.{NobodysInputs};
+ghost use Rattle.bor_wire.specs.Repeats.{RepeatsActOnce};
+ghost use Rattle.bor_wire.specs.ReportBytes.{BytesGivePersons};
 ghost use Rattle.bor_wire.specs.Sequences.{ExchangesAreARun};
 
 use bor_desk::operations::Keep;
@@ -18,6 +21,33 @@ pub fn drafts_stay_invisible()
 /// each reply with status 200 to one for chains names exactly the persons joined to the entity.
 pub fn reports_name_the_joined()
     ensures { ReportsNameTheJoined }
+{}
+
+/// The first sentence of exchanges one after the other, from keeps of new registers, as
+/// [`exchanges_are_a_run`] gives their runs: an agent whose own exchanges are the same in both, on the
+/// same days and with the same published by the others at each, is sent the same bytes.
+pub fn exchanges_keep_drafts_invisible<K: Keep>()
+    ensures { ExchangesKeepDraftsInvisible K.shows }
+{}
+
+/// A lodging that is sent again acts once. Whatever came between, it is told the number and the due day
+/// as before, its filing's state now, and that it isn't new, with status 200, and changes nothing; a
+/// withdrawn filing is told so too. The key with another due day or another file is refused, and nothing
+/// changes. This holds of every register and run.
+pub fn repeats_act_once()
+    ensures { RepeatsActOnce }
+{}
+
+/// The order of refusals is one table, from the bytes of an input to the register: of all its lines
+/// that hold, the first is said, and where none does the status is below 400. This holds of every
+/// register and input.
+pub fn the_first_refusal_is_said()
+    ensures { TheFirstRefusalIsSaid }
+{}
+
+/// The bytes of a report on chains determine its persons, with their names and numbers of links.
+pub fn report_bytes_give_persons()
+    ensures { BytesGivePersons }
 {}
 
 /// Two runs, from any two legal registers, in which an agent has the same filings at the start and the

@@ -5,7 +5,7 @@ ghost use Rattle.bor_records.specs.Promises.{Promised};
 ghost use Rattle.bor_register.specs.Register.{IsOrdered};
 ghost use Rattle.bor_http.specs.Incoming.Message.{request_limit};
 ghost use Rattle.bor_http.specs.Incoming.Reading.{TakesAtMost};
-ghost use Rattle.bor_wire.specs.Exchanges.{IsExchanged, IsWritten, OnRefusal, TellsRefusal, TellsUnavailable, WithoutReply, read_faults, write_faults};
+ghost use Rattle.bor_wire.specs.Exchanges.{IfRefused, IsExchanged, IsWritten, OnRefusal, TellsRefusal, TellsUnavailable, WithoutReply, read_faults, write_faults};
 
 use crate::outgoing::{Outgoing, read_reply};
 use crate::rendering::UNAVAILABLE;
@@ -63,6 +63,7 @@ pub fn exchange<K: Keep, R: Read, W: Write>(
     ensures exchanged { Promised K.shows K.is_clean keep.old keep.new (λ r. IsOrdered r.members →
         IsExchanged result (K.shows keep.new) r (R.remaining reader.old.inner) (W.contents writer.old.inner) (W.contents writer.new.inner)) }
     ensures kept { Promised K.shows K.is_clean keep.old keep.new (λ r. WithoutReply result (K.shows keep.new r)) }
+    ensures refused_kept { Promised K.shows K.is_clean keep.old keep.new (λ r. IfRefused result (K.shows keep.new r)) }
     ensures unavailable { TellsUnavailable result (W.contents writer.old.inner) (W.contents writer.new.inner) }
     ensures refused { OnRefusal (R.remaining reader.old.inner) (λ why.
         TellsRefusal result why (W.contents writer.old.inner) (W.contents writer.new.inner)) }

@@ -10,7 +10,7 @@ ghost use Rattle.bor_http.specs.Incoming.Reading.{TakesAtMost};
 ghost use Rattle.bor_http.specs.Spelling.Spell.{asked_view, spell};
 ghost use Rattle.bor_http.specs.Spelling.Steps.{Finds};
 ghost use Rattle.bor_wire.specs.Rendering.Statuses.{desk_status};
-ghost use Rattle.bor_wire.specs.Exchanges.{ByOutgoing, GoesOut, GoesOutRefused, HasStatus, IfUnavailable, IsRefusal, IsSent, OnRefusal, TellsAnswer, faults_unread, left_by};
+ghost use Rattle.bor_wire.specs.Exchanges.{ByOutgoing, GoesOut, GoesOutRefused, HasStatus, IfNoChange, IfRefusing, IsRefusal, IsSent, OnRefusal, TellsAnswer, faults_unread, left_by};
 
 use crate::rendering::{
     RESERVED, desk_status, is_long, refusal_status, render, render_refusal, render_short,
@@ -64,7 +64,7 @@ fn answered<K: Keep>(alloc: Global, keep: &mut K, asking: &Asking) -> Outgoing
     ensures began { K.is_clean keep.new → K.is_clean keep.old }
     ensures reply { Promised K.shows K.is_clean keep.old keep.new (λ r.
         IsOrderedFor asking.now.request r → GoesOut result (K.shows keep.new) r (Ok (asked_view asking.now))) }
-    ensures kept { Promised K.shows K.is_clean keep.old keep.new (λ r. IfUnavailable result (K.shows keep.new r)) }
+    ensures kept { Promised K.shows K.is_clean keep.old keep.new (λ r. IfRefusing result (K.shows keep.new r)) }
     ensures status { HasStatus result }
 {
     let Ok(mut out) = Vec::with_capacity(alloc, RESERVED) else {
@@ -97,7 +97,7 @@ fn reply_for<K: Keep>(alloc: Global, paths: &Paths, keep: &mut K, raw: RawReques
     ensures began { K.is_clean keep.new → K.is_clean keep.old }
     ensures reply { Promised K.shows K.is_clean keep.old keep.new (λ r.
         IsOrdered r.members → GoesOut result (K.shows keep.new) r (spell raw)) }
-    ensures kept { Promised K.shows K.is_clean keep.old keep.new (λ r. IfUnavailable result (K.shows keep.new r)) }
+    ensures kept { Promised K.shows K.is_clean keep.old keep.new (λ r. IfRefusing result (K.shows keep.new r)) }
     ensures refused { (why : fault.Refusal) → spell raw ≡ Err why → IsRefusal result why }
     ensures status { HasStatus result }
 {
@@ -120,6 +120,7 @@ pub(crate) fn read_reply<K: Keep, R: Read>(
         (λ spelled status bytes. Promised K.shows K.is_clean keep.old keep.new (λ r.
         IsOrdered r.members → IsSent (K.shows keep.new) r spelled status bytes))
         (Promised K.shows K.is_clean keep.old keep.new (K.shows keep.new)) }
+    ensures kept { Promised K.shows K.is_clean keep.old keep.new (λ r. IfNoChange result (K.shows keep.new r)) }
     ensures refused { OnRefusal (R.remaining reader.old.inner) (GoesOutRefused result) }
     ensures status { IfSome result HasStatus }
     ensures taken { TakesAtMost request_limit (R.remaining reader.old.inner) (R.remaining reader.new.inner) }

@@ -8,6 +8,7 @@ ghost use Rattle.bor_http.specs.Spelling.Spell.{Spelled};
 ghost use Rattle.bor_wire.specs.Inputs.{IsReplyTo, after};
 ghost use Rattle.bor_wire.specs.Runs.{AreReplies, AreSpelled, ByReply, register_left, served, full};
 ghost use Rattle.bor_wire.specs.Reports.{AreReports};
+ghost use Rattle.bor_wire.specs.Refused.{RefusalsLeave};
 ghost use Rattle.bor_wire.specs.Histories.{IsAlone};
 
 use crate::outgoing::{Outgoing, read_reply};
@@ -73,6 +74,9 @@ pub fn replay<K: Keep>(
     ensures reports { Promised K.shows K.is_clean keep.old keep.new (λ r. IsLegal r → IfOk result (λ replies.
         (spelled : List Spelled) → AreSpelled (served (map (λ v. v.items) inputs.now) replies.items) spelled →
         AreReports r spelled (full replies.items))) }
+    ensures refused_kept { Promised K.shows K.is_clean keep.old keep.new (λ r. IsLegal r → IfOk result (λ replies.
+        (spelled : List Spelled) → AreSpelled (served (map (λ v. v.items) inputs.now) replies.items) spelled →
+        RefusalsLeave r spelled (full replies.items))) }
     ensures err { OnErr result (Kept K.shows K.is_clean keep.old keep.new) }
 {
     let paths = Paths::new(alloc)?;

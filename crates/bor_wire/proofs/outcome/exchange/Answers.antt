@@ -1,4 +1,4 @@
-use Rattle.bor_wire.proofs.Exchanged.{exchanged, available_told, refusals_told}
+use Rattle.bor_wire.proofs.Exchanged.{exchanged, available_told, refusals_told, refused_kept}
 use Rattle.bor_wire.proofs.outcome.exchange.Goals as goal
 
 pub returns-in-Some-Full-clause-exchanged : goal.returns-in-Some-Full-clause-exchanged
@@ -20,3 +20,9 @@ returns-in-Some-Full-clause-refused g c =
     let full = c.in-Some-Full in
     let written = rw c.deref.ensures.value at c.write_reply-in-Some-Full.ensures.written in
     refusals_told c.write_reply-in-Some-Full.result (g.R.Read.remaining c.args.reader.now.inner) full.status full.bytes.items _ _ (rw full.field-0-is at full.ensures.refused) written
+
+pub returns-in-Some-Full-clause-refused_kept : goal.returns-in-Some-Full-clause-refused_kept
+returns-in-Some-Full-clause-refused_kept g c = λ r is clean.
+    let full = c.in-Some-Full in
+    let kept = rw full.field-0-is at full.ensures.kept in
+    refused_kept c.write_reply-in-Some-Full.result full.status _ _ _ (g.K.Keep.shows c.read_reply.new.keep r) (kept r is clean) c.write_reply-in-Some-Full.ensures.written

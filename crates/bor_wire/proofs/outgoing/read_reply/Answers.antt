@@ -1,6 +1,6 @@
 use Rattle.std.proofs.Common.{Ok, Err, refl}
 use Rattle.bor_http.specs.Spelling.Spell.{spell}
-use Rattle.bor_wire.proofs.Outgoings.{by_outgoing, if_unavailable, refusal_goes, spelled_known, refused_out, is_that, nothing_out}
+use Rattle.bor_wire.proofs.Outgoings.{by_outgoing, if_refusing, refusal_goes, spelled_known, refused_out, is_that, nothing_out}
 use Rattle.bor_wire.proofs.outgoing.read_reply.Goals as goal
 
 pub returns-in-Ok-clause-reply : goal.returns-in-Ok-clause-reply
@@ -34,4 +34,7 @@ returns-in-Err-Refused-clause-reply g c =
     by_outgoing keep.shows keep.is_clean c.args.keep.now c.args.keep.now c.refused.result known (Err why)
     (spelled_known known (Err why) (rw c.in-Err-Refused.field-0-is at c.in-Err-Refused.ensures.request))
     (λ r is clean ordered. refusal_goes c.refused.result (keep.shows c.args.keep.now) r why c.refused.ensures.refusal is)
-    (λ r is clean. if_unavailable c.refused.result (keep.shows c.args.keep.now r) is)
+    (λ r is clean. if_refusing c.refused.result (keep.shows c.args.keep.now r) is)
+
+pub returns-in-Err-Refused-clause-kept : goal.returns-in-Err-Refused-clause-kept
+returns-in-Err-Refused-clause-kept g c = λ r is clean. if_refusing c.refused.result (g.K.Keep.shows c.args.keep.now r) is

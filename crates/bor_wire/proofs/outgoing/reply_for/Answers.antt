@@ -1,7 +1,7 @@
 use Rattle.std.proofs.Common.{◌≡◌, Ok}
 use Rattle.bor_desk.proofs.Steps.{ordered_for}
 use Rattle.bor_http.specs.Spelling.Spell.{asked_view, spell}
-use Rattle.bor_wire.proofs.Outgoings.{if_unavailable, refusal_goes, is_that}
+use Rattle.bor_wire.proofs.Outgoings.{if_refusing, refusal_goes, is_that}
 use Rattle.bor_wire.proofs.outgoing.reply_for.Goals as goal
 
 pub returns-in-Ok-clause-refused : goal.returns-in-Ok-clause-refused
@@ -21,4 +21,4 @@ returns-in-Ok-clause-reply g c = λ r is clean ordered.
     rw c.in-Ok.ensures (c.answered.ensures.reply r is clean (ordered_for c.in-Ok.asking.request r ordered))
 
 pub returns-in-Err-Refused-clause-kept : goal.returns-in-Err-Refused-clause-kept
-returns-in-Err-Refused-clause-kept g c = λ r is clean. if_unavailable c.refused.result (g.K.Keep.shows c.args.keep.now r) is
+returns-in-Err-Refused-clause-kept g c = λ r is clean. if_refusing c.refused.result (g.K.Keep.shows c.args.keep.now r) is

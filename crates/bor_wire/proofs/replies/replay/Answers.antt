@@ -6,6 +6,7 @@ use Rattle.bor_wire.specs.Runs.{AreReplies, register_left, full}
 use Rattle.bor_wire.proofs.RunLaws.{legal_reply, so_far_more, spelled_once}
 use Rattle.bor_wire.proofs.HistoryLaws.{alone}
 use Rattle.bor_wire.proofs.ReportLaws.{reports}
+use Rattle.bor_wire.proofs.RefusalLaws.{refusals_leave}
 use Rattle.bor_wire.proofs.replies.replay.Goals as goal
 
 pub loop-input-preserved : goal.loop-input-preserved
@@ -55,4 +56,11 @@ returns-clause-reports g c = λ r is clean legal spelled spells.
     let le : length c.args.inputs.now ≤ c.loop-input.input-index = omega arith in
     let far = rw (take_all c.loop-input.input-index c.args.inputs.now le) at c.loop-input.invariant.far in
     reports r spelled (full c.loop-input.replies.items)
+    (subst (λ ss. AreReplies r ss (full c.loop-input.replies.items)) (spelled_once _ far.spelled spelled far.spells spells) (far.told r (is, clean, legal)))
+
+pub returns-clause-refused_kept : goal.returns-clause-refused_kept
+returns-clause-refused_kept g c = λ r is clean legal spelled spells.
+    let le : length c.args.inputs.now ≤ c.loop-input.input-index = omega arith in
+    let far = rw (take_all c.loop-input.input-index c.args.inputs.now le) at c.loop-input.invariant.far in
+    refusals_leave r spelled (full c.loop-input.replies.items)
     (subst (λ ss. AreReplies r ss (full c.loop-input.replies.items)) (spelled_once _ far.spelled spelled far.spells spells) (far.told r (is, clean, legal)))

@@ -1,0 +1,356 @@
+-- A lodging that was told stands under its key, with its number, its due day and its file, whatever is asked after it.
+use Rattle.std.proofs.Common.{◌≡◌, ◌≢◌, ◌⊎◌, inl, inr, ℕ, ℤ, List, [], ◌∷◌, ◌++◌, Bool, true, false, ◌==◌, ◌&&◌, Option, Some, None, option_map, Result, Ok, Err, refl, sym, ap, subst, ◌∙◌, arith}
+use Rattle.std.specs.Prelude.{if◌then◌else◌, int_lt, int_le, is_some}
+use Rattle.std.specs.Ordering.{int_eq}
+use Rattle.std.proofs.lemmas.Bool.Decides.{Decides-int_eq}
+use Rattle.bor_terms.specs.Texts.{is_same}
+use Rattle.bor_terms.proofs.Texts.{same_is, same_refl, is_same-of}
+use Rattle.bor_register.specs.declared.caller.Caller.{Caller}
+use Rattle.bor_register.specs.declared.caller.Caller.TheVariants.{Registrar, Agent}
+use Rattle.bor_register.specs.declared.member.Member.{Member}
+use Rattle.bor_register.specs.declared.filing.AcceptedFiling.{AcceptedFiling}
+use Rattle.bor_register.specs.Register.{Register, agent_with, caller_of, is_enrolled, is_taken, filings_of, filing_keyed, new_member, with_filings, with_member}
+use Rattle.bor_register.specs.Live.{accepted}
+use Rattle.bor_register.specs.Withdrawal.{has_successor, as_withdrawn, with_withdrawn}
+use Rattle.bor_register.proofs.Callers.{caller_is_enrolled, taken-caller}
+use Rattle.bor_desk.specs.declared.operations.fault.LodgeFault.{LodgeFault}
+use Rattle.bor_desk.specs.declared.operations.fault.LodgeFault.TheVariants as lodges
+use Rattle.bor_desk.specs.declared.operations.lodging.Lodged.{Lodged}
+use Rattle.bor_desk.specs.declared.refusal.Refusal.TheVariants.{KeyReused}
+use Rattle.bor_desk.specs.declared.request.Request.{Request}
+use Rattle.bor_desk.specs.declared.request.Request.TheVariants as ask
+use Rattle.bor_desk.specs.declared.reply.DeskReply.{DeskReply}
+use Rattle.bor_desk.specs.declared.reply.DeskReply.TheVariants as tell
+use Rattle.bor_desk.specs.Operations.Sight.{Sight, sight_of}
+use Rattle.bor_desk.specs.Operations.Lodging.{told_of, told_added, addition, repeated, lodging_at, own_added, own_lodged_at}
+use Rattle.bor_desk.specs.Operations.Withdrawing.{own_withdrawn_at}
+use Rattle.bor_desk.specs.Operations.Registrar.{advance_step, enrol_step}
+use Rattle.bor_desk.specs.Refusals.{of_lodging}
+use Rattle.bor_desk.specs.Outcomes.{IsTold}
+use Rattle.bor_desk.specs.Runs.{Asked}
+use Rattle.bor_desk.specs.Step.{Answer, exactly, told, own_after, agent_answer, agent_step, registrar_step, step}
+use Rattle.bor_desk.proofs.Isolation.{own_filings}
+use Rattle.bor_desk.proofs.OnOperations.Lodgings.{addition_is}
+use Rattle.bor_desk.proofs.Unchanged.{left_by_agent}
+use Rattle.bor_http.specs.Spelling.Spell.{Spelled}
+use Rattle.bor_wire.specs.Rendering.Replies.{Said, answered, status_of, body_of}
+use Rattle.bor_wire.specs.Inputs.{IsSaid, after}
+use Rattle.bor_wire.specs.Runs.{register_left}
+use Rattle.bor_wire.specs.Repeats.{IsLodged, IsToldAgain, IsReused, RepeatsActOnce, told_again}
+
+-- ---- an agent's filings
+
+-- the filing has this number, due day and file
+record IsOf (number : ℕ) (due : ℤ) (file : List ℕ) (f : AcceptedFiling) : Type 0 where
+  number_is : f.number ≡ number
+  due_is : f.due ≡ due
+  file_is : f.bytes ≡ file
+
+-- under the key there is a filing with these
+record Keyed (number : ℕ) (due : ℤ) (key file : List ℕ) (own : List AcceptedFiling) : Type 0 where
+  filing : AcceptedFiling
+  found : filing_keyed key own ≡ Some filing
+  is : IsOf number due file filing
+
+found-push : (key : List ℕ) (own : List AcceptedFiling) (f g : AcceptedFiling) → filing_keyed key own ≡ Some f → filing_keyed key (own ++ g ∷ []) ≡ Some f
+found-push key [] f g h = absurd cc
+found-push key (x ∷ xs) f g h = grind (arith, found-push key xs f g)
+
+found-last : (own : List AcceptedFiling) (f : AcceptedFiling) → filing_keyed f.key own ≡ None → filing_keyed f.key (own ++ f ∷ []) ≡ Some f
+found-last [] f h = rw (same_refl f.key) refl
+found-last (x ∷ xs) f h = grind (arith, found-last xs f)
+
+-- a withdrawal leaves a filing's key, number, due day and file
+keyed-withdrawn : (n number : ℕ) (due : ℤ) (key file : List ℕ) (own : List AcceptedFiling) (f : AcceptedFiling) → filing_keyed key own ≡ Some f → IsOf number due file f → Keyed number due key file (with_withdrawn n own)
+keyed-withdrawn n number due key file [] f h is = absurd cc
+keyed-withdrawn n number due key file (x ∷ xs) f h is = by_tests (is_same x.key key) (x.number == n) refl refl (keyed-withdrawn n number due key file xs f)
+  where
+    by_tests : (b c : Bool) → is_same x.key key ≡ b → (x.number == n) ≡ c → (filing_keyed key xs ≡ Some f → IsOf number due file f → Keyed number due key file (with_withdrawn n xs)) → Keyed number due key file (if c then as_withdrawn x ∷ xs else x ∷ with_withdrawn n xs)
+    by_tests true true same that rest =
+        let it : x ≡ f = let at = rw same at h in cc in
+        let of : IsOf number due file x = subst (IsOf number due file) (sym it) is in
+        record { filing = as_withdrawn x; found = rw same refl; is = record { number_is = of.number_is; due_is = of.due_is; file_is = of.file_is } }
+    by_tests true false same other rest =
+        let it : x ≡ f = let at = rw same at h in cc in
+        record { filing = x; found = rw same refl; is = subst (IsOf number due file) (sym it) is }
+    by_tests false true same that rest =
+        let behind : filing_keyed key xs ≡ Some f = rw same at h in
+        record { filing = f; found = rw same behind; is = is }
+    by_tests false false same other rest =
+        let k = rest (rw same at h) is in
+        record { filing = k.filing; found = rw same k.found; is = k.is }
+
+-- ---- what an agent asks leaves its filing
+
+keyed-added : (s : Sight) (number : ℕ) (due : ℤ) (key file : List ℕ) (added : Result AcceptedFiling LodgeFault) → Keyed number due key file s.own → Keyed number due key file (own_added s.own added)
+keyed-added s number due key file (Ok g) k = record { filing = k.filing; found = found-push key s.own k.filing g k.found; is = k.is }
+keyed-added s number due key file (Err fault) k = k
+
+keyed-lodged : (s : Sight) (number : ℕ) (due : ℤ) (key file other : List ℕ) (date : ℤ) (bytes : List ℕ) (at : Option AcceptedFiling) → Keyed number due key file s.own → Keyed number due key file (own_lodged_at s other date bytes at)
+keyed-lodged s number due key file other date bytes (Some f) k = k
+keyed-lodged s number due key file other date bytes None k = keyed-added s number due key file (addition s other date bytes) k
+
+keyed-withdrawal : (s : Sight) (number : ℕ) (due : ℤ) (key file : List ℕ) (at : Option AcceptedFiling) → Keyed number due key file s.own → Keyed number due key file (own_withdrawn_at s at)
+keyed-withdrawal s number due key file None k = k
+keyed-withdrawal s number due key file (Some f) k = by_tests f.withdrawn (int_le f.due s.day) (has_successor f.number s.own)
+  where
+    by_tests : (withdrawn published stood : Bool) → Keyed number due key file (if withdrawn then s.own else (if published then s.own else (if stood then s.own else with_withdrawn f.number s.own)))
+    by_tests true published stood = k
+    by_tests false true stood = k
+    by_tests false false true = k
+    by_tests false false false = keyed-withdrawn f.number number due key file s.own k.filing k.found k.is
+
+keyed-after : (s : Sight) (request : Request) (number : ℕ) (due : ℤ) (key file : List ℕ) → Keyed number due key file s.own → Keyed number due key file (own_after s request)
+keyed-after s (ask.Lodge other date bytes) number due key file k = keyed-lodged s number due key file other date bytes (filing_keyed other s.own) k
+keyed-after s (ask.Withdraw other) number due key file k = keyed-withdrawal s number due key file (filing_keyed other s.own) k
+keyed-after s ask.Filings number due key file k = k
+keyed-after s (ask.File other) number due key file k = k
+keyed-after s ask.Published number due key file k = k
+keyed-after s (ask.Snapshot agent declaration date) number due key file k = k
+keyed-after s (ask.Chains entity date) number due key file k = k
+keyed-after s (ask.Day date) number due key file k = k
+keyed-after s (ask.Enrol name token) number due key file k = k
+
+-- ---- who has the token
+
+agent_with-filings : (token name : List ℕ) (fs : List AcceptedFiling) (ms : List Member) → agent_with token (with_filings name fs ms) ≡ agent_with token ms
+agent_with-filings token name fs [] = refl
+agent_with-filings token name fs (m ∷ ms) = grind (arith, agent_with-filings token name fs ms)
+
+agent_with-member : (token : List ℕ) (new : Member) (ms : List Member) → is_same new.token token ≡ false → agent_with token (with_member new ms) ≡ agent_with token ms
+agent_with-member token new [] other = rw other refl
+agent_with-member token new (m ∷ ms) other = grind (arith, agent_with-member token new ms other)
+
+-- the caller, by who among the members has the token
+abbrev caller_by : Register → List ℕ → Option (List ℕ) → Option Caller
+caller_by q token agent = if is_same q.registrar token then Some Registrar else option_map Agent agent
+
+caller-agent : (q : Register) (token asking : List ℕ) (request : Request) → caller_of token (agent_step q asking request).register ≡ caller_of token q
+caller-agent q token asking request = ap (caller_by q token) (agent_with-filings token asking (own_after (sight_of asking q) request) q.members)
+
+-- a token that somebody has is none of a new agent's
+not_taken : (q : Register) (token new : List ℕ) (caller : Caller) → caller_of token q ≡ Some caller → is_taken new q ≡ false → is_same new token ≡ false
+not_taken q token new caller is free = by_test (is_same new token) refl
+  where
+    by_test : (b : Bool) → is_same new token ≡ b → b ≡ false
+    by_test true same = absurd (let has = taken-caller token q ∙ ap is_some is in let other = ap (λ t. is_taken t q) (same_is new token same) in cc)
+    by_test false other = refl
+
+caller-enrolled : (q : Register) (token name new : List ℕ) (caller : Caller) (b c : Bool) → is_enrolled name q.members ≡ b → is_taken new q ≡ c → caller_of token q ≡ Some caller → caller_of token (enrol_step q name new).register ≡ Some caller
+caller-enrolled q token name new caller true c e f is = rw e is
+caller-enrolled q token name new caller false true e f is = rw (e, f) is
+caller-enrolled q token name new caller false false e f is =
+    rw (e, f) (ap (caller_by q token) (agent_with-member token (new_member name new) q.members (not_taken q token new caller is f)) ∙ is)
+
+caller-advanced : (q : Register) (token : List ℕ) (caller : Caller) (date : ℤ) (b : Bool) → int_lt date q.day ≡ b → caller_of token q ≡ Some caller → caller_of token (advance_step q date).register ≡ Some caller
+caller-advanced q token caller date true e is = rw e is
+caller-advanced q token caller date false e is = rw e is
+
+caller-registrar : (q : Register) (token : List ℕ) (caller : Caller) (request : Request) → caller_of token q ≡ Some caller → caller_of token (registrar_step q request).register ≡ Some caller
+caller-registrar q token caller (ask.Day date) is = caller-advanced q token caller date (int_lt date q.day) refl is
+caller-registrar q token caller (ask.Enrol name new) is = caller-enrolled q token name new caller (is_enrolled name q.members) (is_taken new q) refl refl is
+caller-registrar q token caller (ask.Lodge key due file) is = is
+caller-registrar q token caller (ask.Withdraw key) is = is
+caller-registrar q token caller ask.Filings is = is
+caller-registrar q token caller (ask.File key) is = is
+caller-registrar q token caller ask.Published is = is
+caller-registrar q token caller (ask.Snapshot agent declaration date) is = is
+caller-registrar q token caller (ask.Chains entity date) is = is
+
+-- ---- the filing stands
+
+-- the agent has the token, and its filing stands under the key
+record Stands (token name : List ℕ) (number : ℕ) (due : ℤ) (key file : List ℕ) (q : Register) : Type 0 where
+  caller : caller_of token q ≡ Some (Agent name)
+  keyed : Keyed number due key file (filings_of name q.members)
+
+filings-with_filings : (name : List ℕ) (fs : List AcceptedFiling) (ms : List Member) → is_enrolled name ms ≡ true → filings_of name (with_filings name fs ms) ≡ fs
+filings-with_filings name fs [] h = absurd cc
+filings-with_filings name fs (m ∷ ms) h = grind (arith, filings-with_filings name fs ms)
+
+-- whoever asks
+stands-others : (token name : List ℕ) (number : ℕ) (due : ℤ) (key file : List ℕ) (q after : Register) → filings_of name after.members ≡ filings_of name q.members → caller_of token after ≡ Some (Agent name)
+    → Stands token name number due key file q → Stands token name number due key file after
+stands-others token name number due key file q after same caller h = record { caller = caller; keyed = subst (Keyed number due key file) (sym same) h.keyed }
+
+stands-own : (token name : List ℕ) (number : ℕ) (due : ℤ) (key file : List ℕ) (q : Register) (request : Request) → Stands token name number due key file q → Stands token name number due key file (agent_step q name request).register
+stands-own token name number due key file q request h = record {
+  caller = caller-agent q token name request ∙ h.caller;
+  keyed =
+      subst (Keyed number due key file) (sym (filings-with_filings name (own_after (sight_of name q) request) q.members (caller_is_enrolled q token name h.caller)))
+      (keyed-after (sight_of name q) request number due key file h.keyed);
+}
+
+stands-agent : (token name : List ℕ) (number : ℕ) (due : ℤ) (key file : List ℕ) (q : Register) (asking : List ℕ) (request : Request) (b : Bool) → is_same asking name ≡ b
+    → Stands token name number due key file q → Stands token name number due key file (agent_step q asking request).register
+stands-agent token name number due key file q asking request true same h =
+    subst (λ n. Stands token name number due key file (agent_step q n request).register) (sym (same_is asking name same)) (stands-own token name number due key file q request h)
+stands-agent token name number due key file q asking request false other h =
+    stands-others token name number due key file q (agent_step q asking request).register (own_filings.by_others q (Some (Agent asking)) request name other) (caller-agent q token asking request ∙ h.caller) h
+
+stands-step : (token name : List ℕ) (number : ℕ) (due : ℤ) (key file : List ℕ) (q : Register) (caller : Option Caller) (request : Request) → Stands token name number due key file q → Stands token name number due key file (step q caller request).register
+stands-step token name number due key file q None request h = h
+stands-step token name number due key file q (Some Registrar) request h =
+    stands-others token name number due key file q (registrar_step q request).register (own_filings.by_others q (Some Registrar) request name refl) (caller-registrar q token (Agent name) request h.caller) h
+stands-step token name number due key file q (Some (Agent asking)) request h = stands-agent token name number due key file q asking request (is_same asking name) refl h
+
+stands-left : (token name : List ℕ) (number : ℕ) (due : ℤ) (key file : List ℕ) (q : Register) (ss : List Spelled) → Stands token name number due key file q → Stands token name number due key file (register_left q ss)
+stands-left token name number due key file q [] h = h
+stands-left token name number due key file q (Err why ∷ ss) h = stands-left token name number due key file q ss h
+stands-left token name number due key file q (Ok asked ∷ ss) h =
+    stands-left token name number due key file (step q (caller_of asked.token q) asked.request).register ss (stands-step token name number due key file q (caller_of asked.token q) asked.request h)
+
+-- ---- the lodging that is told
+
+-- what an agent's lodging leaves, where it is told
+own_told : (s : Sight) (key : List ℕ) (due : ℤ) (file : List ℕ) (told : Lodged) (at : Option AcceptedFiling) → filing_keyed key s.own ≡ at → lodging_at s key due file at ≡ Ok told
+    → Keyed told.number due key file (own_lodged_at s key due file at) × (told.due ≡ due)
+own_told s key due file told (Some f) found h = by_tests (int_eq f.due due) (is_same f.bytes file) refl refl h
+  where
+    by_tests : (b c : Bool) → int_eq f.due due ≡ b → is_same f.bytes file ≡ c → (if b && c then Ok (told_of false s.day f) else Err lodges.KeyReused) ≡ Ok told → Keyed told.number due key file s.own × (told.due ≡ due)
+    by_tests true true day bytes h =
+        let is : told_of false s.day f ≡ told = cc in
+        let due_is : f.due ≡ due = (Decides-int_eq f.due due).0 day in
+        (record { filing = f; found = found; is = record { number_is = ap (λ (l : Lodged). l.number) is; due_is = due_is; file_is = same_is f.bytes file bytes } }, sym (ap (λ (l : Lodged). l.due) is) ∙ due_is)
+    by_tests true false day bytes h = absurd cc
+    by_tests false c day bytes h = absurd cc
+own_told s key due file told None found h = by_addition (addition s key due file) refl h
+  where
+    by_addition : (added : Result AcceptedFiling LodgeFault) → addition s key due file ≡ added → told_added s.day added ≡ Ok told → Keyed told.number due key file (own_added s.own added) × (told.due ≡ due)
+    by_addition (Err fault) e h = absurd cc
+    by_addition (Ok f) e h =
+        let is : told_of true s.day f ≡ told = cc in
+        let new : f ≡ accepted s.own key due file f.statements = (addition_is s key due file f e).1 in
+        let key_is : f.key ≡ key = ap (λ (g : AcceptedFiling). g.key) new in
+        let due_is : f.due ≡ due = ap (λ (g : AcceptedFiling). g.due) new in (
+          record {
+            filing = f;
+            found = subst (λ k. filing_keyed k (s.own ++ f ∷ []) ≡ Some f) key_is (found-last s.own f (ap (λ k. filing_keyed k s.own) key_is ∙ found));
+            is = record { number_is = ap (λ (l : Lodged). l.number) is; due_is = due_is; file_is = ap (λ (g : AcceptedFiling). g.bytes) new };
+          },
+          sym (ap (λ (l : Lodged). l.due) is) ∙ due_is,
+        )
+
+-- an answer that tells a lodging is no refusal
+told_ok : (o : Result Lodged LodgeFault) (lodged : Lodged) → IsTold (told tell.Lodged of_lodging o) (tell.Lodged lodged) → o ≡ Ok lodged
+told_ok (Ok l) lodged h = let same : l ≡ lodged = cc in ap Ok same
+told_ok (Err fault) lodged h = refused_is fault h
+  where
+    refused_is : (f : LodgeFault) → IsTold (told tell.Lodged of_lodging (Err f)) (tell.Lodged lodged) → Err f ≡ Ok lodged
+    refused_is lodges.KeyReused h = absurd cc
+    refused_is lodges.FilingsFull h = absurd cc
+    refused_is lodges.DuePast h = absurd cc
+    refused_is (lodges.Read why) h = absurd cc
+    refused_is (lodges.StatementTwice place) h = absurd cc
+    refused_is (lodges.Record place why) h = absurd cc
+    refused_is (lodges.Store why) h = absurd cc
+
+-- the agent that lodged, its filing, and the due day that it is told
+record IsFiled (token : List ℕ) (due : ℤ) (key file : List ℕ) (told : Lodged) (q : Register) : Type 0 where
+  name : List ℕ
+  stands : Stands token name told.number due key file q
+  due_is : told.due ≡ due
+
+filed_by : (r : Register) (token key : List ℕ) (due : ℤ) (file : List ℕ) (told : Lodged) (caller : Option Caller) → caller_of token r ≡ caller → IsTold (step r caller (ask.Lodge key due file)).answer (tell.Lodged told)
+    → IsFiled token due key file told (step r caller (ask.Lodge key due file)).register
+filed_by r token key due file told None is h = absurd cc
+filed_by r token key due file told (Some Registrar) is h = absurd cc
+filed_by r token key due file told (Some (Agent name)) is h =
+    let s = sight_of name r in
+    let own = own_told s key due file told (filing_keyed key s.own) refl (told_ok (lodging_at s key due file (filing_keyed key s.own)) told h) in
+    record {
+      name = name;
+      stands = record {
+        caller = caller-agent r token name (ask.Lodge key due file) ∙ is;
+        keyed = subst (Keyed told.number due key file) (sym (filings-with_filings name (own_after s (ask.Lodge key due file)) r.members (caller_is_enrolled r token name is))) own.0;
+      };
+      due_is = own.1;
+    }
+
+filed : (r : Register) (asked : Asked) (key : List ℕ) (due : ℤ) (file : List ℕ) (told : Lodged) → IsLodged r asked key due file told → IsFiled asked.token due key file told (after r (Ok asked))
+filed r asked key due file told h =
+    let caller = caller_of asked.token r in
+    let reply : h.said.0 ≡ tell.Lodged told = let e = h.said.2 in cc in
+    let tells : IsTold (step r caller asked.request).answer (tell.Lodged told) = subst (IsTold (step r caller asked.request).answer) reply h.said.1 in
+    subst (λ request. IsFiled asked.token due key file told (step r caller request).register) (sym h.request)
+    (filed_by r asked.token key due file told caller refl (subst (λ request. IsTold (step r caller request).answer (tell.Lodged told)) h.request tells))
+
+-- ---- the key again
+
+-- a lodging under a key that is there leaves the agent's filings
+own_there : (q : Register) (name key : List ℕ) (date : ℤ) (other : List ℕ) (f : AcceptedFiling) → filing_keyed key (filings_of name q.members) ≡ Some f → (agent_step q name (ask.Lodge key date other)).register ≡ q
+own_there q name key date other f found = left_by_agent q name (ask.Lodge key date other) (ap (own_lodged_at (sight_of name q) key date other) found)
+
+left_there : (q : Register) (asked : Asked) (name key : List ℕ) (date : ℤ) (other : List ℕ) (f : AcceptedFiling) → caller_of asked.token q ≡ Some (Agent name) → asked.request ≡ ask.Lodge key date other
+    → filing_keyed key (filings_of name q.members) ≡ Some f → after q (Ok asked) ≡ q
+left_there q asked name key date other f caller request found =
+    ap (λ c. (step q c asked.request).register) caller ∙ ap (λ x. (agent_step q name x).register) request ∙ own_there q name key date other f found
+
+-- what is said to it is what `repeated` gives
+said_there : (q : Register) (asked : Asked) (name key : List ℕ) (date : ℤ) (other : List ℕ) (f : AcceptedFiling) (wanted : DeskReply) → caller_of asked.token q ≡ Some (Agent name) → asked.request ≡ ask.Lodge key date other
+    → filing_keyed key (filings_of name q.members) ≡ Some f → told tell.Lodged of_lodging (repeated q.day date other f) ≡ exactly wanted → (said : Said) → IsSaid q (Ok asked) said → said ≡ answered wanted
+said_there q asked name key date other f wanted caller request found is said h =
+    let by : Answer = (step q (caller_of asked.token q) asked.request).answer in
+    let answer : by ≡ exactly wanted =
+    ap (λ c. (step q c asked.request).answer) caller ∙ ap (agent_answer (sight_of name q)) request
+    ∙ ap (λ at. told tell.Lodged of_lodging (lodging_at (sight_of name q) key date other at)) found ∙ is in
+    let reply : h.0 ≡ wanted = subst (λ a. IsTold a h.0) answer h.1 in
+    h.2 ∙ ap answered reply
+
+again_is : (day due : ℤ) (file : List ℕ) (f : AcceptedFiling) → f.due ≡ due → f.bytes ≡ file → repeated day due file f ≡ Ok (told_of false day f)
+again_is day due file f date bytes = rw ((Decides-int_eq f.due due).1 date, is_same-of f.bytes file bytes) refl
+
+reused_is : (day due date : ℤ) (file other : List ℕ) (f : AcceptedFiling) → f.due ≡ due → f.bytes ≡ file → (date ≢ due) ⊎ (other ≢ file) → repeated day date other f ≡ Err lodges.KeyReused
+reused_is day due date file other f due_is file_is differs = by_tests (int_eq f.due date) (is_same f.bytes other) refl refl
+  where
+    by_tests : (b c : Bool) → int_eq f.due date ≡ b → is_same f.bytes other ≡ c → (if b && c then Ok (told_of false day f) else Err lodges.KeyReused) ≡ Err lodges.KeyReused
+    by_tests true true day_is bytes = absurd (elim differs [ inl n ↦ n (sym ((Decides-int_eq f.due date).0 day_is) ∙ due_is) | inr n ↦ n (sym (same_is f.bytes other bytes) ∙ file_is) ])
+    by_tests true false day_is bytes = refl
+    by_tests false c day_is bytes = refl
+
+abbrev told_again_reply : Register → AcceptedFiling → Lodged → Said
+told_again_reply q f lodged = answered (tell.Lodged (told_again q.day f lodged))
+
+same_body : (q : Register) (f : AcceptedFiling) (lodged : Lodged) (said : Said) → said ≡ told_again_reply q f lodged → told_again q.day f lodged ≡ record lodged { fresh = false } → body_of said ≡ body_of (answered (tell.Lodged lodged))
+same_body q f lodged said is same = ap body_of is ∙ ap (λ l. body_of (answered (tell.Lodged l))) same
+
+told_again_is : (r : Register) (asked : Asked) (key : List ℕ) (due : ℤ) (file : List ℕ) (lodged : Lodged) (between : List Spelled) → IsLodged r asked key due file lodged
+    → IsToldAgain (register_left (after r (Ok asked)) between) asked key lodged
+told_again_is r asked key due file lodged between h =
+    let q : Register = register_left (after r (Ok asked)) between in
+    let first = filed r asked key due file lodged h in
+    let now = stands-left asked.token first.name lodged.number due key file (after r (Ok asked)) between first.stands in
+    let f : AcceptedFiling = now.keyed.filing in
+    let is : told_of false q.day f ≡ told_again q.day f lodged =
+    ap (λ n. record { number = n; due = f.due; state = (told_of false q.day f).state; fresh = false }) now.keyed.is.number_is
+    ∙ ap (λ d. record { number = lodged.number; due = d; state = (told_of false q.day f).state; fresh = false }) (now.keyed.is.due_is ∙ sym first.due_is) in
+    let says : (said : Said) → IsSaid q (Ok asked) said → said ≡ told_again_reply q f lodged = λ said s.
+    said_there q asked first.name key due file f (tell.Lodged (told_again q.day f lodged)) now.caller h.request now.keyed.found
+    (ap (told tell.Lodged of_lodging) (again_is q.day due file f now.keyed.is.due_is now.keyed.is.file_is) ∙ ap (λ l. exactly (tell.Lodged l)) is) said s in
+    record {
+      agent = first.name;
+      caller = now.caller;
+      filing = f;
+      keyed = now.keyed.found;
+      said = says;
+      status = λ said s. ap status_of (says said s);
+      body = λ said s state. same_body q f lodged said (says said s) (ap (λ t. record { number = lodged.number; due = lodged.due; state = t; fresh = false }) state);
+      left = left_there q asked first.name key due file f now.caller h.request now.keyed.found;
+    }
+
+reused_again : (r : Register) (asked another : Asked) (key : List ℕ) (due date : ℤ) (file other : List ℕ) (lodged : Lodged) (between : List Spelled) → IsLodged r asked key due file lodged
+    → another.token ≡ asked.token → another.request ≡ ask.Lodge key date other → (date ≢ due) ⊎ (other ≢ file) → IsReused (register_left (after r (Ok asked)) between) another
+reused_again r asked another key due date file other lodged between h token request differs =
+    let q : Register = register_left (after r (Ok asked)) between in
+    let first = filed r asked key due file lodged h in
+    let now = stands-left asked.token first.name lodged.number due key file (after r (Ok asked)) between first.stands in
+    let f : AcceptedFiling = now.keyed.filing in
+    let caller : caller_of another.token q ≡ Some (Agent first.name) = ap (λ t. caller_of t q) token ∙ now.caller in
+    record {
+      said = said_there q another first.name key date other f (tell.Refused KeyReused) caller request now.keyed.found
+          (ap (told tell.Lodged of_lodging) (reused_is q.day due date file other f now.keyed.is.due_is now.keyed.is.file_is differs));
+      left = left_there q another first.name key date other f caller request now.keyed.found;
+    }
+
+pub repeats : RepeatsActOnce
+repeats = record { told = told_again_is; reused = reused_again }
