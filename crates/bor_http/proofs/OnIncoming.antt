@@ -4,6 +4,7 @@ pub mod HeadLemmas
 pub mod Laws
 pub mod LengthLemmas
 pub mod PartsLemmas
+pub mod ProgressLemmas
 pub mod ReadingLemmas
 pub mod MessageLemmas
 pub mod SendLemmas

@@ -2,5 +2,6 @@ pub mod Words
 pub mod Counted
 pub mod Head
 pub mod Message
+pub mod Progress
 pub mod Reading
 pub mod Laws

@@ -22,11 +22,13 @@ mod fields;
 mod head;
 mod lengths;
 pub mod message;
+mod progress;
 mod reading;
 mod request;
 mod sending;
 
 pub use counted::Counted;
 pub use fault::{Name, Path, Refusal, WireFault};
+pub use progress::Progress;
 pub use request::{RawRequest, read_request};
 pub use sending::send;
