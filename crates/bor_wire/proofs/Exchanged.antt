@@ -1,14 +1,17 @@
 -- What an exchange did, from what went out.
-use Rattle.std.proofs.Common.{◌≡◌, ◌≢◌, ◌≤◌, ℕ, List, [], ◌∷◌, Option, Some, None, take, sym, subst, ◌∙◌}
+use Rattle.std.proofs.Common.{◌≡◌, ◌≢◌, ◌≤◌, ℕ, List, [], ◌∷◌, Option, Some, None, take, sym, subst, ◌∙◌, refl}
 use Rattle.std.specs.Io.KnownBytes.{Appends}
-use Rattle.bor_register.specs.Register.{Register}
+use Rattle.bor_records.specs.Promises.{Promised}
+use Rattle.bor_register.specs.Register.{Register, IsOrdered}
 use Rattle.bor_http.specs.declared.incoming.fault.Refusal.{Refusal}
 use Rattle.bor_http.specs.Spelling.Spell.{Spelled}
 use Rattle.bor_wire.specs.Rendering.Replies.{refused, status_of, bytes_of}
 use Rattle.bor_wire.specs.declared.rendering.reply.TheConstants.{UNAVAILABLE}
 use Rattle.bor_wire.specs.declared.outcome.Outcome.{Outcome}
 use Rattle.bor_wire.specs.declared.outcome.Outcome.TheVariants.{Replied, ReadFailed, WriteFailed}
-use Rattle.bor_wire.specs.Exchanges.{IfRefused, IsSpelled, IsSent, IsReplySent, IsReplied, IsExchanged, IsWritten, TellsUnavailable, TellsRefusal, WithoutReply, OnRefusal}
+use Rattle.bor_wire.specs.declared.outgoing.Outgoing.{Outgoing}
+use Rattle.bor_wire.specs.declared.outgoing.Outgoing.TheVariants as outgoing
+use Rattle.bor_wire.specs.Exchanges.{ByOutgoing, HasStatus, IfRefused, IsResponse, IsSpelled, IsSent, IsReplySent, IsReplied, IsExchanged, IsWritten, TellsUnavailable, TellsRefusal, WithoutReply, OnRefusal}
 use Rattle.bor_wire.proofs.HistoryLaws.{alone}
 use Rattle.bor_wire.proofs.ReportLaws.{exact}
 
@@ -95,3 +98,13 @@ refusals_told outcome (Some input) status bytes old new is w = λ why spells. re
 pub no_refusals_told : (outcome : Outcome) (known : Option (List ℕ)) (old new : Option (List ℕ)) → IsWritten outcome 503 UNAVAILABLE.now old new → OnRefusal known (λ why. TellsRefusal outcome why old new)
 no_refusals_told outcome None old new w = tt
 no_refusals_told outcome (Some input) old new w = λ why spells. no_refusal_told outcome why old new w
+
+-- ---- what goes out in memory
+
+pub responded : {K : Type 0} (shows : K → Register → Type 0) (is_clean : K → Type 0) (old new : K) (input : List ℕ) (out : Outgoing)
+    → ByOutgoing (Some out) (Some input) (λ spelled status bytes. Promised shows is_clean old new (λ r. IsOrdered r.members → IsSent (shows new) r spelled status bytes)) (Promised shows is_clean old new (shows new))
+    → HasStatus out → Promised shows is_clean old new (λ r. IsOrdered r.members → IsResponse (shows new) r input out)
+responded shows is_clean old new input (outgoing.Full status bytes) h sure = λ r is clean ordered.
+    exchanged (Replied status) (shows new) r (Some input) h.0 status bytes.items (Some []) (Some bytes.items) sure h.1 (h.2 r is clean ordered) (refl, refl)
+responded shows is_clean old new input outgoing.Unavailable h sure = λ r is clean ordered.
+    record { unavailable = λ _. (h r is clean, refl); full = λ other. absurd (other refl) }

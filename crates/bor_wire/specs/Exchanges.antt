@@ -99,6 +99,21 @@ IsExchanged (Replied status) shown r known old new = IsReplied shown r known sta
 IsExchanged ReadFailed shown r known old new = shown r × Keeps old new
 IsExchanged (WriteFailed status) shown r known old new = IsReplied shown r known status (λ bytes. (n : ℕ) × Appends old new (take n bytes))
 
+-- ---- what goes out in memory
+
+-- its status and its bytes
+abbrev pub status_out : Outgoing → ℕ
+status_out (outgoing.Full status bytes) = status
+status_out outgoing.Unavailable = 503
+
+abbrev pub bytes_out : Outgoing → List ℕ
+bytes_out (outgoing.Full status bytes) = bytes.items
+bytes_out outgoing.Unavailable = UNAVAILABLE.now
+
+-- what an exchange over these bytes does, whose reply this is
+abbrev pub IsResponse : (Register → Type 0) → Register → List ℕ → Outgoing → Type 0
+IsResponse shown r input out = IsExchanged (Replied (status_out out)) shown r (Some input) (Some []) (Some (bytes_out out))
+
 -- ---- what holds of any register and of any keep
 
 -- where the status is 503, what was written is `UNAVAILABLE` or a front of it; where the reader failed, nothing was

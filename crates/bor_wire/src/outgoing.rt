@@ -10,10 +10,11 @@ ghost use Rattle.bor_http.specs.Incoming.Reading.{TakesAtMost};
 ghost use Rattle.bor_http.specs.Spelling.Spell.{asked_view, spell};
 ghost use Rattle.bor_http.specs.Spelling.Steps.{Finds};
 ghost use Rattle.bor_wire.specs.Rendering.Statuses.{desk_status};
-ghost use Rattle.bor_wire.specs.Exchanges.{ByOutgoing, GoesOut, GoesOutRefused, HasStatus, IfNoChange, IfRefusing, IsRefusal, IsSent, OnRefusal, TellsAnswer, faults_unread, left_by};
+ghost use Rattle.bor_wire.specs.Exchanges.{ByOutgoing, GoesOut, GoesOutRefused, HasStatus, IfNoChange, IfRefusing, IsRefusal, IsResponse, IsSent, OnRefusal, TellsAnswer, faults_unread, left_by};
 
 use crate::rendering::{
-    RESERVED, desk_status, is_long, refusal_status, render, render_refusal, render_short,
+    RESERVED, UNAVAILABLE, desk_status, is_long, refusal_status, render, render_refusal,
+    render_short,
 };
 use bor_desk::operations::Keep;
 use bor_desk::{DeskReply, answer};
@@ -24,11 +25,50 @@ use std::io::Read;
 
 /// What goes out for an input.
 #[derive(Drop)]
-pub(crate) enum Outgoing {
+pub enum Outgoing {
     /// A whole reply, with its status.
     Full(u16, Vec<u8>),
     /// Memory was wanting, or the keep failed. Nothing changed.
     Unavailable,
+}
+
+impl Outgoing {
+    ghost use Rattle.bor_wire.specs.Exchanges.{bytes_out, status_out};
+
+    /// The status.
+    pub fn status(&self) -> u16
+        ensures { result ≡ status_out self.now }
+    {
+        match self {
+            Outgoing::Full(status, _) => *status,
+            Outgoing::Unavailable => 503,
+        }
+    }
+
+    /// The bytes, as they are sent.
+    pub fn bytes(&self) -> &[u8]
+        ensures { result.now ≡ bytes_out self.now }
+    {
+        match self {
+            Outgoing::Full(_, bytes) => bytes,
+            Outgoing::Unavailable => UNAVAILABLE,
+        }
+    }
+}
+
+/// Answers the request in these bytes: an [`exchange`](crate::exchange) over them, whose reply stays in
+/// memory.
+pub fn respond<K: Keep>(alloc: Global, paths: &Paths, keep: &mut K, input: &[u8]) -> Outgoing
+    ensures began { K.is_clean keep.new → K.is_clean keep.old }
+    ensures exchanged { Promised K.shows K.is_clean keep.old keep.new (λ r.
+        IsOrdered r.members → IsResponse (K.shows keep.new) r input.now result) }
+    ensures refused_kept { Promised K.shows K.is_clean keep.old keep.new (λ r. IfRefusing result (K.shows keep.new r)) }
+{
+    let mut reader = Counted::new(input);
+    match read_reply(alloc, paths, keep, &mut reader) {
+        Some(outgoing) => outgoing,
+        None => Outgoing::Unavailable,
+    }
 }
 
 /// The reply to bytes that spell no request.
