@@ -1,6 +1,47 @@
 -- What is said of a register that was opened, once its faults are told.
-use Rattle.std.proofs.Common.{◌≡◌, Result, Ok, Err, IfOk, subst}
+use Rattle.std.proofs.Common.{◌≡◌, ℕ, ℤ, List, Result, Ok, Err, IfOk, MatchResult, refl, subst, sym}
+use Rattle.std.specs.Borrow.{Bor}
+use Rattle.clap.specs.Words.{Text}
+use Rattle.sqlite.specs.State.{HasCleanDisk, State}
+use Rattle.sqlite_wal.specs.Recovery.{Image}
+use Rattle.bor_register.specs.Register.{Register}
+use Rattle.bor_store.specs.Opening.{HoldsRegister, IsConnected}
+use Rattle.bor_program.specs.Deeds.{ComesToBe}
+use Rattle.bor_program.specs.declared.host.Opened.{Opened}
+use Rattle.bor_program.specs.declared.host.Origin.{Origin}
+use Rattle.bor_program.specs.declared.host.Origin.TheVariants.{Found, New, Beside}
+use Rattle.bor.specs.Machine.{ComesOpen, FindsOrSetsUp, IsDone}
 
-pub told_ok : {A E F : Type 0} (P : A → Type 0) (opened : Result A E) (told : Result A F) → IfOk told (λ x. opened ≡ Ok x) → IfOk opened P → IfOk told P
-told_ok P opened (Ok x) e h = subst (λ o. IfOk o P) e h
-told_ok P opened (Err fault) e h = tt
+pub told_ok : {A E F : Type 0} (P : A → Type 0) (of : E → F) (opened : Result A E) (told : Result A F) → MatchResult opened (λ x. told ≡ Ok x) (λ e. told ≡ Err (of e))
+    → IfOk opened P → IfOk told P
+told_ok P of (Ok x) told e h = subst (λ o. IfOk o P) (sym e) h
+told_ok P of (Err fault) told e h = subst (λ o. IfOk o P) (sym e) tt
+
+-- what came to be open did so by a deed
+pub comes : {K : Type 0} (shows : K → Register → Type 0) (is_clean IsLeft : K → Type 0) (Held : Register → Type 0) (path : Bor Text) (registrar : List ℕ) (day : ℤ) (register : K) (came : Origin)
+    → FindsOrSetsUp shows is_clean Held registrar day register came → ComesToBe shows is_clean path registrar day register came (λ deed. IsDone shows is_clean IsLeft Held deed)
+comes shows is_clean IsLeft Held path registrar day register Found h = h.found refl
+comes shows is_clean IsLeft Held path registrar day register New h = (h.none (λ e. cc), h.made refl)
+comes shows is_clean IsLeft Held path registrar day register Beside h = h.none (λ e. cc)
+
+-- the same, once faults are told
+pub told_comes : {K E F : Type 0} (shows : K → Register → Type 0) (is_clean IsLeft : K → Type 0) (Held : Register → Type 0) (path : Bor Text) (registrar : List ℕ) (day : ℤ) (of : E → F)
+    (opened : Result (Opened K) E) (told : Result (Opened K) F) → MatchResult opened (λ x. told ≡ Ok x) (λ e. told ≡ Err (of e))
+    → IfOk opened (λ o. FindsOrSetsUp shows is_clean Held registrar day o.register o.origin)
+    → IfOk told (λ o. ComesToBe shows is_clean path registrar day o.register o.origin (λ deed. IsDone shows is_clean IsLeft Held deed))
+told_comes shows is_clean IsLeft Held path registrar day of (Ok o) told e h =
+    subst (λ t. IfOk t (λ o. ComesToBe shows is_clean path registrar day o.register o.origin (λ deed. IsDone shows is_clean IsLeft Held deed))) (sym e)
+    (comes shows is_clean IsLeft Held path registrar day o.register o.origin h)
+told_comes shows is_clean IsLeft Held path registrar day of (Err fault) told e h =
+    subst (λ t. IfOk t (λ o. ComesToBe shows is_clean path registrar day o.register o.origin (λ deed. IsDone shows is_clean IsLeft Held deed))) (sym e) tt
+
+-- what came to be open on a connection that shows what its files hold
+pub found_or_made : {K E : Type 0} (shows : K → Register → Type 0) (is_clean : K → Type 0) (registrar : List ℕ) (day : ℤ) (image : Image) (s : State) → (HasCleanDisk s → IsConnected image s)
+    → (result : Result (Opened K) E) → IfOk result (λ o. ComesOpen shows is_clean registrar day s o.register o.origin)
+    → IfOk result (λ o. FindsOrSetsUp shows is_clean (HoldsRegister image) registrar day o.register o.origin)
+found_or_made shows is_clean registrar day image s connected (Err e) h = tt
+found_or_made shows is_clean registrar day image s connected (Ok o) h = record {
+  found = λ is clean r held. h.found is clean r ((connected (h.began clean).0).shows r held);
+  none = λ is clean r held. h.none is clean r ((connected (h.began clean).0).shows r held);
+  made = h.made;
+}

@@ -1,68 +1,73 @@
 //! The machine that the program runs on: registers in files of SQLite, and ports of 127.0.0.1.
 
-ghost use Rattle.std.specs.Prelude.{◌≡◌, IfErr, IfOk, IsTrue, Ok};
-ghost use Rattle.bor_register.specs.Register.{empty_register};
+ghost use Rattle.std.specs.Prelude.{◌≡◌, Ok, Err, IfErr, IfOk, MatchResult};
 ghost use Rattle.bor_program.specs.Failures.{IsOpeningOf};
+ghost use Rattle.bor_register.specs.Register.{Register};
+ghost use Rattle.bor_store.specs.Opening.{HoldsRegister, IsClosing};
+ghost use Rattle.sqlite_wal.specs.Files.{image_at};
+ghost use Rattle.bor.specs.Machine.{FindsOrSetsUp, IsDone, failure_of};
 
-use crate::setup::set_up_on;
+use crate::setup::find_or_set_up;
 use bor_desk::operations::Keep;
 use bor_program::connections::serve_on;
 use bor_program::{Failure, Opened, Ports, Registers};
-use bor_store::{OpenFault, SqlKeep, migrate};
+use bor_store::{OpenFault, SqlKeep, connect, migrate};
 use bor_terms::{Day, Token};
-use sqlite::{Connection, File, FileStore};
+use sqlite::{FileFrom, FileStore, Start};
 use std::fs;
 use std::io::{self, ErrorKind};
 use std::net::TcpListener;
 
-/// What opens registers in files of SQLite, and listens on ports of 127.0.0.1.
+/// What opens registers in files of SQLite, and listens on ports of 127.0.0.1. `S` stands for what a
+/// file and its log hold as they are opened.
 #[derive(Clone, Copy)]
-pub struct Host<'r> {
+pub struct Host<'r, S> {
     rt: &'r HostRuntime,
+    start: S,
 }
 
-impl<'r> Host<'r> {
+impl<'r, S> Host<'r, S> {
     /// The machine that this process runs on.
-    pub fn new(rt: &'r HostRuntime) -> Self {
-        Host { rt }
+    pub fn new(rt: &'r HostRuntime, start: S) -> Self {
+        Host { rt, start }
     }
 }
 
-impl Registers for Host<'_> {
-    type Register = SqlKeep<FileStore<File>>;
+impl<S: Start + Copy> Registers for Host<'_, S> {
+    type Register = SqlKeep<FileStore<FileFrom<S>>>;
 
-    fn open<'a>(&self, path: &'a str) -> Result<SqlKeep<FileStore<File>>, Failure<'a>> {
+    ghost does = { let keep = ⟦<SqlKeep<FileStore<FileFrom<S>>> as Keep>⟧ in λ _ deed _.
+        IsDone keep.shows keep.is_clean (λ k. (closed : _) × IsClosing k.conn closed)
+        (HoldsRegister (image_at S.Start)) deed };
+
+    fn open<'a>(&mut self, path: &'a str) -> Result<SqlKeep<FileStore<FileFrom<S>>>, Failure<'a>> {
         find(self.rt, path)?;
-        told_of(path, SqlKeep::open(self.rt, path))
+        told_of(path, SqlKeep::open(self.rt, path, self.start))
     }
 
     fn open_or_set_up<'a>(
-        &self,
+        &mut self,
         path: &'a str,
         registrar: &Token,
         day: Day,
-    ) -> Result<Opened<SqlKeep<FileStore<File>>>, Failure<'a>> {
-        match SqlKeep::open(self.rt, path) {
-            Ok(register) => Ok(Opened {
-                register,
-                is_new: false,
-            }),
-            Err(OpenFault::NoRegister) => told_of(path, set_up_in(self.rt, path, registrar, day)),
-            Err(fault) => Err(failure_of(path, fault)),
-        }
+    ) -> Result<Opened<SqlKeep<FileStore<FileFrom<S>>>>, Failure<'a>> {
+        told_of(
+            path,
+            found_or_set_up(self.rt, path, self.start, registrar, day),
+        )
     }
 
-    fn migrate<'a>(&self, path: &'a str) -> Result<(), Failure<'a>> {
+    fn migrate<'a>(&mut self, path: &'a str) -> Result<(), Failure<'a>> {
         find(self.rt, path)?;
-        told_of(path, migrate_in(self.rt, path))
+        told_of(path, migrate_in(self.rt, path, self.start))
     }
 
-    fn close(&self, register: SqlKeep<FileStore<File>>) {
-        let _ = register.into_connection().close();
+    fn close(&mut self, _path: &str, register: SqlKeep<FileStore<FileFrom<S>>>) {
+        let _ = register.close();
     }
 }
 
-impl Ports for Host<'_> {
+impl<S: Start + Copy> Ports for Host<'_, S> {
     type Listener = TcpListener;
 
     fn listen(&self, port: u16) -> Option<TcpListener> {
@@ -71,7 +76,7 @@ impl Ports for Host<'_> {
 
     fn serve(
         &self,
-        register: &mut SqlKeep<FileStore<File>>,
+        register: &mut SqlKeep<FileStore<FileFrom<S>>>,
         listener: &TcpListener,
         connections: u32,
     ) -> u8 {
@@ -104,23 +109,25 @@ fn is_vacant(rt: &HostRuntime, path: &str) -> io::Result<bool> {
     }
 }
 
-// Sets a register up in the file of this name.
-fn set_up_in(
+// The register in the file of this name, or one that is set up in it where it has none.
+fn found_or_set_up<S: Start>(
     rt: &HostRuntime,
     path: &str,
+    start: S,
     registrar: &Token,
     day: Day,
-) -> Result<Opened<SqlKeep<FileStore<File>>>, OpenFault>
-    ensures { let keep = ⟦<SqlKeep<FileStore<File>> as Keep>⟧ in IfOk result (λ opened. IsTrue opened.is_new → keep.is_clean opened.register
-        → keep.shows opened.register (empty_register registrar.now day)) }
+) -> Result<Opened<SqlKeep<FileStore<FileFrom<S>>>>, OpenFault>
+    ensures { let keep = ⟦<SqlKeep<FileStore<FileFrom<S>>> as Keep>⟧ in IfOk result (λ opened.
+        FindsOrSetsUp keep.shows keep.is_clean (HoldsRegister (image_at S.Start)) registrar.now day
+        opened.register opened.origin) }
 {
-    let conn = Connection::open(rt, path)?;
-    set_up_on(rt.alloc(), conn, registrar, day)
+    let conn = connect(rt, path, start)?;
+    find_or_set_up(rt.alloc(), conn, registrar, day)
 }
 
 // Moves the register in the file of this name to the tables of this program, and closes the file.
-fn migrate_in(rt: &HostRuntime, path: &str) -> Result<(), OpenFault> {
-    let mut conn = Connection::open(rt, path)?;
+fn migrate_in<S: Start>(rt: &HostRuntime, path: &str, start: S) -> Result<(), OpenFault> {
+    let mut conn = connect(rt, path, start)?;
     let migrated = migrate(&mut conn, rt.alloc());
     let _ = conn.close();
     migrated
@@ -128,7 +135,8 @@ fn migrate_in(rt: &HostRuntime, path: &str) -> Result<(), OpenFault> {
 
 // What was opened, or the failure of opening the file of this name.
 fn told_of<T>(path: &str, opened: Result<T, OpenFault>) -> Result<T, Failure<'_>>
-    ensures ok { IfOk result (λ register. opened ≡ Ok register) }
+    ensures told { MatchResult opened (λ register. result ≡ Ok register)
+        (λ fault. result ≡ Err (failure_of path.entry fault)) }
     ensures err { IfErr result (IsOpeningOf path.entry) }
 {
     match opened {
@@ -139,7 +147,8 @@ fn told_of<T>(path: &str, opened: Result<T, OpenFault>) -> Result<T, Failure<'_>
 
 // What a fault of opening the file of this name is told as.
 fn failure_of(path: &str, fault: OpenFault) -> Failure<'_>
-    ensures { IsOpeningOf path.entry result }
+    ensures is { result ≡ failure_of path.entry fault }
+    ensures opening { IsOpeningOf path.entry result }
 {
     match fault {
         OpenFault::NoRegister => Failure::NoRegister(path),

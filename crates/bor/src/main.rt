@@ -3,9 +3,11 @@
 
 mod host;
 mod setup;
+mod start;
 
 use bor_program::{Failure, Status};
 use host::Host;
+use start::Anything;
 use std::convert::AsStr;
 use std::env::{self, Env};
 use std::io::{self, ErrorKind, Read, Write};
@@ -37,7 +39,8 @@ fn run<S: AsStr, I: Read, O: Write, E: Write>(
     output: &mut O,
     errors: &mut E,
 ) -> u8 {
-    bor_program::run(rt, &Host::new(rt), words, input, output, errors)
+    let mut host = Host::new(rt, Anything);
+    bor_program::run(rt, &mut host, words, input, output, errors)
 }
 
 // The words after the program's name.

@@ -1,5 +1,5 @@
 -- Which failures were met by a command over a register in a file.
-use Rattle.std.proofs.Common.{◌≡◌, ◌⊎◌, ℕ, List, [], Bool, Option, arith, false, inl, inr, refl, true}
+use Rattle.std.proofs.Common.{◌≡◌, ◌⊎◌, ℕ, List, [], Bool, Option, arith, false, inl, inr, subst, sym, true}
 use Rattle.std.specs.Borrow.{Bor}
 use Rattle.std.specs.Io.KnownBytes.{Keeps}
 use Rattle.bor_register.specs.declared.fault.StoreFault.{StoreFault}
@@ -7,6 +7,7 @@ use Rattle.bor_register.specs.declared.fault.StoreFault.TheVariants as fault
 use Rattle.bor_program.specs.declared.failure.Failure.{Failure}
 use Rattle.bor_program.specs.declared.failure.Failure.TheVariants.{Unreadable, NoRegister, OtherVersion, Taken, Memory, Store, Unlistening, Unwritable}
 use Rattle.bor_program.specs.Failures.{IsMetIn, IsMetListening, IsMetOnKeep, IsOpeningOf, IsWantOfMemory, LeavesOutput, failure_line, failure_of}
+use Rattle.bor_program.specs.Deeds.{Deed, Fails}
 use Rattle.bor_program.specs.Performing.{FailsToOpen}
 use Rattle.bor_desk.specs.CheckReport.{check_report}
 use Rattle.bor_desk.specs.declared.text.Text.{Text as Written}
@@ -26,42 +27,26 @@ leaves before after Store h = h
 leaves before after Unlistening h = h
 leaves before after Unwritable h = tt
 
--- a fault of a keep, before anything was written
-pub met_fault : (known : Option (List ℕ)) (f : StoreFault) → IsMetOnKeep known known (failure_of f)
-met_fault known fault.Memory = record { cause = tt; output = keeps_same known }
-met_fault known fault.Store = record { cause = tt; output = keeps_same known }
-met_fault known fault.Damaged = record { cause = tt; output = keeps_same known }
-
--- standard output can't be written
-pub met_unwritable : (before after : Option (List ℕ)) (failure : Failure) → failure ≡ Unwritable → IsMetOnKeep before after failure
-met_unwritable before after Unwritable e = record { cause = tt; output = tt }
-met_unwritable before after (Unreadable source) e = cc
-met_unwritable before after (NoRegister path) e = cc
-met_unwritable before after (OtherVersion path version) e = cc
-met_unwritable before after (Taken path) e = cc
-met_unwritable before after Memory e = cc
-met_unwritable before after Store e = cc
-met_unwritable before after Unlistening e = cc
+-- what a store's fault is to the program is a failure of opening too
+fault_opens : (path : Bor Text) (f : StoreFault) → IsOpeningOf path (failure_of f)
+fault_opens path fault.Memory = tt
+fault_opens path fault.Store = tt
+fault_opens path fault.Damaged = tt
 
 -- the register was opened, and then a failure was met
-pub met_opened : (path : Bor Text) (before after : Option (List ℕ)) (failure : Failure) → IsMetOnKeep before after failure → IsMetIn path before after failure
-met_opened path before after Memory h = record { cause = inl tt; output = h.output }
-met_opened path before after Store h = record { cause = inl tt; output = h.output }
-met_opened path before after Unwritable h = record { cause = inr refl; output = h.output }
-met_opened path before after (Unreadable source) h = absurd h.cause
-met_opened path before after (NoRegister opened) h = absurd h.cause
-met_opened path before after (OtherVersion opened version) h = absurd h.cause
-met_opened path before after (Taken opened) h = absurd h.cause
-met_opened path before after Unlistening h = absurd h.cause
+pub met_opened : (path : Bor Text) (Told : StoreFault → Type 0) (before after : Option (List ℕ)) (failure : Failure) → IsMetOnKeep Told before after failure → IsMetIn path before after failure
+met_opened path Told before after failure (inl h) =
+    record { cause = inl (subst (IsOpeningOf path) (sym h.2) (fault_opens path h.0)); output = leaves before after failure h.3 }
+met_opened path Told before after failure (inr e) = record { cause = inr e; output = subst (LeavesOutput before after) (sym e) tt }
 
 -- the register can't be opened
 pub met_opening : (path : Bor Text) (known : Option (List ℕ)) (failure : Failure) → IsOpeningOf path failure → IsMetIn path known known failure
 met_opening path known failure h = record { cause = inl h; output = leaves known known failure (keeps_same known) }
 
-pub fails_to_open : (path : Bor Text) (known errors told : Option (List ℕ)) (failure : Failure) (status : ℕ) → status ≡ 3 → IsOpeningOf path failure
-    → AppendsPart errors told (failure_line failure) → FailsToOpen path known known errors told status
-fails_to_open path known errors told failure status three h line =
-    record { status_is = three; kept = keeps_same known; line = (failure, h, line) }
+pub fails_to_open : {M K : Type 0} (does : M → Deed K → M → Type 0) (begun ended : M) (path : Bor Text) (known errors told : Option (List ℕ)) (failure : Failure) (status : ℕ) → status ≡ 3
+    → does begun (Fails path failure) ended → IsOpeningOf path failure → AppendsPart errors told (failure_line failure) → FailsToOpen does begun ended path known known errors told status
+fails_to_open does begun ended path known errors told failure status three fails h line =
+    record { status_is = three; kept = keeps_same known; failure = failure; fails = fails; cause = h; line = line }
 
 -- ---- failures of a server before its first connection
 

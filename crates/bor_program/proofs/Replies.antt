@@ -16,6 +16,8 @@ use Rattle.bor_records.specs.Promises.{Kept, Promised}
 use Rattle.bor_register.specs.Register.{Register}
 use Rattle.bor_desk.specs.Operations.Legality.{IsLegal}
 use Rattle.bor_http.specs.Spelling.Spell.{Spelled}
+use Rattle.bor_wire.specs.Histories.{IsAlone}
+use Rattle.bor_wire.specs.Reports.{AreReports}
 use Rattle.bor_wire.specs.Runs.{AreReplies, AreSpelled, full, register_left, served}
 use Rattle.bor_program.proofs.Ends.{part_none}
 use Rattle.bor_program.proofs.KnownBytes.{IsWritten}
@@ -111,9 +113,12 @@ sent_as P Q count last before after code e wider h = (h.0, (λ low. h.1 low ∙ 
 -- nothing was answered, and the register is as it was
 pub none_answered : {K : Type 0} (shows : K → Register → Type 0) (is_clean : K → Type 0) (opened left : K) → Kept shows is_clean opened left
     → AreAnswers shows is_clean opened left [] []
-none_answered shows is_clean opened left kept = λ r shown clean legal. record {
-  replies_to = record { count = refl; spelled = []; spells = tt; replied = tt };
-  left = (kept.same clean r).0 shown;
+none_answered shows is_clean opened left kept = record {
+  began = kept.began;
+  answers = λ r shown clean legal. record {
+    replies_to = record { count = refl; spelled = []; spells = tt; replied = tt; alone = λ name. tt; reports = tt };
+    left = (kept.same clean r).0 shown;
+  };
 }
 
 pub kept_same : {K : Type 0} (shows : K → Register → Type 0) (is_clean : K → Type 0) (state : K) → Kept shows is_clean state state
@@ -121,13 +126,25 @@ kept_same shows is_clean state = record { began = λ clean. clean; same = λ cle
 
 -- what is said of all that the inputs spell is said of them
 pub all_answered : {K : Type 0} (shows : K → Register → Type 0) (is_clean : K → Type 0) (opened left : K) (inputs : List (List ℕ)) (replies : List Reply)
-    → length replies ≡ length inputs → ((spelled : List Spelled) × AreSpelled (served inputs replies) spelled)
+    → (is_clean left → is_clean opened) → length replies ≡ length inputs → ((spelled : List Spelled) × AreSpelled (served inputs replies) spelled)
     → Promised shows is_clean opened left (λ r. IsLegal r → (spelled : List Spelled) → AreSpelled (served inputs replies) spelled → AreReplies r spelled (full replies))
     → Promised shows is_clean opened left (λ r. IsLegal r → (spelled : List Spelled) → AreSpelled (served inputs replies) spelled → shows left (register_left r spelled))
+    → Promised shows is_clean opened left (λ r. IsLegal r → (spelled : List Spelled) → AreSpelled (served inputs replies) spelled → (name : List ℕ) → IsAlone name r spelled (full replies))
+    → Promised shows is_clean opened left (λ r. IsLegal r → (spelled : List Spelled) → AreSpelled (served inputs replies) spelled → AreReports r spelled (full replies))
     → AreAnswers shows is_clean opened left inputs replies
-all_answered shows is_clean opened left inputs replies count spelled are leaves = λ r shown clean legal. record {
-  replies_to = record { count = count; spelled = spelled.0; spells = spelled.1; replied = are r shown clean legal spelled.0 spelled.1 };
-  left = leaves r shown clean legal spelled.0 spelled.1;
+all_answered shows is_clean opened left inputs replies began count spelled are leaves alone reports = record {
+  began = began;
+  answers = λ r shown clean legal. record {
+    replies_to = record {
+      count = count;
+      spelled = spelled.0;
+      spells = spelled.1;
+      replied = are r shown clean legal spelled.0 spelled.1;
+      alone = alone r shown clean legal spelled.0 spelled.1;
+      reports = reports r shown clean legal spelled.0 spelled.1;
+    };
+    left = leaves r shown clean legal spelled.0 spelled.1;
+  };
 }
 
 -- ---- exit statuses

@@ -96,17 +96,10 @@ pub record IsMetBy (words : List Text) (before after : Option (List ℕ)) (failu
   pub cause : IsFailureOf words failure
   pub output : LeavesOutput before after failure
 
--- memory was wanting, the store failed, or standard output can't be written
-abbrev pub IsOfKeep : Failure → Type 0
-IsOfKeep Memory = ⊤
-IsOfKeep Store = ⊤
-IsOfKeep Unwritable = ⊤
-IsOfKeep failure = ⊥
-
--- a failure of a keep that is open, or of standard output, and no other was met
-pub record IsMetOnKeep (before after : Option (List ℕ)) (failure : Failure) : Type 0 where
-  pub cause : IsOfKeep failure
-  pub output : LeavesOutput before after failure
+-- a fault was told by a register that is open, before anything was written, and it is what that is to the program; or standard output can't be written
+abbrev pub IsMetOnKeep : (StoreFault → Type 0) → Option (List ℕ) → Option (List ℕ) → Failure → Type 0
+IsMetOnKeep Told before after failure =
+    ((fault : StoreFault) × Told fault × (failure ≡ failure_of fault) × Keeps before after) ⊎ (failure ≡ Unwritable)
 
 -- the port can't be listened on, memory was wanting, or standard output can't be written
 abbrev pub IsOfListening : Failure → Type 0

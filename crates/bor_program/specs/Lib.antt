@@ -4,5 +4,6 @@ pub mod Program
 pub mod Failures
 pub mod Replying
 pub mod Reporting
+pub mod Deeds
 pub mod Performing
 pub mod Connections

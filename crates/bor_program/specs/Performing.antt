@@ -4,6 +4,7 @@ use Rattle.std.specs.Io.KnownBytes.{Appends, Keeps}
 use Rattle.std.specs.Borrow.{Bor}
 use Rattle.bor_records.specs.Promises.{Kept}
 use Rattle.bor_register.specs.Register.{Register, empty_register}
+use Rattle.bor_register.specs.declared.fault.StoreFault.{StoreFault}
 use Rattle.bor_desk.specs.Texts.{answering}
 use Rattle.bor_desk.specs.declared.text.Text.{Text}
 use Rattle.bor_wire.specs.declared.replies.Reply.{Reply}
@@ -17,7 +18,10 @@ use Rattle.bor_words.specs.declared.report.Report.{Report}
 use Rattle.bor_words.specs.declared.serve.Serve.{Serve}
 use Rattle.bor_words.specs.declared.source.Source.{Source}
 use Rattle.bor_words.specs.Asked.{name_of}
-use Rattle.bor_program.specs.Failures.{IsMetIn, IsMetListening, IsMetOn, IsOpeningOf, IsTold, TellsFiles}
+use Rattle.bor_program.specs.declared.failure.Failure.{Failure}
+use Rattle.bor_program.specs.declared.host.Origin.{Origin}
+use Rattle.bor_program.specs.Deeds.{ComesToBe, Deed, Fails, Moves, Opens, Visits}
+use Rattle.bor_program.specs.Failures.{IsMetIn, IsMetListening, IsMetOn, IsMetOnKeep, IsOpeningOf, IsTold, TellsFiles, failure_line}
 use Rattle.bor_program.specs.Program.{IsReportedOrCutOff, IsWrittenOrCutOff}
 use Rattle.bor_program.specs.Replying.{AreAnswers, AreRepliesTo, EndsFiles, IsSentOrCutOff, replies_status, sent}
 use Rattle.bor_program.specs.Reporting.{IsToldOf}
@@ -39,21 +43,30 @@ pub record Checks (source : Source) (input rest output printed errors told : Kno
 
 -- ---- over a register in a file
 
--- the register in the file of this name can't be opened: nothing is printed but the line of that
-pub record FailsToOpen (path : Bor Words) (output printed errors told : Known) (status : ℕ) : Type 0 where
+-- The register in the file of this name can't be opened, set up or moved: nothing is printed but the line of the failure that this met.
+pub record FailsToOpen {M K : Type 0} (does : M → Deed K → M → Type 0) (begun ended : M) (path : Bor Words) (output printed errors told : Known) (status : ℕ) : Type 0 where
   pub status_is : status ≡ 3
   pub kept : Keeps output printed
-  pub line : IsTold (IsOpeningOf path) errors told
+  pub failure : Failure
+  pub fails : does begun (Fails path failure) ended
+  pub cause : IsOpeningOf path failure
+  pub line : AppendsPart errors told (failure_line failure)
 
--- Replies are printed: from the new register on, or from the one that was opened. Where the run doesn't fail, they are those to one input a file. Nothing is told but of files that can't be read, and of want of memory.
-pub record Exchanges {K : Type 0} (shows : K → Register → Type 0) (is_clean : K → Type 0) (asked : Exchange) (output printed errors told : Known) (status : ℕ) : Type 0 where
+-- Replies are printed, from the register that was opened on. Where the run doesn't fail, they are those to one input a file. Nothing is told but of files that can't be read, and of want of memory.
+pub record ExchangesFrom {K : Type 0} (shows : K → Register → Type 0) (is_clean : K → Type 0) (opened left : K) (asked : Exchange) (output printed errors told : Known) (status : ℕ) : Type 0 where
+  pub answered : EndsFiles (AreAnswers shows is_clean opened left) (length asked.files.items) output printed status
+  pub unread : TellsFiles asked.files.items output printed errors told
+
+-- The same from the new register on, with no file; or from the one that was opened in the file, or set up, and what is left of it is closed there.
+pub record Exchanges {M K : Type 0} (shows : K → Register → Type 0) (is_clean : K → Type 0) (does : M → Deed K → M → Type 0) (begun ended : M) (asked : Exchange) (output printed errors told : Known) (status : ℕ) : Type 0 where
   pub sent : (replies : List Reply) × IsSentOrCutOff replies output printed status
   pub answered : asked.db ≡ None
-      → EndsFiles (AreRepliesTo (empty_register asked.registrar asked.day)) (length asked.files.items) output printed status
+      → (ended ≡ begun) × EndsFiles (AreRepliesTo (empty_register asked.registrar asked.day)) (length asked.files.items) output printed status
       × TellsFiles asked.files.items output printed errors told
-  pub opened : IfSome asked.db (λ path. FailsToOpen path output printed errors told status
-      ⊎ ((opened : K) × (left : K) × EndsFiles (AreAnswers shows is_clean opened left) (length asked.files.items) output printed status
-      × TellsFiles asked.files.items output printed errors told))
+  pub opened : IfSome asked.db (λ path. FailsToOpen does begun ended path output printed errors told status
+      ⊎ ((opened : K) × (origin : Origin) × (left : K)
+      × Visits does begun ended path (ComesToBe shows is_clean path asked.registrar asked.day opened origin) left
+      × ExchangesFrom shows is_clean opened left asked output printed errors told status))
   pub silent : status ≤ 1 → Keeps errors told
 
 -- the line that tells that the server listens
@@ -72,24 +85,27 @@ pub record ServesFrom {K : Type 0} (shows : K → Register → Type 0) (is_clean
   pub line : Appends output printed (listening asked.port)
   pub silent : Keeps errors told
 
--- a register is opened and served, or it fails before the first connection
-abbrev pub Serves : {K : Type 0} → (K → Register → Type 0) → (K → Type 0) → Serve → Known → Known → Known → Known → ℕ → Type 0
-Serves {K} shows is_clean asked output printed errors told status =
-    FailsToOpen asked.db output printed errors told status
-    ⊎ (FailsToListen asked.port output printed errors told status
-    ⊎ ((opened : K) × (left : K) × ServesFrom shows is_clean opened left asked output printed errors told status))
+-- The register in the file is opened and served, and what is left of it is closed there, the same where the port can't be listened on; or it can't be opened.
+abbrev pub Serves : {M K : Type 0} → (K → Register → Type 0) → (K → Type 0) → (M → Deed K → M → Type 0) → M → M → Serve → Known → Known → Known → Known → ℕ → Type 0
+Serves {M} {K} shows is_clean does begun ended asked output printed errors told status =
+    FailsToOpen does begun ended asked.db output printed errors told status
+    ⊎ ((opened : K) × (left : K) × Visits does begun ended asked.db (λ Done. Done (Opens asked.db opened)) left
+    × (((left ≡ opened) × FailsToListen asked.port output printed errors told status)
+    ⊎ ServesFrom shows is_clean opened left asked output printed errors told status))
 
--- a text on the register that was opened is printed, or nothing
-pub record TellsFrom {K : Type 0} (shows : K → Register → Type 0) (is_clean : K → Type 0) (opened left : K) (asked : Report) (output printed : Known) (status : ℕ) : Type 0 where
+-- A text on the register that was opened is printed, or nothing; where that fails, the line of the failure is told.
+pub record TellsFrom {K : Type 0} (shows : K → Register → Type 0) (is_clean : K → Type 0) (tells : K → StoreFault → K → Type 0) (opened left : K) (asked : Report) (output printed errors told : Known) (status : ℕ) : Type 0 where
   pub kept : Kept shows is_clean opened left
   pub text : ((text : Text) × IsToldOf shows is_clean opened left asked text × IsWrittenOrCutOff text output printed status)
       ⊎ (Keeps output printed × (status ≡ 3))
+  pub line : status ≡ 3 → IsTold (IsMetOnKeep (λ fault. tells opened fault left) output printed) errors told
 
--- a text is printed, on the register that was opened, or the line of a failure
-pub record Reports {K : Type 0} (shows : K → Register → Type 0) (is_clean : K → Type 0) (asked : Report) (output printed errors told : Known) (status : ℕ) : Type 0 where
+-- A text is printed, on the register in the file, and what is left of that is closed there; or the line of a failure.
+pub record Reports {M K : Type 0} (shows : K → Register → Type 0) (is_clean : K → Type 0) (tells : K → StoreFault → K → Type 0) (does : M → Deed K → M → Type 0) (begun ended : M) (asked : Report) (output printed errors told : Known) (status : ℕ) : Type 0 where
   pub text : (text : Text) × IsWrittenOrCutOff text output printed status
-  pub opened : FailsToOpen asked.db output printed errors told status
-      ⊎ ((opened : K) × (left : K) × TellsFrom shows is_clean opened left asked output printed status)
+  pub opened : FailsToOpen does begun ended asked.db output printed errors told status
+      ⊎ ((opened : K) × (left : K) × Visits does begun ended asked.db (λ Done. Done (Opens asked.db opened)) left
+      × TellsFrom shows is_clean tells opened left asked output printed errors told status)
   pub silent : status ≤ 1 → Keeps errors told
   pub line : status ≡ 3 → IsTold (IsMetIn asked.db output printed) errors told
 
@@ -97,24 +113,25 @@ pub record Reports {K : Type 0} (shows : K → Register → Type 0) (is_clean : 
 abbrev pub migrated : Text
 migrated = answering (codes "version 2" ++ 10 ∷ [])
 
--- the version is printed, or the line of a failure
-pub record Migrates (asked : Migrate) (output printed errors told : Known) (status : ℕ) : Type 0 where
+-- The register in the file is moved, and the version is printed; or the line of a failure is told.
+pub record Migrates {M K : Type 0} (does : M → Deed K → M → Type 0) (begun ended : M) (asked : Migrate) (output printed errors told : Known) (status : ℕ) : Type 0 where
+  pub moved : FailsToOpen does begun ended asked.db output printed errors told status ⊎ does begun (Moves asked.db) ended
   pub text : IsWrittenOrCutOff migrated output printed status
   pub silent : status ≤ 1 → Keeps errors told
   pub line : status ≡ 3 → IsTold (IsMetIn asked.db output printed) errors told
 
--- What the command does, over whatever registers are opened; but for a check it leaves standard input alone.
-abbrev pub Performs : {K : Type 0} → (K → Register → Type 0) → (K → Type 0) → Command → Known → Known → Known → Known → Known → Known → ℕ → Type 0
-Performs shows is_clean (command.Check source) input rest output printed errors told status =
-    Checks source input rest output printed errors told status
-Performs shows is_clean (command.Exchange asked) input rest output printed errors told status =
-    Keeps input rest × Exchanges shows is_clean asked output printed errors told status
-Performs shows is_clean (command.Serve asked) input rest output printed errors told status =
-    Keeps input rest × Serves shows is_clean asked output printed errors told status
-Performs shows is_clean (command.Report asked) input rest output printed errors told status =
-    Keeps input rest × Reports shows is_clean asked output printed errors told status
-Performs shows is_clean (command.Migrate asked) input rest output printed errors told status =
-    Keeps input rest × Migrates asked output printed errors told status
+-- What the command does, over whatever registers are opened, and what is done to files; but for a check it leaves standard input alone, and a check leaves the registers in files alone.
+abbrev pub Performs : {M K : Type 0} → (K → Register → Type 0) → (K → Type 0) → (K → StoreFault → K → Type 0) → (M → Deed K → M → Type 0) → M → M → Command → Known → Known → Known → Known → Known → Known → ℕ → Type 0
+Performs shows is_clean tells does begun ended (command.Check source) input rest output printed errors told status =
+    (ended ≡ begun) × Checks source input rest output printed errors told status
+Performs shows is_clean tells does begun ended (command.Exchange asked) input rest output printed errors told status =
+    Keeps input rest × Exchanges shows is_clean does begun ended asked output printed errors told status
+Performs shows is_clean tells does begun ended (command.Serve asked) input rest output printed errors told status =
+    Keeps input rest × Serves shows is_clean does begun ended asked output printed errors told status
+Performs shows is_clean tells does begun ended (command.Report asked) input rest output printed errors told status =
+    Keeps input rest × Reports shows is_clean tells does begun ended asked output printed errors told status
+Performs shows is_clean tells does begun ended (command.Migrate asked) input rest output printed errors told status =
+    Keeps input rest × Migrates does begun ended asked output printed errors told status
 
 -- ---- what status 1 stands for
 

@@ -10,6 +10,8 @@ use Rattle.bor_http.specs.Spelling.Spell.{Spelled}
 use Rattle.bor_wire.specs.declared.replies.Reply.{Reply}
 use Rattle.bor_wire.specs.declared.replies.Reply.TheVariants.{Full, Unavailable}
 use Rattle.bor_wire.specs.Runs.{AreReplies, AreSpelled, full, register_left, served}
+use Rattle.bor_wire.specs.Histories.{IsAlone}
+use Rattle.bor_wire.specs.Reports.{AreReports}
 use Rattle.bor_program.specs.Program.{exit_code}
 use Rattle.bor_program.specs.Streams.{AppendsPart}
 use Rattle.bor_program.specs.declared.status.Status.{Status}
@@ -48,22 +50,24 @@ IsSentOrCutOff replies before after status =
 
 -- ---- which replies they are
 
--- The replies to these inputs from this register on: one for each, and without what was not served, those of the run over what the others spell.
+-- The replies to these inputs from this register on: one for each, and without what was not served, those of the run over what the others spell. What each agent receives follows from its own exchanges alone, and a report with status 200 names exactly the joined.
 pub record AreRepliesTo (r : Register) (inputs : List (List ℕ)) (replies : List Reply) : Type 0 where
   pub count : length replies ≡ length inputs
   pub spelled : List Spelled
   pub spells : AreSpelled (served inputs replies) spelled
   pub replied : AreReplies r spelled (full replies)
+  pub alone : (name : List ℕ) → IsAlone name r spelled (full replies)
+  pub reports : AreReports r spelled (full replies)
 
 -- The same, and the register that the run leaves is shown.
 pub record AreRepliesLeaving (Shown : Register → Type 0) (r : Register) (inputs : List (List ℕ)) (replies : List Reply) : Type 0 where
   pub replies_to : AreRepliesTo r inputs replies
   pub left : Shown (register_left r replies_to.spelled)
 
--- Of a register that was opened and what is left of it: each legal register that it showed has these replies to these inputs, and what is left shows the register after them.
-abbrev pub AreAnswers : {K : Type 0} → (K → Register → Type 0) → (K → Type 0) → K → K → List (List ℕ) → List Reply → Type 0
-AreAnswers shows is_clean opened left inputs replies =
-    Promised shows is_clean opened left (λ r. IsLegal r → AreRepliesLeaving (shows left) r inputs replies)
+-- Of a register that was opened and what is left of it, which ends clean only if it began clean: each legal register that it showed has these replies to these inputs, and what is left shows the register after them.
+pub record AreAnswers {K : Type 0} (shows : K → Register → Type 0) (is_clean : K → Type 0) (opened left : K) (inputs : List (List ℕ)) (replies : List Reply) : Type 0 where
+  pub began : is_clean left → is_clean opened
+  pub answers : Promised shows is_clean opened left (λ r. IsLegal r → AreRepliesLeaving (shows left) r inputs replies)
 
 -- ---- how they are sent
 

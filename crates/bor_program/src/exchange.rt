@@ -20,17 +20,18 @@ use std::alloc::Global;
 use std::io::Write;
 use std::rt::Files;
 
-/// Answers the requests in files in turn, in the register in a file or in a new one in memory, and
-/// prints the replies in order. A file that can't be read is told, and the next one is taken.
+/// Answers the requests in files in turn, in the register in a file, which is closed then, or in a new
+/// one in memory, and prints the replies in order. A file that can't be read is told, and the next one
+/// is taken.
 pub fn exchange<R: Files + AllocGlobal, H: Registers, O: Write, E: Write>(
     rt: &R,
-    host: &H,
+    host: &mut H,
     asked: Exchange<'_>,
     output: &mut O,
     errors: &mut E,
 ) -> Status
-    ensures { Exchanges H.Register.shows H.Register.is_clean asked.entry (O.contents output.old) (O.contents output.new)
-        (E.contents errors.old) (E.contents errors.new) (exit_code result) }
+    ensures { Exchanges H.Register.shows H.Register.is_clean H.does host.old host.new asked.entry
+        (O.contents output.old) (O.contents output.new) (E.contents errors.old) (E.contents errors.new) (exit_code result) }
 {
     let Exchange {
         db,
@@ -43,11 +44,11 @@ pub fn exchange<R: Files + AllocGlobal, H: Registers, O: Write, E: Write>(
             Ok(
                 Opened {
                     mut register,
-                    is_new: _,
+                    origin: _,
                 },
             ) => {
                 let status = exchange_files(rt, &mut register, files.as_slice(), output, errors);
-                host.close(register);
+                host.close(path, register);
                 status
             }
             Err(failure) => failure.tell(errors),

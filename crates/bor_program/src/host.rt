@@ -1,12 +1,17 @@
 //! What the program asks of the machine that it runs on, beside files and streams.
 
-ghost use Rattle.std.specs.Prelude.{◌≡◌, List, IfErr, IfOk, IsTrue, OnErr, length, map};
+ghost use Rattle.std.specs.Prelude.{◌≡◌, ℕ, List, IfErr, IfOk, OnErr, OnOk, length, map};
 ghost use Rattle.bor_records.specs.Promises.{Kept, Promised};
-ghost use Rattle.bor_register.specs.Register.{Register, empty_register};
+ghost use Rattle.bor_register.specs.Register.{Register};
+ghost use Rattle.bor_register.specs.declared.fault.StoreFault.{StoreFault};
 ghost use Rattle.bor_desk.specs.Operations.Legality.{IsLegal};
+ghost use Rattle.bor_desk.specs.Operations.Outcomes.{IsFaultOf};
 ghost use Rattle.bor_program.specs.Connections.Serving.{IsServed};
 ghost use Rattle.bor_http.specs.Spelling.Spell.{Spelled};
+ghost use Rattle.bor_wire.specs.Histories.{IsAlone};
+ghost use Rattle.bor_wire.specs.Reports.{AreReports};
 ghost use Rattle.bor_wire.specs.Runs.{AreReplies, AreSpelled, full, register_left, served};
+ghost use Rattle.bor_program.specs.Deeds.{ComesToBe, Deed, Closes, Fails, Moves, Opens};
 ghost use Rattle.bor_program.specs.Failures.{IsOpeningOf};
 ghost use Rattle.bor_program.specs.Reporting.{IsReportOf};
 
@@ -27,8 +32,14 @@ pub trait OpenRegister {
     /// What keeps it has returned what was written.
     ghost is_clean: { Self → Type 0 };
 
-    /// The replies to inputs, each answered from the register that the one before it left.
+    /// A call that led from one state to another told this fault.
+    ghost tells: { Self → StoreFault → Self → Type 0 };
+
+    /// The replies to inputs, each answered from the register that the one before it left. What each
+    /// agent receives follows from its own exchanges alone, and a report on chains with status 200
+    /// names exactly the persons joined to the entity.
     fn replay(&mut self, alloc: Global, inputs: &[Vec<u8>]) -> Result<Vec<Reply>, AllocError>
+        ensures began { is_clean self.new → is_clean self.old }
         ensures count { IfOk result (λ replies. length replies.items ≡ length inputs.now) }
         ensures spelled { IfOk result (λ replies. (spelled : List Spelled)
             × AreSpelled (served (map (λ v. v.items) inputs.now) replies.items) spelled) }
@@ -38,18 +49,27 @@ pub trait OpenRegister {
         ensures left { Promised shows is_clean self.old self.new (λ r. IsLegal r → IfOk result (λ replies.
             (spelled : List Spelled) → AreSpelled (served (map (λ v. v.items) inputs.now) replies.items) spelled →
             shows self.new (register_left r spelled))) }
+        ensures alone { Promised shows is_clean self.old self.new (λ r. IsLegal r → IfOk result (λ replies.
+            (spelled : List Spelled) → AreSpelled (served (map (λ v. v.items) inputs.now) replies.items) spelled →
+            (name : List ℕ) → IsAlone name r spelled (full replies.items))) }
+        ensures reports { Promised shows is_clean self.old self.new (λ r. IsLegal r → IfOk result (λ replies.
+            (spelled : List Spelled) → AreSpelled (served (map (λ v. v.items) inputs.now) replies.items) spelled →
+            AreReports r spelled (full replies.items))) }
         ensures err { OnErr result (Kept shows is_clean self.old self.new) };
 
     /// The text that tells who stands behind an entity.
     fn report(&mut self, alloc: Global, asked: &Report<'_>) -> Result<Text, StoreFault>
         ensures kept { Kept shows is_clean self.old self.new }
-        ensures text { Promised shows is_clean self.old self.new (λ r. IfOk result (IsReportOf asked.now r)) };
+        ensures text { Promised shows is_clean self.old self.new (λ r. IfOk result (IsReportOf asked.now r)) }
+        ensures err { IfErr result (λ fault. tells self.old fault self.new) };
 }
 
 impl<K: Keep> OpenRegister for K {
     ghost shows = { K.shows };
 
     ghost is_clean = { K.is_clean };
+
+    ghost tells = { λ old fault new. IsFaultOf K.may_tell (K.fault_count old) (K.fault_count new) fault };
 
     fn replay(&mut self, alloc: Global, inputs: &[Vec<u8>]) -> Result<Vec<Reply>, AllocError> {
         replay(alloc, self, inputs)
@@ -60,43 +80,64 @@ impl<K: Keep> OpenRegister for K {
     }
 }
 
+/// How a register came to be open.
+#[derive(Clone, Copy, Debug, PartialEq, Eq)]
+pub enum Origin {
+    /// It stood in its file.
+    Found,
+    /// It was set up, in a file that had nothing else.
+    New,
+    /// It was set up beside what else the file has.
+    Beside,
+}
+
 /// A register that was opened, or set up where there was none.
 pub struct Opened<K> {
     /// The register.
     pub register: K,
-    /// Whether it was set up, where there was nothing else.
-    pub is_new: bool,
+    /// How it came to be open.
+    pub origin: Origin,
 }
 
-/// What opens the registers in files.
+/// What opens the registers in files. Its states stand for those of the files: what is done to them leads
+/// from one to another.
 pub trait Registers {
     /// A register in a file.
     type Register: OpenRegister + Drop;
 
+    /// This is done to the registers in files, and leads from one state of them to another.
+    ghost does: { Self → Deed Self.Register → Self → Type 0 };
+
     /// The register in the file of this name. Where there is none, none is made.
-    fn open<'a>(&self, path: &'a str) -> Result<Self::Register, Failure<'a>>
-        ensures { IfErr result (IsOpeningOf path.entry) };
+    fn open<'a>(&mut self, path: &'a str) -> Result<Self::Register, Failure<'a>>
+        ensures ok { IfOk result (λ register. does self.old (Opens path.entry register) self.new) }
+        ensures err { IfErr result (λ failure. does self.old (Fails path.entry failure) self.new) }
+        ensures cause { IfErr result (IsOpeningOf path.entry) };
 
     /// The register in the file of this name; where it has none, one of this day and registrar is set
     /// up.
     fn open_or_set_up<'a>(
-        &self,
+        &mut self,
         path: &'a str,
         registrar: &Token,
         day: Day,
     ) -> Result<Opened<Self::Register>, Failure<'a>>
-        ensures new { IfOk result (λ opened. IsTrue opened.is_new → Self.Register.is_clean opened.register
-            → Self.Register.shows opened.register (empty_register registrar.now day)) }
-        ensures err { IfErr result (IsOpeningOf path.entry) };
+        ensures ok { IfOk result (λ opened. ComesToBe Self.Register.shows Self.Register.is_clean path.entry registrar.now day
+            opened.register opened.origin (λ deed. does self.old deed self.new)) }
+        ensures err { IfErr result (λ failure. does self.old (Fails path.entry failure) self.new) }
+        ensures cause { IfErr result (IsOpeningOf path.entry) };
 
     /// Moves the register in the file of this name to the tables of this program; one that has them stays
     /// as it is. Where there is no register, none is made.
-    fn migrate<'a>(&self, path: &'a str) -> Result<(), Failure<'a>>
-        ensures { IfErr result (IsOpeningOf path.entry) };
+    fn migrate<'a>(&mut self, path: &'a str) -> Result<(), Failure<'a>>
+        ensures ok { OnOk result (does self.old (Moves path.entry) self.new) }
+        ensures err { IfErr result (λ failure. does self.old (Fails path.entry failure) self.new) }
+        ensures cause { IfErr result (IsOpeningOf path.entry) };
 
-    /// Closes the register, so that its file has all of it without the log beside it, as far as that can
-    /// be done. Nothing that was answered is lost where it can't.
-    fn close(&self, register: Self::Register);
+    /// Closes the register that is left in the file of this name, so that the file has all of it without
+    /// the log beside it, as far as that can be done. Nothing that was answered is lost where it can't.
+    fn close(&mut self, path: &str, register: Self::Register)
+        ensures { does self.old (Closes path.entry register) self.new };
 }
 
 /// What serves the registers in files on the ports of 127.0.0.1.

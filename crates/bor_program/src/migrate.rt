@@ -1,9 +1,11 @@
 //! `bor migrate`.
 
-ghost use Rattle.std.specs.Prelude.{IfErr};
-ghost use Rattle.bor_program.specs.Failures.{IsMetIn};
+ghost use Rattle.std.specs.Prelude.{◌≡◌, ◌≤◌};
+ghost use Rattle.std.specs.Io.KnownBytes.{Keeps};
+ghost use Rattle.bor_program.specs.Failures.{failure_line};
 ghost use Rattle.bor_program.specs.Performing.{Migrates, migrated};
-ghost use Rattle.bor_program.specs.Program.{EndsText, exit_code};
+ghost use Rattle.bor_program.specs.Program.{IsWrittenOrCutOff, exit_code};
+ghost use Rattle.bor_program.specs.Streams.{AppendsPart};
 
 use crate::failure::Failure;
 use crate::host::Registers;
@@ -14,30 +16,28 @@ use std::io::Write;
 
 /// Moves the register in a file to the tables of this program, and prints their version.
 pub fn migrate<H: Registers, O: Write, E: Write>(
-    host: &H,
+    host: &mut H,
     asked: Migrate<'_>,
     output: &mut O,
     errors: &mut E,
 ) -> Status
-    ensures { Migrates asked.entry (O.contents output.old) (O.contents output.new)
+    ensures { Migrates H.does host.old host.new asked.entry (O.contents output.old) (O.contents output.new)
         (E.contents errors.old) (E.contents errors.new) (exit_code result) }
 {
-    match migrate_file(host, asked.db, output) {
-        Ok(status) => status,
+    match host.migrate(asked.db) {
+        Ok(()) => print_version(output, errors),
         Err(failure) => failure.tell(errors),
     }
 }
 
-// Moves the register in the file of this name, and prints the version.
-fn migrate_file<'a, H: Registers, O: Write>(
-    host: &H,
-    path: &'a str,
-    output: &mut O,
-) -> Result<Status, Failure<'a>>
-    ensures text { EndsText migrated (O.contents output.old) (O.contents output.new) result }
-    ensures err { IfErr result (IsMetIn path.entry (O.contents output.old) (O.contents output.new)) }
+// Prints the version of the program's tables, and tells where that can't be done.
+fn print_version<O: Write, E: Write>(output: &mut O, errors: &mut E) -> Status
+    ensures text { IsWrittenOrCutOff migrated (O.contents output.old) (O.contents output.new) (exit_code result) }
+    ensures silent { exit_code result ≤ 1 → Keeps (E.contents errors.old) (E.contents errors.new) }
+    ensures told { exit_code result ≡ 3 → AppendsPart (E.contents errors.old) (E.contents errors.new) (failure_line Failure.Unwritable) }
 {
-    host.migrate(path)?;
-    write_text(output, "version 2\n".as_bytes())?;
-    Ok(Status::Done)
+    match write_text(output, "version 2\n".as_bytes()) {
+        Ok(()) => Status::Done,
+        Err(unwritable) => unwritable.tell(errors),
+    }
 }

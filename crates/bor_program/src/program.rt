@@ -37,7 +37,7 @@ use std::rt::Files;
 /// standard output that failed, or a reply or a connection.
 pub fn run<R: Files + AllocGlobal, H: Ports, S: AsStr, I: Read, O: Write, E: Write>(
     rt: &R,
-    host: &H,
+    host: &mut H,
     words: &[S],
     input: &mut I,
     output: &mut O,
@@ -47,9 +47,10 @@ pub fn run<R: Files + AllocGlobal, H: Ports, S: AsStr, I: Read, O: Write, E: Wri
 
     // Words that ask for a command have it done, as it is stated of each command, or memory is wanting,
     // which is told in its line.
-    ensures performed { IsCommand (map S.text words.now) → ((result ≡ 3) × Keeps (O.contents output.old) (O.contents output.new)
-        × IsTold IsWantOfMemory (E.contents errors.old) (E.contents errors.new))
-        ⊎ ((asked : Asked) × IsAsked (entered_by (map S.text words.now)) asked × Performs H.Register.shows H.Register.is_clean asked (I.remaining input.old) (I.remaining input.new)
+    ensures performed { IsCommand (map S.text words.now) → ((result ≡ 3) × (host.new ≡ host.old)
+        × Keeps (O.contents output.old) (O.contents output.new) × IsTold IsWantOfMemory (E.contents errors.old) (E.contents errors.new))
+        ⊎ ((asked : Asked) × IsAsked (entered_by (map S.text words.now)) asked
+        × Performs H.Register.shows H.Register.is_clean H.Register.tells H.does host.old host.new asked (I.remaining input.old) (I.remaining input.new)
         (O.contents output.old) (O.contents output.new) (E.contents errors.old) (E.contents errors.new) result) }
 
     // Words that ask for a check have its text written, or the run fails and wrote a front of it.
@@ -73,7 +74,10 @@ pub fn run<R: Files + AllocGlobal, H: Ports, S: AsStr, I: Read, O: Write, E: Wri
     ensures untaken { ¬ AsksForCheck (map S.text words.now)
         → Keeps (I.remaining input.old) (I.remaining input.new) }
 
-    // Where no command is asked for, nothing is written on standard output but the help, or a front of it.
+    // Where no command is asked for, the registers in files are left alone,
+    ensures unopened { ¬ IsCommand (map S.text words.now) → host.new ≡ host.old }
+
+    // and nothing is written on standard output but the help, or a front of it.
     ensures help { ¬ IsCommand (map S.text words.now)
         → AppendsPart (O.contents output.old) (O.contents output.new) HELP.now }
 
@@ -113,14 +117,14 @@ pub fn run<R: Files + AllocGlobal, H: Ports, S: AsStr, I: Read, O: Write, E: Wri
 // Does what is asked, and tells on standard error why it could not be done.
 fn perform<R: Files + AllocGlobal, H: Ports, I: Read, O: Write, E: Write>(
     rt: &R,
-    host: &H,
+    host: &mut H,
     command: Command<'_>,
     input: &mut I,
     output: &mut O,
     errors: &mut E,
 ) -> Status
-    ensures { Performs H.Register.shows H.Register.is_clean command.entry (I.remaining input.old) (I.remaining input.new) (O.contents output.old) (O.contents output.new)
-        (E.contents errors.old) (E.contents errors.new) (exit_code result) }
+    ensures { Performs H.Register.shows H.Register.is_clean H.Register.tells H.does host.old host.new command.entry (I.remaining input.old) (I.remaining input.new)
+        (O.contents output.old) (O.contents output.new) (E.contents errors.old) (E.contents errors.new) (exit_code result) }
 {
     match command {
         Command::Check(source) => check_told(rt, source, input, output, errors),

@@ -1,7 +1,8 @@
 //! `bor report`.
 
-ghost use Rattle.std.specs.Prelude.{◌≡◌, IfOk, IfErr};
+ghost use Rattle.std.specs.Prelude.{◌≡◌, IfOk, IfErr, Some};
 ghost use Rattle.bor_records.specs.Promises.{Kept, Promised};
+ghost use Rattle.bor_desk.specs.Operations.Outcomes.{IsAccounted};
 ghost use Rattle.bor_program.specs.Failures.{IsMetOnKeep};
 ghost use Rattle.bor_program.specs.Performing.{Reports};
 ghost use Rattle.bor_program.specs.Program.{exit_code};
@@ -19,21 +20,21 @@ use bor_words::Report;
 use std::alloc::Global;
 use std::io::Write;
 
-/// Prints who stands behind an entity, by the register in a file.
+/// Prints who stands behind an entity, by the register in a file, which is closed then.
 pub fn report<H: Registers, O: Write, E: Write>(
     alloc: Global,
-    host: &H,
+    host: &mut H,
     asked: &Report<'_>,
     output: &mut O,
     errors: &mut E,
 ) -> Status
-    ensures { Reports H.Register.shows H.Register.is_clean asked.now (O.contents output.old) (O.contents output.new)
-        (E.contents errors.old) (E.contents errors.new) (exit_code result) }
+    ensures { Reports H.Register.shows H.Register.is_clean H.Register.tells H.does host.old host.new asked.now
+        (O.contents output.old) (O.contents output.new) (E.contents errors.old) (E.contents errors.new) (exit_code result) }
 {
     match host.open(asked.db) {
         Ok(mut register) => {
             let told = report_on(alloc, &mut register, asked, output);
-            host.close(register);
+            host.close(asked.db, register);
             match told {
                 Ok(status) => status,
                 Err(failure) => failure.tell(errors),
@@ -57,7 +58,8 @@ pub fn report_on<'a, K: OpenRegister, O: Write>(
     ensures kept { Kept K.shows K.is_clean register.old register.new }
     ensures told { EndsTelling (IsToldOf K.shows K.is_clean register.old register.new asked.now)
         (O.contents output.old) (O.contents output.new) result }
-    ensures err { IfErr result (IsMetOnKeep (O.contents output.old) (O.contents output.new)) }
+    ensures err { IfErr result (IsMetOnKeep (λ fault. K.tells register.old fault register.new)
+        (O.contents output.old) (O.contents output.new)) }
 {
     let text = register.report(alloc, asked)?;
     write_text(output, text.bytes.as_slice())?;
@@ -72,6 +74,7 @@ pub fn report_in<K: Keep>(
 ) -> Result<Text, StoreFault>
     ensures kept { Kept K.shows K.is_clean keep.old keep.new }
     ensures text { Promised K.shows K.is_clean keep.old keep.new (λ r. IfOk result (IsReportOf asked.now r)) }
+    ensures accounted { IsAccounted Some K.may_tell result (K.fault_count keep.old) (K.fault_count keep.new) }
 {
     let day = day_of(keep, asked)?;
     report_text(alloc, keep, &asked.viewer, &asked.entity, day)
@@ -81,6 +84,7 @@ pub fn report_in<K: Keep>(
 fn day_of<K: Keep>(keep: &mut K, asked: &Report<'_>) -> Result<Day, StoreFault>
     ensures kept { Kept K.shows K.is_clean keep.old keep.new }
     ensures day { Promised K.shows K.is_clean keep.old keep.new (λ r. IfOk result (λ day. day ≡ day_in asked.now.date r.day)) }
+    ensures accounted { IsAccounted Some K.may_tell result (K.fault_count keep.old) (K.fault_count keep.new) }
 {
     match asked.date {
         Some(day) => Ok(day),

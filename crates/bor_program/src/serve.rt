@@ -1,6 +1,6 @@
 //! `bor serve`.
 
-ghost use Rattle.std.specs.Prelude.{◌≡◌, ◌⊎◌, IfErr, IfOk, OnOk};
+ghost use Rattle.std.specs.Prelude.{◌≡◌, ◌⊎◌, IfErr, IfOk, OnErr, OnOk};
 ghost use Rattle.std.specs.Io.KnownBytes.{Appends};
 ghost use Rattle.bor_program.specs.Connections.Serving.{IsServed};
 ghost use Rattle.bor_program.specs.Failures.{IsMetListening};
@@ -17,21 +17,21 @@ use std::alloc::Global;
 use std::io::Write;
 
 /// Answers requests over HTTP in the register in a file, one connection after the other, on a port of
-/// 127.0.0.1. Once it listens, it prints that.
+/// 127.0.0.1. Once it listens, it prints that; at the end the register is closed.
 pub fn serve<H: Ports, O: Write, E: Write>(
     alloc: Global,
-    host: &H,
+    host: &mut H,
     asked: Serve<'_>,
     output: &mut O,
     errors: &mut E,
 ) -> Status
-    ensures { Serves H.Register.shows H.Register.is_clean asked.entry (O.contents output.old) (O.contents output.new)
-        (E.contents errors.old) (E.contents errors.new) (exit_code result) }
+    ensures { Serves H.Register.shows H.Register.is_clean H.does host.old host.new asked.entry
+        (O.contents output.old) (O.contents output.new) (E.contents errors.old) (E.contents errors.new) (exit_code result) }
 {
     match host.open(asked.db) {
         Ok(mut register) => {
             let served = listen(alloc, host, &mut register, asked, output);
-            host.close(register);
+            host.close(asked.db, register);
             match served {
                 Ok(status) => status,
                 Err(failure) => failure.tell(errors),
@@ -53,6 +53,7 @@ fn listen<'a, H: Ports, O: Write>(
         × Appends (O.contents output.old) (O.contents output.new) (listening asked.entry.port)) }
     ensures part { AppendsPart (O.contents output.old) (O.contents output.new) (listening asked.entry.port) }
     ensures err { IfErr result (IsMetListening (O.contents output.old) (O.contents output.new)) }
+    ensures unserved { OnErr result (register.new ≡ register.old) }
 {
     let Some(listener) = host.listen(asked.port) else {
         return Err(Failure::Unlistening);

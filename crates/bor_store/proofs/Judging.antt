@@ -1,12 +1,21 @@
 -- What is answered of tables by the rows of their versions.
-use Rattle.std.proofs.Common.{◌≡◌, ◌≢◌, ◌⊎◌, inl, inr, ℤ, pos, Bool, true, false, List, Some, None, Result, Ok, Err, IsTrue, MatchResult, IfErr, true≢false, sym, ap, ◌∙◌, arith}
+use Rattle.std.proofs.Common.{◌≡◌, ◌≢◌, ◌⊎◌, inl, inr, ℤ, pos, Bool, true, false, List, Some, None, Result, Ok, Err, IsTrue, MatchResult, IfErr, true≢false, refl, sym, ap, ◌∙◌, arith, if◌then◌else◌}
 use Rattle.std.proofs.lemmas.Int.{ints}
 use Rattle.sqlite.specs.Order.{Row}
 use Rattle.sqlite.specs.Schema.{Schema}
 use Rattle.sqlite.specs.State.{State}
 use Rattle.bor_store.specs.declared.open_fault.OpenFault.{OpenFault}
 use Rattle.bor_store.specs.declared.open_fault.OpenFault.TheVariants as faults
-use Rattle.bor_store.specs.Opening.{IsFailure, IsJudged, Judges, RefusesFirst, version_in}
+use Rattle.sqlite.specs.declared.error.Error.{Error}
+use Rattle.bor_store.specs.Opening.{IsFailure, IsJudged, Judges, RefusesFirst, fault_of, version_in, wants_memory}
+
+told_memory : (is : Bool) → IsFailure (if is then faults.Memory else faults.Store)
+told_memory true = inl refl
+told_memory false = inr refl
+
+-- an error of the store is told as want of memory or a store that failed
+pub fault_fails : (error : Error) → IsFailure (fault_of error)
+fault_fails error = told_memory (wants_memory error)
 
 -- rows that tell a version are not read for want of memory alone
 pub failure_of : (fault : OpenFault) (rows : List Row) (version : ℤ) → version_in rows ≡ Some version → IsFailure fault ⊎ ((fault ≡ faults.NoRegister) × (version_in rows ≡ None)) → IsFailure fault

@@ -13,3 +13,4 @@ pub mod Owned
 pub mod Saying
 pub mod Moving
 pub mod SettledFits
+pub mod Holding

@@ -1,16 +1,33 @@
 -- What a register may be set up beside, and which tables are taken for one.
-use Rattle.std.specs.Prelude.{◌≡◌, ◌≢◌, ◌⊎◌, ℕ, ℤ, Bool, false, ◌||◌, ◌&&◌, List, [], ◌∷◌, ◌++◌, map, is_some, codes, Option, Some, None, Result, Ok, Err, IsErrAnd, IsTrue}
+use Rattle.std.specs.Prelude.{◌≡◌, ◌≢◌, ◌⊎◌, ℕ, ℤ, Bool, true, false, if◌then◌else◌, ◌||◌, ◌&&◌, List, [], ◌∷◌, ◌++◌, map, is_some, codes, Option, Some, None, Result, Ok, Err, IsErrAnd, IsTrue}
 use Rattle.std.specs.List.{list_any, list_all}
 use Rattle.sqlite.specs.Held.{Held, state}
 use Rattle.sqlite.specs.Order.{Row, column}
 use Rattle.sqlite.specs.Schema.{Schema}
-use Rattle.sqlite.specs.State.{State, HasCleanDisk, Shown}
+use Rattle.sqlite.specs.State.{State, HasCleanDisk, Opens, Shown}
+use Rattle.sqlite.specs.Files.{FailsToClose, HoldsDatabase, IsClosed, file_state}
+use Rattle.sqlite_disk.specs.declared.Disk.{Ghosts as Disk}
+use Rattle.sqlite_disk.specs.declared.Files.{Files}
+use Rattle.sqlite_store.specs.FileStore.{view}
+use Rattle.sqlite_store.specs.declared.store.FileStore.{FileStore}
+use Rattle.sqlite_wal.specs.Files.{outcomes}
+use Rattle.sqlite_wal.specs.Reads.{AreClean}
+use Rattle.sqlite_trees.specs.View.{IsClean as IsUnharmed}
+use Rattle.sqlite.specs.declared.error.Error.{Error}
+use Rattle.sqlite.specs.declared.error.Error.TheVariants.{SqliteFailure}
+use Rattle.sqlite.specs.declared.error.ErrorCode.TheVariants.{OutOfMemory}
 use Rattle.sqlite.specs.Store.{Ghosts}
 use Rattle.sqlite.specs.Table.{Table}
 use Rattle.sqlite.specs.declared.types.Value.{Value}
 use Rattle.sqlite.specs.declared.types.Value.TheVariants.{Int}
+use Rattle.sqlite_catalog.specs.Listing.{IsSound as Lists}
+use Rattle.sqlite_trees.specs.Tree.{Trees}
+use Rattle.sqlite_wal.specs.Recovery.{Image}
 use Rattle.sqlite_schema.specs.Names.{same_name, table_named, index_named, view_named, column_named}
-use Rattle.bor_store_sql.specs.Rows.Encoding.{first_version, tables_version}
+use Rattle.bor_register.specs.Register.{Register}
+use Rattle.bor_store_sql.specs.Rows.Encoding.{contents, first_version, tables_version}
+use Rattle.bor_store_sql.specs.Rows.Stored.{IsStored}
+use Rattle.bor_store_sql.specs.Shown.{Has, ShowsIn}
 use Rattle.bor_store_sql.specs.Texts.Tables.{first_schema, keep_schema, period_table, record_index, subject_index, identifier_index, line_index}
 use Rattle.bor_store.specs.declared.open_fault.OpenFault.{OpenFault}
 use Rattle.bor_store.specs.declared.open_fault.OpenFault.TheVariants as faults
@@ -18,6 +35,15 @@ use Rattle.bor_store.specs.declared.open_fault.OpenFault.TheVariants as faults
 -- memory is wanting or the store failed
 abbrev pub IsFailure : OpenFault → Type 0
 IsFailure fault = (fault ≡ faults.Memory) ⊎ (fault ≡ faults.Store)
+
+-- an error of the store is want of memory
+abbrev pub wants_memory : Error → Bool
+wants_memory (SqliteFailure OutOfMemory) = true
+wants_memory _ = false
+
+-- what an error of the store is told as: want of memory as that, and each other one as a store that failed
+abbrev pub fault_of : Error → OpenFault
+fault_of error = if wants_memory error then faults.Memory else faults.Store
 
 -- ---- setting up
 
@@ -102,6 +128,27 @@ IsJudged s result = IsToldBy (λ schema rows answer. Judges schema rows answer) 
 -- tables of version 1 are refused as such, or memory is wanting or the store failed
 abbrev pub RefusesFirst : {X : Type 0} → Result X OpenFault → Type 0
 RefusesFirst result = IsErrAnd result (λ fault. IsFailure fault ⊎ (fault ≡ faults.OtherVersion first_version))
+
+-- ---- what files hold
+
+-- Two files, a database and its log, hold a register: they recover to trees that list its tables and indexes, with its rows.
+pub record HoldsRegister (image : Image) (r : Register) : Type 0 where
+  pub trees : Trees
+  pub holds : ∥ HoldsDatabase image trees ∥₁
+  pub lists : Lists keep_schema trees
+  pub has : Has (contents r) (record { schema = keep_schema; trees = trees })
+  pub stored : IsStored r
+
+-- A connection to them that is new, and shows each register that they hold.
+pub record IsConnected (image : Image) (s : State) : Type 0 where
+  pub opens : Opens s
+  pub shows : (r : Register) → HoldsRegister image r → ShowsIn r s
+
+-- What closing a connection gives: two files that hold each register that it showed, as they read and after a crash, on a disk that returned what was written; or the error that the store tells.
+abbrev pub IsClosing : {D : Type 0} {g : Disk D} → Held (FileStore D g) → Result (Files D) Error → Type 0
+IsClosing {D} {g} c (Ok files) =
+    AreClean g files.log files.db → (r : Register) → ShowsIn r (file_state c) → (image : Image) → outcomes g files.log files.db image → HoldsRegister image r
+IsClosing {D} {g} c (Err e) = (last : FileStore D g) × IsClosed c last × (IsUnharmed (view last) → FailsToClose c last e)
 
 -- the disk of each such store returns what was written, as that of a store in memory does
 abbrev pub IsFaithful : {S : Type 0} → Ghosts S → Type 0

@@ -17,7 +17,7 @@ use crate::open_fault::OpenFault;
 use crate::sql_keep::SqlKeep;
 use bor_store_keys::Lookup;
 use bor_store_sql::texts::changes::VERSION;
-use sqlite::{Alter, Connection, Error, ErrorCode, File, FileStore, Row};
+use sqlite::{Alter, Connection, Error, ErrorCode, Row};
 use sqlite_schema::schema::{Schema, Table};
 use std::alloc::Global;
 
@@ -148,6 +148,7 @@ fn judge(version: i64, is_whole: bool) -> Result<(), OpenFault>
 /// there is no table `register` with the columns `one` and `version`, or not exactly one row in it,
 /// with a whole version; then [`OpenFault::OtherVersion`] where that isn't 2; then `NoRegister` where
 /// another table or column of a register is missing.
+#[tactic(auto, using(crate::proofs::Judging::fault_fails))]
 pub fn examine<S: Alter>(conn: &mut Connection<S>) -> Result<(), OpenFault>
     requires { conn.old.in_transaction ≡ false }
     ensures reads { ReadsOnly (state S.Store conn.old) (state S.Store conn.new) }
@@ -210,16 +211,5 @@ impl<S: Alter + Drop> SqlKeep<S> {
             faults: _,
         } = self;
         conn.into_connection()
-    }
-}
-
-impl SqlKeep<FileStore<File>> {
-    /// The register in the file of this path, which is made where there is none. `:memory:` and files
-    /// that are no database are [`OpenFault::Store`]; the rest is [`SqlKeep::adopt`]'s.
-    pub fn open(rt: &HostRuntime, path: &str) -> Result<SqlKeep<FileStore<File>>, OpenFault>
-        ensures unfaulted { IfOk result (λ k. k.faults ≡ 0) }
-    {
-        let conn = Connection::open(rt, path)?;
-        SqlKeep::adopt(rt.alloc(), conn)
     }
 }

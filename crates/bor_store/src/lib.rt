@@ -13,11 +13,13 @@ mod forms;
 mod lodging;
 mod migration;
 mod open_fault;
+mod opening;
 mod setup;
 mod sql_keep;
 
 pub use adoption::examine;
 pub use migration::migrate;
 pub use open_fault::OpenFault;
+pub use opening::connect;
 pub use setup::set_up;
 pub use sql_keep::SqlKeep;

@@ -45,6 +45,7 @@ fn version_told(rows: &[Row], first: bool, used: bool, second: bool) -> Result<b
 }
 
 // Whether the tables of a connection are of version 1, and not of version 2.
+#[tactic(auto, using(crate::proofs::Judging::fault_fails))]
 fn is_first<S: Alter>(conn: &mut Connection<S>) -> Result<bool, OpenFault>
     requires { conn.old.in_transaction ≡ false }
     ensures reads { ReadsOnly (state S.Store conn.old) (state S.Store conn.new) }
@@ -70,6 +71,7 @@ fn is_first<S: Alter>(conn: &mut Connection<S>) -> Result<bool, OpenFault>
 }
 
 // Moves tables of version 1.
+#[tactic(auto, using(crate::proofs::Judging::fault_fails))]
 fn move_first<S: Alter>(conn: &mut Connection<S>, alloc: Global) -> Result<(), OpenFault>
     requires { conn.old.in_transaction ≡ false }
     ensures mode { conn.new.in_transaction ≡ false }

@@ -1,6 +1,8 @@
 //! Why a store holds no register that can be used.
 
-ghost use Rattle.bor_store.specs.Opening.{IsFailure};
+ghost use Rattle.std.specs.Prelude.{◌≡◌};
+ghost use Rattle.bor_store.specs.Opening.{fault_of};
+ghost use Rattle.bor_store.specs.declared.open_fault.OpenFault.TheVariants as faults;
 
 use bor_store_reads::ReadError;
 use sqlite::{Error, ErrorCode};
@@ -37,7 +39,7 @@ pub enum OpenFault {
 }
 
 impl From<AllocError> for OpenFault {
-    ghost from_gives = { λ _ fault. IsFailure fault };
+    ghost from_gives = { λ _ fault. fault ≡ faults.Memory };
 
     fn from(_error: AllocError) -> Self {
         OpenFault::Memory
@@ -45,7 +47,7 @@ impl From<AllocError> for OpenFault {
 }
 
 impl From<Error> for OpenFault {
-    ghost from_gives = { λ _ fault. IsFailure fault };
+    ghost from_gives = { λ error fault. fault ≡ fault_of error };
 
     fn from(error: Error) -> Self {
         match error {
@@ -56,7 +58,6 @@ impl From<Error> for OpenFault {
 }
 
 impl From<ReadError> for OpenFault {
-    ghost use Rattle.std.specs.Prelude.{◌≡◌};
     ghost use Rattle.bor_store.specs.Migrating.{of_read};
 
     ghost from_gives = { λ error fault. fault ≡ of_read error };

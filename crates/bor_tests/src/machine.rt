@@ -1,13 +1,14 @@
 //! A machine of registers in memory, and a register that has no memory for replies.
 
-ghost use Rattle.std.specs.Prelude.{IfErr};
+ghost use Rattle.std.specs.Prelude.{◌≡◌, IfErr};
 ghost use Rattle.bor_program.specs.Failures.{IsOpeningOf};
+ghost use Rattle.bor_register.specs.declared.fault.StoreFault.TheVariants as faults;
 
 use crate::clients::{Queue, Ticking};
 use bor_desk::Text;
 use bor_desk::operations::{Keep, ListKeep, StoreFault};
 use bor_program::connections::serve_on;
-use bor_program::{Failure, OpenRegister, Opened, Ports, Registers};
+use bor_program::{Failure, OpenRegister, Opened, Origin, Ports, Registers};
 use bor_terms::{Day, Token};
 use bor_wire::Reply;
 use bor_words::Report;
@@ -37,7 +38,9 @@ fn new_register(alloc: Global, path: &str) -> Result<ListKeep, Failure<'_>>
 impl Registers for Machine {
     type Register = ListKeep;
 
-    fn open<'a>(&self, path: &'a str) -> Result<ListKeep, Failure<'a>> {
+    ghost does = { λ before _ after. after ≡ before };
+
+    fn open<'a>(&mut self, path: &'a str) -> Result<ListKeep, Failure<'a>> {
         if self.is_starved {
             return Err(Failure::Memory);
         }
@@ -45,7 +48,7 @@ impl Registers for Machine {
     }
 
     fn open_or_set_up<'a>(
-        &self,
+        &mut self,
         _path: &'a str,
         registrar: &Token,
         day: Day,
@@ -55,18 +58,18 @@ impl Registers for Machine {
         }
         Ok(Opened {
             register: ListKeep::new(self.alloc, registrar.copy(self.alloc)?, day),
-            is_new: true,
+            origin: Origin::New,
         })
     }
 
-    fn migrate<'a>(&self, _path: &'a str) -> Result<(), Failure<'a>> {
+    fn migrate<'a>(&mut self, _path: &'a str) -> Result<(), Failure<'a>> {
         if self.is_starved {
             return Err(Failure::Memory);
         }
         Ok(())
     }
 
-    fn close(&self, _register: ListKeep) {}
+    fn close(&mut self, _path: &str, _register: ListKeep) {}
 }
 
 impl Ports for Machine {
@@ -92,6 +95,8 @@ impl OpenRegister for Starved {
     ghost shows = { λ k r. (⟦<ListKeep as Keep>⟧).shows k.list r };
 
     ghost is_clean = { λ k. (⟦<ListKeep as Keep>⟧).is_clean k.list };
+
+    ghost tells = { λ _ fault _. fault ≡ faults.Memory };
 
     fn replay(&mut self, _alloc: Global, _inputs: &[Vec<u8>]) -> Result<Vec<Reply>, AllocError> {
         Err(AllocError)

@@ -62,7 +62,7 @@ fn status_of<R: Files + AllocGlobal, I: Read, O: Write, E: Write>(
     let alloc = rt.alloc();
     run(
         rt,
-        &Machine { alloc, is_starved },
+        &mut Machine { alloc, is_starved },
         words,
         input,
         output,

@@ -24,7 +24,13 @@ returns-in-Ok g c =
     record {
       sent = sent_some _ _ _ _ _ ends;
       answered = λ none. absurd (named _ _ c.in-Some.is none);
-      opened = of_named _ _ _ c.in-Some.is (inr (c.in-Ok.field-0.register, c.exchange_files-status.new.register, ends, told));
+      opened = of_named _ _ _ c.in-Some.is (inr (
+        c.in-Ok.field-0.register,
+        c.in-Ok.field-0.origin,
+        c.exchange_files-status.new.register,
+        record { between = c.open_or_set_up.new.self; comes = c.in-Ok.ensures.ok; closes = c.close.ensures },
+        record { answered = ends; unread = told },
+      ));
       silent = c.exchange_files-status.ensures.silent;
     }
 
@@ -34,7 +40,7 @@ returns-in-Some g c =
     record {
       sent = ([], inr (part_none _ _ [] (keeps_same _), three));
       answered = λ none. absurd (named _ _ c.in-Some.is none);
-      opened = of_named _ _ _ c.in-Some.is (inl (fails_to_open _ _ _ _ _ _ three c.in-Err.ensures.err c.tell.ensures.line));
+      opened = of_named _ _ _ c.in-Some.is (inl (fails_to_open _ _ _ _ _ _ _ _ _ three c.in-Err.ensures.err c.in-Err.ensures.cause c.tell.ensures.line));
       silent = λ low. absurd (omega (arith, low, three));
     }
 
@@ -45,7 +51,7 @@ returns g c =
     let first = empty_register c.args.asked.registrar c.args.asked.day in
     record {
       sent = sent_some _ _ _ _ _ ends;
-      answered = λ none. (sent_as _ _ _ _ _ _ _ refl (λ inputs replies h. (h first c.new-register.ensures.shown tt (empty-legal _ _)).replies_to) ends, told);
+      answered = λ none. (refl, sent_as _ _ _ _ _ _ _ refl (λ inputs replies h. (h.answers first c.new-register.ensures.shown tt (empty-legal _ _)).replies_to) ends, told);
       opened = of_none _ _ c.in-None.is;
       silent = c.exchange_files.ensures.silent;
     }

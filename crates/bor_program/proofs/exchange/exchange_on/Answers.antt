@@ -19,7 +19,7 @@ returns-in_err-send-clause-sent g c =
     let replies = c.in_ok-replies.replies.items in
     let counted : length replies ≡ length (map (λ v. v.items) inputs) = told.count ∙ sym (length-map inputs (λ v. v.items)) in
     let are : AreAnswers g.K.OpenRegister.shows g.K.OpenRegister.is_clean c.args.register.now c.replay.new.self (map (λ v. v.items) inputs) replies =
-    all_answered g.K.OpenRegister.shows g.K.OpenRegister.is_clean c.args.register.now c.replay.new.self _ replies counted told.spelled told.replies told.left in
+    all_answered g.K.OpenRegister.shows g.K.OpenRegister.is_clean c.args.register.now c.replay.new.self _ replies c.replay.ensures.began counted told.spelled told.replies told.left told.alone told.reports in
     let part : AppendsPart (g.O.Write.contents c.args.output.now) (g.O.Write.contents c.send.new.output) (sent replies) = search rules in
     sends_err (AreAnswers g.K.OpenRegister.shows g.K.OpenRegister.is_clean c.args.register.now c.replay.new.self) (map (λ v. v.items) inputs)
     (g.O.Write.contents c.args.output.now) (g.O.Write.contents c.send.new.output) c.from_residual-in_err-send.result (search rules) (inl (replies, are, part))
@@ -31,7 +31,7 @@ returns-clause-sent g c =
     let replies = c.in_ok-replies.replies.items in
     let counted : length replies ≡ length (map (λ v. v.items) inputs) = told.count ∙ sym (length-map inputs (λ v. v.items)) in (
       replies,
-      all_answered g.K.OpenRegister.shows g.K.OpenRegister.is_clean c.args.register.now c.replay.new.self _ replies counted told.spelled told.replies told.left,
+      all_answered g.K.OpenRegister.shows g.K.OpenRegister.is_clean c.args.register.now c.replay.new.self _ replies c.replay.ensures.began counted told.spelled told.replies told.left told.alone told.reports,
       search rules,
       search rules,
     )

@@ -7,16 +7,29 @@ use Rattle.bor_program.proofs.serve.serve.Goals as goal
 pub returns-in-Ok-served : goal.returns-in-Ok-served
 returns-in-Ok-served g c =
     let served = c.in-Ok-served.ensures in
-    inr (inr (c.in-Ok.register, c.listen-served.new.register, record { served = served.ok.0; line = served.ok.1; silent = keeps_same _ }))
+    inr (
+      c.in-Ok.register,
+      c.listen-served.new.register,
+      record { between = c.open.new.self; comes = c.in-Ok.ensures.ok; closes = c.close.ensures },
+      inr (record { served = served.ok.0; line = served.ok.1; silent = keeps_same _ }),
+    )
 
 pub returns-in-Err-served : goal.returns-in-Err-served
-returns-in-Err-served g c = inr (inl (record {
-  status_is = ap exit_code c.tell.ensures.status;
-  part = c.in-Err-served.ensures.part;
-  line = (c.in-Err-served.failure, c.in-Err-served.ensures.err, c.tell.ensures.line);
-}))
+returns-in-Err-served g c = inr (
+  c.in-Ok.register,
+  c.listen-served.new.register,
+  record { between = c.open.new.self; comes = c.in-Ok.ensures.ok; closes = c.close.ensures },
+  inl (
+    c.in-Err-served.ensures.unserved,
+    record {
+      status_is = ap exit_code c.tell.ensures.status;
+      part = c.in-Err-served.ensures.part;
+      line = (c.in-Err-served.failure, c.in-Err-served.ensures.err, c.tell.ensures.line);
+    },
+  ),
+)
 
 pub returns-in-Err : goal.returns-in-Err
 returns-in-Err g c =
     let three : exit_code c.tell-in-Err.result ≡ 3 = ap exit_code c.tell-in-Err.ensures.status in
-    inl (fails_to_open _ _ _ _ _ _ three c.in-Err.ensures c.tell-in-Err.ensures.line)
+    inl (fails_to_open _ _ _ _ _ _ _ _ _ three c.in-Err.ensures.err c.in-Err.ensures.cause c.tell-in-Err.ensures.line)

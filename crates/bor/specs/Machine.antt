@@ -1,0 +1,46 @@
+-- What is done to registers in files of SQLite.
+use Rattle.std.specs.Prelude.{◌≡◌, ◌≢◌, ⊤, List, ℕ, ℤ, Result}
+use Rattle.sqlite.specs.State.{State}
+use Rattle.bor_register.specs.Register.{Register, empty_register}
+use Rattle.bor_store_sql.specs.Shown.{IsClean, ShowsIn}
+use Rattle.bor_store_sql.specs.Texts.Tables.{no_schema}
+use Rattle.bor_program.specs.Deeds.{Deed, Opens, SetsUp, Closes, Moves, Fails}
+use Rattle.bor_program.specs.declared.failure.Failure.{Failure}
+use Rattle.bor_program.specs.declared.failure.Failure.TheVariants.{NoRegister, OtherVersion, Taken, Memory, Store}
+use Rattle.bor_program.specs.declared.host.Origin.{Origin}
+use Rattle.bor_program.specs.declared.host.Origin.TheVariants as origin
+use Rattle.bor_store.specs.declared.open_fault.OpenFault.{OpenFault}
+use Rattle.bor_store.specs.declared.open_fault.OpenFault.TheVariants as faults
+use Rattle.clap.specs.Words.{Text}
+use Rattle.std.specs.Borrow.{Bor}
+
+-- what a fault of opening the file of this name is to the program
+abbrev pub failure_of : Bor Text → OpenFault → Failure
+failure_of path faults.NoRegister = NoRegister path
+failure_of path (faults.OtherVersion version) = OtherVersion path version
+failure_of path faults.Taken = Taken path
+failure_of path faults.Damaged = Store
+failure_of path faults.Memory = Memory
+failure_of path faults.Store = Store
+
+-- A register came to be open on a connection, which was in this state. One that was there shows what it did; where one is set up, none was shown; and in a store that has nothing else, the new one of this registrar and day is shown.
+pub record ComesOpen {K : Type 0} (shows : K → Register → Type 0) (is_clean : K → Type 0) (registrar : List ℕ) (day : ℤ) (old : State) (register : K) (came : Origin) : Type 0 where
+  pub began : is_clean register → IsClean old
+  pub found : came ≡ origin.Found → is_clean register → (r : Register) → ShowsIn r old → shows register r
+  pub none : came ≢ origin.Found → is_clean register → (r : Register) → ¬ ShowsIn r old
+  pub made : came ≡ origin.New → is_clean register → shows register (empty_register registrar day)
+  pub beside : came ≡ origin.Beside → is_clean register → old.committed.schema ≢ no_schema
+
+-- The same, where the files hold these registers.
+pub record FindsOrSetsUp {K : Type 0} (shows : K → Register → Type 0) (is_clean : K → Type 0) (Held : Register → Type 0) (registrar : List ℕ) (day : ℤ) (register : K) (came : Origin) : Type 0 where
+  pub found : came ≡ origin.Found → is_clean register → (r : Register) → Held r → shows register r
+  pub none : came ≢ origin.Found → is_clean register → (r : Register) → ¬ Held r
+  pub made : came ≡ origin.New → is_clean register → shows register (empty_register registrar day)
+
+-- What is done to a file that holds these registers as it is opened. What is opened shows them, none is set up over them, and what is closed is left so.
+abbrev pub IsDone : {K : Type 0} → (K → Register → Type 0) → (K → Type 0) → (K → Type 0) → (Register → Type 0) → Deed K → Type 0
+IsDone shows is_clean IsLeft Held (Opens path register) = is_clean register → (r : Register) → Held r → shows register r
+IsDone shows is_clean IsLeft Held (SetsUp path register) = is_clean register → (r : Register) → ¬ Held r
+IsDone shows is_clean IsLeft Held (Closes path register) = IsLeft register
+IsDone shows is_clean IsLeft Held (Moves path) = ⊤
+IsDone shows is_clean IsLeft Held (Fails path failure) = ⊤

@@ -1,0 +1,71 @@
+//! Registers in files, from opening to closing.
+
+ghost use Rattle.std.specs.Prelude.{◌≡◌, false, IfErr, IfOk};
+ghost use Rattle.sqlite.specs.Files.{file_state};
+ghost use Rattle.sqlite.specs.State.{HasCleanDisk};
+ghost use Rattle.sqlite_wal.specs.Files.{image_at};
+ghost use Rattle.bor_register.specs.Register.{Register};
+ghost use Rattle.bor_store_sql.specs.Shown.{IsClean, ShowsIn};
+ghost use Rattle.bor_store.specs.Opening.{HoldsRegister, IsClosing, IsConnected, IsFailure};
+
+use crate::open_fault::OpenFault;
+use crate::sql_keep::SqlKeep;
+use sqlite::{Connection, Error, FileFrom, FileStore, Files, Start};
+use sqlite_disk::Disk;
+
+/// A connection to the file of this path, which is made where there is none; `start` stands for what the
+/// file and its log hold. `:memory:` and files that are no database are [`OpenFault::Store`].
+#[tactic(auto, using(crate::proofs::Judging::fault_fails))]
+pub fn connect<S: Start>(
+    rt: &HostRuntime,
+    path: &str,
+    start: S,
+) -> Result<Connection<FileStore<FileFrom<S>>>, OpenFault>
+    ensures mode { IfOk result (λ conn. conn.in_transaction ≡ false) }
+    ensures connected { IfOk result (λ conn. HasCleanDisk (file_state conn)
+        → IsConnected (image_at S.Start) (file_state conn)) }
+    ensures err { IfErr result IsFailure }
+{
+    match Connection::open_from(rt, path, false, start) {
+        Ok(conn) => Ok(conn),
+        Err((error, _)) => Err(OpenFault::from(error)),
+    }
+}
+
+impl<S: Start> SqlKeep<FileStore<FileFrom<S>>> {
+    /// The register in the file of this path, which is made where there is none. `:memory:` and files
+    /// that are no database are [`OpenFault::Store`]; the rest is [`SqlKeep::adopt`]'s.
+    pub fn open(
+        rt: &HostRuntime,
+        path: &str,
+        start: S,
+    ) -> Result<SqlKeep<FileStore<FileFrom<S>>>, OpenFault>
+        ensures found { IfOk result (λ k. IsClean (file_state k.conn)
+            → (r : Register) → HoldsRegister (image_at S.Start) r → ShowsIn r (file_state k.conn)) }
+        ensures unfaulted { IfOk result (λ k. k.faults ≡ 0) }
+    {
+        let conn = connect(rt, path, start)?;
+        SqlKeep::adopt(rt.alloc(), conn)
+    }
+}
+
+impl<D: Disk + Drop> SqlKeep<FileStore<D>> {
+    /// Closes the register: the database file has all of it, without the log. Gives the files, which
+    /// hold what the keep showed: the next one to open them finds it.
+    pub fn close(self) -> Result<Files<D>, Error>
+        ensures { IsClosing self.conn result }
+    {
+        close_files(self.into_connection())
+    }
+}
+
+// Closes a connection, and gives its files.
+fn close_files<D: Disk + Drop>(conn: Connection<FileStore<D>>) -> Result<Files<D>, Error>
+    ensures { IsClosing conn result }
+{
+    let _live = conn.schema();
+    match conn.close_files() {
+        Ok(files) => Ok(files),
+        Err((error, _)) => Err(error),
+    }
+}
