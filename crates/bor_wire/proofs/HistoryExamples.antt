@@ -1,5 +1,5 @@
 -- A run of two agents, the registrar and what is nobody's, byte for byte; and ways of replying that tell an agent of another, of which the law of histories is false.
-use Rattle.std.proofs.Common.{◌≡◌, ℕ, ◌+◌, List, [], ◌∷◌, ◌++◌, length, map, take, Bool, true, false, ◌||◌, None, Ok, Err, codes, refl, sym, ap, ◌∙◌, arith}
+use Rattle.std.proofs.Common.{◌≡◌, ℕ, ◌+◌, List, [], ◌∷◌, ◌++◌, length, map, take, Bool, true, false, ◌||◌, Some, None, Ok, Err, codes, refl, sym, ap, ◌∙◌, arith}
 use Rattle.std.specs.Prelude.{if◌then◌else◌, is_some, ⊤}
 use Rattle.std.specs.List.{flat_map}
 use Rattle.std.specs.Fmt.{decimal, digits}
@@ -7,9 +7,11 @@ use Rattle.json.specs.Print.{escape_byte}
 use Rattle.bor_terms.specs.Day.{day_text, year_at, month_at}
 use Rattle.bor_terms.specs.Texts.{is_same}
 use Rattle.bor_terms.proofs.Examples.{calendar}
+use Rattle.bods_read.specs.declared.fault.FileFault.TheVariants.{NoStatements}
 use Rattle.bods_read.specs.Faults.{file_fault_word, fault_word}
 use Rattle.bods_read.specs.Words.{field_word, type_word, status_word}
 use Rattle.bods_read.proofs.Examples.{reader}
+use Rattle.bor_register.specs.declared.caller.Caller.TheVariants.{Agent}
 use Rattle.bor_register.specs.declared.member.Member.{Member}
 use Rattle.bor_register.specs.declared.filing.AcceptedFiling.{AcceptedFiling}
 use Rattle.bor_register.specs.Publication.{state_word}
@@ -32,6 +34,8 @@ use Rattle.bor_wire.specs.Rendering.Heads.{phrase, status_line, field_line, own_
 use Rattle.bor_wire.specs.Rendering.Replies.{Said, refused, answered, bytes_of}
 use Rattle.bor_http.specs.Spelling.Spell.{Spelled}
 use Rattle.bor_wire.specs.Runs.{AreReplies}
+use Rattle.bor_wire.specs.AllRefusals.{register_refusals}
+use Rattle.bor_wire.specs.Headline.{own_exchanges, replies_in}
 use Rattle.bor_wire.specs.Histories.{SameHistorySameBytes, asked_in, received}
 use Rattle.bor_wire.specs.Nobody.{IsNobodys}
 
@@ -158,6 +162,45 @@ birch_alone = refl
 cedar_alone : alone (codes "cedar") ≡ to (codes "cedar")
 unfolding replier
 cedar_alone = refl
+
+-- an agent's own exchanges: the same replies, and how many filings of others were published at each
+own_of_alder : replies_in (own_exchanges (codes "alder") start inputs sent) ≡ to (codes "alder")
+unfolding replier
+own_of_alder = refl
+
+published_beside_alder : map (λ e. length e.others) (own_exchanges (codes "alder") start inputs sent) ≡ 0 ∷ 1 ∷ 1 ∷ []
+unfolding replier
+published_beside_alder = refl
+
+-- ---- a lodging that is sent again
+
+abbrev lodging : Spelled
+lodging = birch (ask.Lodge (codes "f1") tomorrow file)
+
+-- it is a draft, as it was; the next day it is published; and the key is refused to another file
+abbrev again : List Spelled
+again =
+    lodging ∷ lodging ∷ registrar (ask.Day tomorrow) ∷ lodging ∷ birch (ask.Lodge (codes "f1") tomorrow (codes "[]")) ∷ []
+
+to_birch_again : received (codes "birch") start again (sent_by own [] start again)
+    ≡ codes "HTTP/1.1 201 Created\r\nContent-Type: application/json\r\nContent-Length: 47\r\nConnection: close\r\n\r\n{\"due\":\"2024-02-02\",\"filing\":1,\"state\":\"draft\"}"
+    ∷ codes "HTTP/1.1 200 OK\r\nContent-Type: application/json\r\nContent-Length: 47\r\nConnection: close\r\n\r\n{\"due\":\"2024-02-02\",\"filing\":1,\"state\":\"draft\"}"
+    ∷ codes "HTTP/1.1 200 OK\r\nContent-Type: application/json\r\nContent-Length: 51\r\nConnection: close\r\n\r\n{\"due\":\"2024-02-02\",\"filing\":1,\"state\":\"published\"}"
+    ∷ codes "HTTP/1.1 409 Conflict\r\nContent-Type: application/json\r\nContent-Length: 23\r\nConnection: close\r\n\r\n{\"refusal\":\"KeyReused\"}"
+    ∷ []
+unfolding replier
+to_birch_again = refl
+
+-- ---- the order of refusals
+
+-- a file with no statements, due before the register's day: both refusals hold, and the first is said
+two_refusals : register_refusals (two_agents tomorrow) (Some (Agent (codes "alder"))) (ask.Lodge (codes "f1") today (codes "[]")) ≡ refuse.DuePast ∷ refuse.Read NoStatements ∷ []
+unfolding replier
+two_refusals = refl
+
+-- an agent asks for what is the registrar's, and the day goes back: the second isn't looked at for an agent
+one_refusal : register_refusals (two_agents tomorrow) (Some (Agent (codes "alder"))) (ask.Day today) ≡ refuse.NotRegistrar ∷ []
+one_refusal = refl
 
 -- ---- the replies are those of the run
 
