@@ -67,7 +67,7 @@ line_once a b x y h = digits_once a b (ap (λ l. get_or l 9 0) h) (ap (λ l. get
 front : (line type size own close end body : List ℕ) → (more : List ℕ) × ((line ++ type ++ size ++ own ++ close ++ end) ++ body ≡ line ++ more)
 front line type size own close end body = (type ++ (size ++ (own ++ (close ++ (end ++ body)))), simp append_assoc)
 
-line_first : (said : Said) → HasStatus (bytes_of said) (status_of said)
+pub line_first : (said : Said) → HasStatus (bytes_of said) (status_of said)
 unfolding head_bytes
 line_first said =
     let status : ℕ = status_of said in

@@ -32,11 +32,14 @@ use Rattle.bor_desk.specs.Step.{Answer, exactly, told, own_after, agent_answer, 
 use Rattle.bor_desk.proofs.Isolation.{own_filings}
 use Rattle.bor_desk.proofs.OnOperations.Lodgings.{addition_is}
 use Rattle.bor_desk.proofs.Unchanged.{left_by_agent}
-use Rattle.bor_http.specs.Spelling.Spell.{Spelled}
-use Rattle.bor_wire.specs.Rendering.Replies.{Said, answered, status_of, body_of}
-use Rattle.bor_wire.specs.Inputs.{IsSaid, after}
+use Rattle.bor_http.specs.Spelling.Spell.{Spelled, Spells}
+use Rattle.bor_http.proofs.OnSpelling.Messages.{one_spelling}
+use Rattle.bor_wire.specs.Rendering.Replies.{Said, answered, status_of, body_of, bytes_of}
+use Rattle.bor_wire.specs.Inputs.{IsSaid, IsReplyTo, after}
+use Rattle.bor_wire.specs.Refused.{HasStatus}
 use Rattle.bor_wire.specs.Runs.{register_left}
-use Rattle.bor_wire.specs.Repeats.{IsLodged, IsToldAgain, IsReused, RepeatsActOnce, told_again}
+use Rattle.bor_wire.proofs.RefusalLaws.{line_first}
+use Rattle.bor_wire.specs.Repeats.{IsLodged, IsRepliedAgain, IsToldAgain, IsReused, RepeatsActOnce, told_again}
 
 -- ---- an agent's filings
 
@@ -338,6 +341,22 @@ told_again_is r asked key due file lodged between h =
       left = left_there q asked first.name key due file f now.caller h.request now.keyed.found;
     }
 
+-- the same bytes ask the same
+replied_again : (r : Register) (input : List ℕ) (asked : Asked) (again : Spelled) (key : List ℕ) (due : ℤ) (file : List ℕ) (lodged : Lodged) (between : List Spelled) (bytes : List ℕ) →
+    Spells input (Ok asked) → Spells input again → IsLodged r asked key due file lodged → IsReplyTo (register_left (after r (Ok asked)) between) again bytes →
+    IsRepliedAgain (register_left (after r (Ok asked)) between) again bytes lodged
+replied_again r input asked again key due file lodged between bytes spells too h reply =
+    let q : Register = register_left (after r (Ok asked)) between in
+    let same : again ≡ Ok asked = one_spelling input again (Ok asked) too spells in
+    let now = told_again_is r asked key due file lodged between h in
+    let said : IsSaid q (Ok asked) reply.0 = subst (λ s. IsSaid q s reply.0) same reply.1 in
+    record {
+      filing = now.filing;
+      reply = reply.2 ∙ ap bytes_of (now.said reply.0 said);
+      status = subst (λ bs. HasStatus bs 200) (sym reply.2) (subst (HasStatus (bytes_of reply.0)) (now.status reply.0 said) (line_first reply.0));
+      left = ap (after q) same ∙ now.left;
+    }
+
 reused_again : (r : Register) (asked another : Asked) (key : List ℕ) (due date : ℤ) (file other : List ℕ) (lodged : Lodged) (between : List Spelled) → IsLodged r asked key due file lodged
     → another.token ≡ asked.token → another.request ≡ ask.Lodge key date other → (date ≢ due) ⊎ (other ≢ file) → IsReused (register_left (after r (Ok asked)) between) another
 reused_again r asked another key due date file other lodged between h token request differs =
@@ -353,4 +372,4 @@ reused_again r asked another key due date file other lodged between h token requ
     }
 
 pub repeats : RepeatsActOnce
-repeats = record { told = told_again_is; reused = reused_again }
+repeats = record { told = told_again_is; replied = replied_again; reused = reused_again }

@@ -9,9 +9,10 @@ use Rattle.bor_desk.specs.declared.refusal.Refusal.TheVariants.{KeyReused}
 use Rattle.bor_desk.specs.declared.request.Request.TheVariants.{Lodge}
 use Rattle.bor_desk.specs.declared.reply.DeskReply.TheVariants as tell
 use Rattle.bor_desk.specs.Runs.{Asked}
-use Rattle.bor_http.specs.Spelling.Spell.{Spelled}
-use Rattle.bor_wire.specs.Rendering.Replies.{Said, answered, status_of, body_of}
-use Rattle.bor_wire.specs.Inputs.{IsSaid, after}
+use Rattle.bor_http.specs.Spelling.Spell.{Spelled, Spells}
+use Rattle.bor_wire.specs.Rendering.Replies.{Said, answered, status_of, body_of, bytes_of}
+use Rattle.bor_wire.specs.Inputs.{IsSaid, IsReplyTo, after}
+use Rattle.bor_wire.specs.Refused.{HasStatus}
 use Rattle.bor_wire.specs.Runs.{register_left}
 
 -- The request is the lodging of a file under a key, due on a day, and is told so: its agent has the filing, whether the lodging is new or not.
@@ -34,15 +35,25 @@ pub record IsToldAgain (q : Register) (asked : Asked) (key : List ℕ) (told : L
   pub body : (said : Said) → IsSaid q (Ok asked) said → state_of q.day filing ≡ told.state → body_of said ≡ body_of (answered (tell.Lodged told))
   pub left : after q (Ok asked) ≡ q
 
+-- The bytes of its reply: they tell the filing again, with status 200, and nothing changes.
+pub record IsRepliedAgain (q : Register) (spelled : Spelled) (bytes : List ℕ) (told : Lodged) : Type 0 where
+  pub filing : AcceptedFiling
+  pub reply : bytes ≡ bytes_of (answered (tell.Lodged (told_again q.day filing told)))
+  pub status : HasStatus bytes 200
+  pub left : after q spelled ≡ q
+
 -- The key is refused to anything else, and nothing changes.
 pub record IsReused (q : Register) (asked : Asked) : Type 0 where
   pub said : (said : Said) → IsSaid q (Ok asked) said → said ≡ answered (tell.Refused KeyReused)
   pub left : after q (Ok asked) ≡ q
 
--- A lodging that was told acts once. Whatever is asked after it, by its agent, by others and by the registrar, the same lodging is told again; and one of its agent under the same key with another due day or another file is refused. This holds of every register.
+-- A lodging that was told acts once. Whatever is asked after it, by its agent, by others and by the registrar, the same lodging is told again, also where the same bytes are sent again; and one of its agent under the same key with another due day or another file is refused. This holds of every register.
 pub record RepeatsActOnce : Type 0 where
   pub told : (r : Register) (asked : Asked) (key : List ℕ) (due : ℤ) (file : List ℕ) (told : Lodged) (between : List Spelled) →
       IsLodged r asked key due file told → IsToldAgain (register_left (after r (Ok asked)) between) asked key told
+  pub replied : (r : Register) (input : List ℕ) (asked : Asked) (again : Spelled) (key : List ℕ) (due : ℤ) (file : List ℕ) (told : Lodged) (between : List Spelled) (bytes : List ℕ) →
+      Spells input (Ok asked) → Spells input again → IsLodged r asked key due file told → IsReplyTo (register_left (after r (Ok asked)) between) again bytes →
+      IsRepliedAgain (register_left (after r (Ok asked)) between) again bytes told
   pub reused : (r : Register) (asked another : Asked) (key : List ℕ) (due date : ℤ) (file other : List ℕ) (told : Lodged) (between : List Spelled) →
       IsLodged r asked key due file told → another.token ≡ asked.token → another.request ≡ Lodge key date other → (date ≢ due) ⊎ (other ≢ file) →
       IsReused (register_left (after r (Ok asked)) between) another
