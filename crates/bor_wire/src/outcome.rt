@@ -45,8 +45,9 @@ fn write_reply<W: Write>(writer: &mut Counted<W>, status: u16, bytes: &[u8]) -> 
 /// are the reply to the one input, which each agent receives as it would alone, and the register left
 /// is the one after it; with 503 they are [`UNAVAILABLE`], and nothing changed. What each agent receives
 /// is said of legal registers, and the rest of each whose agents stand in order of their names, as every
-/// legal one's do; that nothing changed with 503 or a failed read, that 503 has [`UNAVAILABLE`] written,
-/// and which refusal an input is told that spells no request, of any register and any keep.
+/// legal one's do; that nothing changed with a status of 400 or more or a failed read, that 503 has
+/// [`UNAVAILABLE`] written, and which refusal an input is told that spells no request, of any register
+/// and any keep.
 ///
 /// Statements on bytes are of readers and writers that tell theirs, as those over memory do: of another
 /// reader it isn't said which request was answered, and of another writer not what was written. What is

@@ -47,8 +47,8 @@ fn reply_to<K: Keep>(alloc: Global, paths: &Paths, keep: &mut K, input: &[u8]) -
 ///
 /// Without the inputs whose reply is [`Reply::Unavailable`], the replies are those of the run over what
 /// the inputs spell, and so is the register left; what each agent receives follows from its own
-/// exchanges alone; and a report on chains with status 200 names exactly the persons joined to the
-/// entity in what the caller sees.
+/// exchanges alone; a report on chains with status 200 names exactly the persons joined to the entity in
+/// what the caller sees; and a reply with a status of 400 or more leaves the register as it was.
 ///
 /// # Errors
 ///
