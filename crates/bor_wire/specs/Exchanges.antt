@@ -25,7 +25,7 @@ use Rattle.bor_wire.specs.Histories.{IsAlone}
 abbrev pub IsSpelled : Option (List ℕ) → Spelled → Type 0
 IsSpelled known spelled = IfSome known (λ input. Spells input spelled)
 
--- ---- what goes out, for clauses of private functions alone
+-- ---- what goes out; but for `IfRefusing`, for clauses of private functions alone
 
 -- the status and the bytes are those of what is said to the input, and the register after it is shown
 abbrev pub IsSent : (Register → Type 0) → Register → Spelled → ℕ → List ℕ → Type 0
