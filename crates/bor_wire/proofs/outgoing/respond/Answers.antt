@@ -1,4 +1,3 @@
-use Rattle.std.proofs.Common.{Some}
 use Rattle.bor_wire.proofs.Exchanged.{responded}
 use Rattle.bor_wire.proofs.outgoing.respond.Goals as goal
 
