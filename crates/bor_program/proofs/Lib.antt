@@ -5,4 +5,5 @@ pub mod MetFailures
 pub mod Unread
 pub mod Replies
 pub mod Performed
+pub mod Logged
 pub mod OnConnections

@@ -13,7 +13,8 @@ use Rattle.bor_words.specs.declared.serve.Serve.{Serve as Asked}
 use Rattle.bor_words.specs.declared.source.Source.{Source}
 use Rattle.bor_words.specs.Asked.{EntersCheck, IsAsked, IsCommand, name_of}
 use Rattle.bor_words.specs.Words.{Entered, entered_by, file_at}
-use Rattle.bor_program.specs.Performing.{Checks, Known, Performs, Serves, TellsRefusal, migrated}
+use Rattle.bor_program.specs.Performing.{Checks, Exchanges, Known, Performs, Serves, TellsRefusal, migrated}
+use Rattle.bor_program.specs.declared.registrar.Exchanging.{Exchanging}
 use Rattle.bor_program.specs.Program.{IsWrittenOrCutOff, report_status}
 use Rattle.bor_program.specs.Streams.{TakesAtMostPart}
 use Rattle.bor_program.specs.Words.{AsksForCheck}
@@ -72,7 +73,10 @@ untaken shows is_clean tells does begun ended (Migrate asked) words input rest o
 pub unheard : {M K : Type 0} (shows : K → Register → Type 0) (is_clean : K → Type 0) (tells : K → StoreFault → K → Type 0) (does : M → Deed K → M → Type 0) (begun ended : M) (asked : Command) (input rest output printed errors told : Known) (status : ℕ) → status ≤ 1
     → Performs shows is_clean tells does begun ended asked input rest output printed errors told status → Keeps errors told
 unheard shows is_clean tells does begun ended (Check source) input rest output printed errors told status le p = p.1.silent le
-unheard shows is_clean tells does begun ended (Exchange asked) input rest output printed errors told status le p = p.1.silent le
+unheard shows is_clean tells does begun ended (Exchange asked) input rest output printed errors told status le p = elim p.1 [
+  | inl h ↦ absurd (omega (arith, le, h.status_is))
+  | inr h ↦ h.2.silent le
+]
 unheard shows is_clean tells does begun ended (Serve asked) input rest output printed errors told status le p = elim p.1 [
   | inl h ↦ absurd (omega (arith, le, h.status_is))
   | inr (_, _, _, inl h) ↦ absurd (omega (arith, le, h.1.status_is))
@@ -122,12 +126,26 @@ no_two : (n : ℕ) → IsServersEnd n → n ≡ 2 → ⊥
 no_two n (inl h) e = absurd (omega (arith, h, e))
 no_two n (inr h) e = absurd (omega (arith, h, e))
 
+sent_refusal : {M K : Type 0} (shows : K → Register → Type 0) (is_clean : K → Type 0) (does : M → Deed K → M → Type 0) (begun ended : M) (asked : Exchanging) (output printed errors told : Known)
+    → Exchanges shows is_clean does begun ended asked output printed errors told 1 → TellsRefusal output printed
+sent_refusal shows is_clean does begun ended asked output printed errors told p = elim p.sent.1 [
+  | inl h ↦ inr (p.sent.0, sym h.1, h.0)
+  | inr h ↦ absurd (omega (arith, h.1))
+]
+
+sent_unusual : {M K : Type 0} (shows : K → Register → Type 0) (is_clean : K → Type 0) (does : M → Deed K → M → Type 0) (begun ended : M) (asked : Exchanging) (output printed errors told : Known)
+    → Exchanges shows is_clean does begun ended asked output printed errors told 2 → ⊥
+sent_unusual shows is_clean does begun ended asked output printed errors told p = elim p.sent.1 [
+  | inl h ↦ no_usage _ (replies_end p.sent.0) (sym h.1)
+  | inr h ↦ absurd (omega (arith, h.1))
+]
+
 one_refusal : {M K : Type 0} (shows : K → Register → Type 0) (is_clean : K → Type 0) (tells : K → StoreFault → K → Type 0) (does : M → Deed K → M → Type 0) (begun ended : M) (asked : Command) (input rest output printed errors told : Known)
     → Performs shows is_clean tells does begun ended asked input rest output printed errors told 1 → TellsRefusal output printed
 one_refusal shows is_clean tells does begun ended (Check source) input rest output printed errors told p = text_refuses _ output printed p.1.report.1
-one_refusal shows is_clean tells does begun ended (Exchange asked) input rest output printed errors told p = elim p.1.sent.1 [
-  | inl h ↦ inr (p.1.sent.0, sym h.1, h.0)
-  | inr h ↦ absurd (omega (arith, h.1))
+one_refusal shows is_clean tells does begun ended (Exchange asked) input rest output printed errors told p = elim p.1 [
+  | inl h ↦ absurd (omega (arith, h.status_is))
+  | inr h ↦ sent_refusal shows is_clean does begun ended h.0 output printed errors told h.2
 ]
 one_refusal shows is_clean tells does begun ended (Serve asked) input rest output printed errors told p = absurd (no_one 1 (serves_end _ _ _ _ _ asked _ _ _ _ _ p.1) refl)
 one_refusal shows is_clean tells does begun ended (Report asked) input rest output printed errors told p = text_refuses p.1.text.0 output printed p.1.text.1
@@ -136,9 +154,9 @@ one_refusal shows is_clean tells does begun ended (Migrate asked) input rest out
 two_fault : {M K : Type 0} (shows : K → Register → Type 0) (is_clean : K → Type 0) (tells : K → StoreFault → K → Type 0) (does : M → Deed K → M → Type 0) (begun ended : M) (asked : Command) (input rest output printed errors told : Known)
     → Performs shows is_clean tells does begun ended asked input rest output printed errors told 2 → ⊥
 two_fault shows is_clean tells does begun ended (Check source) input rest output printed errors told p = text_unusual _ output printed p.1.report.1
-two_fault shows is_clean tells does begun ended (Exchange asked) input rest output printed errors told p = elim p.1.sent.1 [
-  | inl h ↦ no_usage _ (replies_end p.1.sent.0) (sym h.1)
-  | inr h ↦ absurd (omega (arith, h.1))
+two_fault shows is_clean tells does begun ended (Exchange asked) input rest output printed errors told p = elim p.1 [
+  | inl h ↦ absurd (omega (arith, h.status_is))
+  | inr h ↦ sent_unusual shows is_clean does begun ended h.0 output printed errors told h.2
 ]
 two_fault shows is_clean tells does begun ended (Serve asked) input rest output printed errors told p = no_two 2 (serves_end _ _ _ _ _ asked _ _ _ _ _ p.1) refl
 two_fault shows is_clean tells does begun ended (Report asked) input rest output printed errors told p = text_unusual p.1.text.0 output printed p.1.text.1

@@ -6,4 +6,7 @@ pub mod Replying
 pub mod Reporting
 pub mod Deeds
 pub mod Performing
+pub mod Splitting
+pub mod Registrars
+pub mod Logging
 pub mod Connections

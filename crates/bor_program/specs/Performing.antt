@@ -14,6 +14,7 @@ use Rattle.bor_words.specs.declared.command.Command.{Command}
 use Rattle.bor_words.specs.declared.command.Command.TheVariants as command
 use Rattle.bor_words.specs.declared.exchange.Exchange.{Exchange}
 use Rattle.bor_words.specs.declared.migrate.Migrate.{Migrate}
+use Rattle.bor_words.specs.declared.registrar.RegistrarSource.{RegistrarSource}
 use Rattle.bor_words.specs.declared.report.Report.{Report}
 use Rattle.bor_words.specs.declared.serve.Serve.{Serve}
 use Rattle.bor_words.specs.declared.source.Source.{Source}
@@ -22,6 +23,8 @@ use Rattle.bor_program.specs.declared.failure.Failure.{Failure}
 use Rattle.bor_program.specs.declared.host.Origin.{Origin}
 use Rattle.bor_program.specs.Deeds.{ComesToBe, Deed, Fails, Moves, Opens, Visits}
 use Rattle.bor_program.specs.Failures.{IsMetIn, IsMetListening, IsMetOn, IsMetOnKeep, IsOpeningOf, IsTold, TellsFiles, failure_line}
+use Rattle.bor_program.specs.declared.registrar.Exchanging.{Exchanging}
+use Rattle.bor_program.specs.Registrars.{IsToldBy, IsUntold}
 use Rattle.bor_program.specs.Program.{IsReportedOrCutOff, IsWrittenOrCutOff}
 use Rattle.bor_program.specs.Replying.{AreAnswers, AreRepliesTo, EndsFiles, IsSentOrCutOff, replies_status, sent}
 use Rattle.bor_program.specs.Reporting.{IsToldOf}
@@ -53,12 +56,12 @@ pub record FailsToOpen {M K : Type 0} (does : M → Deed K → M → Type 0) (be
   pub line : AppendsPart errors told (failure_line failure)
 
 -- Replies are printed, from the register that was opened on. Where the run doesn't fail, they are those to one input a file. Nothing is told but of files that can't be read, and of want of memory.
-pub record ExchangesFrom {K : Type 0} (shows : K → Register → Type 0) (is_clean : K → Type 0) (opened left : K) (asked : Exchange) (output printed errors told : Known) (status : ℕ) : Type 0 where
+pub record ExchangesFrom {K : Type 0} (shows : K → Register → Type 0) (is_clean : K → Type 0) (opened left : K) (asked : Exchanging) (output printed errors told : Known) (status : ℕ) : Type 0 where
   pub answered : EndsFiles (AreAnswers shows is_clean opened left) (length asked.files.items) output printed status
   pub unread : TellsFiles asked.files.items output printed errors told
 
 -- The same from the new register on, with no file; or from the one that was opened in the file, or set up, and what is left of it is closed there.
-pub record Exchanges {M K : Type 0} (shows : K → Register → Type 0) (is_clean : K → Type 0) (does : M → Deed K → M → Type 0) (begun ended : M) (asked : Exchange) (output printed errors told : Known) (status : ℕ) : Type 0 where
+pub record Exchanges {M K : Type 0} (shows : K → Register → Type 0) (is_clean : K → Type 0) (does : M → Deed K → M → Type 0) (begun ended : M) (asked : Exchanging) (output printed errors told : Known) (status : ℕ) : Type 0 where
   pub sent : (replies : List Reply) × IsSentOrCutOff replies output printed status
   pub answered : asked.db ≡ None
       → (ended ≡ begun) × EndsFiles (AreRepliesTo (empty_register asked.registrar asked.day)) (length asked.files.items) output printed status
@@ -68,6 +71,26 @@ pub record Exchanges {M K : Type 0} (shows : K → Register → Type 0) (is_clea
       × Visits does begun ended path (ComesToBe shows is_clean path asked.registrar asked.day opened origin) left
       × ExchangesFrom shows is_clean opened left asked output printed errors told status))
   pub silent : status ≤ 1 → Keeps errors told
+
+-- the registrar's token isn't told: nothing is answered, no register is opened, and the line of that is told
+pub record LacksToken {M : Type 0} (begun ended : M) (source : RegistrarSource) (output printed errors told : Known) (status : ℕ) : Type 0 where
+  pub status_is : status ≡ 3
+  pub untouched : ended ≡ begun
+  pub kept : Keeps output printed
+  pub line : IsTold (IsUntold source) errors told
+
+-- with the registrar's token, the words ask for this
+pub record IsOnceTold (asked : Exchange) (told : Exchanging) : Type 0 where
+  pub db : told.db ≡ asked.db
+  pub registrar : IsToldBy asked.registrar told.registrar
+  pub day : told.day ≡ asked.day
+  pub files : told.files ≡ asked.files
+
+-- the registrar's token isn't told, or with it the requests are answered
+abbrev pub ExchangesOnceTold : {M K : Type 0} → (K → Register → Type 0) → (K → Type 0) → (M → Deed K → M → Type 0) → M → M → Exchange → Known → Known → Known → Known → ℕ → Type 0
+ExchangesOnceTold shows is_clean does begun ended asked output printed errors told status =
+    LacksToken begun ended asked.registrar output printed errors told status
+    ⊎ ((once_told : Exchanging) × IsOnceTold asked once_told × Exchanges shows is_clean does begun ended once_told output printed errors told status)
 
 -- the line that tells that the server listens
 abbrev pub listening : ℕ → List ℕ
@@ -125,7 +148,7 @@ abbrev pub Performs : {M K : Type 0} → (K → Register → Type 0) → (K → 
 Performs shows is_clean tells does begun ended (command.Check source) input rest output printed errors told status =
     (ended ≡ begun) × Checks source input rest output printed errors told status
 Performs shows is_clean tells does begun ended (command.Exchange asked) input rest output printed errors told status =
-    Keeps input rest × Exchanges shows is_clean does begun ended asked output printed errors told status
+    Keeps input rest × ExchangesOnceTold shows is_clean does begun ended asked output printed errors told status
 Performs shows is_clean tells does begun ended (command.Serve asked) input rest output printed errors told status =
     Keeps input rest × Serves shows is_clean does begun ended asked output printed errors told status
 Performs shows is_clean tells does begun ended (command.Report asked) input rest output printed errors told status =

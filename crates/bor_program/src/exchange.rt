@@ -3,7 +3,7 @@
 ghost use Rattle.std.specs.Prelude.{◌≡◌, ◌≤◌, IfErr, OnOk, length, map};
 ghost use Rattle.std.specs.Io.KnownBytes.{Appends, Keeps};
 ghost use Rattle.bor_program.specs.Failures.{IsMetPrinting, TellsFiles};
-ghost use Rattle.bor_program.specs.Performing.{Exchanges};
+ghost use Rattle.bor_program.specs.Performing.{Exchanges, ExchangesOnceTold};
 ghost use Rattle.bor_program.specs.Program.{exit_code};
 ghost use Rattle.bor_program.specs.Replying.{AreAnswers, EndsFiles, EndsSending, is_refusal, replies_status, reply_status, sent, sent_of};
 ghost use Rattle.bor_program.specs.Streams.{AppendsPart};
@@ -12,6 +12,7 @@ use crate::failure::Failure;
 use crate::host::{OpenRegister, Opened, Registers};
 use crate::inputs::read_inputs;
 use crate::output::write_part;
+use crate::registrar::{Exchanging, token_told};
 use crate::status::Status;
 use bor_desk::operations::ListKeep;
 use bor_wire::{Reply, UNAVAILABLE};
@@ -20,9 +21,8 @@ use std::alloc::Global;
 use std::io::Write;
 use std::rt::Files;
 
-/// Answers the requests in files in turn, in the register in a file, which is closed then, or in a new
-/// one in memory, and prints the replies in order. A file that can't be read is told, and the next one
-/// is taken.
+/// Does what `bor exchange` is asked to do, once the registrar's token is known; where it isn't, that is
+/// told.
 pub fn exchange<R: Files + AllocGlobal, H: Registers, O: Write, E: Write>(
     rt: &R,
     host: &mut H,
@@ -30,10 +30,43 @@ pub fn exchange<R: Files + AllocGlobal, H: Registers, O: Write, E: Write>(
     output: &mut O,
     errors: &mut E,
 ) -> Status
-    ensures { Exchanges H.Register.shows H.Register.is_clean H.does host.old host.new asked.entry
+    ensures { ExchangesOnceTold H.Register.shows H.Register.is_clean H.does host.old host.new asked.entry
         (O.contents output.old) (O.contents output.new) (E.contents errors.old) (E.contents errors.new) (exit_code result) }
 {
     let Exchange {
+        db,
+        registrar,
+        day,
+        files,
+    } = asked;
+    match token_told(rt, registrar) {
+        Ok(registrar) => {
+            let asked = Exchanging {
+                db,
+                registrar,
+                day,
+                files,
+            };
+            exchange_told(rt, host, asked, output, errors)
+        }
+        Err(failure) => failure.tell(errors),
+    }
+}
+
+// Answers the requests in files in turn, in the register in a file, which is closed then, or in a new
+// one in memory, and prints the replies in order. A file that can't be read is told, and the next one
+// is taken.
+fn exchange_told<R: Files + AllocGlobal, H: Registers, O: Write, E: Write>(
+    rt: &R,
+    host: &mut H,
+    asked: Exchanging<'_>,
+    output: &mut O,
+    errors: &mut E,
+) -> Status
+    ensures { Exchanges H.Register.shows H.Register.is_clean H.does host.old host.new asked.entry
+        (O.contents output.old) (O.contents output.new) (E.contents errors.old) (E.contents errors.new) (exit_code result) }
+{
+    let Exchanging {
         db,
         registrar,
         day,

@@ -25,6 +25,8 @@ pub enum Failure<'a> {
     OtherVersion(&'a str, i64),
     /// The file of this name has tables of another program, with names of a register's.
     Taken(&'a str),
+    /// The first line of the file of this name is no token.
+    NoToken(&'a str),
     /// Memory is wanting.
     Memory,
     /// The store failed, or the file is no database.
@@ -73,6 +75,7 @@ impl<'a> Failure<'a> {
                     &["bor: ", path, " is not free for a register", "\n"],
                 )
             }
+            Failure::NoToken(name) => write_texts(errors, &["bor: no token in ", name, "\n"]),
             Failure::Memory => write_texts(errors, &["bor: out of memory\n"]),
             Failure::Store => write_texts(errors, &["bor: store failed\n"]),
             Failure::Unlistening => write_texts(errors, &["bor: cannot listen\n"]),

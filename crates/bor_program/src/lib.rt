@@ -19,11 +19,14 @@ mod exchange;
 mod failure;
 mod host;
 mod inputs;
+pub mod log;
 mod migrate;
 mod output;
 mod program;
+mod registrar;
 mod report;
 mod serve;
+mod split;
 mod status;
 
 pub use exchange::exchange_on;

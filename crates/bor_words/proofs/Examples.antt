@@ -1,9 +1,11 @@
 -- What clap makes of no words, and of each command.
-use Rattle.std.proofs.Common.{◌≡◌, [], ◌∷◌, Some, None, refl, codes}
+use Rattle.std.proofs.Common.{◌≡◌, Bool, List, [], ◌∷◌, ◌++◌, Option, Some, None, false, true, refl, codes}
+use Rattle.std.specs.Option.{option_map}
 use Rattle.clap.proofs.OnLiterals.{clap_on_literals}
-use Rattle.clap.specs.Words.{fault_of}
+use Rattle.clap.specs.Words.{Text, fault_of}
 use Rattle.bor_words.specs.Asked.{EntersCheck}
-use Rattle.bor_words.specs.Words.{bor_app, entered_by, file_at}
+use Rattle.bor_words.specs.Words.{bor_app, entered_by, file_at, found_behind, is_set}
+use Rattle.bor_words.specs.Values.{first_unfit, values_of}
 
 pub no_words : (fault_of bor_app [] ≡ []) × (entered_by [] ≡ None)
 unfolding clap_on_literals
@@ -16,3 +18,30 @@ check_alone = ((refl, refl, refl, refl), refl)
 pub check_of_a_file : file_at (entered_by (codes "check" ∷ codes "a.json" ∷ [])) ≡ Some (codes "a.json")
 unfolding clap_on_literals
 check_of_a_file = refl
+
+-- the words of an exchange that tell the registrar's token so
+abbrev pub exchange_with : List Text → List Text
+exchange_with told = codes "exchange" ∷ (told ++ codes "--day" ∷ codes "2024-02-01" ∷ codes "a.http" ∷ [])
+
+-- clap takes a token that is told not at all, or twice; what is told doesn't fit then
+pub no_token : (fault_of bor_app (exchange_with []) ≡ []) × (first_unfit (values_of (entered_by (exchange_with []))) ≡ Some (codes "registrar"))
+unfolding clap_on_literals
+no_token = (refl, refl)
+
+abbrev pub two_tokens : List Text
+two_tokens = codes "--registrar" ∷ codes "registrar-token-0001" ∷ codes "--registrar-file" ∷ codes "token" ∷ []
+
+pub told_twice : (fault_of bor_app (exchange_with two_tokens) ≡ []) × (first_unfit (values_of (entered_by (exchange_with two_tokens))) ≡ Some (codes "registrar"))
+unfolding clap_on_literals
+told_twice = (refl, refl)
+
+-- a server logs where it is asked to
+abbrev pub serve_with : List Text → List Text
+serve_with told = codes "serve" ∷ codes "--db" ∷ codes "a" ∷ codes "--port" ∷ codes "80" ∷ codes "--connections" ∷ codes "1" ∷ told
+
+abbrev pub logs : List Text → Option Bool
+logs words = option_map (is_set (codes "log")) (found_behind (codes "serve") (entered_by words))
+
+pub logs_where_asked : (logs (serve_with (codes "--log" ∷ [])) ≡ Some true) × (logs (serve_with []) ≡ Some false)
+unfolding clap_on_literals
+logs_where_asked = (refl, refl)

@@ -1,3 +1,4 @@
 pub mod Numerals
 pub mod KnownWords
+pub mod Reporting
 mod Examples

@@ -8,11 +8,13 @@ use Rattle.bor_words.specs.declared.command.Command.{Command}
 use Rattle.bor_words.specs.declared.command.Command.TheVariants as command
 use Rattle.bor_words.specs.declared.exchange.Exchange.{Exchange}
 use Rattle.bor_words.specs.declared.migrate.Migrate.{Migrate}
+use Rattle.bor_words.specs.declared.registrar.RegistrarSource.{RegistrarSource}
+use Rattle.bor_words.specs.declared.registrar.RegistrarSource.TheVariants as registrar
 use Rattle.bor_words.specs.declared.serve.Serve.{Serve}
 use Rattle.bor_words.specs.declared.report.Report.{Report}
 use Rattle.bor_words.specs.declared.source.Source.{Source}
 use Rattle.bor_words.specs.declared.source.Source.TheVariants.{StandardInput, File}
-use Rattle.bor_words.specs.Words.{Entered, bor_app, entered_by, file_at, files_named, found_behind, given}
+use Rattle.bor_words.specs.Words.{Entered, bor_app, entered_by, file_at, files_named, found_behind, given, is_set}
 use Rattle.bor_words.specs.Values.{connections_of, first_unfit, port_of, values_of}
 
 -- ---- whether they ask for something
@@ -48,10 +50,15 @@ abbrev pub EntersCheck : Entered → Type 0
 EntersCheck entered = (found_behind (codes "exchange") entered ≡ None) × (found_behind (codes "serve") entered ≡ None)
     × (found_behind (codes "report") entered ≡ None) × (found_behind (codes "migrate") entered ≡ None)
 
+-- what is told of the registrar's token: the token, or the name of the file that has it
+abbrev pub IsRegistrar : List Row → RegistrarSource → Type 0
+IsRegistrar rows (registrar.Token token) = Some token ≡ first_of (codes "registrar") rows
+IsRegistrar rows (registrar.File name) = Some name.now ≡ first_of (codes "registrar-file") rows
+
 -- what is asked of an exchange
 pub record IsExchange (rows : List Row) (asked : Exchange) : Type 0 where
   pub db : option_map (λ path. path.now) asked.db ≡ first_of (codes "db") rows
-  pub registrar : asked.registrar ≡ given (codes "registrar") rows
+  pub registrar : IsRegistrar rows asked.registrar
   pub day : Some asked.day ≡ day_of (given (codes "day") rows)
   pub files : map (λ file. file.now) asked.files.items ≡ files_named rows
 
@@ -60,6 +67,7 @@ pub record IsServe (rows : List Row) (asked : Serve) : Type 0 where
   pub db : asked.db.now ≡ given (codes "db") rows
   pub port : Some asked.port ≡ port_of (given (codes "port") rows)
   pub connections : Some asked.connections ≡ connections_of (given (codes "connections") rows)
+  pub log : asked.log ≡ is_set (codes "log") rows
 
 -- what is asked of a report
 pub record IsReport (rows : List Row) (asked : Report) : Type 0 where

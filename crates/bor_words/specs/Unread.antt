@@ -1,32 +1,58 @@
 -- Why words ask for no command, as it is answered.
-use Rattle.std.specs.Prelude.{◌≡◌, List, [], Bool, false, Some}
-use Rattle.clap.specs.Words.{HasKind, Row, Text, fault_of, kind_of}
+use Rattle.std.specs.Prelude.{◌≡◌, List, [], Bool, false, None, Some, IsSome, codes}
+use Rattle.clap.specs.Words.{HasKind, Row, Text, fault_of, first_of, kind_of}
 use Rattle.clap.specs.declared.error.kind.ErrorKind.{ErrorKind}
-use Rattle.clap.specs.declared.error.kind.ErrorKind.TheVariants.{OutOfMemory, ValueValidation}
+use Rattle.clap.specs.declared.error.kind.ErrorKind.TheVariants.{ArgumentConflict, MissingRequiredArgument, OutOfMemory, ValueValidation}
 use Rattle.bor_words.specs.declared.unread.Unread.{Unread}
 use Rattle.bor_words.specs.declared.unread.Unread.TheVariants as unread
 use Rattle.bor_words.specs.Words.{bor_app, entered_by, given, rows_in}
-use Rattle.bor_words.specs.Values.{Value, first_unfit, values_of}
+use Rattle.bor_words.specs.Values.{Value, first_unfit, is_registrar, values_of}
 
 -- what went wrong, or what was asked for
 abbrev pub kind_of_answer : Unread → ErrorKind
 kind_of_answer (unread.Answered error) = kind_of error
 kind_of_answer (unread.Unfit unfit) = ValueValidation
+kind_of_answer unread.NoRegistrar = MissingRequiredArgument
+kind_of_answer unread.TwoRegistrars = ArgumentConflict
 
 -- memory was wanting
 abbrev pub IsMemory : Unread → Type 0
 IsMemory (unread.Answered error) = kind_of error ≡ OutOfMemory
 IsMemory (unread.Unfit unfit) = ⊥
+IsMemory unread.NoRegistrar = ⊥
+IsMemory unread.TwoRegistrars = ⊥
+
+-- the registrar's token is told by no word
+abbrev pub HasNoRegistrar : List Row → Type 0
+HasNoRegistrar rows = (first_of (codes "registrar") rows ≡ None) × (first_of (codes "registrar-file") rows ≡ None)
+
+-- it is told by both
+abbrev pub HasTwoRegistrars : List Row → Type 0
+HasTwoRegistrars rows = IsSome (first_of (codes "registrar") rows) × IsSome (first_of (codes "registrar-file") rows)
 
 -- memory was wanting, or this is the value of this word, and it doesn't fit
 abbrev pub IsUnfitAt : Text → Text → Bool → Unread → Type 0
 IsUnfitAt word value fits (unread.Answered error) = kind_of error ≡ OutOfMemory
 IsUnfitAt word value fits (unread.Unfit unfit) = (unfit.word.now ≡ word) × (unfit.value.now ≡ value) × (fits ≡ false)
+IsUnfitAt word value fits unread.NoRegistrar = ⊥
+IsUnfitAt word value fits unread.TwoRegistrars = ⊥
 
--- memory was wanting, or the word is the first of these whose value doesn't fit, and the value is the one that was given for it
+-- memory was wanting, the token that is told is none, or it isn't told once
+abbrev pub IsUnfitRegistrar : List Row → Unread → Type 0
+IsUnfitRegistrar rows (unread.Answered error) = kind_of error ≡ OutOfMemory
+IsUnfitRegistrar rows (unread.Unfit unfit) =
+    (unfit.word.now ≡ codes "registrar") × (unfit.value.now ≡ given (codes "registrar") rows)
+    × (is_registrar (first_of (codes "registrar") rows) (first_of (codes "registrar-file") rows) ≡ false)
+IsUnfitRegistrar rows unread.NoRegistrar = HasNoRegistrar rows
+IsUnfitRegistrar rows unread.TwoRegistrars = HasTwoRegistrars rows
+
+-- memory was wanting, or the word is the first of these whose value doesn't fit, and the value is the one that was given for it;
+-- the registrar's token doesn't fit either where it isn't told once
 abbrev pub IsUnfitAmong : List Row → List Value → Unread → Type 0
 IsUnfitAmong rows values (unread.Answered error) = kind_of error ≡ OutOfMemory
 IsUnfitAmong rows values (unread.Unfit unfit) = (first_unfit values ≡ Some unfit.word.now) × (unfit.value.now ≡ given unfit.word.now rows)
+IsUnfitAmong rows values unread.NoRegistrar = (first_unfit values ≡ Some (codes "registrar")) × HasNoRegistrar rows
+IsUnfitAmong rows values unread.TwoRegistrars = (first_unfit values ≡ Some (codes "registrar")) × HasTwoRegistrars rows
 
 -- memory was wanting, clap finds this fault in the words, or it finds none and this is the first value that doesn't fit
 abbrev pub IsFaultOf : List Text → Unread → Type 0
@@ -34,3 +60,9 @@ IsFaultOf words (unread.Answered error) = HasKind (fault_of bor_app words) error
 IsFaultOf words (unread.Unfit unfit) =
     (fault_of bor_app words ≡ []) × (first_unfit (values_of (entered_by words)) ≡ Some unfit.word.now)
     × (unfit.value.now ≡ given unfit.word.now (rows_in (entered_by words)))
+IsFaultOf words unread.NoRegistrar =
+    (fault_of bor_app words ≡ []) × (first_unfit (values_of (entered_by words)) ≡ Some (codes "registrar"))
+    × HasNoRegistrar (rows_in (entered_by words))
+IsFaultOf words unread.TwoRegistrars =
+    (fault_of bor_app words ≡ []) × (first_unfit (values_of (entered_by words)) ≡ Some (codes "registrar"))
+    × HasTwoRegistrars (rows_in (entered_by words))

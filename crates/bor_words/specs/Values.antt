@@ -1,5 +1,5 @@
 -- What the value of each word has to be.
-use Rattle.std.specs.Prelude.{◌&&◌, ℕ, List, [], ◌∷◌, Bool, not, Option, Some, None, codes, find, is_some, length, nat_le, nat_lt, option_map, if◌then◌else◌, true}
+use Rattle.std.specs.Prelude.{◌&&◌, ℕ, List, [], ◌∷◌, Bool, not, Option, Some, None, codes, find, is_some, length, nat_le, nat_lt, option_map, if◌then◌else◌, false, true}
 use Rattle.std.specs.Option.{option_map_or}
 use Rattle.std.specs.List.{list_all}
 use Rattle.std.specs.Char.{digit_value}
@@ -38,9 +38,16 @@ connections_of text = number_within 0 1_000_000 text
 abbrev pub Value : Type 0
 Value = Text × Bool
 
+-- the registrar's token is told once: by itself, or by the file that has it
+abbrev pub is_registrar : Option Text → Option Text → Bool
+is_registrar (Some token) None = is_token token
+is_registrar None (Some name) = true
+is_registrar (Some token) (Some name) = false
+is_registrar None None = false
+
 abbrev pub exchange_values : List Row → List Value
 exchange_values rows =
-    (codes "registrar", is_token (given (codes "registrar") rows))
+    (codes "registrar", is_registrar (first_of (codes "registrar") rows) (first_of (codes "registrar-file") rows))
     ∷ (codes "day", is_some (day_of (given (codes "day") rows))) ∷ []
 
 abbrev pub serve_values : List Row → List Value

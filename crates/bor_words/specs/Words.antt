@@ -1,9 +1,9 @@
 -- The words that the program takes, as clap sees them.
-use Rattle.std.specs.Prelude.{List, [], Option, Some, None, true, codes, option_and_then, unwrap_or, if◌then◌else◌}
+use Rattle.std.specs.Prelude.{Bool, List, [], Option, Some, None, false, true, codes, option_and_then, unwrap_or, if◌then◌else◌}
 use Rattle.std.specs.Option.{option_map_or}
 use Rattle.std.specs.Str.{bytes_eq}
 use Rattle.clap.specs.Words.{App, Row, Rule, Text, all_of, first_of, new_app, new_rule, subcommand_of, with_rule, with_subcommand}
-use Rattle.clap.specs.declared.builder.action.ArgAction.TheVariants.{Append}
+use Rattle.clap.specs.declared.builder.action.ArgAction.TheVariants.{Append, SetTrue}
 
 -- ---- what clap is told
 
@@ -15,6 +15,10 @@ option_rule name = record (new_rule name) { long = Some name; value_names = 1 }
 abbrev pub required_rule : Text → Rule
 required_rule name = record (option_rule name) { required = true }
 
+-- `--NAME`, which takes no value
+abbrev pub flag_rule : Text → Rule
+flag_rule name = record (new_rule name) { long = Some name; action = Some SetTrue }
+
 -- one file or more
 abbrev pub files_rule : Rule
 files_rule = record (new_rule (codes "FILE")) { action = Some Append; required = true }
@@ -24,13 +28,13 @@ check_app = with_rule (new_app (codes "check")) (new_rule (codes "FILE"))
 
 abbrev pub exchange_app : App
 exchange_app =
-    with_rule (with_rule (with_rule (with_rule (new_app (codes "exchange")) (option_rule (codes "db"))) (required_rule (codes "registrar")))
-    (required_rule (codes "day"))) files_rule
+    with_rule (with_rule (with_rule (with_rule (with_rule (new_app (codes "exchange")) (option_rule (codes "db"))) (option_rule (codes "registrar")))
+    (option_rule (codes "registrar-file"))) (required_rule (codes "day"))) files_rule
 
 abbrev pub serve_app : App
 serve_app =
-    with_rule (with_rule (with_rule (new_app (codes "serve")) (required_rule (codes "db"))) (required_rule (codes "port")))
-    (required_rule (codes "connections"))
+    with_rule (with_rule (with_rule (with_rule (new_app (codes "serve")) (required_rule (codes "db"))) (required_rule (codes "port")))
+    (required_rule (codes "connections"))) (flag_rule (codes "log"))
 
 -- whose chains, seen by whom
 abbrev pub report_app : App
@@ -70,6 +74,10 @@ found_behind name entered = option_and_then (λ e. if bytes_eq e.0 name then Som
 -- what is given for a word; nothing where it is left out
 abbrev pub given : Text → List Row → Text
 given word rows = unwrap_or (first_of word rows) []
+
+-- whether a word that takes no value is given
+abbrev pub is_set : Text → List Row → Bool
+is_set word rows = option_map_or (λ text. bytes_eq text (codes "true")) (first_of word rows) false
 
 -- the files that are named
 abbrev pub files_named : List Row → List Text

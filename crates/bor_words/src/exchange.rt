@@ -7,9 +7,10 @@ ghost use Rattle.bor_words.specs.Unread.{IsUnfitAmong};
 ghost use Rattle.bor_words.specs.Values.{exchange_values, first_unfit};
 
 use crate::matches::{files_named, optional};
+use crate::registrar::RegistrarSource;
 use crate::unread::Unread;
-use crate::values::{day, token};
-use bor_terms::{Day, Token};
+use crate::values::day;
+use bor_terms::Day;
 use clap::ArgMatches;
 use std::alloc::Global;
 
@@ -19,8 +20,8 @@ use std::alloc::Global;
 pub struct Exchange<'a> {
     /// The register's file. Without one the register is a new one in memory.
     pub db: Option<&'a str>,
-    /// The registrar's token of a register that is set up.
-    pub registrar: Token,
+    /// Where the registrar's token of a register that is set up is told.
+    pub registrar: RegistrarSource<'a>,
     /// The day of a register that is set up.
     pub day: Day,
     /// The files, each with one request.
@@ -34,7 +35,7 @@ impl<'a> Exchange<'a> {
         ensures fits { OnOk result (first_unfit (exchange_values (rows_of (found_of found.now))) ≡ None) }
         ensures err { IfErr result (IsUnfitAmong (rows_of (found_of found.now)) (exchange_values (rows_of (found_of found.now)))) }
     {
-        let registrar = token(alloc, found, "registrar")?;
+        let registrar = RegistrarSource::read(alloc, found)?;
         let day = day(found, "day")?;
         Ok(Exchange {
             db: optional(found, "db"),

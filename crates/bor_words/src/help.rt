@@ -8,7 +8,7 @@ Usage: bor [COMMAND]
 Commands:
   check     Checks a BODS file, and prints what a register would make of it
   exchange  Answers HTTP requests in files, one after the other, and prints the replies
-  serve     Answers HTTP requests on 127.0.0.1, one connection after the other
+  serve     Answers HTTP requests on 127.0.0.1, one after the other
   report    Prints which persons hold an entity, directly or through a chain, as an agent sees it
   migrate   Moves a register of version 1 to version 2, in which an interest counts within its dates
   help      Print this message or the help of the given subcommand(s)
@@ -33,28 +33,30 @@ Example:
 
 Answers HTTP requests in files, one after the other, and prints the replies
 
-Usage: bor exchange [OPTIONS] --registrar <TOKEN> --day <DAY> <FILE>...
+Usage: bor exchange [OPTIONS] --day <DAY> <FILE>...
 
 Arguments:
   <FILE>...  The files, each with one HTTP request
 
 Options:
-      --db <PATH>          The register's file, which is made where there is none; without it, the register is a new one in memory
-      --registrar <TOKEN>  The registrar's token of a new register: 16 to 64 visible ASCII characters
-      --day <DAY>          The day of a new register: a day, YYYY-MM-DD
-  -h, --help               Print help
+      --db <PATH>              The register's file, which is made where there is none; without it, the register is a new one in memory
+      --registrar <TOKEN>      The registrar's token of a new register: 16 to 64 visible ASCII characters
+      --registrar-file <FILE>  The file whose first line is that token, in place of --registrar
+      --day <DAY>              The day of a new register: a day, YYYY-MM-DD
+  -h, --help                   Print help
 
 Example:
   bor exchange --db register.db --registrar registrar-token-0001 --day 2024-02-01 enrol.http lodge.http
 
-Answers HTTP requests on 127.0.0.1, one connection after the other
+Answers HTTP requests on 127.0.0.1, one after the other
 
-Usage: bor serve --db <PATH> --port <PORT> --connections <COUNT>
+Usage: bor serve [OPTIONS] --db <PATH> --port <PORT> --connections <COUNT>
 
 Options:
       --db <PATH>            The register's file
       --port <PORT>          The port: 1 to 65535
       --connections <COUNT>  After how many connections it ends: 0 to 1000000
+      --log                  A line for each request on standard error, with no token, key or body
   -h, --help                 Print help
 
 Example:

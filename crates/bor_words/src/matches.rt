@@ -2,7 +2,7 @@
 
 ghost use Rattle.std.specs.Prelude.{◌≡◌, IfOk, map, option_map};
 ghost use Rattle.clap.specs.Words.{first_of, found_of, rows_of, subcommand_rows_of};
-ghost use Rattle.bor_words.specs.Words.{files_named, found_behind, given};
+ghost use Rattle.bor_words.specs.Words.{files_named, found_behind, given, is_set};
 
 use clap::ArgMatches;
 use std::alloc::{AllocError, Global};
@@ -26,6 +26,16 @@ pub fn given<'a>(found: &ArgMatches<'a>, word: &str) -> &'a str
     ensures { result.now ≡ given word.now (rows_of (found_of found.now)) }
 {
     optional(found, word).unwrap_or("")
+}
+
+/// Whether a word that takes no value was given.
+pub fn is_set(found: &ArgMatches<'_>, word: &str) -> bool
+    ensures { result ≡ is_set word.now (rows_of (found_of found.now)) }
+{
+    match optional(found, word) {
+        Some(text) => text == "true",
+        None => false,
+    }
 }
 
 /// The files that were named.

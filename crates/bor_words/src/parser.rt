@@ -3,7 +3,7 @@
 ghost use Rattle.std.specs.Prelude.{◌≡◌, IfOk, false};
 ghost use Rattle.clap.specs.Words.{app_of, rule_of};
 ghost use Rattle.clap.specs.declared.builder.command.Command.TheViews.{out-Command as fields_of};
-ghost use Rattle.bor_words.specs.Words.{bor_app, check_app, exchange_app, migrate_app, option_rule, report_app, required_rule, serve_app};
+ghost use Rattle.bor_words.specs.Words.{bor_app, check_app, exchange_app, files_rule, flag_rule, migrate_app, option_rule, report_app, required_rule, serve_app};
 
 use clap::{Arg, ArgAction, Command as Parser};
 use std::alloc::{AllocError, Global};
@@ -46,6 +46,28 @@ fn required<'a>(alloc: Global, name: &'a str, value: &'a str, help: &'a str) -> 
         .help(help)
 }
 
+// `--name`, which takes no value.
+fn flag<'a>(alloc: Global, name: &'a str, help: &'a str) -> Arg<'a>
+    ensures rule { rule_of result ≡ flag_rule name.entry.now }
+    ensures local { result.global ≡ false }
+{
+    Arg::new(alloc, name)
+        .long(name)
+        .action(ArgAction::SetTrue)
+        .help(help)
+}
+
+// One file or more.
+fn files<'a>(alloc: Global, help: &'a str) -> Arg<'a>
+    ensures rule { rule_of result ≡ files_rule }
+    ensures local { result.global ≡ false }
+{
+    Arg::new(alloc, "FILE")
+        .action(ArgAction::Append)
+        .required(true)
+        .help(help)
+}
+
 fn check<'a>(alloc: Global) -> Result<Parser<'a>, AllocError>
     ensures app { IfOk result (λ parser. app_of parser ≡ check_app) }
     ensures local { IfOk result (λ parser. (fields_of parser).has_globals ≡ false) }
@@ -61,10 +83,6 @@ fn exchange<'a>(alloc: Global) -> Result<Parser<'a>, AllocError>
     ensures app { IfOk result (λ parser. app_of parser ≡ exchange_app) }
     ensures local { IfOk result (λ parser. (fields_of parser).has_globals ≡ false) }
 {
-    let files = Arg::new(alloc, "FILE")
-        .action(ArgAction::Append)
-        .required(true)
-        .help("The files, each with one HTTP request");
     Parser::new(alloc, "exchange")
         .about("Answers HTTP requests in files, one after the other, and prints the replies")
         .after_help(EXCHANGE_EXAMPLE)
@@ -74,11 +92,17 @@ fn exchange<'a>(alloc: Global) -> Result<Parser<'a>, AllocError>
             "PATH",
             "The register's file, which is made where there is none; without it, the register is a new one in memory",
         ))?
-        .arg(required(
+        .arg(option(
             alloc,
             "registrar",
             "TOKEN",
             "The registrar's token of a new register: 16 to 64 visible ASCII characters",
+        ))?
+        .arg(option(
+            alloc,
+            "registrar-file",
+            "FILE",
+            "The file whose first line is that token, in place of --registrar",
         ))?
         .arg(required(
             alloc,
@@ -86,7 +110,7 @@ fn exchange<'a>(alloc: Global) -> Result<Parser<'a>, AllocError>
             "DAY",
             "The day of a new register: a day, YYYY-MM-DD",
         ))?
-        .arg(files)
+        .arg(files(alloc, "The files, each with one HTTP request"))
 }
 
 fn serve<'a>(alloc: Global) -> Result<Parser<'a>, AllocError>
@@ -94,7 +118,7 @@ fn serve<'a>(alloc: Global) -> Result<Parser<'a>, AllocError>
     ensures local { IfOk result (λ parser. (fields_of parser).has_globals ≡ false) }
 {
     Parser::new(alloc, "serve")
-        .about("Answers HTTP requests on 127.0.0.1, one connection after the other")
+        .about("Answers HTTP requests on 127.0.0.1, one after the other")
         .after_help(SERVE_EXAMPLE)
         .arg(required(alloc, "db", "PATH", "The register's file"))?
         .arg(required(alloc, "port", "PORT", "The port: 1 to 65535"))?
@@ -103,6 +127,11 @@ fn serve<'a>(alloc: Global) -> Result<Parser<'a>, AllocError>
             "connections",
             "COUNT",
             "After how many connections it ends: 0 to 1000000",
+        ))?
+        .arg(flag(
+            alloc,
+            "log",
+            "A line for each request on standard error, with no token, key or body",
         ))
 }
 

@@ -6,12 +6,12 @@ ghost use Rattle.bor_words.specs.Asked.{IsServe};
 ghost use Rattle.bor_words.specs.Unread.{IsUnfitAmong};
 ghost use Rattle.bor_words.specs.Values.{first_unfit, serve_values};
 
-use crate::matches::given;
+use crate::matches::{given, is_set};
 use crate::unread::Unread;
 use crate::values::{connections, port};
 use clap::ArgMatches;
 
-/// What `bor serve` is asked to do: to answer requests over HTTP, one connection after the other.
+/// What `bor serve` is asked to do: to answer requests over HTTP, one after the other.
 #[derive(Clone, Copy, Debug, PartialEq, Eq)]
 pub struct Serve<'a> {
     /// The register's file.
@@ -20,6 +20,8 @@ pub struct Serve<'a> {
     pub port: u16,
     /// After so many connections it ends: at most 1,000,000.
     pub connections: u32,
+    /// Whether a line is told of each request.
+    pub log: bool,
 }
 
 impl<'a> Serve<'a> {
@@ -33,6 +35,7 @@ impl<'a> Serve<'a> {
             db: given(found, "db"),
             port: port(found)?,
             connections: connections(found)?,
+            log: is_set(found, "log"),
         })
     }
 }

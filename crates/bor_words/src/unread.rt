@@ -15,6 +15,10 @@ pub enum Unread<'a> {
     Answered(Error),
     /// A value doesn't fit its word.
     Unfit(Unfit<'a>),
+    /// The registrar's token is told neither by itself nor by a file.
+    NoRegistrar,
+    /// It is told by both.
+    TwoRegistrars,
 }
 
 /// A value that doesn't fit its word.
@@ -29,13 +33,16 @@ pub struct Unfit<'a> {
 }
 
 impl Unread<'_> {
-    /// What went wrong, or what was asked for. A value that doesn't fit is `ValueValidation`.
+    /// What went wrong, or what was asked for. A value that doesn't fit is `ValueValidation`, a token that
+    /// isn't told `MissingRequiredArgument`, and one that is told twice `ArgumentConflict`.
     pub fn kind(&self) -> ErrorKind
         ensures { result ≡ kind_of_answer self.now }
     {
         match self {
             Unread::Answered(error) => error.kind(),
             Unread::Unfit(_) => ErrorKind::ValueValidation,
+            Unread::NoRegistrar => ErrorKind::MissingRequiredArgument,
+            Unread::TwoRegistrars => ErrorKind::ArgumentConflict,
         }
     }
 }
@@ -57,6 +64,14 @@ impl fmt::Display for Unread<'_> {
         match self {
             Unread::Answered(error) => write!(f, "{error}"),
             Unread::Unfit(unfit) => write!(f, "{unfit}"),
+            Unread::NoRegistrar => writeln!(
+                f,
+                "error: one of '--registrar <TOKEN>' and '--registrar-file <FILE>' has to be given"
+            ),
+            Unread::TwoRegistrars => writeln!(
+                f,
+                "error: '--registrar <TOKEN>' and '--registrar-file <FILE>' can't both be given"
+            ),
         }
     }
 }

@@ -1,57 +1,20 @@
-use Rattle.std.proofs.Common.{◌≡◌, Option, Some, None, IfSome, [], ap, arith, inl, inr, length, refl}
-use Rattle.bor_register.specs.Register.{empty_register}
-use Rattle.bor_desk.proofs.OnOperations.Legality.{empty-legal}
-use Rattle.bor_program.specs.Program.{exit_code}
-use Rattle.bor_program.proofs.Ends.{keeps_same, part_none}
-use Rattle.bor_program.proofs.MetFailures.{fails_to_open}
-use Rattle.bor_program.proofs.Replies.{sent_as, sent_some}
-use Rattle.bor_program.proofs.Unread.{files_as}
+use Rattle.std.proofs.Common.{inr, refl}
 use Rattle.bor_program.proofs.exchange.exchange.Goals as goal
-
-named : {A : Type 0} (o : Option A) (x : A) → o ≡ Some x → o ≡ None → ⊥
-named o x e f = cc
-
-of_named : {A : Type 0} (P : A → Type 0) (o : Option A) (x : A) → o ≡ Some x → P x → IfSome o P
-of_named P o x e h = rw e h
-
-of_none : {A : Type 0} (P : A → Type 0) (o : Option A) → o ≡ None → IfSome o P
-of_none P o e = rw e tt
 
 pub returns-in-Ok : goal.returns-in-Ok
 returns-in-Ok g c =
-    let ends = sent_as _ _ _ _ _ _ _ (ap length c.as_slice.ensures.value) (λ inputs replies h. h) c.exchange_files-status.ensures.ends in
-    let told = files_as _ _ _ _ _ _ c.as_slice.ensures.value c.exchange_files-status.ensures.told in
-    record {
-      sent = sent_some _ _ _ _ _ ends;
-      answered = λ none. absurd (named _ _ c.in-Some.is none);
-      opened = of_named _ _ _ c.in-Some.is (inr (
-        c.in-Ok.field-0.register,
-        c.in-Ok.field-0.origin,
-        c.exchange_files-status.new.register,
-        record { between = c.open_or_set_up.new.self; comes = c.in-Ok.ensures.ok; closes = c.close.ensures },
-        record { answered = ends; unread = told },
-      ));
-      silent = c.exchange_files-status.ensures.silent;
-    }
-
-pub returns-in-Some : goal.returns-in-Some
-returns-in-Some g c =
-    let three : exit_code c.tell.result ≡ 3 = ap exit_code c.tell.ensures.status in
-    record {
-      sent = ([], inr (part_none _ _ [] (keeps_same _), three));
-      answered = λ none. absurd (named _ _ c.in-Some.is none);
-      opened = of_named _ _ _ c.in-Some.is (inl (fails_to_open _ _ _ _ _ _ _ _ _ three c.in-Err.ensures.err c.in-Err.ensures.cause c.tell.ensures.line));
-      silent = λ low. absurd (omega (arith, low, three));
-    }
-
-pub returns : goal.returns
-returns g c =
-    let ends = sent_as _ _ _ _ _ _ _ (ap length c.as_slice-in-None.ensures.value) (λ inputs replies h. h) c.exchange_files.ensures.ends in
-    let told = files_as _ _ _ _ _ _ c.as_slice-in-None.ensures.value c.exchange_files.ensures.told in
-    let first = empty_register c.args.asked.registrar c.args.asked.day in
-    record {
-      sent = sent_some _ _ _ _ _ ends;
-      answered = λ none. (refl, sent_as _ _ _ _ _ _ _ refl (λ inputs replies h. (h.answers first c.new-register.ensures.shown tt (empty-legal _ _)).replies_to) ends, told);
-      opened = of_none _ _ c.in-None.is;
-      silent = c.exchange_files.ensures.silent;
-    }
+    inr (
+      record {
+        db = c.args.asked.db;
+        registrar = c.in-Ok.registrar;
+        day = c.args.asked.day;
+        files = c.args.asked.files;
+      },
+      record {
+        db = refl;
+        registrar = c.in-Ok.ensures.ok;
+        day = refl;
+        files = refl;
+      },
+      c.exchange_told.ensures,
+    )

@@ -1,0 +1,100 @@
+-- What the log of a server tells of a request that was answered.
+use Rattle.std.specs.Prelude.{◌+◌, ◌/◌, ◌%◌, ◌++◌, ℕ, List, [], ◌∷◌, Option, Some, None, codes, decimal}
+use Rattle.std.specs.Borrow.{Bor}
+use Rattle.std.specs.Option.{option_map_or}
+use Rattle.bor_terms.specs.Day.{day_text}
+use Rattle.bor_terms.specs.declared.agent_name.NameForm.{NameForm}
+use Rattle.bor_terms.specs.declared.text.Text.{Text}
+use Rattle.bor_http.specs.declared.incoming.fault.Path.{Path}
+use Rattle.bor_http.specs.declared.incoming.fault.Path.TheVariants as paths
+use Rattle.bor_http.specs.declared.routes.route.Route.{Route}
+use Rattle.bor_http.specs.declared.routes.route.Route.TheVariants as asks
+use Rattle.bor_http.specs.Routes.Routes.{path_word, route_at}
+use Rattle.bor_http.specs.Spelling.Parts.{path_in}
+use Rattle.bor_program.specs.declared.log.Asked.{Asked}
+use Rattle.bor_program.specs.declared.log.Asked.TheVariants as asked
+use Rattle.bor_program.specs.declared.log.Entry.{Entry}
+use Rattle.bor_program.specs.declared.log.Moment.{Moment}
+use Rattle.bor_program.specs.Splitting.{before, behind}
+
+-- ---- what was asked for
+
+-- what a path asks for by a method, as far as there are such
+abbrev pub asked_at : Option Path → List ℕ → Asked
+asked_at None method = asked.Nothing
+asked_at (Some path) method = option_map_or asked.Route (route_at path method) (asked.Path path)
+
+-- what the first line of an input asks for: a method, a space, a target up to its question mark, a space
+unfoldable pub asked_of : List ℕ → Asked
+asked_of input =
+    let first = before 10 input in
+    asked_at (path_in (before 63 (before 32 (behind 32 first)))) (before 32 first)
+
+-- the path of a route, and its method
+abbrev pub route_path : Route → Path
+route_path asks.Lodge = paths.Filing
+route_path asks.Withdraw = paths.Filing
+route_path asks.Filings = paths.Filings
+route_path asks.File = paths.File
+route_path asks.Published = paths.Published
+route_path asks.Snapshot = paths.Snapshot
+route_path asks.Chains = paths.Chains
+route_path asks.Day = paths.Day
+route_path asks.Enrol = paths.Agents
+
+abbrev pub route_method : Route → List ℕ
+route_method asks.Lodge = codes "PUT"
+route_method asks.Withdraw = codes "DELETE"
+route_method asks.Filings = codes "GET"
+route_method asks.File = codes "GET"
+route_method asks.Published = codes "GET"
+route_method asks.Snapshot = codes "GET"
+route_method asks.Chains = codes "GET"
+route_method asks.Day = codes "POST"
+route_method asks.Enrol = codes "POST"
+
+-- a hyphen stands for what isn't told
+abbrev pub untold : List ℕ
+untold = codes "-"
+
+abbrev pub method_word : Asked → List ℕ
+method_word (asked.Route route) = route_method route
+method_word (asked.Path path) = untold
+method_word asked.Nothing = untold
+
+-- the path as the table of routes writes it, with {key} for a key
+abbrev pub asked_path_word : Asked → List ℕ
+asked_path_word (asked.Route route) = path_word (route_path route)
+asked_path_word (asked.Path path) = path_word path
+asked_path_word asked.Nothing = untold
+
+-- ---- when
+
+-- two digits
+abbrev pub pair : ℕ → List ℕ
+pair number = (48 + number / 10 % 10) ∷ (48 + number % 10) ∷ []
+
+-- so many seconds after midnight, as hours, minutes and seconds
+abbrev pub clock_text : ℕ → List ℕ
+clock_text second = pair (second / 3600) ++ codes ":" ++ pair (second / 60 % 60) ++ codes ":" ++ pair (second % 60)
+
+-- day and time in UTC, as ISO 8601 has them
+abbrev pub moment_text : Moment → List ℕ
+moment_text at = day_text at.day ++ codes "T" ++ clock_text at.second ++ codes "Z"
+
+-- ---- the line
+
+abbrev pub asked_text : Asked → List ℕ
+asked_text asked = method_word asked ++ codes " " ++ asked_path_word asked
+
+abbrev pub numbers_text : ℕ → ℕ → ℕ → List ℕ
+numbers_text status bytes millis = decimal status ++ codes " " ++ decimal bytes ++ codes " " ++ decimal millis
+
+abbrev pub agent_text : Option (Bor (Text NameForm)) → List ℕ
+agent_text agent = option_map_or (λ name. name.now) agent untold
+
+-- when, what was asked for, the reply's status and bytes, milliseconds, and the agent
+abbrev pub entry_line : Entry → List ℕ
+entry_line entry =
+    moment_text entry.at ++ codes " " ++ asked_text entry.asked ++ codes " " ++ numbers_text entry.status entry.bytes entry.millis
+    ++ codes " " ++ agent_text entry.agent ++ codes "\n"

@@ -1,0 +1,293 @@
+//! The line that a server tells of each request that it answered, where it is asked to.
+//!
+//! ```
+//! let entry = Entry { at: Moment::now(&rt), asked: asked_by(&paths, input), status, bytes, millis, agent: None };
+//! write_entry(alloc, &entry, &mut errors);       // 2024-02-01T12:34:56Z GET /chains 200 187 3 -
+//! ```
+//!
+//! No field of an [`Entry`] can hold a token, a key, a query or a body.
+
+ghost use Rattle.std.specs.Prelude.{◌≡◌, ◌↔◌, ◌+◌, ◌/◌, ◌%◌, ◌≤◌, pos, IfOk, IfSome, IsSome, Some};
+ghost use Rattle.bor_http.specs.Routes.Routes.{path_word, route_at as route_in};
+ghost use Rattle.bor_http.specs.Spelling.Parts.{path_in};
+ghost use Rattle.bor_program.specs.Logging.{agent_text, asked_at, asked_of, asked_path_word, asked_text, clock_text, entry_line, method_word, moment_text, numbers_text, route_method, route_path};
+ghost use Rattle.bor_program.specs.Streams.{AppendsPart};
+
+use crate::output::write_part;
+use crate::split::split_at;
+use bor_http::incoming::Path;
+use bor_http::routes::{Paths, Route, route_at};
+use bor_terms::{AgentName, Day};
+use itoa::Buffer;
+use std::alloc::{AllocError, Global};
+use std::io::Write;
+use std::time::{Clock, SystemTime};
+
+const SECONDS_A_DAY: u64 = 86_400;
+
+// 9999-12-31, in days since 1970-01-01.
+const LAST_DAY: u64 = 2_932_896;
+
+/// What bytes ask for, as far as the log may tell it.
+#[derive(Clone, Copy, Debug, PartialEq, Eq)]
+pub enum Asked {
+    /// A path by one of its methods.
+    Route(Route),
+    /// A path, by another method.
+    Path(Path),
+    /// No path that there is; or the bytes don't begin with the line of a request.
+    Nothing,
+}
+
+/// A second of time, in UTC.
+#[derive(Clone, Copy, Debug, PartialEq, Eq)]
+pub struct Moment {
+    /// The day.
+    pub day: Day,
+    /// So many seconds of it have passed.
+    pub second: u32,
+}
+
+/// A request that was answered.
+#[derive(Drop)]
+pub struct Entry<'a> {
+    /// When.
+    pub at: Moment,
+    /// What was asked for.
+    pub asked: Asked,
+    /// The status of the reply.
+    pub status: u16,
+    /// The bytes of the whole reply.
+    pub bytes: u64,
+    /// From the request's last byte to the reply's last one, in milliseconds.
+    pub millis: u64,
+    /// The agent whose token the request had, if it is known.
+    pub agent: Option<&'a AgentName>,
+}
+
+impl Moment {
+    /// The second that began so many seconds after 1970-01-01T00:00:00Z, up to the end of the year 9999.
+    pub fn of_seconds(seconds: u64) -> Option<Moment>
+        ensures day { IfSome result (λ moment. moment.day ≡ pos (seconds / 86_400)) }
+        ensures second { IfSome result (λ moment. moment.second ≡ seconds % 86_400) }
+        ensures some { IsSome result ↔ (seconds / 86_400 ≤ 2_932_896) }
+    {
+        let days = seconds / SECONDS_A_DAY;
+        if days > LAST_DAY {
+            return None;
+        }
+        Some(Moment {
+            day: Day::from_number(days as i32)?,
+            second: (seconds % SECONDS_A_DAY) as u32,
+        })
+    }
+
+    /// The second that it is; the first one of 1970 where the clock can't be read.
+    pub fn now<R: Clock>(rt: &R) -> Moment {
+        match Moment::of_seconds(seconds_now(rt)) {
+            Some(moment) => moment,
+            None => Moment {
+                day: Day::from_number(0).unwrap(),
+                second: 0,
+            },
+        }
+    }
+}
+
+// How many seconds have passed since 1970, by the clock.
+fn seconds_now<R: Clock>(rt: &R) -> u64 {
+    match SystemTime::now(rt) {
+        Ok(now) => match now.duration_since(SystemTime::UNIX_EPOCH) {
+            Ok(passed) => passed.as_secs(),
+            Err(_) => 0,
+        },
+        Err(_) => 0,
+    }
+}
+
+// ---- what was asked for
+
+// The path that bytes are.
+fn path_found(paths: &Paths, text: &[u8]) -> Option<Path>
+    ensures { result ≡ path_in text.now }
+{
+    match str::from_utf8(text) {
+        Ok(text) => paths.find(text),
+        Err(_) => None,
+    }
+}
+
+// What a path asks for by a method.
+fn asked_at(path: Option<Path>, method: &[u8]) -> Asked
+    ensures { result ≡ asked_at path method.now }
+{
+    match path {
+        Some(path) => match route_at(path, method) {
+            Some(route) => Asked::Route(route),
+            None => Asked::Path(path),
+        },
+        None => Asked::Nothing,
+    }
+}
+
+/// What the first line of an input asks for. No memory is taken.
+#[tactic(auto, unfolding(crate::specs::Logging::asked_of))]
+pub fn asked_by(paths: &Paths, input: &[u8]) -> Asked
+    ensures { result ≡ asked_of input.now }
+{
+    let (line, _) = split_at(b'\n', input);
+    let (method, rest) = split_at(b' ', line);
+    let (target, _) = split_at(b' ', rest);
+    let (path, _) = split_at(b'?', target);
+    asked_at(path_found(paths, path), method)
+}
+
+// A route's path and method: the one line of the table of routes that asks for it.
+fn line_of(route: Route) -> (Path, &'static str)
+    ensures path { result.0 ≡ route_path route }
+    ensures method { result.1.now ≡ route_method route }
+    ensures route { route_in result.0 result.1.now ≡ Some route }
+{
+    match route {
+        Route::Lodge => (Path::Filing, "PUT"),
+        Route::Withdraw => (Path::Filing, "DELETE"),
+        Route::Filings => (Path::Filings, "GET"),
+        Route::File => (Path::File, "GET"),
+        Route::Published => (Path::Published, "GET"),
+        Route::Snapshot => (Path::Snapshot, "GET"),
+        Route::Chains => (Path::Chains, "GET"),
+        Route::Day => (Path::Day, "POST"),
+        Route::Enrol => (Path::Agents, "POST"),
+    }
+}
+
+// A path as it is written, with {key} for a key.
+fn path_text(path: Path) -> &'static str
+    ensures { result.now ≡ path_word path }
+{
+    match path {
+        Path::Filing => "/filings/{key}",
+        Path::Filings => "/filings",
+        Path::File => "/filings/{key}/file",
+        Path::Published => "/published",
+        Path::Snapshot => "/snapshot",
+        Path::Chains => "/chains",
+        Path::Day => "/day",
+        Path::Agents => "/agents",
+    }
+}
+
+impl Asked {
+    // The method and the path, each a hyphen where it isn't told.
+    fn words(self) -> (&'static str, &'static str)
+        ensures method { result.0.now ≡ method_word self }
+        ensures path { result.1.now ≡ asked_path_word self }
+    {
+        match self {
+            Asked::Route(route) => {
+                let (path, method) = line_of(route);
+                (method, path_text(path))
+            }
+            Asked::Path(path) => ("-", path_text(path)),
+            Asked::Nothing => ("-", "-"),
+        }
+    }
+}
+
+// ---- the line
+
+// The last digit of a number.
+fn digit(number: u32) -> u8
+    ensures { result ≡ 48 + number % 10 }
+{
+    48 + (number % 10) as u8
+}
+
+// So many seconds after midnight, as hours, minutes and seconds.
+fn clock_text(second: u32) -> [u8; 8]
+    ensures { result ≡ clock_text second }
+{
+    let (hours, minutes, seconds) = (second / 3_600, second / 60 % 60, second % 60);
+    [
+        digit(hours / 10),
+        digit(hours),
+        b':',
+        digit(minutes / 10),
+        digit(minutes),
+        b':',
+        digit(seconds / 10),
+        digit(seconds),
+    ]
+}
+
+// A moment, as ISO 8601 has it.
+fn moment_text(alloc: Global, at: Moment) -> Result<Vec<u8>, AllocError>
+    ensures { IfOk result (λ text. text.items ≡ moment_text at) }
+{
+    let mut text = Vec::from_slice(alloc, &at.day.text())?;
+    text.extend_from_slice(b"T")?;
+    text.extend_from_slice(&clock_text(at.second))?;
+    text.extend_from_slice(b"Z")?;
+    Ok(text)
+}
+
+// The method and the path, with a space between them.
+fn asked_text(alloc: Global, asked: Asked) -> Result<Vec<u8>, AllocError>
+    ensures { IfOk result (λ text. text.items ≡ asked_text asked) }
+{
+    let (method, path) = asked.words();
+    let mut text = Vec::from_slice(alloc, method.as_bytes())?;
+    text.extend_from_slice(b" ")?;
+    text.extend_from_slice(path.as_bytes())?;
+    Ok(text)
+}
+
+// Three numbers in decimal digits, with spaces between them.
+fn numbers_text(alloc: Global, status: u16, bytes: u64, millis: u64) -> Result<Vec<u8>, AllocError>
+    ensures { IfOk result (λ text. text.items ≡ numbers_text status bytes millis) }
+{
+    let mut digits = Buffer::new();
+    let mut text = Vec::from_slice(alloc, digits.format(status).as_bytes())?;
+    text.extend_from_slice(b" ")?;
+    text.extend_from_slice(digits.format(bytes).as_bytes())?;
+    text.extend_from_slice(b" ")?;
+    text.extend_from_slice(digits.format(millis).as_bytes())?;
+    Ok(text)
+}
+
+// The agent's name, or a hyphen.
+fn agent_text<'a>(agent: Option<&'a AgentName>) -> &'a str
+    ensures { result.now ≡ agent_text agent.entry }
+{
+    match agent {
+        Some(name) => name.as_str(),
+        None => "-",
+    }
+}
+
+/// The line of a request that was answered: day and time, the method and the path, the reply's status and
+/// bytes, milliseconds, and the agent.
+pub fn entry_line(alloc: Global, entry: &Entry<'_>) -> Result<Vec<u8>, AllocError>
+    ensures { IfOk result (λ line. line.items ≡ entry_line entry.now) }
+{
+    let mut line = moment_text(alloc, entry.at)?;
+    line.extend_from_slice(b" ")?;
+    line.extend_from_slice(&asked_text(alloc, entry.asked)?)?;
+    line.extend_from_slice(b" ")?;
+    let numbers = numbers_text(alloc, entry.status, entry.bytes, entry.millis)?;
+    line.extend_from_slice(&numbers)?;
+    line.extend_from_slice(b" ")?;
+    line.extend_from_slice(agent_text(entry.agent).as_bytes())?;
+    line.extend_from_slice(b"\n")?;
+    Ok(line)
+}
+
+/// Writes the line of a request that was answered, as far as it can be written; nothing where memory is
+/// wanting.
+pub fn write_entry<E: Write>(alloc: Global, entry: &Entry<'_>, errors: &mut E)
+    ensures { AppendsPart (E.contents errors.old) (E.contents errors.new) (entry_line entry.now) }
+{
+    if let Ok(line) = entry_line(alloc, entry) {
+        let _ = write_part(errors, &line);
+    }
+}
