@@ -1,0 +1,92 @@
+"""docs/openapi.yaml, held against what the program tells."""
+from lib.checking import DB, begun, changed, check, is_so
+from lib.openapi import PLACE, Document, Reply
+from lib.notation import request_of
+from lib.replies import replies_in
+from lib.rows import all_rows, enrolments
+from lib.scripts import shown
+
+# What each operation asks for, of a register that has a value of no form where it looks.
+SPOILED = [
+    "alder lodge f1 2024-02-01 E s1 e1",
+    "alder withdraw f1",
+    "alder filings",
+    "alder file f1",
+    "alder published",
+    "alder snapshot alder c1",
+    "alder chains alder c1 e1",
+    "registrar day 2024-02-01",
+    "registrar enrol cedar cedar-token-000001",
+]
+
+
+class Held:
+    """The document, and which of the refusals that it lists have come."""
+
+    def __init__(self):
+        self.document, self.came = Document(), set()
+
+    def told(self, request, data, name):
+        """Sees that the reply to a request is as the document has it."""
+        key, responses = self.document.asked(request)
+        reply = Reply(data)
+        fault = self.document.reply_fault(key, responses, request, reply)
+        is_so(fault is None, f"{name}: {request[:200]!r} is answered {shown(data)[:300]}: {fault}")
+        if reply.status >= 400:
+            self.came.add((key, reply.status, *reply.refusal()))
+
+    def asked(self, bor, folder, requests, name, db=None):
+        replies = replies_in(bor.exchange(requests, folder, db).output)
+        is_so(len(replies) == len(requests), f"{name}: {len(replies)} replies to {len(requests)} requests")
+        for request, data in zip(requests, replies):
+            self.told(request, data, name)
+
+
+@check
+def the_document_of_requests_holds(bor, folder):
+    """docs/openapi.yaml lists each status, field and body that is told to the requests of the rows, and no refusal that none is told"""
+    held = Held()
+    for row in all_rows():
+        requests = [it.request for it in enrolments() + row.exchanges()]
+        held.asked(bor, folder, requests, row.name)
+    begun(bor, folder)
+    changed(folder, "UPDATE agent SET name = 'Alder'; UPDATE register SET day = 99999999")
+    changed(folder, "INSERT INTO agent (name, token) VALUES ('Cedar', 'cedar-token-000001')")
+    held.asked(bor, folder, list(map(request_of, SPOILED)), "a spoiled register", DB)
+    never = sorted(set(held.document.refusals()) - held.came, key=str)
+    is_so(not never, f"{PLACE} lists what nobody is told: {never}")
+    operations = dict(held.document.operations())
+    is_so(len(operations) == 9, f"{PLACE} has {len(operations)} requests")
+
+
+# What is changed in the document, and what it is then to be told by.
+PLANTED = [
+    ("enum: [KeyReused, FilingsFull]", "enum: [KeyReused]"),
+    ("required: [due, filing, key, state]", "required: [due, filing, key, state, note]"),
+    ("refusal: {const: NoEntity}", "refusal: {enum: [NoEntity, NoAgent]}"),
+    ("schema: {const: Bearer}", "schema: {const: Basic}"),
+    ('        "201": {$ref: "#/components/responses/Filing"}\n', ""),
+    ("minimum: 1\n          description: How far", "minimum: 2\n          description: How far"),
+    ("enum: [agent, declaration, record, date]", "enum: [agent, declaration, record]"),
+    ('pattern: "^[A-Za-z0-9._-]{1,64}$"', 'pattern: "^[a-z0-9]{1,64}$"'),
+    ('schema: {enum: [GET, POST, "DELETE, PUT"]}', 'schema: {enum: [GET, POST, "PUT, DELETE"]}'),
+]
+
+
+@check
+def a_wrong_document_is_found(bor, folder):
+    """an error that is planted in docs/openapi.yaml is found by the recorded replies"""
+    rows = [(row.name, it) for row in all_rows() for it in enrolments() + row.exchanges()]
+    whole = Document()
+    text = whole.text
+    for right, wrong in PLANTED:
+        is_so(text.count(right) == 1, f"{right!r} stands {text.count(right)} times in {PLACE}")
+        document, came, fault = Document(text.replace(right, wrong)), set(), None
+        for name, it in rows:
+            key, responses = document.asked(it.request)
+            reply = Reply(it.reply)
+            fault = fault or document.reply_fault(key, responses, it.request, reply)
+            if reply.status >= 400:
+                came.add((key, reply.status, *reply.refusal()))
+        more = set(document.refusals()) - came - {it for it in whole.refusals() if it[1] == 503}
+        is_so(fault or more, f"{wrong!r} isn't found")
