@@ -1,6 +1,7 @@
 """What the scripts have in common."""
 import importlib.machinery
 import importlib.util
+import sys
 from pathlib import Path
 
 TESTS = Path(__file__).resolve().parent.parent
@@ -8,8 +9,14 @@ TESTS = Path(__file__).resolve().parent.parent
 
 def loaded(name):
     """The script of this name as a module."""
-    loader = importlib.machinery.SourceFileLoader(name, str(TESTS / name))
-    module = importlib.util.module_from_spec(importlib.util.spec_from_loader(name, loader))
+    return loaded_from(TESTS / name)
+
+
+def loaded_from(path):
+    """The script at this path as a module."""
+    loader = importlib.machinery.SourceFileLoader(path.name, str(path))
+    module = importlib.util.module_from_spec(importlib.util.spec_from_loader(path.name, loader))
+    sys.modules[path.name] = module
     loader.exec_module(module)
     return module
 
