@@ -1,0 +1,181 @@
+"""Tools of root that docs/OPERATE.md calls, as far as its commands need them, over folders that stand for the machine's.
+
+`systemctl` starts and stops what the units in the folder say, as their ExecStart, UMask and Restart have it; `curl`
+asks over HTTP; `useradd` and `chown` do nothing, and `runuser` runs the command as it stands.
+"""
+import contextlib
+import http.client
+import os
+import shlex
+import signal
+import subprocess
+import sys
+import time
+from pathlib import Path
+from urllib.parse import urlsplit
+
+TOOLS = ["systemctl", "curl", "useradd", "chown", "runuser"]
+SECONDS = 20
+
+
+def made(folder):
+    """Makes the tools in a folder."""
+    for name in TOOLS:
+        path = Path(folder, name)
+        path.write_text(f"#!/bin/sh\nexec {shlex.quote(sys.executable)} -B {shlex.quote(__file__)} {name} \"$@\"\n")
+        path.chmod(0o755)
+
+
+# ---- units
+
+
+def unit(name):
+    """The lines of a unit, by their names."""
+    path = Path(os.environ["UNITS"], name if "." in name else f"{name}.service")
+    lines = [line for line in path.read_text().splitlines() if "=" in line and not line.startswith("#")]
+    return dict(line.split("=", 1) for line in lines)
+
+
+def mark(name):
+    return Path(os.environ["RUNNING"], name)
+
+
+def is_active(name):
+    try:
+        state = Path(f"/proc/{int(mark(name).read_text())}/stat").read_text().rpartition(")")[2].split()[0]
+    except (OSError, ValueError):
+        return False
+    return state not in "ZX"
+
+
+def keep_running(name, said):
+    """Runs the unit's command, and again wherever it ends, as Restart says, until it is stopped."""
+    words, ran = shlex.split(said["ExecStart"]), []
+
+    def stop(*_):
+        # (not by its own wait, which may be what was interrupted)
+        for it in ran[-1:]:
+            with contextlib.suppress(OSError):
+                os.kill(it.pid, signal.SIGTERM)
+                os.waitpid(it.pid, 0)
+        os._exit(0)
+
+    signal.signal(signal.SIGTERM, stop)
+    os.umask(int(said.get("UMask", "0022"), 8))
+    with open(Path(os.environ["RUNNING"], f"{name}.journal"), "ab") as journal:
+        while True:
+            ran.append(subprocess.Popen(words, stdin=subprocess.DEVNULL, stdout=journal, stderr=journal))
+            ran[-1].wait()
+            if said.get("Restart") != "always":
+                return
+            time.sleep(float(said.get("RestartSec", "0.1")))
+
+
+def start(name):
+    said = unit(name)
+    if "ExecStart" not in said or is_active(name):
+        return
+    process = os.fork()
+    if process == 0:
+        os.setsid()
+        # (nobody is to wait for what the server would hold open)
+        nothing = os.open(os.devnull, os.O_RDWR)
+        for handle in range(3):
+            os.dup2(nothing, handle)
+        keep_running(name, said)
+        os._exit(0)
+    mark(name).write_text(str(process))
+    wait_for_listening(said)
+
+
+def wait_for_listening(said):
+    """A port that the command names is listened on; systemd itself doesn't wait for that."""
+    words = shlex.split(said["ExecStart"])
+    port = int(words[words.index("--port") + 1]) if "--port" in words else None
+    until = time.monotonic() + SECONDS
+    while port and time.monotonic() < until:
+        try:
+            http.client.HTTPConnection("127.0.0.1", port).connect()
+            return
+        except OSError:
+            time.sleep(0.02)
+
+
+def stop(name):
+    if is_active(name):
+        process = int(mark(name).read_text())
+        os.kill(process, signal.SIGTERM)
+        until = time.monotonic() + SECONDS
+        while is_active(name) and time.monotonic() < until:
+            time.sleep(0.01)
+        mark(name).unlink()
+
+
+def systemctl(words):
+    name = words[-1]
+    if words[0] == "start" or words[:2] == ["enable", "--now"]:
+        start(name)
+    elif words[0] == "stop":
+        stop(name)
+    elif words[0] == "is-active":
+        print("active" if is_active(name) else "inactive")
+        return 0 if is_active(name) else 3
+    elif words != ["daemon-reload"]:
+        raise SystemExit(f"systemctl: nobody knows {words}")
+    return 0
+
+
+# ---- curl
+
+
+def given(text):
+    """The value of an option, or what the file has that it names by @."""
+    return Path(text[1:]).read_bytes() if text.startswith("@") else text.encode()
+
+
+def curl(words):
+    method, body, fields, told, output, url = None, None, {}, None, None, None
+    fails = False
+    words = list(words)
+    while words:
+        word = words.pop(0)
+        if word == "-X":
+            method = words.pop(0)
+        elif word == "-H":
+            for line in given(words.pop(0)).decode().splitlines():
+                name, _, value = line.partition(": ")
+                fields[name] = value
+        elif word == "--data-binary":
+            body = given(words.pop(0))
+        elif word == "-o":
+            output = words.pop(0)
+        elif word == "-w":
+            told = words.pop(0)
+        elif word.startswith("-") and set(word[1:]) <= set("fsS"):
+            fails = fails or "f" in word
+        else:
+            url = urlsplit(word)
+    client = http.client.HTTPConnection(url.hostname, url.port, timeout=SECONDS)
+    target = url.path + (f"?{url.query}" if url.query else "")
+    client.request(method or ("POST" if body is not None else "GET"), target, body, fields)
+    reply = client.getresponse()
+    data = reply.read()
+    if fails and reply.status >= 400:
+        print(f"curl: (22) The requested URL returned error: {reply.status}", file=sys.stderr)
+        return 22
+    if output is None:
+        sys.stdout.write(data.decode())
+    if told:
+        sys.stdout.write(told.replace("%{http_code}", str(reply.status)).replace("\\n", "\n"))
+    return 0
+
+
+def main(name, words):
+    if name == "runuser":
+        after = words.index("--") + 1
+        os.execvp(words[after], words[after:])
+    return {"systemctl": systemctl, "curl": curl}.get(name, lambda _: 0)(words)
+
+
+if __name__ == "__main__":
+    sys.exit(main(sys.argv[1], sys.argv[2:]))
