@@ -108,7 +108,7 @@ def a_backup_begins_again_where_the_log_does(bor, folder):
             before = BACKUP.header(log)
             for number in range(200):
                 told.append(f"big{number}")
-                server.ask(lodging(told[-1], 100, "x" * 400))
+                server.ask(lodging(told[-1], 8, "x" * 30_000))
                 if BACKUP.header(log) != before:
                     return
 
@@ -127,7 +127,7 @@ def a_copy_that_begins_with_the_file_is_torn(bor, folder):
     before, told = BACKUP.header(log), ["f1"]
     while BACKUP.header(log) == before and len(told) < 200:
         told.append(f"big{len(told)}")
-        server.ask(lodging(told[-1], 100, "x" * 400))
+        server.ask(lodging(told[-1], 8, "x" * 30_000))
     BACKUP.copy(log, f"{part}-wal")
     server.stop()
     try:

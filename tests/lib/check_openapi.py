@@ -1,4 +1,8 @@
 """docs/openapi.yaml, held against what the program tells."""
+import os
+import tempfile
+from concurrent.futures import ThreadPoolExecutor
+
 from lib.checking import DB, begun, changed, check, is_so
 from lib.openapi import PLACE, Document, Reply
 from lib.notation import request_of
@@ -35,24 +39,31 @@ class Held:
         if reply.status >= 400:
             self.came.add((key, reply.status, *reply.refusal()))
 
-    def asked(self, bor, folder, requests, name, db=None):
-        replies = replies_in(bor.exchange(requests, folder, db).output)
+    def all_told(self, requests, replies, name):
         is_so(len(replies) == len(requests), f"{name}: {len(replies)} replies to {len(requests)} requests")
         for request, data in zip(requests, replies):
             self.told(request, data, name)
+
+
+def replies_to(bor, requests):
+    """What a new register in memory tells to the requests."""
+    with tempfile.TemporaryDirectory(prefix="bor-document-") as folder:
+        return replies_in(bor.exchange(requests, folder).output)
 
 
 @check
 def the_document_of_requests_holds(bor, folder):
     """docs/openapi.yaml lists each status, field and body that is told to the requests of the rows, and no refusal that none is told"""
     held = Held()
-    for row in all_rows():
-        requests = [it.request for it in enrolments() + row.exchanges()]
-        held.asked(bor, folder, requests, row.name)
+    rows = [(row.name, [it.request for it in enrolments() + row.exchanges()]) for row in all_rows()]
+    with ThreadPoolExecutor(os.cpu_count()) as pool:
+        for (name, requests), replies in zip(rows, pool.map(lambda row: replies_to(bor, row[1]), rows)):
+            held.all_told(requests, replies, name)
     begun(bor, folder)
     changed(folder, "UPDATE agent SET name = 'Alder'; UPDATE register SET day = 99999999")
     changed(folder, "INSERT INTO agent (name, token) VALUES ('Cedar', 'cedar-token-000001')")
-    held.asked(bor, folder, list(map(request_of, SPOILED)), "a spoiled register", DB)
+    requests = list(map(request_of, SPOILED))
+    held.all_told(requests, replies_in(bor.exchange(requests, folder, DB).output), "a spoiled register")
     never = sorted(set(held.document.refusals()) - held.came, key=str)
     is_so(not never, f"{PLACE} lists what nobody is told: {never}")
     operations = dict(held.document.operations())
