@@ -40,11 +40,13 @@ def below(crates):
     return found
 
 
-def made(folder, name, text, crates, libraries=""):
-    """Makes a program's crate in a repository of its own, beside links to these crates and those below them."""
+def made(folder, name, text, crates, libraries="", modules=()):
+    """Makes a program's crate in a repository of its own, beside links to these crates and those below them; it may take modules."""
     crate, needed = folder / "crates" / name, below(crates)
     (crate / "src").mkdir(parents=True)
     (crate / "src" / "main.rt").write_text(text)
+    for module in modules:
+        shutil.copy(module, crate / "src")
     own = f"{name}: {' '.join([*needed, *libraries.split()])}"
     (folder / "crates.txt").write_text("\n".join([*needed.values(), own]) + "\n")
     shutil.copy(TOP / "HANDLES", folder)
@@ -55,11 +57,11 @@ def made(folder, name, text, crates, libraries=""):
     return crate
 
 
-def built(folder, name, text, crates, libraries=""):
+def built(folder, name, text, crates, libraries="", modules=()):
     """Proves and builds the program over the crates as they are built here, which `rt lib` does first where it has to."""
     for it in crates:
         subprocess.run([RT, "lib"], cwd=TOP / "crates" / it, stdout=subprocess.DEVNULL, check=True)
-    crate = made(folder, name, text, crates, libraries)
+    crate = made(folder, name, text, crates, libraries, modules)
     ran = subprocess.run([RT, "run"], cwd=crate, capture_output=True, text=True)
     if ran.returncode:
         sys.exit(ran.stdout + ran.stderr)

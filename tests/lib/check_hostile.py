@@ -52,6 +52,22 @@ def clients_never_read(bor, folder):
     hostile_clients.never_reads(bor, folder)
 
 
+# What a machine with other work adds to the few milliseconds of a request.
+SLACK = 0.02
+
+
+@check
+def many_clients_stay(bor, folder):
+    """clients that send nothing, too slowly, or never read, 252 at once, hold nobody up and are cut off"""
+    hostile_clients.many_stay(bor, folder, SLACK)
+
+
+@check
+def a_client_more_than_there_are_places(bor, folder):
+    """where a client more comes than there are places, the one that was idle for the longest gives way"""
+    hostile_clients.one_more_than_places(bor, folder)
+
+
 def sends_for_ever(kind):
     def asked(bor, folder):
         hostile_clients.sends_for_ever(bor, folder, kind)

@@ -1,7 +1,9 @@
 """What isn't for everybody: the registrar's token, and who may read a register."""
+import os
+import stat
 from pathlib import Path
 
-from lib.checking import DB, ENROLLED, LODGED, check, failed, is_so, replied, write
+from lib.checking import DB, ENROLLED, LODGED, begun, check, failed, is_so, replied, write
 from lib.notation import request_of
 
 DAY = ["--day", "2024-02-01"]
@@ -38,3 +40,22 @@ def a_file_without_a_token_is_told(bor, folder):
         for words in ([], ["--db", DB]):
             failed(exchange(bor, folder, [*words, "--registrar-file", name], ENROLLED[0]), f"no token in {name}")
     is_so(not Path(folder, DB).exists(), "a register was made")
+
+
+# ---- who may read a register
+
+
+def modes(folder):
+    return {name: stat.S_IMODE(os.stat(Path(folder, name)).st_mode) for name in (DB, f"{DB}-wal")}
+
+
+@check
+def a_register_is_for_its_owner_alone(bor, folder):
+    """a register that is made, and its log, may be read by their owner alone; one that is there keeps its mode"""
+    begun(bor, folder, LODGED)
+    is_so(modes(folder) == {DB: 0o600, f"{DB}-wal": 0o600}, f"the modes are {modes(folder)}")
+    os.remove(Path(folder, f"{DB}-wal"))
+    os.chmod(Path(folder, DB), 0o640)
+    server = bor.serve(folder, DB, 1)
+    is_so(modes(folder) == {DB: 0o640, f"{DB}-wal": 0o640}, f"the modes are {modes(folder)}")
+    server.stop()

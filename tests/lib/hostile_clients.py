@@ -285,21 +285,114 @@ def long_lodging(number):
     return f"alder lodge k{number} 2024-02-01 {file} in d{number}", f"201 F({number}, published, 2024-02-01)"
 
 
-def never_reads_much(bor, folder):
-    """a client that never reads a reply of many megabytes is cut off after ten seconds"""
-    server = served(bor, folder, 2, BIRCH, *map(long_lodging, range(1, 25)))
+def that_never_reads(server, ask):
+    """A client that asks, and never reads; it takes little before that."""
     client = socket.socket()
     client.setsockopt(socket.SOL_SOCKET, socket.SO_RCVBUF, 4096)
     client.connect(("127.0.0.1", server.port))
-    client.sendall(request_of("birch published"))
-    time.sleep(0.3)
+    client.sendall(request_of(ask))
+    return client
+
+
+def never_reads_much(bor, folder):
+    """a client that never reads a reply of many megabytes is cut off after ten seconds, and holds nobody up"""
+    server = served(bor, folder, 2, BIRCH, *map(long_lodging, range(1, 25)))
     start = time.monotonic()
+    client = that_never_reads(server, "birch published")
+    time.sleep(0.3)
     another_is_answered(server)
+    waited = time.monotonic() - start
+    has_ended(server, 3)
     seconds = time.monotonic() - start
     client.close()
-    has_ended(server, 3)
-    is_so(REPLY_TIME - 2 <= seconds <= REPLY_TIME + LATE, f"the next client waited {seconds:.1f} s")
+    is_so(waited <= LATE, f"the next client waited {waited:.1f} s")
+    is_so(REPLY_TIME - 0.5 <= seconds <= REPLY_TIME + LATE, f"cut off after {seconds:.1f} s")
     return Cut(0, seconds, b"")
+
+
+# ---- many clients at once
+
+# How many clients stay at once, of the 256 that a server has places for, and how many requests are asked beside them.
+STAYING, BESIDE = 252, 100
+# How many seconds a request may take longer beside them.
+LONGER = 0.005
+
+
+def a_request_takes(server):
+    """The median of the seconds that a request takes, from before the connect to the end of the reply."""
+    seconds = []
+    for _ in range(BESIDE):
+        start = time.perf_counter()
+        another_is_answered(server)
+        seconds.append(time.perf_counter() - start)
+    return sorted(seconds)[BESIDE // 2]
+
+
+class Dripping:
+    """Sends each of these clients' request a byte a second, from now on and until it is stopped."""
+
+    def __init__(self, clients, request):
+        self.clients, self.request = clients, request
+        self.is_over = threading.Event()
+        self.thread = threading.Thread(target=self.run)
+        self.thread.start()
+
+    def run(self):
+        for byte in self.request:
+            for client in self.clients:
+                try:
+                    client.sendall(bytes([byte]))
+                except OSError:
+                    pass  # it has been cut off
+            if self.is_over.wait(1):
+                return
+
+    def stop(self):
+        self.is_over.set()
+        self.thread.join()
+
+
+def many_stay(bor, folder, slack):
+    """clients that send nothing, a byte a second, or never read, 252 at once, make no other client's request take 5 ms longer, and are cut off"""
+    server = served(bor, folder, STAYING + 2 * BESIDE, BIRCH, *map(long_lodging, range(1, 9)))
+    alone = a_request_takes(server)
+    start = time.monotonic()
+    reading = [that_never_reads(server, "birch published") for _ in range(4)]
+    silent = [server.connect() for _ in range((STAYING - len(reading)) // 2)]
+    slow = [server.connect() for _ in range(STAYING - len(reading) - len(silent))]
+    dripping = Dripping(slow, first_request())
+    try:
+        beside = a_request_takes(server)
+        is_so(time.monotonic() - start < REQUEST_TIME, "the machine is too slow: they were cut off before")
+        has_ended(server, 3)
+        seconds = time.monotonic() - start
+    finally:
+        dripping.stop()
+        for client in reading + silent + slow:
+            client.close()
+    is_so(beside - alone <= LONGER + slack, f"a request took {beside * 1e3:.1f} ms, and {alone * 1e3:.1f} ms alone")
+    is_so(seconds <= REQUEST_TIME + LATE, f"the last was cut off after {seconds:.1f} s")
+    exchange(bor, folder, [("birch filings", "200 []")])
+    return Cut(0, beside - alone, b"")
+
+
+def one_more_than_places(bor, folder):
+    """where 256 clients are there and another one comes, the one that was idle for the longest gives way"""
+    server = served(bor, folder, 258, BIRCH)
+    clients = []
+    for number in range(256):
+        client = server.connect()
+        client.sendall(b"GET /fil" if number else request_of(OTHER[0])[:20])
+        clients.append(client)
+    another_is_answered(server)
+    clients[1].settimeout(LATE)
+    is_so(clients[0].recv(1) == b"", "the first client has not given way")
+    clients[1].sendall(request_of(OTHER[0])[8:])
+    is_so(told(clients[1]) == reply_of(OTHER[1], OTHER[0], "")[1], "the second client is not told")
+    another_is_answered(server)
+    for client in clients:
+        client.close()
+    ends_as(server, 3)
 
 
 def waits_side_by_side(functions):

@@ -47,10 +47,10 @@ class Bor:
         store = ["--db", db] if db else []
         return self.run(["exchange", *store, *REGISTER, *names], folder)
 
-    def serve(self, folder, db, connections):
-        """A server; where another program took its port meanwhile, it gets another one."""
+    def serve(self, folder, db, connections, *words):
+        """A server, with more words where they are given; where another program took its port meanwhile, it gets another one."""
         for _ in range(3):
-            server = Server(self, folder, db, connections)
+            server = Server(self, folder, db, connections, *words)
             if server.is_listening():
                 break
             server.stop()
@@ -79,9 +79,9 @@ def free_port():
 class Server:
     """A register that is served on a port, for so many connections; where nothing ends it, the tests' end does."""
 
-    def __init__(self, bor, folder, db, connections):
+    def __init__(self, bor, folder, db, connections, *more):
         self.port = free_port()
-        words = ["serve", "--db", db, "--port", str(self.port), "--connections", str(connections)]
+        words = ["serve", "--db", db, "--port", str(self.port), "--connections", str(connections), *more]
         streams = {"stdin": subprocess.DEVNULL, "stdout": subprocess.PIPE, "stderr": subprocess.PIPE}
         variables = {**os.environ, **bor.variables}
         self.ran = subprocess.Popen([bor.path, *words], cwd=folder, env=variables, **streams)

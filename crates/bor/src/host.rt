@@ -8,15 +8,18 @@ ghost use Rattle.sqlite_wal.specs.Files.{image_at};
 ghost use Rattle.bor.specs.Machine.{FindsOrSetsUp, IsDone, failure_of};
 
 use crate::setup::find_or_set_up;
+use crate::waiting::Waiting;
 use bor_desk::operations::Keep;
 use bor_program::connections::serve_on;
 use bor_program::{Failure, Opened, Ports, Registers};
 use bor_store::{OpenFault, SqlKeep, connect, migrate};
 use bor_terms::{Day, Token};
+use mio::net;
 use sqlite::{FileFrom, FileStore, Start};
-use std::fs;
+use std::fs::{self, OpenOptions};
 use std::io::{self, ErrorKind};
-use std::net::TcpListener;
+use std::net::{SocketAddr, TcpListener};
+use std::os::unix::fs::OpenOptionsExt;
 
 /// What opens registers in files of SQLite, and listens on ports of 127.0.0.1. `S` stands for what a
 /// file and its log hold as they are opened.
@@ -71,7 +74,9 @@ impl<S: Start + Copy> Ports for Host<'_, S> {
     type Listener = TcpListener;
 
     fn listen(&self, port: u16) -> Option<TcpListener> {
-        TcpListener::bind(self.rt, ("127.0.0.1", port)).ok()
+        let address = SocketAddr::from(([127, 0, 0, 1], port));
+        let listener = net::TcpListener::bind(self.rt, address).ok()?;
+        Some(TcpListener::from(listener))
     }
 
     fn serve(
@@ -79,8 +84,10 @@ impl<S: Start + Copy> Ports for Host<'_, S> {
         register: &mut SqlKeep<FileStore<FileFrom<S>>>,
         listener: &TcpListener,
         connections: u32,
+        log: bool,
     ) -> u8 {
-        serve_on(self.rt, register, listener, connections)
+        let mut waiting = Waiting::new(self.rt, log);
+        serve_on(self.rt, register, listener, &mut waiting, connections)
     }
 }
 
@@ -121,8 +128,22 @@ fn found_or_set_up<S: Start>(
         FindsOrSetsUp keep.shows keep.is_clean (HoldsRegister (image_at S.Start)) registrar.now day
         opened.register opened.origin) }
 {
+    make_private(rt, path);
     let conn = connect(rt, path, start)?;
     find_or_set_up(rt.alloc(), conn, registrar, day)
+}
+
+// Makes the file of this name for its owner alone, where there is none: a register has tokens and drafts. Its
+// log is made as it is. Where it can't be made, opening it tells why; the name `:memory:` stands for no file.
+fn make_private(rt: &HostRuntime, path: &str) {
+    if path == ":memory:" {
+        return;
+    }
+    let _ = OpenOptions::new()
+        .write(true)
+        .create_new(true)
+        .mode(0o600)
+        .open(rt, path);
 }
 
 // Moves the register in the file of this name to the tables of this program, and closes the file.

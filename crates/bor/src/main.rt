@@ -4,6 +4,7 @@
 mod host;
 mod setup;
 mod start;
+mod waiting;
 
 use bor_program::{Failure, Status};
 use host::Host;

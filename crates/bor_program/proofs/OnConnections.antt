@@ -1,2 +1,4 @@
-pub mod Taking
 pub mod Served
+pub mod Phases
+pub mod Servers
+pub mod Streams

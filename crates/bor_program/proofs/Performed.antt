@@ -116,7 +116,7 @@ serves_end : {M K : Type 0} (shows : K → Register → Type 0) (is_clean : K �
 serves_end shows is_clean does begun ended asked output printed errors told status (inl h) = inr h.status_is
 serves_end shows is_clean does begun ended asked output printed errors told status (inr (_, _, _, inl h)) = inr h.1.status_is
 serves_end shows is_clean does begun ended asked output printed errors told status (inr (_, _, _, inr h)) =
-    let served = h.served in subst IsServersEnd (sym served.status) (flag_end (list_any (λ e. has_failed e.outcome) served.exchanges))
+    let served = h.served.served in subst IsServersEnd (sym served.status) (flag_end (list_any has_failed served.ended))
 
 no_one : (n : ℕ) → IsServersEnd n → n ≡ 1 → ⊥
 no_one n (inl h) e = absurd (omega (arith, h, e))

@@ -1,2 +1,6 @@
+-- Many clients, served at once.
 pub mod Limits
 pub mod Serving
+pub mod Streams
+pub mod Phases
+pub mod Servers

@@ -148,12 +148,14 @@ pub trait Ports: Registers {
     /// Listens on this port, if that can be done.
     fn listen(&self, port: u16) -> Option<Self::Listener>;
 
-    /// Serves so many connections, one after the other, and gives 0, or 3 where one of them failed.
+    /// Serves so many connections, and gives 0, or 3 where one of them failed. Where it is asked for, each
+    /// request that was answered has a line on standard error.
     fn serve(
         &self,
         register: &mut Self::Register,
         listener: &Self::Listener,
         connections: u32,
+        log: bool,
     ) -> u8
         ensures { IsServed Self.Register.shows Self.Register.is_clean register.old register.new connections result };
 }

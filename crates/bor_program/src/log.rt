@@ -5,11 +5,12 @@
 //! write_entry(alloc, &entry, &mut errors);       // 2024-02-01T12:34:56Z GET /chains 200 187 3 -
 //! ```
 //!
-//! No field of an [`Entry`] can hold a token, a key, a query or a body.
+//! No field of an [`Entry`] can hold a token, a key, a query or a body, and none of a [`Note`].
 
-ghost use Rattle.std.specs.Prelude.{◌≡◌, ◌↔◌, ◌+◌, ◌/◌, ◌%◌, ◌≤◌, pos, IfOk, IfSome, IsSome, Some};
+ghost use Rattle.std.specs.Prelude.{◌≡◌, ◌↔◌, ◌+◌, ◌/◌, ◌%◌, ◌≤◌, pos, IfOk, IfSome, IsSome, Some, length};
 ghost use Rattle.bor_http.specs.Routes.Routes.{path_word, route_at as route_in};
 ghost use Rattle.bor_http.specs.Spelling.Parts.{path_in};
+ghost use Rattle.bor_wire.specs.Exchanges.{bytes_out, status_out};
 ghost use Rattle.bor_program.specs.Logging.{agent_text, asked_at, asked_of, asked_path_word, asked_text, clock_text, entry_line, method_word, moment_text, numbers_text, route_method, route_path};
 ghost use Rattle.bor_program.specs.Streams.{AppendsPart};
 
@@ -18,6 +19,7 @@ use crate::split::split_at;
 use bor_http::incoming::Path;
 use bor_http::routes::{Paths, Route, route_at};
 use bor_terms::{AgentName, Day};
+use bor_wire::Outgoing;
 use itoa::Buffer;
 use std::alloc::{AllocError, Global};
 use std::io::Write;
@@ -48,6 +50,32 @@ pub struct Moment {
     pub second: u32,
 }
 
+/// What is noted of a request that was answered, until its line is written.
+#[derive(Clone, Copy, Debug, PartialEq, Eq)]
+pub struct Note {
+    /// What was asked for.
+    pub asked: Asked,
+    /// The status of the reply.
+    pub status: u16,
+    /// The bytes of the whole reply.
+    pub bytes: u64,
+}
+
+impl Note {
+    /// What is noted of the request in these bytes, which had this reply. No memory is taken.
+    pub fn of(paths: &Paths, request: &[u8], reply: &Outgoing) -> Note
+        ensures asked { result.asked ≡ asked_of request.now }
+        ensures status { result.status ≡ status_out reply.now }
+        ensures bytes { result.bytes ≡ length (bytes_out reply.now) }
+    {
+        Note {
+            asked: asked_by(paths, request),
+            status: reply.status(),
+            bytes: reply.bytes().len() as u64,
+        }
+    }
+}
+
 /// A request that was answered.
 #[derive(Drop)]
 pub struct Entry<'a> {
@@ -59,7 +87,7 @@ pub struct Entry<'a> {
     pub status: u16,
     /// The bytes of the whole reply.
     pub bytes: u64,
-    /// From the request's last byte to the reply's last one, in milliseconds.
+    /// From when the server saw that something had come until the reply was made, in milliseconds.
     pub millis: u64,
     /// The agent whose token the request had, if it is known.
     pub agent: Option<&'a AgentName>,

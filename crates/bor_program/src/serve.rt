@@ -16,8 +16,9 @@ use bor_words::Serve;
 use std::alloc::Global;
 use std::io::Write;
 
-/// Answers requests over HTTP in the register in a file, one connection after the other, on a port of
-/// 127.0.0.1. Once it listens, it prints that; at the end the register is closed.
+/// Answers requests over HTTP in the register in a file, of many clients at once, on a port of 127.0.0.1.
+/// Once it listens, it prints that; at the end the register is closed. What the log has is the host's to
+/// write.
 pub fn serve<H: Ports, O: Write, E: Write>(
     alloc: Global,
     host: &mut H,
@@ -59,7 +60,8 @@ fn listen<'a, H: Ports, O: Write>(
         return Err(Failure::Unlistening);
     };
     announce(alloc, asked.port, output)?;
-    Ok(end_of(host.serve(register, &listener, asked.connections)))
+    let served = host.serve(register, &listener, asked.connections, asked.log);
+    Ok(end_of(served))
 }
 
 // Prints that the port is listened on.

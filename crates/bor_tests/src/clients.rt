@@ -1,5 +1,6 @@
 //! Clients without sockets, a listener that they wait at, and a clock that goes on by being read.
 
+use bor_program::connections::{PLACES, Places, Watch};
 use std::alloc::Global;
 use std::cell::{Cell, RefCell};
 use std::io;
@@ -38,20 +39,20 @@ impl Clock for Ticking {
     }
 }
 
-/// A client that sends its bytes in pieces, and takes its reply in pieces.
+/// A client that sends its bytes in pieces, and takes its reply in pieces: one each time that it is waited for.
 #[derive(Drop)]
 pub(crate) struct Client<'a> {
     pub(crate) sends: &'a [u8],
     pub(crate) piece: usize,
     pub(crate) takes: usize,
+    /// It ends its input behind its bytes; else it sends no more.
+    pub(crate) ends: bool,
     pub(crate) sent: Cell<usize>,
     pub(crate) taken: RefCell<Vec<u8>>,
-    /// How long each of its reads and writes may wait.
-    pub(crate) waits: RefCell<Vec<Duration>>,
     /// How much was sent when it was told that no more is written.
     pub(crate) ended: Cell<Option<usize>>,
-    /// It was no longer waited for.
-    pub(crate) unwaited: Cell<bool>,
+    may_send: Cell<bool>,
+    may_take: Cell<bool>,
 }
 
 impl<'a> Client<'a> {
@@ -61,29 +62,35 @@ impl<'a> Client<'a> {
             sends,
             piece,
             takes: usize::MAX,
+            ends: true,
             sent: Cell::new(0),
             taken: RefCell::new(Vec::new(alloc)),
-            waits: RefCell::new(Vec::new(alloc)),
             ended: Cell::new(None),
-            unwaited: Cell::new(false),
+            may_send: Cell::new(true),
+            may_take: Cell::new(true),
         }
     }
 
-    fn note(&self, limit: Option<Duration>) -> io::Result<()> {
-        match (self.waits.try_borrow_mut(), limit) {
-            (Ok(mut waits), Some(limit)) => Ok(waits.push(limit)?),
-            _ => Err(io::Error::from(ErrorKind::InvalidInput)),
-        }
+    /// One that sends the bytes in pieces of this size, and then waits.
+    pub(crate) fn waiting(alloc: Global, sends: &'a [u8], piece: usize) -> Client<'a> {
+        let mut client = Client::new(alloc, sends, piece);
+        client.ends = false;
+        client
     }
 }
 
-/// A handle of a client's connection.
+/// A connection of a client.
 #[derive(Clone, Copy)]
 pub(crate) struct Line<'a>(&'a Client<'a>);
 
 impl<'a> Read for Line<'a> {
     fn read(&mut self, buf: &mut [u8]) -> io::Result<usize> {
         let rest = self.0.sends.get(self.0.sent.get()..).unwrap_or(&[]);
+        if !self.0.may_send.get() || rest.is_empty() && !self.0.ends {
+            return Err(io::Error::from(ErrorKind::WouldBlock));
+        }
+        // A piece may be larger than what is read at once.
+        self.0.may_send.set(self.0.piece == usize::MAX);
         let count = self.0.piece.min(buf.len()).min(rest.len());
         buf[..count].copy_from_slice(&rest[..count]);
         self.0.sent.set(self.0.sent.get().saturating_add(count));
@@ -93,6 +100,10 @@ impl<'a> Read for Line<'a> {
 
 impl<'a> Write for Line<'a> {
     fn write(&mut self, buf: &[u8]) -> io::Result<usize> {
+        if !self.0.may_take.get() {
+            return Err(io::Error::from(ErrorKind::WouldBlock));
+        }
+        self.0.may_take.set(self.0.takes == usize::MAX);
         let count = self.0.takes.min(buf.len());
         match self.0.taken.try_borrow_mut() {
             Ok(mut taken) => taken.extend_from_slice(&buf[..count])?,
@@ -113,25 +124,16 @@ impl<'a> OpenStream for Line<'a> {
     }
 
     fn set_nonblocking(&self, nonblocking: bool) -> io::Result<()> {
-        self.0.unwaited.set(nonblocking);
-        Ok(())
-    }
-
-    fn set_read_timeout(&self, limit: Option<Duration>) -> io::Result<()> {
-        self.0.note(limit)
-    }
-
-    fn set_write_timeout(&self, limit: Option<Duration>) -> io::Result<()> {
-        self.0.note(limit)
-    }
-
-    fn try_clone(&self) -> io::Result<Line<'a>> {
-        Ok(*self)
+        if nonblocking {
+            Ok(())
+        } else {
+            Err(io::Error::from(ErrorKind::InvalidInput))
+        }
     }
 }
 
-/// Clients in the order in which they are accepted; in place of one that is none, and behind the last, an
-/// accept fails.
+/// Clients in the order in which they are accepted; in place of one that is none, an accept fails. Behind the
+/// last nobody comes.
 #[derive(Drop)]
 pub(crate) struct Queue<'a> {
     clients: &'a [Option<&'a Client<'a>>],
@@ -152,10 +154,81 @@ impl<'a> OpenListener for Queue<'a> {
 
     fn accept(&self) -> io::Result<(Line<'a>, SocketAddr)> {
         let place = self.accepted.get();
-        self.accepted.set(place.saturating_add(1));
+        if place < self.clients.len() {
+            self.accepted.set(place.saturating_add(1));
+        }
         match self.clients.get(place) {
             Some(Some(client)) => Ok((Line(client), SocketAddr::from(([127, 0, 0, 1], 0)))),
-            _ => Err(io::Error::from(ErrorKind::ConnectionAborted)),
+            Some(None) => Err(io::Error::from(ErrorKind::ConnectionAborted)),
+            None => Err(io::Error::from(ErrorKind::WouldBlock)),
         }
+    }
+}
+
+/// Each wait ends at once: each of these clients may send a piece and take one, wherever it has its place.
+#[derive(Drop)]
+pub(crate) struct Waits<'a> {
+    clients: &'a [Option<&'a Client<'a>>],
+    /// How long each might last.
+    pub(crate) limits: Vec<Option<Duration>>,
+    /// None can be waited for.
+    pub(crate) fails: bool,
+    // After so many waits this queue begins with its first client.
+    turns: Option<(usize, &'a Queue<'a>)>,
+}
+
+impl<'a> Waits<'a> {
+    pub(crate) fn new(alloc: Global, clients: &'a [Option<&'a Client<'a>>]) -> Waits<'a> {
+        Waits {
+            clients,
+            limits: Vec::new(alloc),
+            fails: false,
+            turns: None,
+        }
+    }
+
+    /// The same, where this queue begins with its first client after so many waits.
+    pub(crate) fn turning(
+        alloc: Global,
+        clients: &'a [Option<&'a Client<'a>>],
+        count: usize,
+        queue: &'a Queue<'a>,
+    ) -> Waits<'a> {
+        Waits {
+            clients,
+            limits: Vec::new(alloc),
+            fails: false,
+            turns: Some((count, queue)),
+        }
+    }
+}
+
+impl<'a> Watch<Queue<'a>> for Waits<'a> {
+    fn watch_listener(&mut self, _listener: &Queue<'a>) -> io::Result<()> {
+        Ok(())
+    }
+
+    fn watch(&mut self, _stream: &Line<'a>, _place: usize) -> io::Result<()> {
+        Ok(())
+    }
+
+    fn wait(&mut self, limit: Option<Duration>, places: &mut Places) -> io::Result<()> {
+        if self.fails {
+            return Err(io::Error::from(ErrorKind::Unsupported));
+        }
+        self.limits.push(limit)?;
+        match self.turns {
+            Some((count, queue)) if self.limits.len() == count => queue.accepted.set(0),
+            _ => {}
+        }
+        for client in self.clients.iter().flatten() {
+            client.may_send.set(true);
+            client.may_take.set(true);
+        }
+        for place in 0..PLACES {
+            places.wake(place);
+        }
+        places.call();
+        Ok(())
     }
 }

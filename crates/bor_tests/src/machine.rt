@@ -4,7 +4,7 @@ ghost use Rattle.std.specs.Prelude.{◌≡◌, IfErr};
 ghost use Rattle.bor_program.specs.Failures.{IsOpeningOf};
 ghost use Rattle.bor_register.specs.declared.fault.StoreFault.TheVariants as faults;
 
-use crate::clients::{Queue, Ticking};
+use crate::clients::{Queue, Ticking, Waits};
 use bor_desk::Text;
 use bor_desk::operations::{Keep, ListKeep, StoreFault};
 use bor_program::connections::serve_on;
@@ -79,9 +79,22 @@ impl Ports for Machine {
         Some(Queue::new(&[]))
     }
 
-    fn serve(&self, register: &mut ListKeep, listener: &Queue<'static>, connections: u32) -> u8 {
+    fn serve(
+        &self,
+        register: &mut ListKeep,
+        listener: &Queue<'static>,
+        connections: u32,
+        _log: bool,
+    ) -> u8 {
         let clock = Ticking::new(Some(1));
-        serve_on(&(clock, self.alloc), register, listener, connections)
+        let mut waits = Waits::new(self.alloc, &[]);
+        serve_on(
+            &(clock, self.alloc),
+            register,
+            listener,
+            &mut waits,
+            connections,
+        )
     }
 }
 

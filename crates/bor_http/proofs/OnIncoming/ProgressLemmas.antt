@@ -38,9 +38,9 @@ same_refusal x y a b is_a is_b e = cc
 
 refused : (bytes : List ℕ) (n : ℕ) (why : Refusal) → (why ≡ CutShort → ⊥) → n ≤ length bytes → ((more : List ℕ) → IsMessage (bytes ++ more) (Err why)) → IsProgress bytes (Needs n)
 refused bytes n why other le is = λ more. (
-      λ _. omega (arith, length-append bytes more),
-      λ _ cut. other (same_refusal (Err why) (Err CutShort) why CutShort refl refl (message_unique (bytes ++ more) (Err why) (Err CutShort) (is more) cut)),
-    )
+  λ _. omega (arith, length-append bytes more),
+  λ _ cut. other (same_refusal (Err why) (Err CutShort) why CutShort refl refl (message_unique (bytes ++ more) (Err why) (Err CutShort) (is more) cut)),
+)
 
 pub too_large : (bytes : List ℕ) → length bytes ≡ head_limit → head_len bytes ≡ None → IsProgress bytes (Needs head_limit)
 too_large bytes full none =

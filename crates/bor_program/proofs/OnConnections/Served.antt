@@ -1,15 +1,30 @@
--- Connections served one after the other.
-use Rattle.std.proofs.Common.{◌≡◌, ◌+◌, ℕ, List, [], ◌∷◌, ◌++◌, Bool, true, false, refl, sym, ap, subst, length-append}
+-- A server of many connections: one answers, or some end.
+use Rattle.std.proofs.Common.{◌≡◌, ◌+◌, ℕ, List, [], ◌∷◌, ◌++◌, length, map, Bool, true, false, Some, refl, sym, ap, subst, ◌∙◌, arith, append_assoc, length-append}
 use Rattle.std.specs.Prelude.{if◌then◌else◌, ◌||◌}
-use Rattle.std.specs.List.{list_any}
+use Rattle.std.specs.List.{All, list_any}
+use Rattle.std.specs.List.Sorted.{IsPermutation}
+use Rattle.std.proofs.lemmas.List.{map-append}
 use Rattle.std.proofs.lemmas.List.Folds.{list_any-append}
+use Rattle.std.proofs.lemmas.List.Elements.{All-append, All-nil, All-weaker}
+use Rattle.std.proofs.lemmas.List.Sorted.{IsPermutation-append_left, IsPermutation-cons, IsPermutation-refl, IsPermutation-to_front, IsPermutation-trans}
 use Rattle.bor_records.specs.Promises.{Promised}
 use Rattle.bor_register.specs.Register.{Register}
 use Rattle.bor_desk.specs.Operations.Legality.{IsLegal}
-use Rattle.bor_wire.specs.declared.outcome.Outcome.{Outcome}
+use Rattle.bor_wire.specs.declared.outcome.Outcome.TheVariants.{Replied}
+use Rattle.bor_wire.specs.Exchanges.{IsExchanged}
 use Rattle.bor_wire.specs.Sequences.{AreExchanged, Exchanged, IsRun, keep_left}
 use Rattle.bor_wire.proofs.SequenceLaws.{a_run}
-use Rattle.bor_program.specs.Connections.Serving.{IsConnection, IsServed, has_failed, status_of}
+use Rattle.bor_program.specs.Connections.Serving.{Answer, Answered, Ended, IsServed, IsServedAs, IsServing, answers_in, exchange_of, exchanges_of, has_failed, status_of, told_in, told_on}
+
+-- ---- lists
+
+pub told_in-append : (xs ys : List Ended) → told_in (xs ++ ys) ≡ told_in xs ++ told_in ys
+told_in-append [] ys = refl
+told_in-append (e ∷ xs) ys = ap (λ l. told_on e ++ l) (told_in-append xs ys) ∙ sym (append_assoc (told_on e) (told_in xs) (told_in ys))
+
+pub either : (now before : Bool) (m n : ℕ) → (if now then m else (if before then m else n)) ≡ (if (now || before) then m else n)
+either true before m n = refl
+either false before m n = refl
 
 -- ---- one exchange more
 
@@ -22,45 +37,89 @@ each_more : {K : Type 0} (shows : K → Register → Type 0) (is_clean : K → T
 each_more shows is_clean keep [] e h last = last
 each_more shows is_clean keep (x ∷ es) e h last = (h.0, h.1, each_more shows is_clean x.keep es e h.2 last)
 
-either : (before last : Bool) (m n : ℕ) → (if last then m else (if before then m else n)) ≡ (if (before || (last || false)) then m else n)
-either true true m n = refl
-either true false m n = refl
-either false true m n = refl
-either false false m n = refl
+-- ---- the server
 
-status_more : {K : Type 0} (es : List (Exchanged K)) (e : Exchanged K) → (if has_failed e.outcome then 3 else status_of es) ≡ status_of (es ++ e ∷ [])
-status_more es e = rw list_any-append (either (list_any (λ x. has_failed x.outcome) es) (has_failed e.outcome) 3 0)
+pub nothing_served : {K : Type 0} (shows : K → Register → Type 0) (is_clean : K → Type 0) (Is : Ended → Type 0) (keep : K) (connections : ℕ) → IsServing shows is_clean Is keep keep [] connections connections 0
+nothing_served shows is_clean Is keep connections = record {
+  answered = [];
+  ended = [];
+  count = omega arith;
+  each = tt;
+  left = refl;
+  told_once = IsPermutation-refl [];
+  ended_so = All-nil Is;
+  status = refl;
+}
 
--- ---- the connections
+-- a request was answered
+pub answers : {K : Type 0} (shows : K → Register → Type 0) (is_clean : K → Type 0) (Is : Ended → Type 0) (old keep new : K) (telling : List Answer) (connections pending told : ℕ) (answer : Answer)
+    → IsServing shows is_clean Is old keep telling connections pending told → (is_clean new → is_clean keep)
+    → Promised shows is_clean keep new (λ r. IsLegal r → IsExchanged (Replied answer.status) (shows new) r (Some answer.request) (Some []) (Some answer.reply))
+    → IsServing shows is_clean Is old new (answer ∷ telling) connections pending told
+answers {K} shows is_clean Is old keep new telling connections pending told answer h began exchanged =
+    let one : Answered K = record { answer = answer; keep = new } in
+    let es : List (Exchanged K) = exchanges_of h.answered in
+    let more : exchanges_of (h.answered ++ one ∷ []) ≡ es ++ exchange_of one ∷ [] = map-append exchange_of h.answered (one ∷ []) in
+    let last : AreExchanged shows is_clean keep (exchange_of one ∷ []) = (began, exchanged, tt) in
+    let each = each_more shows is_clean old es (exchange_of one) h.each (subst (λ k. AreExchanged shows is_clean k (exchange_of one ∷ [])) (sym h.left) last) in
+    let front : answers_in (h.answered ++ one ∷ []) ≡ answers_in h.answered ++ answer ∷ [] = map-append (λ a. a.answer) h.answered (one ∷ []) in
+    record {
+      answered = h.answered ++ one ∷ [];
+      ended = h.ended;
+      count = h.count;
+      each = subst (AreExchanged shows is_clean old) (sym more) each;
+      left = ap (keep_left old) more ∙ left_more old es (exchange_of one);
+      told_once = subst (λ l. IsPermutation l (answer ∷ telling ++ told_in h.ended)) (sym front) (
+          IsPermutation-trans (answers_in h.answered ++ answer ∷ []) (answer ∷ answers_in h.answered) (answer ∷ (telling ++ told_in h.ended))
+          (IsPermutation-to_front (answers_in h.answered) answer)
+          (IsPermutation-cons answer (answers_in h.answered) (telling ++ told_in h.ended) h.told_once)
+          );
+      ended_so = h.ended_so;
+      status = h.status;
+    }
 
--- they are a run, whichever keep they leave
+-- some connections ended
+pub ends : {K : Type 0} (shows : K → Register → Type 0) (is_clean : K → Type 0) (Is : Ended → Type 0) (old keep : K) (telling rest : List Answer) (connections pending left told : ℕ) (ended : List Ended)
+    → IsServing shows is_clean Is old keep telling connections pending told → All Is ended → length ended + left ≡ pending → IsPermutation telling (rest ++ told_in ended)
+    → IsServing shows is_clean Is old keep rest connections left (if list_any has_failed ended then 3 else told)
+ends shows is_clean Is old keep telling rest connections pending left told ended h so count once = record {
+  answered = h.answered;
+  ended = ended ++ h.ended;
+  count = omega (arith, h.count, count, length-append ended h.ended);
+  each = h.each;
+  left = h.left;
+  told_once =
+      subst (IsPermutation (answers_in h.answered)) (append_assoc rest (told_in ended) (told_in h.ended) ∙ ap (λ l. rest ++ l) (sym (told_in-append ended h.ended)))
+      (IsPermutation-trans (answers_in h.answered) (telling ++ told_in h.ended) ((rest ++ told_in ended) ++ told_in h.ended) h.told_once
+      (IsPermutation-append_left (told_in h.ended) telling (rest ++ told_in ended) once));
+  ended_so = All-append Is ended h.ended so h.ended_so;
+  status =
+      ap (λ n. if list_any has_failed ended then 3 else n) h.status ∙ either (list_any has_failed ended) (list_any has_failed h.ended) 3 0
+      ∙ ap (λ b. if b then 3 else 0) (sym (list_any-append has_failed ended h.ended));
+}
+
+-- ---- all connections
+
 a_run_to : {K : Type 0} (shows : K → Register → Type 0) (is_clean : K → Type 0) (old new : K) (es : List (Exchanged K)) → AreExchanged shows is_clean old es → keep_left old es ≡ new
     → Promised shows is_clean old new (λ r. IsLegal r → IsRun (shows new) r es)
 a_run_to shows is_clean old new es each left = subst (λ k. Promised shows is_clean old k (λ r. IsLegal r → IsRun (shows k) r es)) left (a_run shows is_clean old es each)
 
-pub nothing_served : {K : Type 0} (shows : K → Register → Type 0) (is_clean : K → Type 0) (keep : K) → IsServed shows is_clean keep keep 0 0
-nothing_served shows is_clean keep = record {
-  exchanges = [];
-  count = refl;
-  each = tt;
-  left = refl;
-  status = refl;
-  run = a_run shows is_clean keep [] tt;
-}
+pub all_served : {K : Type 0} (shows : K → Register → Type 0) (is_clean : K → Type 0) (Is : Ended → Type 0) (old new : K) (connections told : ℕ)
+    → IsServing shows is_clean Is old new [] connections 0 told → IsServedAs shows is_clean Is old new connections told
+all_served shows is_clean Is old new connections told h = record { served = h; run = a_run_to shows is_clean old new (exchanges_of h.answered) h.each h.left }
 
-pub one_more : {K : Type 0} (shows : K → Register → Type 0) (is_clean : K → Type 0) (old mid new : K) (n status : ℕ) (outcome : Outcome) → IsServed shows is_clean old mid n status
-    → IsConnection shows is_clean mid new outcome → IsServed shows is_clean old new (n + 1) (if has_failed outcome then 3 else status)
-one_more {K} shows is_clean old mid new n status outcome h c =
-    let e : Exchanged K = record { known = c.known; outcome = outcome; held = c.held; holds = c.holds; keep = new } in
-    let es : List (Exchanged K) = h.exchanges in
-    let last : AreExchanged shows is_clean mid (e ∷ []) = (c.began, c.exchanged, tt) in
-    let each = each_more shows is_clean old es e h.each (subst (λ k. AreExchanged shows is_clean k (e ∷ [])) (sym h.left) last) in
-    let left = left_more old es e in
-    record {
-      exchanges = es ++ e ∷ [];
-      count = rw length-append (ap (λ m. m + 1) h.count);
-      each = each;
-      left = left;
-      status = rw h.status (status_more es e);
-      run = a_run_to shows is_clean old new (es ++ e ∷ []) each left;
-    }
+pub served_by_any : {K : Type 0} (shows : K → Register → Type 0) (is_clean : K → Type 0) (Is : Ended → Type 0) (old new : K) (connections told : ℕ)
+    → IsServedAs shows is_clean Is old new connections told → IsServed shows is_clean old new connections told
+served_by_any shows is_clean Is old new connections told h = record {
+  served = record {
+    answered = h.served.answered;
+    ended = h.served.ended;
+    count = h.served.count;
+    each = h.served.each;
+    left = h.served.left;
+    told_once = h.served.told_once;
+    ended_so = All-weaker Is _ (λ e is. tt) h.served.ended h.served.ended_so;
+    status = h.served.status;
+  };
+  run = h.run;
+}

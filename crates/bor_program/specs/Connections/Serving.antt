@@ -1,37 +1,90 @@
--- What serving connections one after the other leaves, and the status that it gives.
-use Rattle.std.specs.Prelude.{◌≡◌, ℕ, List, length, Option, Bool, true, ◌==◌, if◌then◌else◌}
-use Rattle.std.specs.List.{list_any}
+-- What serving many clients at once leaves, and the status that it gives.
+use Rattle.std.specs.Prelude.{◌≡◌, ◌+◌, ℕ, List, [], ◌∷◌, ◌++◌, length, map, Some, Bool, true, ◌==◌, ◌||◌, nat_lt, if◌then◌else◌, ⊤}
+use Rattle.std.specs.List.{All, list_any}
+use Rattle.std.specs.List.Sorted.{IsPermutation}
 use Rattle.bor_records.specs.Promises.{Promised}
 use Rattle.bor_register.specs.Register.{Register}
 use Rattle.bor_desk.specs.Operations.Legality.{IsLegal}
-use Rattle.bor_wire.specs.declared.outcome.Outcome.{Outcome}
-use Rattle.bor_wire.specs.declared.outcome.Outcome.TheVariants.{Replied, ReadFailed, WriteFailed}
-use Rattle.bor_wire.specs.Exchanges.{IsExchanged}
+use Rattle.bor_wire.specs.declared.outcome.Outcome.TheVariants.{Replied}
+use Rattle.bor_wire.specs.declared.outgoing.Outgoing.{Outgoing}
+use Rattle.bor_wire.specs.Exchanges.{bytes_out, status_out}
 use Rattle.bor_wire.specs.Sequences.{AreExchanged, Exchanged, IsRun, keep_left}
 
+-- ---- what was answered
+
+-- a request that was answered: its bytes, and the status and the bytes of its reply
+pub record Answer : Type 0 where
+  pub request : List ℕ
+  pub status : ℕ
+  pub reply : List ℕ
+
+abbrev pub answer_of : List ℕ → Outgoing → Answer
+answer_of request out = record { request = request; status = status_out out; reply = bytes_out out }
+
+-- an answer, and the keep that it left
+pub record Answered (K : Type 0) : Type 0 where
+  pub answer : Answer
+  pub keep : K
+
+-- the exchange that it was, over bytes that are known
+abbrev pub exchange_of : {K : Type 0} → Answered K → Exchanged K
+exchange_of a = record { known = Some a.answer.request; outcome = Replied a.answer.status; held = Some []; holds = Some a.answer.reply; keep = a.keep }
+
+abbrev pub exchanges_of : {K : Type 0} → List (Answered K) → List (Exchanged K)
+exchanges_of answered = map exchange_of answered
+
+abbrev pub answers_in : {K : Type 0} → List (Answered K) → List Answer
+answers_in answered = map (λ a. a.answer) answered
+
+-- ---- how connections ended
+
+-- how a connection ended
+pub data Ended : Type 0 where
+  -- it could not be accepted, or the server ended before it came
+  Absent : Ended
+  -- its client was given up before its request was answered; these bytes had come
+  Unanswered : (request : List ℕ) → Ended
+  -- so many bytes of the reply to its request were handed to its client
+  Told : (answer : Answer) → (sent : ℕ) → Ended
+
 -- a connection failed: its client has no whole reply, or the one that says that the store failed
-abbrev pub has_failed : Outcome → Bool
-has_failed (Replied status) = status == 503
-has_failed ReadFailed = true
-has_failed (WriteFailed status) = true
+abbrev pub has_failed : Ended → Bool
+has_failed Absent = true
+has_failed (Unanswered request) = true
+has_failed (Told answer sent) = answer.status == 503 || nat_lt sent (length answer.reply)
 
 -- the status of a server: 3 where a connection failed, else 0
-abbrev pub status_of : {K : Type 0} → List (Exchanged K) → ℕ
-status_of exchanges = if list_any (λ e. has_failed e.outcome) exchanges then 3 else 0
+abbrev pub status_of : List Ended → ℕ
+status_of ended = if list_any has_failed ended then 3 else 0
 
--- One connection ended so, whatever bytes are known of it: what its contract says of an exchange. One that can't be accepted is one whose request can't be read.
-pub record IsConnection {K : Type 0} (shows : K → Register → Type 0) (is_clean : K → Type 0) (old new : K) (outcome : Outcome) : Type 0 where
-  pub known : Option (List ℕ)
-  pub held : Option (List ℕ)
-  pub holds : Option (List ℕ)
-  pub began : is_clean new → is_clean old
-  pub exchanged : Promised shows is_clean old new (λ r. IsLegal r → IsExchanged outcome (shows new) r known held holds)
+-- what was answered on it
+abbrev pub told_on : Ended → List Answer
+told_on Absent = []
+told_on (Unanswered request) = []
+told_on (Told answer sent) = answer ∷ []
 
--- So many connections were served one after the other, each from the keep that the one before it left, and ended with this status. From a legal register they are a run.
-pub record IsServed {K : Type 0} (shows : K → Register → Type 0) (is_clean : K → Type 0) (old new : K) (connections told : ℕ) : Type 0 where
-  pub exchanges : List (Exchanged K)
-  pub count : length exchanges ≡ connections
-  pub each : AreExchanged shows is_clean old exchanges
-  pub left : keep_left old exchanges ≡ new
-  pub status : told ≡ status_of exchanges
-  pub run : Promised shows is_clean old new (λ r. IsLegal r → IsRun (shows new) r exchanges)
+abbrev pub told_in : List Ended → List Answer
+told_in [] = []
+told_in (e ∷ rest) = told_on e ++ told_in rest
+
+-- ---- the server
+
+-- Of so many connections some have ended, and some are pending, on which these answers are still being told. The requests were answered one after the other, each from the keep that the one before it left; each answer is told on one connection, and on no other. `Is` holds of how each connection ended.
+pub record IsServing {K : Type 0} (shows : K → Register → Type 0) (is_clean : K → Type 0) (Is : Ended → Type 0) (old new : K) (telling : List Answer) (connections pending told : ℕ) : Type 0 where
+  pub answered : List (Answered K)
+  pub ended : List Ended
+  pub count : length ended + pending ≡ connections
+  pub each : AreExchanged shows is_clean old (exchanges_of answered)
+  pub left : keep_left old (exchanges_of answered) ≡ new
+  pub told_once : IsPermutation (answers_in answered) (telling ++ told_in ended)
+  pub ended_so : All Is ended
+  pub status : told ≡ status_of ended
+
+-- So many connections were served and have ended, with this status. What was answered on them, one request after the other, is a run from a legal register: the bytes of each request and of its reply are known.
+pub record IsServedAs {K : Type 0} (shows : K → Register → Type 0) (is_clean : K → Type 0) (Is : Ended → Type 0) (old new : K) (connections told : ℕ) : Type 0 where
+  pub served : IsServing shows is_clean Is old new [] connections 0 told
+  pub run : Promised shows is_clean old new (λ r. IsLegal r → IsRun (shows new) r (exchanges_of served.answered))
+
+-- the same, whatever the connections' streams tell
+abbrev pub IsServed : {K : Type 0} → (K → Register → Type 0) → (K → Type 0) → K → K → ℕ → ℕ → Type 0
+IsServed shows is_clean old new connections told = IsServedAs shows is_clean (λ e. ⊤) old new connections told

@@ -1,26 +1,33 @@
-//! A server of a register on a socket: connections one after the other, each an exchange of one request
-//! and its reply.
+//! A server of a register on a socket: many clients at once, of each an exchange of one request and its
+//! reply.
 //!
-//! [`serve_on`] takes a keep of a register and a listener:
+//! [`serve_on`] takes a keep of a register, a listener that doesn't block, and what tells when something
+//! may be read or written ([`Watch`]):
 //!
 //! ```
-//! let listener = TcpListener::bind(&rt, "127.0.0.1:8080")?;
-//! let status = serve_on(&rt, &mut keep, &listener, 1000);       // 0, or 3 where a connection failed
+//! let status = serve_on(&rt, &mut keep, &listener, &mut watch, 1000);       // 0, or 3 where a connection failed
 //! ```
 //!
-//! A slow client can't hold the register: it has ten seconds for its request and ten for taking its
-//! reply ([`Timed`]), and a connection that passes one of them fails and is given up for the next.
+//! A client's bytes are gathered until its request is whole; then it is answered over the bytes in memory,
+//! and the reply is written as its client takes it. So no client waits for another one's reading or
+//! writing. A client has ten seconds for its request and ten for taking its reply ([`Limits`]); one that
+//! passes them is given up.
 //!
-//! `bor_wire` says what is on the wire, and `bor_register` what a register is. No contract can say what
-//! a socket gives: the clauses say what follows for the register whatever comes, and, of readers and
-//! writers that tell their bytes, what those of an exchange say ([`serve_connection`]).
+//! `bor_wire` says what is on the wire, and `bor_register` what a register is. The clauses say that what
+//! was answered is a run over the bytes of requests and replies, which are known; and of streams that tell
+//! their bytes, that each reply is written to the stream that its request was read from.
 
-mod connection;
 mod limits;
+mod phase;
+mod reading;
+mod server;
+mod service;
 mod serving;
-mod timed;
+mod step;
+mod timing;
+mod watch;
+mod writing;
 
-pub use connection::serve_connection;
 pub use limits::Limits;
 pub use serving::{serve_on, serve_within};
-pub use timed::Timed;
+pub use watch::{PLACES, Places, Watch};

@@ -16,9 +16,9 @@ returns-in-None-clause-known c = searched_all c.args.bytes.now (sym c.in-None.en
 
 pub returns-in-None-clause-whole : goal.returns-in-None-clause-whole
 returns-in-None-clause-whole c = (
-      λ le. absurd (omega (arith, le, c.if-bytes-lt-HEAD_LIMIT.true)),
-      λ whole. absurd (missing c.args.bytes.now c.if-bytes-lt-HEAD_LIMIT.true (sym c.in-None.ensures.value) whole),
-    )
+  λ le. absurd (omega (arith, le, c.if-bytes-lt-HEAD_LIMIT.true)),
+  λ whole. absurd (missing c.args.bytes.now c.if-bytes-lt-HEAD_LIMIT.true (sym c.in-None.ensures.value) whole),
+)
 
 pub returns-in-None-2-clause-known : goal.returns-in-None-2-clause-known
 returns-in-None-2-clause-known c =

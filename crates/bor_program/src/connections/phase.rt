@@ -1,0 +1,35 @@
+//! How far a client has come.
+
+use crate::connections::reading::Reading;
+use crate::connections::writing::{Draining, Writing};
+
+/// What is done with a client.
+#[derive(Drop)]
+pub(crate) enum Phase<S> {
+    /// Its request is read.
+    Reading(Reading<S>),
+    /// Its reply is written.
+    Writing(Writing<S>),
+    /// The reply is written, and what it still sends is read and dropped.
+    Draining(Draining<S>),
+}
+
+/// How a phase went on.
+#[derive(Clone, Copy, Debug, PartialEq, Eq)]
+pub(crate) enum Pace {
+    /// Bytes were read or written.
+    Moved,
+    /// Nothing can be read or written at the moment.
+    Blocked,
+    /// The next phase began.
+    Turned,
+}
+
+/// What became of a client in one step.
+#[derive(Drop)]
+pub(crate) enum Step<S> {
+    /// It is in this phase.
+    Goes(Phase<S>, Pace),
+    /// Its connection ended, and failed or not.
+    Ends(bool),
+}

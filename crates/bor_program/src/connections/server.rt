@@ -1,0 +1,380 @@
+//! A server: its clients, and how many are still to come.
+
+ghost use Rattle.std.specs.Prelude.{◌≡◌, ◌+◌, ◌-◌, ◌<◌, ◌++◌, [], length, if◌then◌else◌, IsTrue};
+ghost use Rattle.bor_program.specs.Connections.Phases.{IsHeld, telling};
+ghost use Rattle.bor_program.specs.Connections.Servers.{Advances, AreHeld, Becomes, Lets, Serves, pending_in, telling_in};
+
+use crate::connections::limits::Limits;
+use crate::connections::phase::{Phase, Step};
+use crate::connections::reading::{Reading, is_blocked};
+use crate::connections::service::Service;
+use crate::connections::step::{gives_up, steps};
+use crate::connections::timing::{Timing, limit_of};
+use crate::connections::watch::{PLACES, Places, Watch};
+use bor_desk::operations::Keep;
+use std::alloc::Global;
+use std::collections::VecDeque;
+use std::io::{Read, Write};
+use std::net::{OpenListener, OpenStream};
+use std::time::Duration;
+
+// How many clients are let in before those who are there have their turn.
+const LET_IN: usize = 16;
+
+/// A client in its place.
+#[derive(Drop)]
+pub(crate) struct Client<S> {
+    place: usize,
+    timing: Timing,
+    pub(crate) phase: Phase<S>,
+}
+
+/// A server: the clients that are there, and how many connections are still to come.
+#[derive(Drop)]
+pub(crate) struct Server<S> {
+    service: Service,
+    limits: Limits,
+    places: Places,
+    pub(crate) queue: VecDeque<Client<S>>,
+    pub(crate) left: u32,
+    pub(crate) status: u8,
+    wait: Option<Duration>,
+}
+
+impl<S: Read + Write + OpenStream + Drop> Server<S> {
+    /// A server of so many connections, of which none has come, and that notes what it answers or doesn't.
+    pub(crate) fn new(alloc: Global, limits: Limits, connections: u32, is_noting: bool) -> Server<S>
+        ensures queue { result.queue.items ≡ [] }
+        ensures left { result.left ≡ connections }
+        ensures status { result.status ≡ 0 }
+    {
+        Server {
+            service: Service::new(alloc, is_noting),
+            limits,
+            places: Places::new(),
+            queue: VecDeque::new(alloc),
+            left: connections,
+            status: 0,
+            wait: Some(Duration::ZERO),
+        }
+    }
+
+    /// Whether all connections have come and ended.
+    pub(crate) fn is_done(&self) -> bool
+        ensures { IsTrue result → pending_in self.now ≡ 0 }
+    {
+        self.left == 0 && self.queue.is_empty()
+    }
+
+    /// Tells of the requests that were answered since this was last done.
+    pub(crate) fn tell<L: OpenListener<Stream = S>, W: Watch<L>>(&mut self, watch: &mut W)
+        ensures { Becomes self.old self.new }
+    {
+        for note in self.service.take_notes() {
+            watch.note(note);
+        }
+    }
+
+    /// Waits until something may be read or written, or a client's time is up.
+    pub(crate) fn wait<L: OpenListener<Stream = S>, W: Watch<L>>(
+        &mut self,
+        watch: &mut W,
+    ) -> std::io::Result<()>
+        ensures { Becomes self.old self.new }
+    {
+        self.tell(watch);
+        let waited = watch.wait(self.wait, &mut self.places);
+        if waited.is_err() {
+            self.places.wake_all();
+        }
+        waited
+    }
+
+    /// Lets clients in that wait for it, some at a time.
+    pub(crate) fn let_in<L: OpenListener<Stream = S>, W: Watch<L>>(
+        &mut self,
+        listener: &L,
+        watch: &mut W,
+        now: Duration,
+    )
+        requires { AreHeld S.remaining S.contents self.old.queue.items }
+        ensures { Lets S.remaining S.contents (telling_in self.old) (pending_in self.old) self.old.status self.new }
+    {
+        for _ in 0..LET_IN {
+            if self.left == 0 || !self.places.is_called() {
+                return;
+            }
+            self.let_one_in(listener, watch, now);
+        }
+    }
+
+    // Lets a client in, if one waits and there is memory for it.
+    fn let_one_in<L: OpenListener<Stream = S>, W: Watch<L>>(
+        &mut self,
+        listener: &L,
+        watch: &mut W,
+        now: Duration,
+    )
+        requires some { 0 < self.old.left }
+        requires held { AreHeld S.remaining S.contents self.old.queue.items }
+        ensures { Lets S.remaining S.contents (telling_in self.old) (pending_in self.old) self.old.status self.new }
+    {
+        if self.queue.reserve(1).is_err() {
+            return;
+        }
+        match listener.accept() {
+            Ok((stream, _)) => {
+                self.left -= 1;
+                self.admit(stream, watch, now);
+            }
+            Err(error) if is_blocked(&error) => self.places.answer_call(),
+            Err(_) => {
+                self.left -= 1;
+                self.status = 3;
+            }
+        }
+    }
+
+    // Gives a client a place that came in.
+    fn admit<L: OpenListener<Stream = S>, W: Watch<L>>(
+        &mut self,
+        stream: S,
+        watch: &mut W,
+        now: Duration,
+    )
+        requires { AreHeld S.remaining S.contents self.old.queue.items }
+        ensures { Lets S.remaining S.contents (telling_in self.old) (pending_in self.old + 1) self.old.status self.new }
+    {
+        self.make_way();
+        match self.seat(&stream, watch) {
+            Some(place) => {
+                let reading = Reading::new(self.service.alloc(), stream);
+                self.stay(Client {
+                    place,
+                    timing: Timing::new(now),
+                    phase: Phase::Reading(reading),
+                });
+            }
+            None => self.status = 3,
+        }
+    }
+
+    // Where all places are taken, the client that was idle for the longest gives way.
+    fn make_way(&mut self)
+        requires { AreHeld S.remaining S.contents self.old.queue.items }
+        ensures { Lets S.remaining S.contents (telling_in self.old) (pending_in self.old) self.old.status self.new }
+    {
+        if self.queue.len() >= PLACES {
+            self.turn_out();
+        }
+    }
+
+    // The place of a client that is watched from now on, if it can be.
+    fn seat<L: OpenListener<Stream = S>, W: Watch<L>>(
+        &mut self,
+        stream: &S,
+        watch: &mut W,
+    ) -> Option<usize>
+        ensures { Becomes self.old self.new }
+    {
+        let place = self.places.take()?;
+        if stream.set_nonblocking(true).is_ok() && watch.watch(stream, place).is_ok() {
+            return Some(place);
+        }
+        self.places.leave(place);
+        None
+    }
+
+    // Has the client give way that was idle for the longest.
+    fn turn_out(&mut self)
+        requires { AreHeld S.remaining S.contents self.old.queue.items }
+        ensures { Lets S.remaining S.contents (telling_in self.old) (pending_in self.old) self.old.status self.new }
+    {
+        let index = longest_idle(&self.queue);
+        if let Some(client) = self.queue.remove(index) {
+            self.give_up(client);
+        }
+    }
+
+    /// Serves each client that is ready, in the order in which they came to be so.
+    pub(crate) fn serve_all<K: Keep>(&mut self, keep: &mut K, now: Option<Duration>)
+        requires { AreHeld S.remaining S.contents self.old.queue.items }
+        ensures held { AreHeld S.remaining S.contents self.new.queue.items }
+        ensures advances { Advances K.shows K.is_clean S.remaining S.contents keep.old keep.new self.old self.new }
+    {
+        self.wait = if self.left > 0 && self.places.is_called() {
+            Some(Duration::ZERO)
+        } else {
+            None
+        };
+        for _ in 0..self.queue.len() {
+            self.serve_next(keep, now);
+        }
+    }
+
+    // Serves the first client of the queue, and puts it behind the others.
+    fn serve_next<K: Keep>(&mut self, keep: &mut K, now: Option<Duration>)
+        requires { AreHeld S.remaining S.contents self.old.queue.items }
+        ensures held { AreHeld S.remaining S.contents self.new.queue.items }
+        ensures advances { Advances K.shows K.is_clean S.remaining S.contents keep.old keep.new self.old self.new }
+    {
+        let Some(client) = self.queue.pop_front() else {
+            return;
+        };
+        match now {
+            Some(now) => self.serve(keep, client, now),
+            None => self.give_up(client),
+        }
+    }
+
+    // Serves a client, and puts it behind the others.
+    fn serve<K: Keep>(&mut self, keep: &mut K, client: Client<S>, now: Duration)
+        requires held { AreHeld S.remaining S.contents self.old.queue.items }
+        requires client { IsHeld S.remaining S.contents client.phase }
+        ensures held { AreHeld S.remaining S.contents self.new.queue.items }
+        ensures serves { Serves K.shows K.is_clean S.remaining S.contents keep.old keep.new (telling client.phase) self.old self.new }
+    {
+        let Client {
+            place,
+            mut timing,
+            phase,
+        } = client;
+        if self.places.is_woken(place) {
+            timing.wake();
+        }
+        match steps(&mut self.service, keep, phase, &mut timing, now) {
+            Step::Goes(phase, _) => self.go_on(
+                Client {
+                    place,
+                    timing,
+                    phase,
+                },
+                now,
+            ),
+            Step::Ends(failed) => self.end(place, failed),
+        }
+    }
+
+    // Puts a client behind the others, if it still has time.
+    fn go_on(&mut self, client: Client<S>, now: Duration)
+        requires held { AreHeld S.remaining S.contents self.old.queue.items }
+        requires client { IsHeld S.remaining S.contents client.phase }
+        ensures { Lets S.remaining S.contents (telling client.phase ++ telling_in self.old) (pending_in self.old + 1) self.old.status self.new }
+    {
+        let Client {
+            place,
+            mut timing,
+            phase,
+        } = client;
+        let left = timing.left(limit_of(self.limits, &phase), now);
+        let client = Client {
+            place,
+            timing,
+            phase,
+        };
+        if left.is_zero() {
+            self.give_up(client);
+        } else {
+            let wait = if timing.is_ready() {
+                Duration::ZERO
+            } else {
+                left
+            };
+            self.wait = Some(self.wait.unwrap_or(wait).min(wait));
+            self.stay(client);
+        }
+    }
+
+    // Puts a client behind the others.
+    fn stay(&mut self, client: Client<S>)
+        requires held { AreHeld S.remaining S.contents self.old.queue.items }
+        requires client { IsHeld S.remaining S.contents client.phase }
+        ensures { Lets S.remaining S.contents (telling client.phase ++ telling_in self.old) (pending_in self.old + 1) self.old.status self.new }
+    {
+        match self.queue.push_back(client) {
+            Ok(()) => {}
+            Err(failed) => self.give_up(failed.value),
+        }
+    }
+
+    // Ends the connection of a client that is waited for no longer.
+    fn give_up(&mut self, client: Client<S>)
+        requires held { AreHeld S.remaining S.contents self.old.queue.items }
+        requires client { IsHeld S.remaining S.contents client.phase }
+        ensures queue { self.new.queue ≡ self.old.queue }
+        ensures left { self.new.left ≡ self.old.left }
+        ensures lets { Lets S.remaining S.contents (telling client.phase ++ telling_in self.old) (pending_in self.old + 1) self.old.status self.new }
+    {
+        let failed = gives_up(client.phase);
+        self.end(client.place, failed);
+    }
+
+    // Notes that a connection ended.
+    fn end(&mut self, place: usize, failed: bool)
+        ensures queue { self.new.queue ≡ self.old.queue }
+        ensures left { self.new.left ≡ self.old.left }
+        ensures status { self.new.status ≡ (if failed then 3 else self.old.status) }
+    {
+        self.places.leave(place);
+        if failed {
+            self.status = 3;
+        }
+    }
+
+    /// Gives up the clients that are there, and those that have not come.
+    pub(crate) fn finish(&mut self)
+        requires { AreHeld S.remaining S.contents self.old.queue.items }
+        ensures lets { Lets S.remaining S.contents (telling_in self.old) (pending_in self.old) self.old.status self.new }
+        ensures pending { pending_in self.new ≡ 0 }
+    {
+        self.give_up_all();
+        self.leave_out();
+    }
+
+    // Gives up the clients that are there.
+    fn give_up_all(&mut self)
+        requires { AreHeld S.remaining S.contents self.old.queue.items }
+        ensures lets { Lets S.remaining S.contents (telling_in self.old) (pending_in self.old) self.old.status self.new }
+        ensures empty { length self.new.queue.items ≡ 0 }
+    {
+        for _ in 0..self.queue.len() {
+            self.give_up_first();
+        }
+    }
+
+    // Gives up the first client, if one is there.
+    fn give_up_first(&mut self)
+        requires { AreHeld S.remaining S.contents self.old.queue.items }
+        ensures lets { Lets S.remaining S.contents (telling_in self.old) (pending_in self.old) self.old.status self.new }
+        ensures fewer { length self.new.queue.items ≡ length self.old.queue.items - 1 }
+    {
+        if let Some(client) = self.queue.pop_front() {
+            self.give_up(client);
+        }
+    }
+
+    // Counts those that have not come as failed.
+    fn leave_out(&mut self)
+        requires { AreHeld S.remaining S.contents self.old.queue.items }
+        ensures lets { Lets S.remaining S.contents (telling_in self.old) (pending_in self.old) self.old.status self.new }
+        ensures pending { pending_in self.new ≡ length self.old.queue.items }
+    {
+        if self.left > 0 {
+            self.left = 0;
+            self.status = 3;
+        }
+    }
+}
+
+// The place in the queue of the client that is idle for the longest.
+fn longest_idle<S>(queue: &VecDeque<Client<S>>) -> usize {
+    let mut longest = 0;
+    let mut since = Duration::MAX;
+    for (index, client) in queue.iter().enumerate() {
+        if client.timing.idle_since() < since {
+            longest = index;
+            since = client.timing.idle_since();
+        }
+    }
+    longest
+}

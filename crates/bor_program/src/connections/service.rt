@@ -1,0 +1,64 @@
+//! What answers requests: the register's desk, behind the paths that there are.
+
+ghost use Rattle.bor_records.specs.Promises.{Promised};
+ghost use Rattle.bor_register.specs.Register.{IsOrdered};
+ghost use Rattle.bor_wire.specs.Exchanges.{IsResponse};
+
+use crate::log::Note;
+use bor_desk::operations::Keep;
+use bor_http::spelling::Paths;
+use bor_wire::{Outgoing, respond};
+use std::alloc::Global;
+use std::mem;
+
+/// What answers requests. The router of paths is made for the first of them, and kept.
+#[derive(Drop)]
+pub(crate) struct Service {
+    alloc: Global,
+    paths: Option<Paths>,
+    is_noting: bool,
+    notes: Vec<Note>,
+}
+
+impl Service {
+    /// A service that has answered nothing, and notes what it answers or doesn't.
+    pub(crate) fn new(alloc: Global, is_noting: bool) -> Service {
+        Service {
+            alloc,
+            paths: None,
+            is_noting,
+            notes: Vec::new(alloc),
+        }
+    }
+
+    /// The memory that it takes.
+    pub(crate) fn alloc(&self) -> Global {
+        self.alloc
+    }
+
+    /// Answers the request in these bytes.
+    pub(crate) fn respond<K: Keep>(&mut self, keep: &mut K, request: &[u8]) -> Outgoing
+        ensures began { K.is_clean keep.new → K.is_clean keep.old }
+        ensures exchanged { Promised K.shows K.is_clean keep.old keep.new (λ r.
+            IsOrdered r.members → IsResponse (K.shows keep.new) r request.now result) }
+    {
+        if self.paths.is_none() {
+            self.paths = Paths::new(self.alloc).ok();
+        }
+        match &self.paths {
+            Some(paths) => {
+                let reply = respond(self.alloc, paths, keep, request);
+                if self.is_noting {
+                    let _ = self.notes.push(Note::of(paths, request, &reply));
+                }
+                reply
+            }
+            None => Outgoing::Unavailable,
+        }
+    }
+
+    /// What was noted of the requests that were answered since this was last asked.
+    pub(crate) fn take_notes(&mut self) -> Vec<Note> {
+        mem::replace(&mut self.notes, Vec::new(self.alloc))
+    }
+}

@@ -1,0 +1,128 @@
+//! One step of a client.
+
+ghost use Rattle.std.specs.Prelude.{◌≡◌, ◌∷◌, []};
+ghost use Rattle.bor_program.specs.Connections.Serving.{answer_of};
+ghost use Rattle.bor_program.specs.declared.connections.phase.Phase.TheVariants as Phase;
+ghost use Rattle.bor_program.specs.Connections.Phases.{EndsAs, HoldsOn, IsHeld, IsStep, Tells, telling};
+
+use crate::connections::phase::{Pace, Phase, Step};
+use crate::connections::reading::{Reading, Taken};
+use crate::connections::service::Service;
+use crate::connections::timing::Timing;
+use crate::connections::writing::{Drained, Draining, Writing, Written};
+use bor_desk::operations::Keep;
+use bor_wire::Outgoing;
+use std::io::{Read, Write};
+use std::net::OpenStream;
+use std::time::Duration;
+
+// How many steps a client may have in one turn.
+const STEPS: usize = 32;
+
+/// Reads, answers or writes once, as the client's phase is. A request is answered as soon as it is whole.
+pub(crate) fn step<K: Keep, S: Read + Write + OpenStream + Drop>(
+    service: &mut Service,
+    keep: &mut K,
+    phase: Phase<S>,
+) -> Step<S>
+    requires { IsHeld S.remaining S.contents phase }
+    ensures held { HoldsOn S.remaining S.contents result }
+    ensures step { IsStep K.shows K.is_clean S.remaining S.contents keep.old keep.new (telling phase) result }
+{
+    match phase {
+        Phase::Reading(reading) => read_on(service, keep, reading),
+        Phase::Writing(writing) => write_on(writing),
+        Phase::Draining(draining) => drain_on(draining),
+    }
+}
+
+// Reads once of a request, and answers it where it is whole.
+fn read_on<K: Keep, S: Read + Write + OpenStream + Drop>(
+    service: &mut Service,
+    keep: &mut K,
+    mut reading: Reading<S>,
+) -> Step<S>
+    requires { IsHeld S.remaining S.contents (Phase.Reading reading) }
+    ensures held { HoldsOn S.remaining S.contents result }
+    ensures step { IsStep K.shows K.is_clean S.remaining S.contents keep.old keep.new [] result }
+{
+    match reading.read(service.alloc()) {
+        Taken::More => Step::Goes(Phase::Reading(reading), Pace::Moved),
+        Taken::Blocked => Step::Goes(Phase::Reading(reading), Pace::Blocked),
+        Taken::Whole => {
+            let reply = service.respond(keep, &reading.received);
+            Step::Goes(Phase::Writing(Writing::new(reading, reply)), Pace::Turned)
+        }
+        Taken::Unfit => {
+            let writing = Writing::new(reading, Outgoing::Unavailable);
+            Step::Goes(Phase::Writing(writing), Pace::Turned)
+        }
+        Taken::Failed => Step::Ends(true),
+    }
+}
+
+// Writes once of a reply.
+fn write_on<S: Read + Write + OpenStream + Drop>(mut writing: Writing<S>) -> Step<S>
+    requires { IsHeld S.remaining S.contents (Phase.Writing writing) }
+    ensures held { HoldsOn S.remaining S.contents result }
+    ensures tells { Tells S.remaining S.contents (answer_of writing.request.items writing.reply ∷ []) result }
+{
+    match writing.write() {
+        Written::More => Step::Goes(Phase::Writing(writing), Pace::Moved),
+        Written::Blocked => Step::Goes(Phase::Writing(writing), Pace::Blocked),
+        Written::Whole => Step::Goes(Phase::Draining(writing.end()), Pace::Turned),
+        Written::Failed => Step::Ends(writing.has_failed()),
+    }
+}
+
+// Reads once behind a reply.
+fn drain_on<S: Read + Write + Drop>(mut draining: Draining<S>) -> Step<S>
+    requires { IsHeld S.remaining S.contents (Phase.Draining draining) }
+    ensures held { HoldsOn S.remaining S.contents result }
+    ensures tells { Tells S.remaining S.contents (answer_of draining.request.items draining.reply ∷ []) result }
+{
+    match draining.drain() {
+        Drained::More => Step::Goes(Phase::Draining(draining), Pace::Moved),
+        Drained::Blocked => Step::Goes(Phase::Draining(draining), Pace::Blocked),
+        Drained::Over => Step::Ends(draining.has_failed()),
+    }
+}
+
+/// Steps for as long as the client is ready, and not too often, so that others have their turn.
+pub(crate) fn steps<K: Keep, S: Read + Write + OpenStream + Drop>(
+    service: &mut Service,
+    keep: &mut K,
+    mut phase: Phase<S>,
+    timing: &mut Timing,
+    now: Duration,
+) -> Step<S>
+    requires { IsHeld S.remaining S.contents phase }
+    ensures held { HoldsOn S.remaining S.contents result }
+    ensures step { IsStep K.shows K.is_clean S.remaining S.contents keep.old keep.new (telling phase) result }
+{
+    for _ in 0..STEPS {
+        if !timing.is_ready() {
+            return Step::Goes(phase, Pace::Blocked);
+        }
+        match step(service, keep, phase) {
+            Step::Goes(next, pace) => {
+                timing.pass(pace, now);
+                phase = next;
+            }
+            Step::Ends(failed) => return Step::Ends(failed),
+        }
+    }
+    Step::Goes(phase, Pace::Moved)
+}
+
+/// Whether the connection of a client has failed that is waited for no longer.
+pub(crate) fn gives_up<S: Read + Write + OpenStream + Drop>(phase: Phase<S>) -> bool
+    requires { IsHeld S.remaining S.contents phase }
+    ensures { EndsAs S.remaining S.contents (telling phase) result }
+{
+    match phase {
+        Phase::Reading(_) => true,
+        Phase::Writing(writing) => writing.has_failed(),
+        Phase::Draining(draining) => draining.has_failed(),
+    }
+}

@@ -1,0 +1,120 @@
+//! Which clients may be read or written on, and waiting until one may.
+
+use crate::log::Note;
+use std::io;
+use std::net::OpenListener;
+use std::time::Duration;
+
+/// How many clients are served at once.
+pub const PLACES: usize = 256;
+
+/// The places of clients: which are taken, and where something may be read or written.
+#[derive(Clone, Copy, Debug, PartialEq, Eq)]
+pub struct Places {
+    taken: [bool; PLACES],
+    ready: [bool; PLACES],
+    is_called: bool,
+}
+
+impl Places {
+    /// Free places, and a client that may be waiting to come in.
+    pub fn new() -> Places {
+        Places {
+            taken: [false; PLACES],
+            ready: [false; PLACES],
+            is_called: true,
+        }
+    }
+
+    /// Something may be read or written at this place.
+    pub fn wake(&mut self, place: usize) {
+        if place < PLACES {
+            self.ready[place] = true;
+        }
+    }
+
+    /// A client may be waiting to come in.
+    pub fn call(&mut self) {
+        self.is_called = true;
+    }
+
+    /// Something may be read or written anywhere.
+    pub(crate) fn wake_all(&mut self) {
+        self.ready = [true; PLACES];
+        self.is_called = true;
+    }
+
+    /// Whether a client may be waiting to come in.
+    pub(crate) fn is_called(&self) -> bool {
+        self.is_called
+    }
+
+    /// No client is waiting to come in.
+    pub(crate) fn answer_call(&mut self) {
+        self.is_called = false;
+    }
+
+    /// Takes a place that is free, if there is one.
+    pub(crate) fn take(&mut self) -> Option<usize> {
+        for place in 0..PLACES {
+            if !self.taken[place] {
+                self.taken[place] = true;
+                self.ready[place] = false;
+                return Some(place);
+            }
+        }
+        None
+    }
+
+    /// Leaves a place.
+    pub(crate) fn leave(&mut self, place: usize) {
+        if place < PLACES {
+            self.taken[place] = false;
+        }
+    }
+
+    /// Whether something may be read or written at this place since this was asked.
+    pub(crate) fn is_woken(&mut self, place: usize) -> bool {
+        if place < PLACES && self.ready[place] {
+            self.ready[place] = false;
+            return true;
+        }
+        false
+    }
+}
+
+/// What tells where something may be read or written.
+///
+/// It tells of a change: a client that was read or written on until nothing more could be is told of again
+/// once something can. It may tell of more than there is.
+pub trait Watch<L: OpenListener> {
+    /// Watches for clients that come in.
+    ///
+    /// # Errors
+    ///
+    /// It can't be watched for them.
+    fn watch_listener(&mut self, listener: &L) -> io::Result<()>;
+
+    /// Watches a client at this place, until its stream is dropped.
+    ///
+    /// # Errors
+    ///
+    /// It can't be watched.
+    fn watch(&mut self, stream: &L::Stream, place: usize) -> io::Result<()>;
+
+    /// Waits until something may be read or written, or a client may be waiting, or the time is up, and marks
+    /// where. Without a limit it waits for ever.
+    ///
+    /// # Errors
+    ///
+    /// It can't be waited.
+    fn wait(&mut self, limit: Option<Duration>, places: &mut Places) -> io::Result<()>;
+
+    /// Whether requests that were answered are to be noted.
+    fn is_noting(&self) -> bool {
+        false
+    }
+
+    /// Notes a request that was answered since the last wait.
+    fn note(&mut self, _note: Note) {}
+}

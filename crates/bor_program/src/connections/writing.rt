@@ -1,0 +1,161 @@
+//! A client to whom its reply is written, and what it still sends behind it.
+
+ghost use Rattle.std.specs.Prelude.{◌≡◌, length};
+ghost use Rattle.bor_wire.specs.Exchanges.{bytes_out};
+ghost use Rattle.bor_program.specs.declared.connections.writing.Written.TheVariants.{Whole};
+ghost use Rattle.bor_program.specs.Connections.Limits.{rest_limit};
+ghost use Rattle.bor_program.specs.Connections.Serving.{Told, answer_of, has_failed};
+ghost use Rattle.bor_program.specs.Connections.Streams.{Came, Drops, IsReady, IsTold, IsWriting};
+
+use crate::connections::reading::{PART, Reading, is_blocked};
+use bor_wire::Outgoing;
+use std::io::{Read, Write};
+use std::net::{OpenStream, Shutdown};
+
+/// A client to whom its reply is written: its request, the reply, and how much of that it was handed.
+#[derive(Drop)]
+pub(crate) struct Writing<S> {
+    stream: S,
+    request: Vec<u8>,
+    reply: Outgoing,
+    sent: usize,
+}
+
+/// What one write of a reply did.
+#[derive(Clone, Copy, Debug, PartialEq, Eq)]
+pub(crate) enum Written {
+    /// Bytes were written.
+    More,
+    /// Nothing yet.
+    Blocked,
+    /// All was written before.
+    Whole,
+    /// The stream failed.
+    Failed,
+}
+
+impl<S: Read + Write + OpenStream> Writing<S> {
+    /// A client whose request has come, and of whose reply nothing was written.
+    pub(crate) fn new(reading: Reading<S>, reply: Outgoing) -> Writing<S>
+        requires came { Came S.remaining reading.stream reading.received.items }
+        requires ready { IsReady S.remaining reading.stream (answer_of reading.received.items reply) }
+        ensures held { IsWriting S.remaining S.contents result.stream (answer_of result.request.items result.reply) result.sent }
+        ensures request { result.request.items ≡ reading.received.items }
+        ensures reply { result.reply ≡ reply }
+    {
+        Writing {
+            stream: reading.stream,
+            request: reading.received,
+            reply,
+            sent: 0,
+        }
+    }
+
+    /// Writes once.
+    pub(crate) fn write(&mut self) -> Written
+        requires { IsWriting S.remaining S.contents self.old.stream (answer_of self.old.request.items self.old.reply) self.old.sent }
+        ensures held { IsWriting S.remaining S.contents self.new.stream (answer_of self.new.request.items self.new.reply) self.new.sent }
+        ensures request { self.new.request ≡ self.old.request }
+        ensures reply { self.new.reply ≡ self.old.reply }
+        ensures whole { result ≡ Whole → self.new.sent ≡ length (bytes_out self.new.reply) }
+    {
+        let rest = &self.reply.bytes()[self.sent..];
+        if rest.is_empty() {
+            return Written::Whole;
+        }
+        match self.stream.write(rest) {
+            Ok(0) => Written::Failed,
+            Ok(count) => {
+                self.sent += count;
+                Written::More
+            }
+            Err(error) if is_blocked(&error) => Written::Blocked,
+            Err(_) => Written::Failed,
+        }
+    }
+
+    /// Whether its connection has failed, where it ends now.
+    pub(crate) fn has_failed(&self) -> bool
+        ensures { result ≡ has_failed (Told (answer_of self.now.request.items self.now.reply) self.now.sent) }
+    {
+        self.reply.status() == 503 || self.sent < self.reply.bytes().len()
+    }
+
+    /// Tells the client, to whom all was written, that no more is.
+    pub(crate) fn end(self) -> Draining<S>
+        requires whole { self.sent ≡ length (bytes_out self.reply) }
+        requires held { IsWriting S.remaining S.contents self.stream (answer_of self.request.items self.reply) self.sent }
+        ensures told { IsTold S.remaining S.contents (answer_of result.request.items result.reply) (length (bytes_out result.reply)) }
+        ensures request { result.request ≡ self.request }
+        ensures reply { result.reply ≡ self.reply }
+        ensures left { result.left ≡ rest_limit }
+    {
+        let _ = self.stream.shutdown(Shutdown::Write);
+        Draining {
+            is_waited_for: may_be_unread(self.reply.status()),
+            stream: self.stream,
+            request: self.request,
+            reply: self.reply,
+            left: REST,
+        }
+    }
+}
+
+// Whether a reply with this status may be written before its request is read to its end: to a head that
+// is none or too large, to a body that is too large, and where memory was wanting for them.
+fn may_be_unread(status: u16) -> bool {
+    matches!(status, 400 | 413 | 431 | 503)
+}
+
+// How many bytes are read behind a reply, and dropped.
+const REST: usize = 16_777_216;
+
+/// A client that was handed its reply, and may still be sending: how much of that is read, and whether it is
+/// waited for.
+#[derive(Drop)]
+pub(crate) struct Draining<S> {
+    stream: S,
+    request: Vec<u8>,
+    reply: Outgoing,
+    left: usize,
+    is_waited_for: bool,
+}
+
+/// What one read behind a reply gave.
+#[derive(Clone, Copy, Debug, PartialEq, Eq)]
+pub(crate) enum Drained {
+    /// Bytes, and more are read.
+    More,
+    /// Nothing yet.
+    Blocked,
+    /// Nothing more is read.
+    Over,
+}
+
+impl<S: Read + Write> Draining<S> {
+    /// Whether its connection has failed: the reply is the one that says that the store failed.
+    pub(crate) fn has_failed(&self) -> bool
+        ensures { result ≡ has_failed (Told (answer_of self.now.request.items self.now.reply) (length (bytes_out self.now.reply))) }
+    {
+        self.reply.status() == 503
+    }
+
+    /// Reads once, and drops what comes.
+    pub(crate) fn drain(&mut self) -> Drained
+        ensures request { self.new.request ≡ self.old.request }
+        ensures reply { self.new.reply ≡ self.old.reply }
+        ensures dropped { Drops (S.remaining self.old.stream) (S.remaining self.new.stream) self.old.left self.new.left }
+    {
+        let mut part = [0; PART];
+        let room = self.left.min(PART);
+        match self.stream.read(&mut part[..room]) {
+            Ok(0) => Drained::Over,
+            Ok(count) => {
+                self.left = self.left.saturating_sub(count);
+                Drained::More
+            }
+            Err(error) if is_blocked(&error) && self.is_waited_for => Drained::Blocked,
+            Err(_) => Drained::Over,
+        }
+    }
+}
