@@ -1,13 +1,12 @@
 """A stop at each write, while a register's file is set up, changed, served, opened again and moved.
 
 A stand-in for the calls that change or flush a file (`lib/standin.c`) kills the program before the kth of them,
-for k from a first one on, until a run is not stopped; and again in the midst of the kth write, after half of its
-bytes. The next command opens the file. It finds each change that was answered, and of the others the first ones,
-each whole: what it tells is what a second answer (`lib/register.py`) tells, and the tables are those of a run of
-just these requests. Then all is asked again, and the register is that of a run without a stop.
-
-A stop loses nothing that was written. That a machine loses what wasn't flushed is tried in process alone
-(`crates/bor_store_tests`).
+for k from a first one on, until a run is not stopped; again in the midst of the kth write, after half of its
+bytes; and again before the kth of them, where each file is then as it was when it was last flushed, as a machine
+that stops may leave it. The next command opens the file. It finds each change that was answered, and of the
+others the first ones, each whole: what it tells is what a second answer (`lib/register.py`) tells, and the tables
+are those of a run of just these requests. Then all is asked again, and the register is that of a run without a
+stop.
 """
 import itertools
 import random
@@ -32,7 +31,11 @@ from lib.standins import wanted, wish_of
 # In the gate, the program is stopped at each tenth call.
 STEP = 10
 START = "start.db"
-KINDS = {"before a call": "STANDIN_STOP", "in the midst of a write": "STANDIN_HALF"}
+KINDS = {
+    "before a call": "STANDIN_STOP",
+    "in the midst of a write": "STANDIN_HALF",
+    "before a call, and what wasn't flushed is lost": "STANDIN_LOSE",
+}
 # Each changes the register, and leaves it as it is where it is asked again behind the others.
 CHANGES = [
     "alder lodge f1 2024-02-01 FIRST",

@@ -1,6 +1,6 @@
-"""Faults that are planted in runs: each has to be found by the checks of refused memory or of stops.
+"""Faults that are planted in runs: each has to be found by the checks of refused memory, of a disk that fails or of stops.
 
-A fault is planted behind a run that met a refusal or a stop: in what the run told, or in the file that it left.
+A fault is planted behind a run that met a refusal, a failure or a stop: in what the run told, or in the file that it left.
 """
 import sqlite3
 import tempfile
@@ -8,7 +8,7 @@ from contextlib import closing
 from pathlib import Path
 from types import SimpleNamespace
 
-from lib import check_memory, check_stops
+from lib import check_disk, check_memory, check_stops
 from lib.check_memory import LISTS, OUT_OF_MEMORY, UNAVAILABLE, OnSocket, OverFile, OverMemory
 from lib.check_stops import Exchanged, Moved, Reopened, Served
 from lib.checking import DB, Mismatch
@@ -106,6 +106,22 @@ def a_row_behind(way, ran):
     return ran
 
 
+# ---- of a disk that fails
+
+
+def an_answered_filing_is_lost(way, ran):
+    """a filing that was answered is lost"""
+    return the_last_filing_is_lost(way, ran)
+
+
+def answered_all_the_same(way, ran):
+    """what the disk refused is answered as if it were there"""
+    replies, place = refused_at(ran)
+    if place is not None:
+        replies[place] = way.answers.told(way.answers.asks)[0][place]
+    return Ended(SimpleNamespace(returncode=0, stdout=b"".join(replies), stderr=ran.errors))
+
+
 # ---- of stops
 
 
@@ -174,6 +190,13 @@ IN_MEMORY = [
     (OverFile, LODGING, half_a_lodging),
     (OverFile, LODGING, a_row_behind),
 ]
+OF_DISK = [
+    (OverFile, LODGING, half_a_lodging),
+    (OverFile, DRAFTS, an_answered_filing_is_lost),
+    (OnSocket, DRAFTS, an_answered_filing_is_lost),
+    (OverFile, DRAFTS, answered_all_the_same),
+    (OnSocket, DRAFTS, a_server_that_ends),
+]
 OF_STOPS = [
     (Served, the_log_is_lost),
     (Reopened, the_log_is_lost),
@@ -204,6 +227,17 @@ def of_memory(bor):
         for way, name, plant in IN_MEMORY if library else ():
             one = lambda at, way=way, asks=LISTS[name], plant=plant: check_memory.counted(
                 bor, library, way(bor, at, asks), STEP, 1, plant
+            )
+            yield f"planted {way.name}, {plant.__doc__}", found(one)
+
+
+def of_disk(bor):
+    """The name of each fault that is planted behind a failure of the disk, with what found it; nothing without `cc`."""
+    with tempfile.TemporaryDirectory(prefix="bor-standin-") as folder:
+        library = built(folder)
+        for way, name, plant in OF_DISK if library else ():
+            one = lambda at, way=way, asks=LISTS[name], plant=plant: check_disk.counted(
+                bor, library, way(bor, at, asks), "STANDIN_FAIL", STEP, 1, plant
             )
             yield f"planted {way.name}, {plant.__doc__}", found(one)
 

@@ -2,7 +2,10 @@
 //
 //   STANDIN_REFUSE=N  refuses the Nth call for memory, as if none were left.
 //   STANDIN_STOP=N    kills the process before its Nth call that changes or flushes a file of a register.
+//   STANDIN_LOSE=N    kills it there too, and leaves each file as it was when it was last flushed, or opened.
 //   STANDIN_HALF=N    kills it in the midst of its Nth write to such a file, after half of the bytes.
+//   STANDIN_FAIL=N    fails its Nth call that reads, changes or flushes such a file, as a disk with a fault does.
+//   STANDIN_FAILS=N   fails that call and each behind it.
 //   STANDIN_MARK=P    makes the file P where the Nth call came.
 //
 // Files of a register are those with ".db" in their names. Real calls go to the kernel, or to the C library's
@@ -60,23 +63,89 @@ static int is_of_a_register(const char *path) {
     return strstr(name ? name : path, ".db") != NULL;
 }
 
-static int is_fd_of_a_register(int fd) {
-    char link[64], path[4096];
+// The path of an open file, in 4,096 bytes; whether it has one.
+static int path_of(int fd, char *path) {
+    char link[64];
     snprintf(link, sizeof link, "/proc/self/fd/%d", fd);
-    ssize_t length = readlink(link, path, sizeof path - 1);
-    if (length < 0) return 0;
-    path[length] = 0;
-    return is_of_a_register(path);
+    ssize_t length = readlink(link, path, 4095);
+    path[length < 0 ? 0 : length] = 0;
+    return length >= 0;
 }
+
+static int is_fd_of_a_register(int fd) {
+    char path[4096];
+    return path_of(fd, path) && is_of_a_register(path);
+}
+
+// ---- what isn't flushed
+
+enum { MOST = 8, LENGTH = 4096 };
+
+// The files that were opened. What each was when it was last flushed, or opened, lies beside it.
+static char names[MOST][LENGTH];
+static int named;
+static long lose = -1;
+
+static int loses(void) {
+    if (lose < 0) lose = number_of("STANDIN_LOSE");
+    return lose > 0;
+}
+
+static void copy_file(const char *from, const char *to, int flags) {
+    static char part[65536];
+    int in = syscall(SYS_openat, AT_FDCWD, from, O_RDONLY);
+    int out = syscall(SYS_openat, AT_FDCWD, to, O_CREAT | O_WRONLY | flags, 0600);
+    ssize_t size = 0;
+    while (in >= 0 && out >= 0 && (size = syscall(SYS_read, in, part, sizeof part)) > 0) {
+        if (syscall(SYS_write, out, part, size) != size) abort();
+    }
+    syscall(SYS_close, in);
+    syscall(SYS_close, out);
+}
+
+static const char *copy_of(const char *path) {
+    static char name[LENGTH + 16];
+    snprintf(name, sizeof name, "%s.flushed", path);
+    return name;
+}
+
+static void note_opened(const char *path) {
+    if (!loses() || !is_of_a_register(path)) return;
+    copy_file(path, copy_of(path), O_EXCL);
+    for (int at = 0; at < named; at++) {
+        if (!strcmp(names[at], path)) return;
+    }
+    if (named == MOST) abort();
+    snprintf(names[named++], LENGTH, "%s", path);
+}
+
+static void note_flushed(int fd) {
+    char path[LENGTH];
+    if (loses() && path_of(fd, path) && is_of_a_register(path)) copy_file(path, copy_of(path), O_TRUNC);
+}
+
+static void note_removed(const char *path) {
+    if (loses() && is_of_a_register(path)) syscall(SYS_unlinkat, AT_FDCWD, copy_of(path), 0);
+}
+
+static void lose_what_is_not_flushed(void) {
+    for (int at = 0; at < named; at++) {
+        if (syscall(SYS_faccessat, AT_FDCWD, copy_of(names[at]), F_OK) == 0)
+            copy_file(copy_of(names[at]), names[at], O_TRUNC);
+    }
+}
+
+// ---- stops
 
 static void stop_here(void) {
     mark();
+    if (loses()) lose_what_is_not_flushed();
     syscall(SYS_kill, syscall(SYS_getpid), SIGKILL);
 }
 
 // Stops the process where this is the call at which it is to be stopped.
 static void count_change(int counts) {
-    if (stop < 0) stop = number_of("STANDIN_STOP");
+    if (stop < 0) stop = loses() ? lose : number_of("STANDIN_STOP");
     if (stop && counts && ++changes == stop) stop_here();
 }
 
@@ -85,6 +154,20 @@ static ssize_t bytes_before_stop(int counts, size_t size) {
     count_change(counts);
     if (half < 0) half = number_of("STANDIN_HALF");
     return half && counts && ++writes == half ? (ssize_t)(size / 2) : -1;
+}
+
+static long calls, failing = -1, broken;
+
+// Whether this call on a file fails.
+static int fails(int counts) {
+    if (failing < 0) {
+        broken = number_of("STANDIN_FAILS");
+        failing = broken ? broken : number_of("STANDIN_FAIL");
+    }
+    if (!failing || !counts || ++calls < failing || (calls > failing && !broken)) return 0;
+    if (calls == failing) mark();
+    errno = EIO;
+    return 1;
 }
 
 static size_t size_of(const struct iovec *parts, int count) {
@@ -109,32 +192,35 @@ static void write_half(int fd, const struct iovec *parts, int count, ssize_t lef
     stop_here();
 }
 
-static void before_write(int fd, const struct iovec *parts, int count, off_t offset) {
-    ssize_t left = bytes_before_stop(is_fd_of_a_register(fd), size_of(parts, count));
+// Whether a write fails; the process may be stopped in it.
+static int before_write(int fd, const struct iovec *parts, int count, off_t offset) {
+    int counts = is_fd_of_a_register(fd);
+    ssize_t left = bytes_before_stop(counts, size_of(parts, count));
     if (left >= 0) write_half(fd, parts, count, left, offset);
+    return fails(counts);
 }
 
 ssize_t write(int fd, const void *bytes, size_t size) {
     struct iovec part = {(void *)bytes, size};
-    before_write(fd, &part, 1, -1);
+    if (before_write(fd, &part, 1, -1)) return -1;
     return syscall(SYS_write, fd, bytes, size);
 }
 
 ssize_t pwrite64(int fd, const void *bytes, size_t size, off64_t offset) {
     struct iovec part = {(void *)bytes, size};
-    before_write(fd, &part, 1, offset);
+    if (before_write(fd, &part, 1, offset)) return -1;
     return syscall(SYS_pwrite64, fd, bytes, size, offset);
 }
 
 ssize_t pwrite(int fd, const void *bytes, size_t size, off_t offset) { return pwrite64(fd, bytes, size, offset); }
 
 ssize_t writev(int fd, const struct iovec *parts, int count) {
-    before_write(fd, parts, count, -1);
+    if (before_write(fd, parts, count, -1)) return -1;
     return syscall(SYS_writev, fd, parts, count);
 }
 
 ssize_t pwritev64(int fd, const struct iovec *parts, int count, off64_t offset) {
-    before_write(fd, parts, count, offset);
+    if (before_write(fd, parts, count, offset)) return -1;
     return syscall(SYS_pwritev, fd, parts, count, offset, 0);
 }
 
@@ -142,30 +228,60 @@ ssize_t pwritev(int fd, const struct iovec *parts, int count, off_t offset) {
     return pwritev64(fd, parts, count, offset);
 }
 
+ssize_t read(int fd, void *bytes, size_t size) {
+    return fails(is_fd_of_a_register(fd)) ? -1 : syscall(SYS_read, fd, bytes, size);
+}
+
+ssize_t pread64(int fd, void *bytes, size_t size, off64_t offset) {
+    return fails(is_fd_of_a_register(fd)) ? -1 : syscall(SYS_pread64, fd, bytes, size, offset);
+}
+
+ssize_t pread(int fd, void *bytes, size_t size, off_t offset) { return pread64(fd, bytes, size, offset); }
+
+ssize_t readv(int fd, const struct iovec *parts, int count) {
+    return fails(is_fd_of_a_register(fd)) ? -1 : syscall(SYS_readv, fd, parts, count);
+}
+
+ssize_t preadv64(int fd, const struct iovec *parts, int count, off64_t offset) {
+    return fails(is_fd_of_a_register(fd)) ? -1 : syscall(SYS_preadv, fd, parts, count, offset, 0);
+}
+
+ssize_t preadv(int fd, const struct iovec *parts, int count, off_t offset) {
+    return preadv64(fd, parts, count, offset);
+}
+
+// Whether a call fails that changes or flushes the file.
+static int before_change(int fd) {
+    int counts = is_fd_of_a_register(fd);
+    count_change(counts);
+    return fails(counts);
+}
+
 int ftruncate64(int fd, off64_t length) {
-    count_change(is_fd_of_a_register(fd));
-    return syscall(SYS_ftruncate, fd, length);
+    return before_change(fd) ? -1 : syscall(SYS_ftruncate, fd, length);
 }
 
 int ftruncate(int fd, off_t length) { return ftruncate64(fd, length); }
 
-int fsync(int fd) {
-    count_change(is_fd_of_a_register(fd));
-    return syscall(SYS_fsync, fd);
+static int flushed(int fd, long call) {
+    if (before_change(fd)) return -1;
+    int ended = syscall(call, fd);
+    if (ended == 0) note_flushed(fd);
+    return ended;
 }
 
-int fdatasync(int fd) {
-    count_change(is_fd_of_a_register(fd));
-    return syscall(SYS_fdatasync, fd);
-}
+int fsync(int fd) { return flushed(fd, SYS_fsync); }
+int fdatasync(int fd) { return flushed(fd, SYS_fdatasync); }
 
 int unlink(const char *path) {
     count_change(is_of_a_register(path));
+    note_removed(path);
     return syscall(SYS_unlinkat, AT_FDCWD, path, 0);
 }
 
 int unlinkat(int folder, const char *path, int flags) {
     count_change(is_of_a_register(path));
+    note_removed(path);
     return syscall(SYS_unlinkat, folder, path, flags);
 }
 
@@ -177,7 +293,9 @@ int rename(const char *from, const char *to) {
 // Opening changes what is there where it may make or empty the file.
 static int opened(int folder, const char *path, int flags, mode_t mode) {
     count_change((flags & (O_CREAT | O_TRUNC)) && is_of_a_register(path));
-    return syscall(SYS_openat, folder, path, flags, mode);
+    int fd = syscall(SYS_openat, folder, path, flags, mode);
+    if (fd >= 0) note_opened(path);
+    return fd;
 }
 
 static mode_t mode_of(int flags, va_list words) { return flags & (O_CREAT | O_TMPFILE) ? va_arg(words, mode_t) : 0; }
