@@ -9,6 +9,7 @@ pub mod ReportBytes
 pub mod HistoryLaws
 pub mod NobodyLaws
 pub mod SequenceLaws
+pub mod TurnLaws
 pub mod HistoryExamples
 pub mod Examples
 pub mod OnRendering

@@ -9,5 +9,6 @@ pub mod Refused
 pub mod Repeats
 pub mod ReportBytes
 pub mod Sequences
+pub mod Turns
 pub mod Rendering
 pub mod Headline

@@ -7,6 +7,7 @@ ghost use Rattle.bor_wire.specs.Nobody.{NobodysInputs};
 ghost use Rattle.bor_wire.specs.Repeats.{RepeatsActOnce};
 ghost use Rattle.bor_wire.specs.ReportBytes.{BytesGivePersons};
 ghost use Rattle.bor_wire.specs.Sequences.{ExchangesAreARun};
+ghost use Rattle.bor_wire.specs.Turns.{FrontsAreRuns};
 
 use bor_desk::operations::Keep;
 
@@ -75,4 +76,11 @@ pub fn nobodys_inputs()
 /// that ended with status 503 or with a failed read have no part in it.
 pub fn exchanges_are_a_run<K: Keep>()
     ensures { ExchangesAreARun K.shows K.is_clean }
+{}
+
+/// A front of exchanges one after the other is a run too, where the keep that it leaves is clean. So what
+/// was replied before a store failed keeps its promises, whatever the store does later on: `in_turn` of
+/// [`replay`](crate::replay) gives such exchanges, with the keep after each.
+pub fn fronts_are_runs<K: Keep>()
+    ensures { FrontsAreRuns K.shows K.is_clean }
 {}

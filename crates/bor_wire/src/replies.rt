@@ -10,6 +10,7 @@ ghost use Rattle.bor_wire.specs.Runs.{AreReplies, AreSpelled, ByReply, register_
 ghost use Rattle.bor_wire.specs.Reports.{AreReports};
 ghost use Rattle.bor_wire.specs.Refused.{RefusalsLeave};
 ghost use Rattle.bor_wire.specs.Histories.{IsAlone};
+ghost use Rattle.bor_wire.specs.Turns.{InTurn, TakesTurn};
 
 use crate::outgoing::{Outgoing, read_reply};
 use bor_desk::operations::Keep;
@@ -35,6 +36,7 @@ fn reply_to<K: Keep>(alloc: Global, paths: &Paths, keep: &mut K, input: &[u8]) -
         (λ spelled bytes. Promised K.shows K.is_clean keep.old keep.new (λ r.
         IsOrdered r.members → IsReplyTo r spelled bytes × K.shows keep.new (after r spelled)))
         (Promised K.shows K.is_clean keep.old keep.new (K.shows keep.new)) }
+    ensures turn { TakesTurn K.shows K.is_clean keep.old keep.new input.now result }
 {
     let mut reader = Counted::new(input);
     match read_reply(alloc, paths, keep, &mut reader) {
@@ -49,6 +51,10 @@ fn reply_to<K: Keep>(alloc: Global, paths: &Paths, keep: &mut K, input: &[u8]) -
 /// the inputs spell, and so is the register left; what each agent receives follows from its own
 /// exchanges alone; a report on chains with status 200 names exactly the persons joined to the entity in
 /// what the caller sees; and a reply with a status of 400 or more leaves the register as it was.
+///
+/// This is said of a keep that ends clean. Of one that doesn't, as where its store failed at some input,
+/// it holds up to the last keep that was clean: the replies are those of exchanges in turn, and each front
+/// of these is a run of its own ([`fronts_are_runs`](crate::laws::fronts_are_runs)).
 ///
 /// # Errors
 ///
@@ -77,6 +83,8 @@ pub fn replay<K: Keep>(
     ensures refused_kept { Promised K.shows K.is_clean keep.old keep.new (λ r. IsLegal r → IfOk result (λ replies.
         (spelled : List Spelled) → AreSpelled (served (map (λ v. v.items) inputs.now) replies.items) spelled →
         RefusalsLeave r spelled (full replies.items))) }
+    ensures in_turn { IfOk result (λ replies.
+        InTurn K.shows K.is_clean keep.old keep.new (map (λ v. v.items) inputs.now) replies.items) }
     ensures err { OnErr result (Kept K.shows K.is_clean keep.old keep.new) }
 {
     let paths = Paths::new(alloc)?;

@@ -7,6 +7,7 @@ use Rattle.bor_wire.proofs.RunLaws.{legal_reply, so_far_more, spelled_once}
 use Rattle.bor_wire.proofs.HistoryLaws.{alone}
 use Rattle.bor_wire.proofs.ReportLaws.{reports}
 use Rattle.bor_wire.proofs.RefusalLaws.{refusals_leave}
+use Rattle.bor_wire.proofs.TurnLaws.{in_turn_more}
 use Rattle.bor_wire.proofs.replies.replay.Goals as goal
 
 pub loop-input-preserved : goal.loop-input-preserved
@@ -30,6 +31,10 @@ loop-input-preserved g c =
           (keep.is_clean c.reply_to-reply.new.keep) (keep.shows c.loop-input.keep) (keep.shows c.reply_to-reply.new.keep) so_far c.loop-input.replies.items c.deref.result.now c.reply_to-reply.result
           count (λ r w. ((w.0, c.reply_to-reply.ensures.began w.1, w.2), w.1, w.2)) inv.far
           (legal_reply keep.shows keep.is_clean c.loop-input.keep c.reply_to-reply.new.keep c.reply_to-reply.result c.deref.result.now c.reply_to-reply.ensures.reply));
+      turns =
+          rw (c.push_reserved.ensures.items, more, ← c.input-item.is, ← c.deref.ensures.value)
+          (in_turn_more keep.shows keep.is_clean c.args.keep.now c.loop-input.keep c.reply_to-reply.new.keep so_far c.loop-input.replies.items c.deref.result.now c.reply_to-reply.result
+          inv.turns c.reply_to-reply.ensures.began c.reply_to-reply.ensures.turn);
     }
 
 pub returns-clause-replies : goal.returns-clause-replies
@@ -64,3 +69,8 @@ returns-clause-refused_kept g c = λ r is clean legal spelled spells.
     let far = rw (take_all c.loop-input.input-index c.args.inputs.now le) at c.loop-input.invariant.far in
     refusals_leave r spelled (full c.loop-input.replies.items)
     (subst (λ ss. AreReplies r ss (full c.loop-input.replies.items)) (spelled_once _ far.spelled spelled far.spells spells) (far.told r (is, clean, legal)))
+
+pub returns-clause-in_turn : goal.returns-clause-in_turn
+returns-clause-in_turn g c =
+    let le : length c.args.inputs.now ≤ c.loop-input.input-index = omega arith in
+    rw (take_all c.loop-input.input-index c.args.inputs.now le) at c.loop-input.invariant.turns

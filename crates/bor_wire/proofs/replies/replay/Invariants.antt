@@ -1,5 +1,6 @@
 use Rattle.std.proofs.Common.{◌≡◌, take, length, vec_capacity, map}
 use Rattle.bor_desk.specs.Operations.Legality.{IsLegal}
+use Rattle.bor_wire.specs.Turns.{InTurn}
 use Rattle.bor_wire.proofs.RunLaws.{IsSoFar}
 use Rattle.bor_wire.proofs.replies.replay.Given as goal
 
@@ -12,4 +13,5 @@ invariant-loop-input g l =
       count : length l.replies.items ≡ l.input-index;
       room : vec_capacity l.replies ≡ length l.inputs;
       far : IsSoFar (λ r. keep.shows l.fn.keep r × keep.is_clean l.keep × IsLegal r) (keep.shows l.keep) (map (λ v. v.items) (take l.input-index l.inputs)) l.replies.items;
+      turns : InTurn keep.shows keep.is_clean l.fn.keep l.keep (map (λ v. v.items) (take l.input-index l.inputs)) l.replies.items;
     }
