@@ -105,23 +105,29 @@ class Progress:
         return found
 
     def longest_chain(self):
-        """The crates of the chain that takes longest."""
-        chains, names = self.chains(self.expected.get), set()
+        """The crates of the chain that takes longest, of what is left."""
+        left = self.rests()
+        chains, names = self.chains(left.get), set()
         last = max(chains, key=chains.get, default=None)
         while last:
             names.add(last)
             last = max(self.waits[last], key=chains.get, default=None)
         return names
 
-    def left(self):
-        """The seconds left, by the longest chain and by the work over the lanes, at the pace of what has ended."""
+    def rests(self):
+        """The seconds that each crate still takes, at the pace of those that have ended."""
         # (what was expected counts as much as a first crate of five minutes)
         pace = (300 + sum(self.took.values())) / (300 + sum(self.expected[it] for it in self.took))
-        now, left = time.monotonic(), {}
+        now, rests = time.monotonic(), {}
         for name, wanted in self.expected.items():
             rest = pace * wanted - (now - self.began.get(name, now))
-            left[name] = 0 if name in self.took else max(rest, pace * wanted / 10)
-        return max(max(self.chains(left.get).values()), sum(left.values()) / self.lanes)
+            rests[name] = 0 if name in self.took else max(rest, pace * wanted / 10)
+        return rests
+
+    def left(self):
+        """The seconds left, by the longest chain and by the work over the lanes."""
+        rests = self.rests()
+        return max(max(self.chains(rests.get).values()), sum(rests.values()) / self.lanes)
 
     def tell(self):
         """Tells how far the work is, where that has changed: on a terminal in one line, else in a line each."""
@@ -195,17 +201,20 @@ def prove_all(rt, crates, progress, failed):
     Where one isn't, `failed` gets it with what was said, and those above it are not tried. Gives whether each is.
     """
     most = max(1, min(progress.lanes, 1 + int((rt.free() / MEMORY - progress.lanes) / 0.6)))
-    tasks, chain = {}, progress.longest_chain()
+    tasks = {}
 
     def one(crate, given, jobs):
         if not all(given[it, "proof"] for it in progress.waits[crate.name]):
             progress.end(crate.name, False)
             return False
-        # All wait for the longest chain: a crate of it gets every processor, where that leaves memory for others.
-        if crate.name in chain:
+        # All wait for the longest chain of what is left: a crate of it gets every processor, where that leaves
+        # memory for others, and any other crate two of them, which it has where the first leaves them idle.
+        with progress.turn:
+            is_waited_for = crate.name in progress.longest_chain()
+        if is_waited_for:
             said = prove(crate, progress, max(jobs, most))
         else:
-            said = give_way(lambda: prove(crate, progress, jobs))
+            said = give_way(lambda: prove(crate, progress, max(jobs, min(most, 2))))
         if said is not None:
             failed(crate, said)
         return said is None
