@@ -1,4 +1,5 @@
 pub mod Outcomes
+pub mod Earlier
 pub mod Lodgings
 pub mod Additions
 pub mod Refusals

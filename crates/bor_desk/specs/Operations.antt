@@ -1,4 +1,5 @@
 pub mod Sight
+pub mod Earlier
 pub mod Lodging
 pub mod Withdrawing
 pub mod Registrar

@@ -1,8 +1,8 @@
 -- What a lodging is refused for, and what a refused one leaves.
-use Rattle.std.proofs.Common.{◌≡◌, ℕ, zero, suc, ℤ, ◌+◌, ◌<◌, ◌≤◌, subst, List, [], ◌∷◌, ◌++◌, length, take, drop, get_or, set, map, true, false, None, Result, Ok, Err, refl, ◌∙◌, sym, ap, append_assoc, arith}
-use Rattle.std.specs.Prelude.{◌≢◌, ◌%◌, ◌^◌, pos, Some, Bool, nat_le, int_lt, if◌then◌else◌}
+use Rattle.std.proofs.Common.{◌≡◌, ℕ, zero, suc, ℤ, ◌+◌, ◌<◌, ◌≤◌, subst, List, [], ◌∷◌, ◌++◌, length, take, drop, get_or, set, map, true, false, Result, Ok, Err, refl, ◌∙◌, sym, ap, append_assoc, arith}
+use Rattle.std.specs.Prelude.{◌≢◌, ◌%◌, ◌^◌, Some, Bool, nat_le, int_lt, if◌then◌else◌}
 use Rattle.std.proofs.lemmas.Bool.{leb-false}
-use Rattle.std.proofs.lemmas.List.{take_more_set, drop_more, drop-set-lt, append-nil, map-append, take_all}
+use Rattle.std.proofs.lemmas.List.{take_more_set, get_or_default, get_or-set_same, drop_more, drop-set-lt, append-nil, map-append, take_all}
 use Rattle.bods_read.specs.declared.statement.Statement.{Statement}
 use Rattle.bods_read.specs.declared.statement.Status.{Status}
 use Rattle.bods_read.specs.declared.fault.FileFault.{FileFault}
@@ -14,8 +14,6 @@ use Rattle.bor_desk.specs.declared.operations.fault.LodgeFault.{LodgeFault}
 use Rattle.bor_desk.specs.declared.operations.fault.LodgeFault.TheVariants.{FilingsFull, DuePast, StatementTwice, Record}
 use Rattle.bor_register.specs.declared.filing.AcceptedFiling.{AcceptedFiling}
 use Rattle.bor_register.specs.Register.{Register, filings_of, filing_keyed}
-use Rattle.bods_read.specs.declared.details.Details.TheVariants.{Person}
-use Rattle.bods_read.specs.declared.details.PersonKind.TheVariants.{KnownPerson}
 use Rattle.bor_register.specs.Live.{accepted, live_of}
 use Rattle.bor_desk.specs.Operations.Sight.{Sight}
 use Rattle.bor_desk.specs.Operations.Lodging.{fault_at, told_verdict, told_settled, settled_reading, as_read, repeated, filing_of, addition, lodge_step}
@@ -79,9 +77,9 @@ verdict_is place (Err w) st h = absurd cc
 live-more : (live : List Live) (due : ℤ) (front : List Statement) (s : Statement) → (live ++ map (as_live due) front) ++ as_live due s ∷ [] ≡ live ++ map (as_live due) (front ++ s ∷ [])
 live-more live due front s = append_assoc live (map (as_live due) front) (as_live due s ∷ []) ∙ ap (λ ls. live ++ ls) (sym (map-append (as_live due) front (s ∷ [])))
 
-pub so_far-more : (live : List Live) (due : ℤ) (ss : List Statement) (i place : ℕ) (d : Statement) (st : Status) → i < length ss →
-    told_verdict place (verdict (live ++ map (as_live due) (take i ss)) (get_or ss i d) due) ≡ Ok st → so_far live due ss i ≡ so_far live due (set ss i (as_settled st (get_or ss i d))) (i + 1)
-so_far-more live due ss i place d st lt told =
+pub so_far-more : (live : List Live) (due : ℤ) (ss : List Statement) (i place : ℕ) (d e : Statement) (st : Status) → i < length ss →
+    told_verdict place (verdict (live ++ map (as_live due) (take i ss)) (get_or ss i d) due) ≡ Ok st → so_far live due ss i ≡ so_far live due (set ss i (as_settled st (get_or ss i e))) (i + 1)
+so_far-more live due ss i place d e st lt told =
     let s = get_or ss i d in
     let front = take i ss in
     let before = live ++ map (as_live due) front in
@@ -95,6 +93,14 @@ so_far-more live due ss i place d st lt told =
     ∙ ap (λ ls. behind (front ++ next ∷ []) (settled_from (i + 1 + 1) ls due rest)) (live-more live due front next)
     ∙ sym (ap (λ ys. behind ys (settled_from (i + 1 + 1) (live ++ map (as_live due) ys) due (drop (i + 1) (set ss i next)))) (take_more_set ss i next lt)
     ∙ ap (λ ys. behind (front ++ next ∷ []) (settled_from (i + 1 + 1) (live ++ map (as_live due) (front ++ next ∷ [])) due ys)) (drop-set-lt (i + 1) ss i next below))
+    ∙ ap (λ (x : Statement). so_far live due (set ss i (as_settled st x)) (i + 1)) (get_or_default ss i d e lt)
+
+-- what is live of the first ones, with one that is settled
+pub live_so_far : (due : ℤ) (ss : List Statement) (i : ℕ) (s d : Statement) → i < length ss →
+    map (as_live due) (take i ss) ++ as_live due (get_or (set ss i s) i d) ∷ [] ≡ map (as_live due) (take (i + 1) (set ss i s))
+live_so_far due ss i s d lt =
+    ap (λ (x : Statement). map (as_live due) (take i ss) ++ as_live due x ∷ []) (get_or-set_same ss i s d lt)
+    ∙ sym (map-append (as_live due) (take i ss) (s ∷ [])) ∙ sym (ap (λ ys. map (as_live due) ys) (take_more_set ss i s lt))
 
 drop_past : (ss : List Statement) (i : ℕ) → length ss ≤ i → drop i ss ≡ []
 drop_past [] zero le = refl
@@ -179,7 +185,3 @@ addition_is s key due bytes f h = by_tests (nat_le filings_limit (length s.own))
         let same : accepted s.own key due bytes ss ≡ f = cc in
         let statements = ap (λ (g : AcceptedFiling). g.statements) same in
         (ap (λ (xs : List Statement). Ok xs) statements, sym same ∙ ap (accepted s.own key due bytes) statements)
-
--- a statement that stands for none
-pub no_statement : Statement
-no_statement = record { id = []; day = pos 0; declaration = []; rec = []; status = None; details = Person KnownPerson None }

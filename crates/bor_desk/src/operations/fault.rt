@@ -1,6 +1,7 @@
 //! Why an operation was not done.
 
 ghost use Rattle.std.specs.Prelude.{◌≡◌};
+ghost use Rattle.bor_register.specs.declared.fault.StoreFault.TheVariants as store_faults;
 ghost use Rattle.bor_desk.specs.declared.operations.fault.LodgeFault.TheVariants as lodge_faults;
 ghost use Rattle.bor_desk.specs.declared.operations.fault.WithdrawFault.TheVariants as withdraw_faults;
 ghost use Rattle.bor_desk.specs.declared.operations.fault.AdvanceFault.TheVariants as advance_faults;
@@ -9,6 +10,7 @@ ghost use Rattle.bor_desk.specs.declared.operations.fault.EnrolFault.TheVariants
 use bods_read::FileFault;
 use bor_records::RecordFault;
 use bor_register::StoreFault;
+use std::alloc::AllocError;
 
 /// Why a file was not lodged. The register is as before.
 #[derive(Clone, Copy, Debug, PartialEq, Eq)]
@@ -35,6 +37,14 @@ impl From<StoreFault> for LodgeFault {
 
     fn from(fault: StoreFault) -> Self {
         LodgeFault::Store(fault)
+    }
+}
+
+impl From<AllocError> for LodgeFault {
+    ghost from_gives = { λ _ given. given ≡ lodge_faults.Store store_faults.Memory };
+
+    fn from(_error: AllocError) -> Self {
+        LodgeFault::Store(StoreFault::Memory)
     }
 }
 

@@ -1,11 +1,10 @@
 //! Lodging a file.
 
-ghost use Rattle.std.specs.Prelude.{◌≡◌, ◌<◌, ◌≤◌, ◌+◌, ◌++◌, take, slice_index_or, ℕ, List, Some, None, IfOk, map, length, true, nat_le, int_lt, Ok, Err, if◌then◌else◌};
+ghost use Rattle.std.specs.Prelude.{◌≡◌, ◌<◌, ◌≤◌, ◌+◌, ◌++◌, ℕ, List, Some, None, IfOk, length, true, nat_le, int_lt, Ok, Err, if◌then◌else◌};
 ghost use Rattle.bods_read.specs.File.{reading};
 ghost use Rattle.bods_read.specs.Limits.{statements_limit};
-ghost use Rattle.bods_read.specs.declared.statement.Statement.{Statement};
-ghost use Rattle.bor_records.specs.Admission.{last_of};
-ghost use Rattle.bor_records.specs.Settling.{as_live, has_id, settled, verdict};
+ghost use Rattle.bor_records.specs.Admission.{Live, last_of};
+ghost use Rattle.bor_records.specs.Settling.{has_id, settled, verdict};
 ghost use Rattle.bor_register.specs.declared.filing.AcceptedFiling.{AcceptedFiling};
 ghost use Rattle.bor_register.specs.Register.{Register, is_enrolled, filings_of, filing_keyed};
 ghost use Rattle.bor_register.specs.Live.{accepted, live_of};
@@ -13,16 +12,18 @@ ghost use Rattle.bor_register.specs.Publication.{state_of_live, line_of};
 ghost use Rattle.bor_records.specs.Promises.{Kept, Promised, Reads, Sure};
 ghost use Rattle.bor_desk.specs.declared.operations.fault.LodgeFault.TheVariants as lodge_faults;
 ghost use Rattle.bor_register.specs.Limits.{filings_limit};
+ghost use Rattle.bor_desk.specs.Operations.Earlier.{AreFound};
 ghost use Rattle.bor_desk.specs.Operations.Lodging.{as_read, told_settled, told_verdict, settled_reading, repeated, addition, lodge_step};
 ghost use Rattle.bor_desk.specs.Operations.Outcomes.{of_lodging, IsOutcome, IsAccounted, IsDone, IsMade};
 ghost use Rattle.bor_desk.specs.Operations.Legality.{IsLegal};
 ghost use Rattle.bor_desk.specs.Operations.Sight.{sight_of};
 
+use crate::operations::earlier::Earlier;
 use crate::operations::fault::LodgeFault;
 use bods_read::{ReadFault, Statement, Status, read_file};
 use bor_records::{Last, admit};
 use bor_register::keeping::Keep;
-use bor_register::{FilingLine, State, StoreFault, any_has_id, last_in};
+use bor_register::{FilingLine, State, StoreFault};
 use bor_terms::{AgentName, Day, Ident, LodgeKey};
 use std::alloc::Global;
 
@@ -51,37 +52,37 @@ fn read(alloc: Global, bytes: &[u8]) -> Result<Vec<Statement>, LodgeFault>
 }
 
 // Whether a live statement of the agent or an earlier one of the file has the identifier.
-#[tactic(auto, using(bor_register::proofs::LiveStatements::file_rules, crate::proofs::OnOperations::Lodgings::moved))]
+#[tactic(auto, using(crate::proofs::OnOperations::Earlier::file_rules, crate::proofs::OnOperations::Lodgings::moved))]
 fn is_taken<K: Keep>(
     keep: &mut K,
     agent: &AgentName,
-    due: Day,
-    earlier: &[Statement],
+    earlier: &Earlier,
     id: &Ident,
 ) -> Result<bool, StoreFault>
     ensures { Reads K.shows K.is_clean K.fault_count K.may_tell keep.old keep.new result (λ r taken.
-        taken ≡ has_id id.now (live_of (filings_of agent.now r.members) ++ map (as_live due) earlier.now)) }
+        (live : List Live) → AreFound live earlier.now →
+        taken ≡ has_id id.now (live_of (filings_of agent.now r.members) ++ live)) }
 {
-    if any_has_id(earlier, id) {
+    if earlier.has_id(id) {
         return Ok(true);
     }
     keep.has_statement(agent, id)
 }
 
 // What is known of the record's last statement, in the file or before it.
-#[tactic(auto, using(bor_register::proofs::LiveStatements::file_rules, crate::proofs::OnOperations::Lodgings::moved))]
+#[tactic(auto, using(crate::proofs::OnOperations::Earlier::file_rules, crate::proofs::OnOperations::Lodgings::moved))]
 fn last<K: Keep>(
     keep: &mut K,
     agent: &AgentName,
-    due: Day,
-    earlier: &[Statement],
     statement: &Statement,
+    in_file: Option<Last>,
 ) -> Result<Option<Last>, StoreFault>
     ensures { Reads K.shows K.is_clean K.fault_count K.may_tell keep.old keep.new result (λ r last.
+        (live : List Live) → in_file ≡ last_of statement.now.declaration statement.now.rec live →
         last ≡ last_of statement.now.declaration statement.now.rec
-        (live_of (filings_of agent.now r.members) ++ map (as_live due) earlier.now)) }
+        (live_of (filings_of agent.now r.members) ++ live)) }
 {
-    match last_in(earlier, due, &statement.declaration, &statement.rec) {
+    match in_file {
         Some(last) => Ok(Some(last)),
         None => keep.last(agent, &statement.declaration, &statement.rec),
     }
@@ -90,57 +91,34 @@ fn last<K: Keep>(
 // The status that a statement is settled as after those before it, or why it is refused.
 #[tactic(auto, using(crate::proofs::OnOperations::Lodgings::verdict_rules, crate::proofs::OnOperations::Lodgings::moved))]
 fn settled_status<K: Keep>(
+    alloc: Global,
     keep: &mut K,
     agent: &AgentName,
     due: Day,
-    earlier: &[Statement],
+    earlier: &Earlier,
     statement: &Statement,
     place: u32,
 ) -> Result<Status, LodgeFault>
     ensures kept { Kept K.shows K.is_clean keep.old keep.new }
     ensures accounted { IsAccounted of_lodging K.may_tell result (K.fault_count keep.old) (K.fault_count keep.new) }
     ensures answer { Promised K.shows K.is_clean keep.old keep.new (λ r.
+        (live : List Live) → AreFound live earlier.now →
         IsDone of_lodging (λ status. status) result (told_verdict place
-        (verdict (live_of (filings_of agent.now r.members) ++ map (as_live due) earlier.now) statement.now due))) }
+        (verdict (live_of (filings_of agent.now r.members) ++ live) statement.now due))) }
 {
-    if is_taken(keep, agent, due, earlier, &statement.id)? {
+    if is_taken(keep, agent, earlier, &statement.id)? {
         return Err(LodgeFault::StatementTwice(place));
     }
-    match admit(last(keep, agent, due, earlier, statement)?, statement, due) {
+    let in_file = earlier.last(alloc, statement)?;
+    match admit(last(keep, agent, statement, in_file)?, statement, due) {
         Ok(status) => Ok(status),
         Err(fault) => Err(LodgeFault::Record { place, fault }),
     }
 }
 
-// The same of the statement at an index of a file.
-fn status_at<K: Keep>(
-    keep: &mut K,
-    agent: &AgentName,
-    due: Day,
-    statements: &[Statement],
-    i: usize,
-) -> Result<Status, LodgeFault>
-    requires within { i < length statements.now }
-    requires few { length statements.now ≤ statements_limit }
-    ensures kept { Kept K.shows K.is_clean keep.old keep.new }
-    ensures accounted { IsAccounted of_lodging K.may_tell result (K.fault_count keep.old) (K.fault_count keep.new) }
-    ensures answer { Promised K.shows K.is_clean keep.old keep.new (λ r.
-        (d : Statement) → IsDone of_lodging (λ status. status) result (told_verdict (i + 1)
-        (verdict (live_of (filings_of agent.now r.members) ++ map (as_live due) (take i statements.now))
-        (slice_index_or statements.now i d) due))) }
-{
-    settled_status(
-        keep,
-        agent,
-        due,
-        &statements[..i],
-        &statements[i],
-        i as u32 + 1,
-    )
-}
-
 // Settles the statements of a file, one after the other; or the first place that is refused.
 fn settle<K: Keep>(
+    alloc: Global,
     keep: &mut K,
     agent: &AgentName,
     due: Day,
@@ -153,9 +131,12 @@ fn settle<K: Keep>(
         IsDone of_lodging (λ _. statements.new) result
         (told_settled (settled (live_of (filings_of agent.now r.members)) due statements.old))) }
 {
+    let mut earlier = Earlier::new(alloc);
     for i in 0..statements.len() {
-        let status = status_at(keep, agent, due, statements, i)?;
+        let place = i as u32 + 1;
+        let status = settled_status(alloc, keep, agent, due, &earlier, &statements[i], place)?;
         statements[i].status = Some(status);
+        earlier.add(alloc, &statements[i], due)?;
     }
     Ok(())
 }
@@ -176,7 +157,7 @@ fn settled<K: Keep>(
         (settled_reading (live_of (filings_of agent.now r.members)) due (reading bytes.now))) }
 {
     let mut statements = read(alloc, bytes)?;
-    settle(keep, agent, due, &mut statements)?;
+    settle(alloc, keep, agent, due, &mut statements)?;
     Ok(statements)
 }
 
@@ -295,7 +276,7 @@ fn lodge_new<K: Keep>(
 /// file order `StatementTwice` and `Record`, each with its place. A refusal leaves the register as
 /// it was, and so does `Store`. The keep is asked at most once for each statement's identifier and
 /// once for its record, and is changed at most once, last; none of its calls lists the agent's
-/// filings or copies a file.
+/// filings or copies a file. Beside the keep, n statements take the time of n look-ups among n.
 pub fn lodge<K: Keep>(
     alloc: Global,
     keep: &mut K,

@@ -21,6 +21,7 @@
 //! Which statement may follow which is told by `bor_records`, what a file says by `bods_read`. Who
 //! asks is not looked into here: the callers say which agent it is.
 
+mod earlier;
 mod fault;
 mod keep_source;
 pub mod laws;
