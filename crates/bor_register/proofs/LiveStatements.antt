@@ -5,7 +5,6 @@ use Rattle.std.specs.Option.{option_or}
 use Rattle.std.specs.List.{list_any, last_or}
 use Rattle.std.proofs.lemmas.List.{take_more, append-nil, map-append}
 use Rattle.std.proofs.lemmas.List.Folds.{list_any-append}
-use Rattle.std.proofs.Math.Bool.{or-false, or-true}
 use Rattle.bor_terms.specs.Texts.{is_same}
 use Rattle.bods_read.specs.declared.statement.Statement.{Statement}
 use Rattle.bor_records.specs.declared.admission.Last.{Last}
@@ -95,21 +94,3 @@ has_id-live_of id (f ∷ fs) =
     ∙ ap (λ b. b || has_id id (live_of fs)) (has_id-live id f.due f.statements) ∙ ap (λ b. list_any (λ s. is_same s.id id) f.statements || b) (has_id-live_of id fs)
 
 pub ruleset identifiers = (has_id-live_of)
-
-has_id-with : (id : List ℕ) (due : ℤ) (live : List Live) (ss : List Statement) → has_id id (live ++ map (as_live due) ss) ≡ (has_id id live || list_any (λ s. is_same s.id id) ss)
-has_id-with id due live ss = list_any-append (λ l. is_same l.statement.id id) live (map (as_live due) ss) ∙ ap (λ b. has_id id live || b) (has_id-live id due ss)
-
--- the identifier stands in the file, or nowhere there
-pub taken_in_file : (id : List ℕ) (due : ℤ) (live : List Live) (ss : List Statement) → list_any (λ s. is_same s.id id) ss ≡ true → has_id id (live ++ map (as_live due) ss) ≡ true
-taken_in_file id due live ss h = has_id-with id due live ss ∙ ap (λ b. has_id id live || b) h ∙ or-true (has_id id live)
-
-pub free_in_file : (id : List ℕ) (due : ℤ) (live : List Live) (ss : List Statement) → list_any (λ s. is_same s.id id) ss ≡ false → has_id id (live ++ map (as_live due) ss) ≡ has_id id live
-free_in_file id due live ss h = has_id-with id due live ss ∙ ap (λ b. has_id id live || b) h ∙ or-false (has_id id live)
-
-pub last_in_file : (d r : List ℕ) (due : ℤ) (live : List Live) (ss : List Statement) (l : Last) → last_of d r (map (as_live due) ss) ≡ Some l → last_of d r (live ++ map (as_live due) ss) ≡ Some l
-last_in_file d r due live ss l h = last_of-append d r live (map (as_live due) ss) ∙ ap (later (last_of d r live)) h
-
-pub last_before : (d r : List ℕ) (due : ℤ) (live : List Live) (ss : List Statement) → last_of d r (map (as_live due) ss) ≡ None → last_of d r (live ++ map (as_live due) ss) ≡ last_of d r live
-last_before d r due live ss h = last_of-append d r live (map (as_live due) ss) ∙ ap (later (last_of d r live)) h
-
-pub ruleset file_rules = (taken_in_file, free_in_file, last_in_file, last_before)

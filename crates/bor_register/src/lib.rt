@@ -41,5 +41,4 @@ pub use member::{
 };
 pub use publication::all_published;
 pub use rows::{all_visible, rows_seen};
-pub use statements::{any_has_id, last_in};
 pub use withdrawal::is_succeeded;

@@ -31,7 +31,12 @@ pub(crate) fn is_of(statement: &Statement, declaration: &Ident, rec: &Ident) -> 
 
 /// What is known of the last one of the record among statements that are due on a day.
 #[tactic(auto, using(crate::proofs::LiveStatements::more_statements))]
-pub fn last_in(statements: &[Statement], due: Day, declaration: &Ident, rec: &Ident) -> Option<Last>
+pub(crate) fn last_in(
+    statements: &[Statement],
+    due: Day,
+    declaration: &Ident,
+    rec: &Ident,
+) -> Option<Last>
     ensures { result ≡ last_of declaration.now rec.now (map (as_live due) statements.now) }
 {
     let mut last = None;
@@ -44,7 +49,7 @@ pub fn last_in(statements: &[Statement], due: Day, declaration: &Ident, rec: &Id
 }
 
 /// Whether one of the statements has the identifier.
-pub fn any_has_id(statements: &[Statement], id: &Ident) -> bool
+pub(crate) fn any_has_id(statements: &[Statement], id: &Ident) -> bool
     ensures { result ≡ list_any (λ s. is_same s.id id.now) statements.now }
 {
     statements.iter().any(|statement| statement.id == *id)
