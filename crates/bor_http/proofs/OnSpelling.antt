@@ -3,4 +3,3 @@ pub mod Texts
 pub mod Stepwise
 pub mod Lengths
 pub mod Messages
-pub mod Following

@@ -26,9 +26,10 @@ use Rattle.bor_desk.specs.declared.refusal.Refusal.TheVariants as refuse
 use Rattle.bor_desk.specs.declared.reply.DeskReply.TheVariants as tell
 use Rattle.bor_desk.specs.declared.request.Request.{Request}
 use Rattle.bor_desk.specs.declared.request.Request.TheVariants as ask
-use Rattle.bor_http.specs.Incoming.Message.{Parts}
-use Rattle.bor_http.specs.Spelling.Refusals.{head_end, refusals}
-use Rattle.bor_http.specs.Spelling.Spell.{IsTakenApart, asked_behind, spelling}
+use Rattle.bor_http.specs.Incoming.Message.{Parts, IsTakenApart}
+use Rattle.bor_http.specs.Incoming.Head.{head_end}
+use Rattle.bor_http.specs.Spelling.Refusals.{refusals}
+use Rattle.bor_http.specs.Spelling.Spell.{asked_behind, spelling}
 use Rattle.bor_wire.specs.Rendering.Replies.{Said, refused, answered, status_of}
 use Rattle.bor_wire.specs.Inputs.{IsSaid}
 

@@ -1,5 +1,5 @@
 -- The definitions on worked inputs.
-use Rattle.std.proofs.Common.{◌≡◌, ◌<◌, ◌≤◌, ℕ, zero, suc, List, [], ◌∷◌, Some, None, Ok, Err, true, codes, refl, arith, lit<, lit≤}
+use Rattle.std.proofs.Common.{◌≡◌, ◌<◌, ℕ, zero, suc, List, [], ◌∷◌, Some, None, Ok, Err, true, codes, refl, arith, lit<, lit≤}
 use Rattle.std.specs.Prelude.{All, nat_lt}
 use Rattle.std.specs.List.{list_all}
 use Rattle.std.specs.Str.{IsAscii}
@@ -10,8 +10,9 @@ use Rattle.std.proofs.lemmas.Str.Ascii.{IsAscii-from_all}
 use Rattle.httparse.specs.Grammar.{crlf, Field, IsField, RequestHead, is_token_byte, is_uri_byte, is_value_byte, print_request, trim_ows}
 use Rattle.bor_http.specs.declared.incoming.fault.Refusal.TheVariants.{HeadTooLarge, CutShort, BadLength, BodyTooLarge}
 use Rattle.bor_http.specs.Incoming.Counted.{after_fault, takes_nothing}
-use Rattle.bor_http.specs.Incoming.Head.{head_len, head_within, head_at}
-use Rattle.bor_http.specs.Incoming.Message.{Parts, FieldText, HasParts, IsMessage, only_value, body_len, length_of, with_body}
+use Rattle.bor_http.specs.Incoming.Head.{head_len}
+use Rattle.bor_http.specs.Incoming.Steps.{head_within, head_at, HasParts, IsMessage, body_len, length_of, with_body}
+use Rattle.bor_http.specs.Incoming.Message.{Parts, FieldText, BeginsWith, only_value}
 
 -- ---- where a head ends
 
@@ -77,7 +78,7 @@ ascii : (bytes : List ℕ) → list_all (λ b. nat_lt b 128) bytes ≡ true → 
 ascii bytes h = IsAscii-from_all bytes (λ k d lt. below _ (AllPass-from_list_all (λ b. nat_lt b 128) bytes h k d lt))
 
 -- the blanks around a value are no part of it
-abbrev of_literal : Parts
+abbrev pub of_literal : Parts
 of_literal = record { method = codes "GET"; target = codes "/filings"; fields = (codes "Host", codes "localhost") ∷ [] }
 
 taken_apart : HasParts literal (Ok of_literal)
@@ -97,7 +98,19 @@ taken_apart = (
   refl,
 )
 
--- and a request, whatever follows
+-- the input begins with it, whatever follows: it ends at the empty line, and has three lines of at most 66
+pub begins : BeginsWith (codes "GET /filings HTTP/1.1\r\nHost:  localhost \r\n\r\nGET /") of_literal
+unfolding head_len
+begins = record {
+  end = 44;
+  ends = refl;
+  few_lines = lit≤ tt;
+  head = taken_apart.0;
+  reads = taken_apart.1;
+  parts_are = taken_apart.2;
+}
+
+-- and it is a request
 is_message : IsMessage (codes "GET /filings HTTP/1.1\r\nHost:  localhost \r\n\r\nGET /") (Ok (record { parts = of_literal; body = [] }))
 unfolding head_len
 is_message = (Ok of_literal, taken_apart, refl)

@@ -1,17 +1,18 @@
 -- An input is one request, whatever stands behind it.
-use Rattle.std.proofs.Common.{◌≡◌, ◌≤◌, ℕ, List, [], ◌++◌, Option, Some, None, Bool, true, false, Result, Ok, Err, refl, sym, ap, ◌∙◌, take, drop, length, cond, nat_lt, subst, append_assoc, append-nil, arith}
+use Rattle.std.proofs.Common.{◌≡◌, ◌≢◌, ◌≤◌, ◌<◌, ℕ, List, [], ◌++◌, Option, Some, None, Bool, true, false, Result, Ok, Err, refl, sym, ap, ◌∙◌, take, drop, length, cond, nat_lt, subst, append_assoc, length-append, take_all, arith}
+use Rattle.std.specs.Prelude.{⊤}
 use Rattle.std.specs.Option.{option_map_or}
-use Rattle.std.proofs.lemmas.List.{take-append-drop, take-append-le, drop-append-le, length-take}
+use Rattle.std.proofs.lemmas.List.{take-append-drop, take-append-le, drop-append-le, length-take, length-take-le}
 use Rattle.std.proofs.lemmas.Bool.Decides.{nat_tests}
 use Rattle.httparse.proofs.GrammarLemmas.{request_unique}
 use Rattle.bor_http.specs.declared.incoming.fault.Refusal.{Refusal}
 use Rattle.bor_http.specs.declared.incoming.fault.Refusal.TheVariants.{HeadTooLarge, CutShort}
-use Rattle.bor_http.specs.Incoming.Head.{head_at, head_len, head_within, without_head, with_few_lines, line_feeds, line_limit, head_limit}
+use Rattle.bor_http.specs.Incoming.Head.{head_len, line_feeds, line_limit, head_limit}
+use Rattle.bor_http.specs.Incoming.Message.{Parts, Message, parts_of}
+use Rattle.bor_http.specs.Incoming.Steps.{head_at, head_within, without_head, with_few_lines, HasParts, IsMessage, IsAt, and_then, with_body, body_of, body_len}
 use Rattle.bor_http.specs.Incoming.Laws.{OneRequest, RestIsIgnored}
 use Rattle.bor_http.proofs.OnIncoming.HeadLemmas.{head_len-le}
-use Rattle.bor_http.proofs.OnIncoming.ReadingLemmas.{head-found}
-use Rattle.bor_http.proofs.OnIncoming.MessageLemmas.{body_whole}
-use Rattle.bor_http.specs.Incoming.Message.{Parts, Message, HasParts, IsMessage, IsAt, and_then, with_body, body_of, body_len, parts_of}
+use Rattle.bor_http.proofs.OnIncoming.ReadingLemmas.{head-found, head-too_large, head-cut_short}
 
 parts_unique : (head : List ℕ) (a b : Result Parts Refusal) → HasParts head a → HasParts head b → a ≡ b
 parts_unique head (Ok a) (Ok b) x y =
@@ -28,67 +29,104 @@ at_unique input (Err r) a b x y = x ∙ sym y
 pub message_unique : OneRequest
 message_unique input a b x y = at_unique input (head_at input) a b x y
 
--- ---- what stands behind
+-- ---- the head ends where it ended
 
-few : (buffer : List ℕ) (k n : ℕ) → with_few_lines buffer k ≡ Ok n → k ≡ n
-few buffer k n e = go (nat_lt line_limit (line_feeds (take k buffer))) e
+kept_found : (limit : ℕ) (buffer rest more : List ℕ) (n : ℕ) → length buffer ≤ limit → head_len buffer ≡ Some n
+    → head_within limit ((buffer ++ rest) ++ more) ≡ head_within limit (buffer ++ rest)
+kept_found limit buffer rest more n le e =
+    rw append_assoc (head-found limit buffer (rest ++ more) n le e ∙ sym (head-found limit buffer rest n le e))
+
+kept_large : (limit : ℕ) (buffer rest more : List ℕ) → length buffer ≡ limit → head_len buffer ≡ None
+    → head_within limit ((buffer ++ rest) ++ more) ≡ head_within limit (buffer ++ rest)
+kept_large limit buffer rest more is e =
+    rw append_assoc (head-too_large limit buffer (rest ++ more) is e ∙ sym (head-too_large limit buffer rest is e))
+
+head_kept : (limit : ℕ) (input more : List ℕ) → head_within limit input ≢ Err CutShort → head_within limit (input ++ more) ≡ head_within limit input
+head_kept limit input more ne = by_end (head_len (take limit input)) refl
   where
-    go : (b : Bool) → cond b (Err HeadTooLarge) (Ok k) ≡ Ok n → k ≡ n
-    go true e = cc
-    go false e = cc
+    by_length : (short : Bool) → nat_lt (length input) limit ≡ short → head_len (take limit input) ≡ None
+        → head_within limit (input ++ more) ≡ head_within limit input
+    by_length true short none =
+        let lt : length input < limit = grind (arith, nat_tests) in
+        absurd (ne (head-cut_short limit input lt (sym (ap head_len (take_all limit input (omega arith))) ∙ none)))
+    by_length false long none =
+        let le : limit ≤ length input = grind (arith, nat_tests) in
+        subst (λ xs. head_within limit (xs ++ more) ≡ head_within limit xs) (take-append-drop limit input)
+        (kept_large limit (take limit input) (drop limit input) more (length-take-le limit input le) none)
 
-no_head : (limit : ℕ) (input : List ℕ) (n : ℕ) → without_head limit input ≡ Ok n → ⊥
-no_head limit input n e = go (nat_lt (length input) limit) e
+    by_end : (end : Option ℕ) → head_len (take limit input) ≡ end → head_within limit (input ++ more) ≡ head_within limit input
+    by_end None e = by_length (nat_lt (length input) limit) refl e
+    by_end (Some n) e =
+        subst (λ xs. head_within limit (xs ++ more) ≡ head_within limit xs) (take-append-drop limit input)
+        (kept_found limit (take limit input) (drop limit input) more n (omega (arith, length-take limit input)) e)
+
+-- the head lies in the input
+IsInside : List ℕ → Result ℕ Refusal → Type 0
+IsInside input (Ok n) = n ≤ length input
+IsInside input (Err why) = ⊤
+
+inside : (limit : ℕ) (input : List ℕ) → IsInside input (head_within limit input)
+unfolding IsInside
+inside limit input = by_end (head_len (take limit input)) refl
   where
-    go : (b : Bool) → cond b (Err CutShort) (Err HeadTooLarge) ≡ Ok n → ⊥
-    go true e = cc
-    go false e = cc
+    outside : (short : Bool) → IsInside input (cond short (Err CutShort) (Err HeadTooLarge))
+    outside true = tt
+    outside false = tt
 
--- a head that was found is found with more behind it
-head_kept : (limit : ℕ) (input more : List ℕ) (n : ℕ) → head_within limit input ≡ Ok n → (n ≤ length input) × (head_within limit (input ++ more) ≡ Ok n)
-head_kept limit input more n e = go (head_len (take limit input)) refl
+    at_most : (n : ℕ) (many : Bool) → n ≤ length input → IsInside input (cond many (Err HeadTooLarge) (Ok n))
+    at_most n true le = tt
+    at_most n false le = le
+
+    by_end : (end : Option ℕ) → head_len (take limit input) ≡ end → IsInside input (option_map_or (with_few_lines input) end (without_head limit input))
+    by_end None e = outside (nat_lt (length input) limit)
+    by_end (Some n) e =
+        at_most n (nat_lt line_limit (line_feeds (take n input))) (omega (arith, head_len-le (take limit input) n e, length-take limit input))
+
+-- ---- the body is the one it was
+
+body_kept : (parts : Parts) (rest more : List ℕ) → with_body rest parts ≢ Err CutShort → with_body (rest ++ more) parts ≡ with_body rest parts
+body_kept parts rest more ne = by_length (body_len parts.fields) ne
   where
-    short : length (take limit input) ≤ limit
-    short = omega (arith, length-take limit input)
+    by_test : (n : ℕ) (short : Bool) → nat_lt (length rest) n ≡ short → body_of parts rest n ≢ Err CutShort → body_of parts (rest ++ more) n ≡ body_of parts rest n
+    by_test n true e ne = absurd (ne (rw e refl))
+    by_test n false e ne =
+        let le : n ≤ length rest = grind (arith, nat_tests) in
+        let long : nat_lt (length (rest ++ more)) n ≡ false = grind (arith, nat_tests, length-append {A = ℕ}) in
+        rw (e, long, take-append-le n rest more le) refl
 
-    go : (o : Option ℕ) → head_len (take limit input) ≡ o → (n ≤ length input) × (head_within limit (input ++ more) ≡ Ok n)
-    go None is = absurd (no_head limit input n (sym (ap (λ o. option_map_or (with_few_lines input) o (without_head limit input)) is) ∙ e))
-    go (Some k) is =
-        let here : head_within limit input ≡ with_few_lines (take limit input) k =
-        ap (head_within limit) (sym (take-append-drop limit input)) ∙ head-found limit (take limit input) (drop limit input) k (omega (arith, length-take limit input)) is in
-        let there : head_within limit (input ++ more) ≡ with_few_lines (take limit input) k =
-        ap (λ l. head_within limit (l ++ more)) (sym (take-append-drop limit input))
-        ∙ ap (head_within limit) (append_assoc (take limit input) (drop limit input) more)
-        ∙ head-found limit (take limit input) (drop limit input ++ more) k (omega (arith, length-take limit input)) is in
-        (omega (arith, few (take limit input) k n (sym here ∙ e), head_len-le (take limit input) k is, length-take limit input), there ∙ sym here ∙ e)
+    by_length : (len : Result ℕ Refusal) → and_then (body_of parts rest) len ≢ Err CutShort
+        → and_then (body_of parts (rest ++ more)) len ≡ and_then (body_of parts rest) len
+    by_length (Err why) ne = refl
+    by_length (Ok n) ne = by_test n (nat_lt (length rest) n) refl ne
 
-body_kept : (parts : Parts) (rest more : List ℕ) (len : ℕ) (m : Message) → body_of parts rest len ≡ Ok m → body_of parts (rest ++ more) len ≡ Ok m
-body_kept parts rest more len m e = go (nat_lt (length rest) len) refl
-  where
-    go : (t : Bool) → nat_lt (length rest) len ≡ t → body_of parts (rest ++ more) len ≡ Ok m
-    go true is = absurd (let f : Err CutShort ≡ Ok m = rw is at e in cc)
-    go false is =
-        let le : len ≤ length rest = grind (arith, nat_tests) in
-        body_whole parts rest more len le ∙ sym (rw append-nil at (body_whole parts rest [] len le)) ∙ e
+parts_kept : (rest more : List ℕ) (parts : Result Parts Refusal) → and_then (with_body rest) parts ≢ Err CutShort
+    → and_then (with_body (rest ++ more)) parts ≡ and_then (with_body rest) parts
+parts_kept rest more (Err why) ne = refl
+parts_kept rest more (Ok parts) ne = body_kept parts rest more ne
 
-with_body_kept : (parts : Parts) (rest more : List ℕ) (m : Message) (len : Result ℕ Refusal) → and_then (body_of parts rest) len ≡ Ok m
-    → and_then (body_of parts (rest ++ more)) len ≡ Ok m
-with_body_kept parts rest more m (Err r) e = cc
-with_body_kept parts rest more m (Ok len) e = body_kept parts rest more len m e
+-- ---- an input that isn't cut short is what it is, whatever follows
 
-behind_kept : (rest more : List ℕ) (m : Message) (parts : Result Parts Refusal) → Ok m ≡ and_then (with_body rest) parts
-    → Ok m ≡ and_then (with_body (rest ++ more)) parts
-behind_kept rest more m (Err r) e = cc
-behind_kept rest more m (Ok parts) e = sym (with_body_kept parts rest more m (body_len parts.fields) (sym e))
+kept : (input more : List ℕ) (at : Result ℕ Refusal) (read : Result Message Refusal) → IsInside input at → read ≢ Err CutShort → IsAt input at read
+    → IsAt (input ++ more) at read
+unfolding IsInside
+kept input more (Err why) read le ne is = is
+kept input more (Ok n) read le ne is = (
+  is.0,
+  subst (λ xs. HasParts xs is.0) (sym (take-append-le n input more le)) is.1,
+  is.2
+      ∙ sym (
+      ap (λ rest. and_then (with_body rest) is.0) (drop-append-le n input more le)
+      ∙ parts_kept (drop n input) more is.0 (λ cut. ne (is.2 ∙ cut))
+      ),
+)
 
-at_kept : (input more : List ℕ) (m : Message) (at : Result ℕ Refusal) → head_at input ≡ at → IsAt input at (Ok m) → IsMessage (input ++ more) (Ok m)
-at_kept input more m (Err r) is h = absurd (let f : Ok m ≡ Err r = h in cc)
-at_kept input more m (Ok n) is h =
-    let kept = head_kept head_limit input more n is in
-    let front : take n (input ++ more) ≡ take n input = take-append-le n input more kept.0 in
-    let back : drop n (input ++ more) ≡ drop n input ++ more = drop-append-le n input more kept.0 in
-    subst (λ a. IsAt (input ++ more) a (Ok m)) (sym kept.1)
-    (h.0, subst (λ b. HasParts b h.0) (sym front) h.1, behind_kept (drop n input) more m h.0 h.2 ∙ ap (λ b. and_then (with_body b) h.0) (sym back))
+cut_at : (input : List ℕ) (at : Result ℕ Refusal) (read : Result Message Refusal) → at ≡ Err CutShort → IsAt input at read → read ≡ Err CutShort
+cut_at input at read cut is = subst (λ a. IsAt input a read) cut is
+
+pub message_follows : (input more : List ℕ) (read : Result Message Refusal) → read ≢ Err CutShort → IsMessage input read → IsMessage (input ++ more) read
+message_follows input more read ne is =
+    let end : head_at (input ++ more) ≡ head_at input = head_kept head_limit input more (λ cut. ne (cut_at input (head_at input) read cut is)) in
+    subst (λ at. IsAt (input ++ more) at read) (sym end) (kept input more (head_at input) read (inside head_limit input) ne is)
 
 pub rest_ignored : RestIsIgnored
-rest_ignored input more m h = at_kept input more m (head_at input) refl h
+rest_ignored input more m is = message_follows input more (Ok m) (λ cut. cc) is

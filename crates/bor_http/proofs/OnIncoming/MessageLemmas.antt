@@ -10,9 +10,10 @@ use Rattle.bor_http.specs.declared.incoming.fault.Refusal.{Refusal}
 use Rattle.bor_http.specs.declared.incoming.fault.Refusal.TheVariants.{BadLength, BodyTooLarge, CutShort}
 use Rattle.bor_http.specs.declared.incoming.fault.WireFault.{WireFault}
 use Rattle.bor_http.specs.declared.incoming.fault.WireFault.TheVariants.{Refused, Read, Memory}
-use Rattle.bor_http.specs.Incoming.Head.{head_at, head_limit}
+use Rattle.bor_http.specs.Incoming.Head.{head_limit}
+use Rattle.bor_http.specs.Incoming.Steps.{head_at, HasParts, HeadFault, IsMessage, IsAt, IsBehind, and_then, with_body, body_of, body_len, length_of}
 use Rattle.bor_http.specs.Incoming.Reading.{Grows, FaultFits, EndsBefore, IsBody, ReadsBody, Tells, TakesAtMost}
-use Rattle.bor_http.specs.Incoming.Message.{Parts, Message, FieldText, HasParts, HeadFault, IsMessage, IsAt, IsBehind, and_then, with_body, body_of, body_len, length_of, is_numeral, how_many, first_value, body_limit, request_limit}
+use Rattle.bor_http.specs.Incoming.Message.{Parts, Message, FieldText, is_numeral, how_many, first_value, body_limit, request_limit}
 use Rattle.bor_http.proofs.OnIncoming.ReadingLemmas.{from_whole_with, from_end_with, grows_behind}
 
 -- with its head and what stands behind it, an input is what its parts make of it

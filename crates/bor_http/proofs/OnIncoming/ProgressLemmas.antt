@@ -1,6 +1,6 @@
 -- How much of a request has come, from what was found at its front.
 use Rattle.std.proofs.Common.{◌≡◌, ◌≤◌, ◌<◌, ◌+◌, ◌-◌, ◌↔◌, ℕ, List, [], ◌++◌, Bool, true, false, length, take, drop, cond, codes, Option, Some, None, Ok, Err, Result, refl, sym, ap, subst, ◌∙◌, arith, append-nil, append_assoc, length-append, nat_lt, nat_le, inl, inr}
-use Rattle.std.specs.Option.{option_map, option_map_or}
+use Rattle.std.specs.Option.{option_map_or}
 use Rattle.std.specs.Str.Parse.{digits_value}
 use Rattle.std.proofs.lemmas.Bool.{cases_lt}
 use Rattle.std.proofs.lemmas.Bool.Decides.{nat_tests}
@@ -9,8 +9,9 @@ use Rattle.bor_http.specs.declared.incoming.fault.Refusal.{Refusal}
 use Rattle.bor_http.specs.declared.incoming.fault.Refusal.TheVariants.{HeadTooLarge, CutShort, BadHead, BadLength, BodyTooLarge}
 use Rattle.bor_http.specs.declared.incoming.progress.Progress.{Progress}
 use Rattle.bor_http.specs.declared.incoming.progress.Progress.TheVariants.{Searched, Needs}
-use Rattle.bor_http.specs.Incoming.Head.{IsScanned, head_at, head_len, head_limit, with_few_lines}
-use Rattle.bor_http.specs.Incoming.Message.{FieldText, HasParts, IsAt, IsMessage, Message, Parts, and_then, body_len, body_limit, body_of, first_value, how_many, is_numeral, length_of, with_body}
+use Rattle.bor_http.specs.Incoming.Head.{head_len, head_limit}
+use Rattle.bor_http.specs.Incoming.Steps.{IsScanned, with_few_lines, HasParts, IsAt, IsMessage, and_then, body_len, body_of, length_of, with_body}
+use Rattle.bor_http.specs.Incoming.Message.{FieldText, Message, Parts, body_limit, first_value, how_many, is_numeral}
 use Rattle.bor_http.specs.Incoming.Progress.{IsProgress, IsWhole, needs}
 use Rattle.bor_http.proofs.OnIncoming.HeadLemmas.{head_len-le, scanned_before}
 use Rattle.bor_http.proofs.OnIncoming.ReadingLemmas.{head-cut_short, head-found, head-too_large}

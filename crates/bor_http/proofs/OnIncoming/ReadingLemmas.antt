@@ -6,7 +6,8 @@ use Rattle.std.proofs.lemmas.Bool.Decides.{nat_tests}
 use Rattle.std.proofs.Math.Seq.{take-append-add}
 use Rattle.bor_http.specs.declared.incoming.fault.Refusal.{Refusal}
 use Rattle.bor_http.specs.declared.incoming.fault.Refusal.TheVariants.{HeadTooLarge, CutShort}
-use Rattle.bor_http.specs.Incoming.Head.{head_len, head_within, without_head, with_few_lines, line_feeds, line_limit}
+use Rattle.bor_http.specs.Incoming.Head.{head_len, line_feeds, line_limit}
+use Rattle.bor_http.specs.Incoming.Steps.{head_within, without_head, with_few_lines}
 use Rattle.bor_http.specs.declared.incoming.fault.WireFault.{WireFault}
 use Rattle.bor_http.specs.declared.incoming.fault.WireFault.TheVariants.{Refused, Read, Memory}
 use Rattle.bor_http.specs.Incoming.Reading.{Grows, IsNoRefusal, GivesFault}

@@ -20,7 +20,8 @@ use Rattle.bor_http.proofs.OnRoutes.OnLiterals.{routes_on_literals}
 use Rattle.bor_http.specs.Spelling.Query.{as_text}
 use Rattle.bor_http.specs.Spelling.Parts.{text_in, path_in, bearer_token, token, once, at_most_once, key_in}
 use Rattle.bor_http.specs.Spelling.Refusals.{lines_of_message, refusals}
-use Rattle.bor_http.specs.Spelling.Spell.{Spelled, asked, spell, spelling}
+use Rattle.bor_http.specs.Spelling.Spell.{Spelled, Spells, asked, spell, spelling}
+use Rattle.bor_http.proofs.OnIncoming.Examples.{begins, of_literal}
 
 -- what is opened to compute what an input spells
 unfoldable pub speller : ⊤
@@ -323,3 +324,10 @@ refused =
 first_refusals : map (λ c. spelling c.0.0 c.0.1) refused ≡ map (λ c. Err c.1) refused
 unfolding speller
 first_refusals = refl
+
+-- ---- a whole input
+
+-- its head is the one that it begins with, and of the lines that are about it the first that holds is that no token is there
+without_token : Spells (codes "GET /filings HTTP/1.1\r\nHost:  localhost \r\n\r\nGET /") (Err NoToken)
+unfolding speller
+without_token = (Some of_literal, begins, refl)

@@ -9,7 +9,8 @@ use Rattle.std.proofs.lemmas.List.Sums.{sum_by-append}
 use Rattle.bods_read.specs.Outcome.{table, outcome}
 use Rattle.bor_http.specs.declared.incoming.fault.Refusal.{Refusal}
 use Rattle.bor_http.specs.declared.incoming.fault.Refusal.TheVariants.{BadLength, BodyTooLarge, CutShort}
-use Rattle.bor_http.specs.Incoming.Message.{◌>>=◌, and_then, Parts, Message, FieldText, is_named, is_numeral, how_many, first_value, length_of, body_limit, body_len, body_of, with_body}
+use Rattle.bor_http.specs.Incoming.Message.{Parts, Message, FieldText, is_named, is_numeral, how_many, first_value, body_limit}
+use Rattle.bor_http.specs.Incoming.Steps.{◌>>=◌, and_then, length_of, body_len, body_of, with_body}
 use Rattle.bor_http.specs.Spelling.Refusals.{refuse, values, lengths, exceeds, lines_of_body, lines_of_message, stated, message_of}
 use Rattle.bor_http.specs.Spelling.Spell.{asked, spell}
 

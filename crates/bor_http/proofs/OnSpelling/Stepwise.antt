@@ -12,7 +12,8 @@ use Rattle.bor_http.specs.declared.incoming.fault.Name.{Name}
 use Rattle.bor_http.specs.declared.incoming.fault.Name.TheVariants as names
 use Rattle.bor_http.specs.declared.incoming.fault.Refusal.{Refusal}
 use Rattle.bor_http.specs.declared.incoming.fault.Refusal.TheVariants.{NoPath, WrongMethod, NoToken}
-use Rattle.bor_http.specs.Incoming.Message.{◌>>=◌, Message}
+use Rattle.bor_http.specs.Incoming.Message.{Message}
+use Rattle.bor_http.specs.Incoming.Steps.{◌>>=◌}
 use Rattle.bor_http.specs.declared.routes.route.Route.{Route}
 use Rattle.bor_http.specs.declared.routes.route.Route.TheVariants as routes
 use Rattle.bor_http.specs.Routes.Routes.{route_at}

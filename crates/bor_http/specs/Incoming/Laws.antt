@@ -1,7 +1,8 @@
 -- Laws of what an input says.
 use Rattle.std.specs.Prelude.{◌≡◌, ℕ, List, ◌++◌, Result, Ok}
 use Rattle.bor_http.specs.declared.incoming.fault.Refusal.{Refusal}
-use Rattle.bor_http.specs.Incoming.Message.{Message, IsMessage}
+use Rattle.bor_http.specs.Incoming.Message.{Message}
+use Rattle.bor_http.specs.Incoming.Steps.{IsMessage}
 
 -- An input is one request, or is refused as one thing.
 abbrev pub OneRequest : Type 0

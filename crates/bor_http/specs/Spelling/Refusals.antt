@@ -9,7 +9,7 @@ use Rattle.bor_http.specs.declared.incoming.fault.Name.{Name}
 use Rattle.bor_http.specs.declared.incoming.fault.Name.TheVariants as names
 use Rattle.bor_http.specs.declared.incoming.fault.Refusal.{Refusal}
 use Rattle.bor_http.specs.declared.incoming.fault.Refusal.TheVariants.{HeadTooLarge, CutShort, BadHead, BadLength, BodyTooLarge, NoPath, WrongMethod, NoToken, BadQuery}
-use Rattle.bor_http.specs.Incoming.Head.{head_len, head_limit, line_limit, line_feeds}
+use Rattle.bor_http.specs.Incoming.Head.{head_end, head_limit, line_limit, line_feeds}
 use Rattle.bor_http.specs.Incoming.Message.{Parts, Message, FieldText, is_named, is_numeral, body_limit}
 use Rattle.bor_http.specs.declared.routes.route.Route.{Route}
 use Rattle.bor_http.specs.declared.routes.route.Route.TheVariants as routes
@@ -21,10 +21,6 @@ abbrev pub refuse : Refusal → Bool → List Refusal
 refuse why holds = if holds then why ∷ [] else []
 
 -- ---- 1 to 3: where the head ends, and whether it is one
-
--- the length of the head, if one ends within the limit
-abbrev pub head_end : List ℕ → Option ℕ
-head_end input = head_len (take head_limit input)
 
 -- none ends within the limit, of as many bytes; or the one that does has too many lines
 abbrev pub is_too_large : List ℕ → Option ℕ → Bool

@@ -1,18 +1,17 @@
 -- What a whole input spells: a request of whoever has a token, or the first refusal.
-use Rattle.std.specs.Prelude.{◌≡◌, ℕ, ℤ, pos, List, [], take, drop, Option, Some, None, Result, Ok, Err, unwrap_or}
+use Rattle.std.specs.Prelude.{◌≡◌, ℕ, ℤ, pos, List, [], drop, Option, Some, None, Result, unwrap_or}
 use Rattle.bods_read.specs.Outcome.{outcome}
 use Rattle.bor_desk.specs.declared.request.Request.{Request}
 use Rattle.bor_desk.specs.declared.request.Request.TheVariants as ask
 use Rattle.bor_desk.specs.Runs.{Asked}
 use Rattle.bor_http.specs.declared.incoming.fault.Refusal.{Refusal}
-use Rattle.bor_http.specs.declared.incoming.fault.Refusal.TheVariants.{BadHead}
-use Rattle.bor_http.specs.Incoming.Head.{head_at}
-use Rattle.bor_http.specs.Incoming.Message.{Parts, Message, HasParts}
+use Rattle.bor_http.specs.Incoming.Message.{Parts, Message, IsTakenApart}
 use Rattle.bor_http.specs.declared.routes.route.Route.{Route}
 use Rattle.bor_http.specs.declared.routes.route.Route.TheVariants as routes
 use Rattle.bor_http.specs.declared.spelling.asking.Asking.{Asking}
 use Rattle.bor_http.specs.Spelling.Parts as part
-use Rattle.bor_http.specs.Spelling.Refusals.{head_end, message_of, lines_of_message, refusals}
+use Rattle.bor_http.specs.Incoming.Head.{head_end}
+use Rattle.bor_http.specs.Spelling.Refusals.{message_of, lines_of_message, refusals}
 
 abbrev pub Spelled : Type 0
 Spelled = Result Asked Refusal
@@ -61,19 +60,6 @@ asked_behind input end head = record { token = []; request = ask.Filings }
 -- what an input spells whose head is taken apart so
 unfoldable pub spelling : List ℕ → Option Parts → Spelled
 spelling input head = outcome (refusals input head) (asked_behind input (head_end input) head)
-
--- the parts of a head, or that it is none
-abbrev pub or_bad_head : Option Parts → Result Parts Refusal
-or_bad_head None = Err BadHead
-or_bad_head (Some parts) = Ok parts
-
-abbrev pub IsTakenApartAt : List ℕ → Result ℕ Refusal → Option Parts → Type 0
-IsTakenApartAt input (Ok n) head = HasParts (take n input) (or_bad_head head)
-IsTakenApartAt input (Err refusal) head = head ≡ None
-
--- The input's head, taken apart by the grammar of HTTP (RFC 9112). It is None where the head is none of the grammar's, is too large, or isn't there.
-abbrev pub IsTakenApart : List ℕ → Option Parts → Type 0
-IsTakenApart input head = IsTakenApartAt input (head_at input) head
 
 -- the whole input spells this
 abbrev pub Spells : List ℕ → Spelled → Type 0

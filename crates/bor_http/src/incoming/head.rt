@@ -1,7 +1,8 @@
 //! Where a request's head ends.
 
 ghost use Rattle.std.specs.Prelude.{◌≡◌, ◌≤◌, length, drop, not, nat_lt, IfSome};
-ghost use Rattle.bor_http.specs.Incoming.Head.{blank_len, head_len, line_feeds, line_limit, IsScanned};
+ghost use Rattle.bor_http.specs.Incoming.Head.{blank_len, head_len, line_feeds, line_limit};
+ghost use Rattle.bor_http.specs.Incoming.Steps.{IsScanned};
 
 /// The most line feeds of a head.
 const LINE_LIMIT: usize = 66;

@@ -5,7 +5,8 @@ ghost use Rattle.std.specs.List.{list_all};
 ghost use Rattle.std.specs.Char.{is_ascii_digit};
 ghost use Rattle.std.specs.Str.Parse.{digits_value};
 ghost use Rattle.httparse.specs.Spans.{header_bytes, IsHeaderWithin};
-ghost use Rattle.bor_http.specs.Incoming.Message.{length_of, body_len, body_limit};
+ghost use Rattle.bor_http.specs.Incoming.Message.{body_limit};
+ghost use Rattle.bor_http.specs.Incoming.Steps.{length_of, body_len};
 
 use crate::incoming::fault::Refusal;
 use crate::incoming::fields::{count_named, find_value};

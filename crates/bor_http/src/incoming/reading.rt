@@ -2,7 +2,8 @@
 
 ghost use Rattle.std.specs.Prelude.{◌≡◌, ◌≤◌, [], IfSome, IfOk, length, take};
 ghost use Rattle.bor_http.specs.Incoming.Reading.{Grows, Gives, FaultsTell, FillsUp, ReadsBody};
-ghost use Rattle.bor_http.specs.Incoming.Head.{head_at, head_limit, line_feeds, line_limit};
+ghost use Rattle.bor_http.specs.Incoming.Head.{head_limit, line_feeds, line_limit};
+ghost use Rattle.bor_http.specs.Incoming.Steps.{head_at};
 
 use crate::incoming::buffer::Buffer;
 use crate::incoming::counted::Counted;

@@ -4,7 +4,8 @@ ghost use Rattle.std.specs.Prelude.{◌≡◌, ◌≤◌, length, IfOk, IfSome};
 ghost use Rattle.std.specs.Option.{option_map};
 ghost use Rattle.bor_http.specs.Incoming.Head.{line_feeds, line_limit};
 ghost use Rattle.bor_http.specs.Incoming.Reading.{Answers, FaultsTell, TakesAtMost};
-ghost use Rattle.bor_http.specs.Incoming.Message.{AreWithin, HeadAnswers, parts_at, IsMessage, only_value, request_limit};
+ghost use Rattle.bor_http.specs.Incoming.Message.{only_value, request_limit};
+ghost use Rattle.bor_http.specs.Incoming.Steps.{AreWithin, HeadAnswers, parts_at, IsMessage};
 
 use crate::incoming::buffer::Buffer;
 use crate::incoming::counted::Counted;
@@ -62,7 +63,8 @@ pub struct RawRequest {
 }
 
 impl Model for RawRequest {
-    ghost use Rattle.bor_http.specs.Incoming.Message.{Message, AreWithin, parts_at};
+    ghost use Rattle.bor_http.specs.Incoming.Message.{Message};
+    ghost use Rattle.bor_http.specs.Incoming.Steps.{AreWithin, parts_at};
 
     ghost Value = { Message };
 

@@ -1,7 +1,7 @@
-use Rattle.std.proofs.Common.{◌≡◌, ◌≤◌, true, false, Ok, Err, length, take, arith, sym, ap, ◌∙◌, not}
+use Rattle.std.proofs.Common.{◌≡◌, Ok, Err, take, arith, sym, ◌∙◌}
 use Rattle.std.proofs.lemmas.List.{length-take-le}
-use Rattle.bor_http.specs.Incoming.Head.{line_feeds, line_limit, with_few_lines}
-use Rattle.bor_http.specs.Incoming.Message.{HasParts, Parts, body_len, parts_at}
+use Rattle.bor_http.specs.Incoming.Steps.{body_len, parts_at}
+use Rattle.bor_http.specs.Incoming.Message.{Parts}
 use Rattle.bor_http.proofs.OnIncoming.HeadLemmas.{head_len-le}
 use Rattle.bor_http.proofs.OnIncoming.ReadingLemmas.{few_lines, many_lines}
 use Rattle.bor_http.proofs.OnIncoming.MessageLemmas.{body_len-le}

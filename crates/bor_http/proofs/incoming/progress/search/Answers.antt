@@ -1,5 +1,5 @@
-use Rattle.std.proofs.Common.{◌≡◌, ◌<◌, ◌-◌, None, length, arith, sym, ◌∙◌}
-use Rattle.bor_http.specs.Incoming.Head.{head_len, head_limit}
+use Rattle.std.proofs.Common.{◌≡◌, ◌-◌, length, arith, sym}
+use Rattle.bor_http.specs.Incoming.Head.{head_limit}
 use Rattle.bor_http.proofs.OnIncoming.ProgressLemmas.{scanned_from, searched_all, missing, too_large, reached}
 use Rattle.bor_http.proofs.incoming.progress.search.Goals as goal
 

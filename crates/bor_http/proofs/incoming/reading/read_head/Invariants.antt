@@ -1,5 +1,6 @@
 use Rattle.std.proofs.Common.{◌≡◌, ◌≤◌, ◌-◌, [], length}
-use Rattle.bor_http.specs.Incoming.Head.{IsScanned, head_limit}
+use Rattle.bor_http.specs.Incoming.Head.{head_limit}
+use Rattle.bor_http.specs.Incoming.Steps.{IsScanned}
 use Rattle.bor_http.specs.Incoming.Reading.{Grows}
 use Rattle.bor_http.proofs.incoming.reading.read_head.Given as goal
 

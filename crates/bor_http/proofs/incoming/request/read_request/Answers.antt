@@ -1,6 +1,7 @@
 use Rattle.std.proofs.Common.{sym, ap, ◌∙◌, ◌≡◌, take, drop, Ok, Err}
 use Rattle.std.proofs.lemmas.Result.{err_from_is_err_and}
-use Rattle.bor_http.specs.Incoming.Message.{Parts, HasParts, parts_at, body_len}
+use Rattle.bor_http.specs.Incoming.Message.{Parts}
+use Rattle.bor_http.specs.Incoming.Steps.{HasParts, parts_at, body_len}
 use Rattle.bor_http.proofs.OnIncoming.MessageLemmas.{bad_head, bad_length, read_behind, taken_whole, body_len-le}
 use Rattle.bor_http.proofs.incoming.request.read_request.Goals as goal
 

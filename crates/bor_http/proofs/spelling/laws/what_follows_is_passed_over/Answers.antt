@@ -1,4 +1,4 @@
-use Rattle.bor_http.proofs.OnSpelling.Following.{what_follows}
+use Rattle.bor_http.proofs.OnSpelling.Messages.{what_follows}
 use Rattle.bor_http.proofs.spelling.laws.what_follows_is_passed_over.Goals as goal
 
 pub returns : goal.returns
