@@ -13,7 +13,8 @@ use Rattle.matchit.proofs.OnLiterals.{matchit_on_literals}
 use Rattle.bor_http.specs.declared.incoming.fault.Path.{Path}
 use Rattle.bor_http.specs.declared.incoming.fault.Path.TheVariants as paths
 use Rattle.bor_http.specs.Routes.Routes.{path_word}
-use Rattle.bor_http.specs.Routes.Paths.{router, path_of, IsSegment, IsPath}
+use Rattle.bor_http.specs.Routes.Paths.{IsSegment, IsPath}
+use Rattle.bor_http.specs.Routes.Routers.{router, path_in}
 use Rattle.bor_http.proofs.OnRoutes.Rows.{led, along, along-found, into, past, found, only_end, seek-none}
 use Rattle.bor_http.proofs.OnRoutes.Utf8Bytes.{text_bytes}
 use Rattle.bor_http.proofs.OnRoutes.Keys.{keyed, text_of, filing_found, file_found, FoundBehind, filing_of, file_of, found_behind}
@@ -83,8 +84,7 @@ text_behind (b ∷ front) rest h = text_behind front rest h.1
 
 -- ---- a text that is a path is found
 
-value_found : (text : List ℕ) (path : Path) → first router text ≡ Some (entry path) → path_of text ≡ Some path
-unfolding path_of
+value_found : (text : List ℕ) (path : Path) → first router text ≡ Some (entry path) → path_in router text ≡ Some path
 value_found text path e = ap (option_map (λ row. row.value)) e ∙ ap Some (entry_value path)
 
 -- the walk to what stands behind "/filings"
@@ -102,23 +102,23 @@ to_keyed rest =
     to_filings (codes "/" ++ rest)
     ∙ into 47 [] (keyed (entry paths.File) (entry paths.Filing)) (end paths.Filings) rest (text_of (codes "/") refl) (record { param = refl; catch_all = refl }) refl
 
-is_found : (path : Path) (text : List ℕ) → IsText text → IsPath path text → path_of text ≡ Some path
-unfolding matchit_on_literals router path_of
+pub is_found : (path : Path) (text : List ℕ) → IsText text → IsPath path text → path_in router text ≡ Some path
+unfolding matchit_on_literals router
 is_found paths.Filing text bytes (key, segment, is) =
     let slash : has_slash key ≡ false = slash_is key ∙ segment.one in
-    ap path_of is ∙ value_found (codes "/filings/" ++ key) paths.Filing
+    ap (path_in router) is ∙ value_found (codes "/filings/" ++ key) paths.Filing
     (to_keyed key ∙ filing_found (entry paths.File) (entry paths.Filing) key (text_behind (codes "/filings/") key (subst IsText is bytes)) segment.some slash)
 is_found paths.File text bytes (key, segment, is) =
     let slash : has_slash key ≡ false = slash_is key ∙ segment.one in
-    ap path_of is ∙ value_found (codes "/filings/" ++ key ++ codes "/file") paths.File
+    ap (path_in router) is ∙ value_found (codes "/filings/" ++ key ++ codes "/file") paths.File
     (to_keyed (key ++ codes "/file") ∙ file_found (entry paths.File) (entry paths.Filing) key
     (text_front key (codes "/file") (text_behind (codes "/filings/") (key ++ codes "/file") (subst IsText is bytes))) segment.some slash)
-is_found paths.Filings text bytes is = ap path_of is
-is_found paths.Published text bytes is = ap path_of is
-is_found paths.Snapshot text bytes is = ap path_of is
-is_found paths.Chains text bytes is = ap path_of is
-is_found paths.Day text bytes is = ap path_of is
-is_found paths.Agents text bytes is = ap path_of is
+is_found paths.Filings text bytes is = ap (path_in router) is
+is_found paths.Published text bytes is = ap (path_in router) is
+is_found paths.Snapshot text bytes is = ap (path_in router) is
+is_found paths.Chains text bytes is = ap (path_in router) is
+is_found paths.Day text bytes is = ap (path_in router) is
+is_found paths.Agents text bytes is = ap (path_in router) is
 
 -- ---- what is found is the path that the text is
 
@@ -203,15 +203,14 @@ from_agents_on rest row bytes e =
       | inr h ↦ from_chains_on rest row bytes h
     ]
 
-is_path : (path : Path) (text : List ℕ) → IsText text → path_of text ≡ Some path → IsPath path text
-unfolding path_of
+pub is_path : (path : Path) (text : List ℕ) → IsText text → path_in router text ≡ Some path → IsPath path text
 is_path path text bytes e =
     let row = some_row (first router text) path e in
     let from = along-found (codes "/") from_agents text row.0 (text_of (codes "/") refl) (ap (λ rows. first rows text) (sym router_is) ∙ row.1) in
     let rest : IsText from.0 = text_behind (codes "/") from.0 (subst IsText from.1 bytes) in
     subst (λ q. IsPath q text) row.2 (subst (λ t. IsPath row.0.value t) (sym from.1) (from_agents_on from.0 row.0 rest from.2))
 
-pub written : (text : List ℕ) → IsUtf8 text → (found : Option Path) → found ≡ path_of text → (path : Path) → (found ≡ Some path) ↔ IsPath path text
+pub written : (text : List ℕ) → IsUtf8 text → (found : Option Path) → found ≡ path_in router text → (path : Path) → (found ≡ Some path) ↔ IsPath path text
 written text h found is path =
     let bytes = text_bytes text h in
     (λ e. is_path path text bytes (sym is ∙ e), λ e. is ∙ is_found path text bytes e)

@@ -1,12 +1,34 @@
 -- The table of routes computed: the path of a text, what it asks for by a method, and its methods.
-use Rattle.std.proofs.Common.{◌≡◌, ℕ, List, [], ◌∷◌, Option, Some, None, codes, map, refl}
-use Rattle.matchit.proofs.OnLiterals.{matchit_on_literals}
+use Rattle.std.proofs.Common.{◌≡◌, ℕ, List, [], ◌∷◌, Option, Some, None, true, false, codes, map, refl}
 use Rattle.bor_http.specs.declared.incoming.fault.Path.{Path}
 use Rattle.bor_http.specs.declared.incoming.fault.Path.TheVariants as paths
 use Rattle.bor_http.specs.declared.routes.route.Route.{Route}
 use Rattle.bor_http.specs.declared.routes.route.Route.TheVariants as asks
 use Rattle.bor_http.specs.Routes.Routes.{route_at, allow}
-use Rattle.bor_http.specs.Routes.Paths.{path_in, router}
+use Rattle.bor_http.specs.Routes.Paths.{segments, is_written_as, path_of}
+
+-- ---- one text, segment by segment
+
+-- what stands before the first slash is a segment too
+four_segments : segments (codes "/filings/f1/file") ≡ [] ∷ codes "filings" ∷ codes "f1" ∷ codes "file" ∷ []
+four_segments = refl
+
+empty_segment : segments (codes "/filings//file") ≡ [] ∷ codes "filings" ∷ [] ∷ codes "file" ∷ []
+empty_segment = refl
+
+no_slash : segments (codes "day") ≡ codes "day" ∷ []
+no_slash = refl
+
+-- f1 stands for {key}, and the other words for themselves
+each_stands : is_written_as (codes "/filings/f1/file") paths.File ≡ true
+each_stands = refl
+
+-- of a path of three words the fourth segment is left over
+one_left_over : is_written_as (codes "/filings/f1/file") paths.Filing ≡ false
+one_left_over = refl
+
+no_key : is_written_as (codes "/filings//file") paths.File ≡ false
+no_key = refl
 
 -- ---- texts beside their paths
 
@@ -14,7 +36,7 @@ abbrev Cases : Type 0
 Cases = List (List ℕ × Option Path)
 
 abbrev found : Cases → List (Option Path)
-found cases = map (path_in router) (map (λ t. t.0) cases)
+found cases = map path_of (map (λ t. t.0) cases)
 
 abbrev expected : Cases → List (Option Path)
 expected cases = map (λ t. t.1) cases
@@ -33,7 +55,7 @@ each_path =
     ∷ []
 
 each_path_found : found each_path ≡ expected each_path
-unfolding matchit_on_literals router
+unfolding path_of
 each_path_found = refl
 
 -- any segment stands for a key, whatever its bytes are; nothing is decoded
@@ -48,7 +70,7 @@ as_it_stands =
     ∷ []
 
 as_it_stands_found : found as_it_stands ≡ expected as_it_stands
-unfolding matchit_on_literals router
+unfolding path_of
 as_it_stands_found = refl
 
 -- no segment is empty
@@ -61,7 +83,7 @@ empty_segments =
     ∷ []
 
 empty_segments_found : found empty_segments ≡ expected empty_segments
-unfolding matchit_on_literals router
+unfolding path_of
 empty_segments_found = refl
 
 -- none is left over
@@ -74,7 +96,7 @@ further_segments =
     ∷ []
 
 further_segments_found : found further_segments ≡ expected further_segments
-unfolding matchit_on_literals router
+unfolding path_of
 further_segments_found = refl
 
 -- a path is neither longer nor shorter, and letters are compared as they stand
@@ -90,7 +112,7 @@ other_texts =
     ∷ []
 
 other_texts_found : found other_texts ≡ expected other_texts
-unfolding matchit_on_literals router
+unfolding path_of
 other_texts_found = refl
 
 -- ---- what a path asks for by a method

@@ -6,7 +6,7 @@ use Rattle.matchit.specs.Route.{Scan, parse_route}
 use Rattle.matchit.specs.declared.error.InsertError.{InsertError}
 use Rattle.bor_http.specs.declared.incoming.fault.Path.{Path}
 use Rattle.bor_http.specs.Routes.Routes.{path_word}
-use Rattle.bor_http.specs.Routes.Paths.{with_scan, with_path}
+use Rattle.bor_http.specs.Routes.Routers.{with_scan, with_path}
 
 inserted : (scan : Result Scan InsertError) (path : Path) (old new : RowsOf (RouteOf Path)) (u : Unit {0})
     → InsertsRead scan path old new (Ok u) → new ≡ with_scan scan path old

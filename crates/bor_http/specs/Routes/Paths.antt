@@ -1,47 +1,30 @@
--- The path that a text is, as matchit keeps the paths of the table and finds one.
-use Rattle.std.specs.Prelude.{◌≡◌, ◌<◌, ◌==◌, ℕ, List, [], ◌∷◌, ◌++◌, length, false, not, Option, Result, Ok, Err, codes}
-use Rattle.std.specs.List.{filter, list_any}
+-- The path that a text is, by the segments between its slashes.
+use Rattle.std.specs.Prelude.{◌≡◌, ◌<◌, ◌==◌, ℕ, nat_lt, Bool, List, length, false, find, Option, ◌++◌, codes, if◌then◌else◌}
+use Rattle.std.specs.List.{list_any, slice_split}
 use Rattle.std.specs.Option.{option_map}
-use Rattle.matchit.specs.Rows.{RowsOf}
-use Rattle.matchit.specs.Router.{RouteOf, route_from}
-use Rattle.matchit.specs.Order.{placed}
-use Rattle.matchit.specs.Route.{Scan, parse_route}
-use Rattle.matchit.specs.Seek.{first}
-use Rattle.matchit.specs.declared.error.InsertError.{InsertError}
+use Rattle.std.specs.Str.{bytes_eq}
+use Rattle.std.specs.Cmp.Lexicographic.{pointwise}
 use Rattle.bor_http.specs.declared.incoming.fault.Path.{Path}
 use Rattle.bor_http.specs.declared.incoming.fault.Path.TheVariants as paths
-use Rattle.bor_http.specs.Routes.Routes.{Line, table, path_word, is_same_path}
+use Rattle.bor_http.specs.Routes.Routes.{table, path_word}
 
--- the paths of lines, each once, where it first stands
-abbrev pub paths_of : List Line → List Path
-paths_of [] = []
-paths_of (line ∷ rest) = line.path ∷ filter (λ path. not (is_same_path line.path path)) (paths_of rest)
+-- the segments of a text: what stands before, between and behind its slashes
+abbrev pub segments : List ℕ → List (List ℕ)
+segments text = slice_split (λ b. b == 47) text
 
--- a router with one path more
-abbrev pub with_scan : Result Scan InsertError → Path → RowsOf (RouteOf Path) → RowsOf (RouteOf Path)
-with_scan (Ok scan) path rows = placed ((route_from scan path).pattern, route_from scan path) rows
-with_scan (Err fault) path rows = rows
+-- a segment stands for a word of a path: {key} for any that isn't empty, another word for itself; nothing is decoded
+abbrev pub stands_for : List ℕ → List ℕ → Bool
+stands_for segment word = if bytes_eq word (codes "{key}") then nat_lt 0 (length segment) else bytes_eq segment word
 
-abbrev pub with_path : RowsOf (RouteOf Path) → Path → RowsOf (RouteOf Path)
-with_path rows path = with_scan (parse_route (path_word path)) path rows
+-- there are as many segments as words, and each stands for its word
+abbrev pub is_written_as : List ℕ → Path → Bool
+is_written_as text path = pointwise stands_for (segments text) (segments (path_word path))
 
-abbrev pub with_paths : RowsOf (RouteOf Path) → List Path → RowsOf (RouteOf Path)
-with_paths rows [] = rows
-with_paths rows (path ∷ rest) = with_paths (with_path rows path) rest
-
--- the router of all paths of the table
-unfoldable pub router : RowsOf (RouteOf Path)
-router = with_paths [] (paths_of table)
-
--- the path that matchit finds in a router
-abbrev pub path_in : RowsOf (RouteOf Path) → List ℕ → Option Path
-path_in rows text = option_map (λ row. row.value) (first rows text)
-
--- the path that a text is
+-- the path that a text is, if the table has it
 unfoldable pub path_of : List ℕ → Option Path
-path_of text = path_in router text
+path_of text = option_map (λ line. line.path) (find (λ line. is_written_as text line.path) table)
 
--- ---- the same as the paths are written
+-- ---- the same of each path
 
 -- one segment that isn't empty
 pub record IsSegment (key : List ℕ) : Type 0 where

@@ -1,7 +1,8 @@
 //! The paths that there are, and which of them a text is.
 ghost use Rattle.std.specs.Prelude.{◌≡◌, ◌↔◌, Some, IfOk};
 ghost use Rattle.bor_http.specs.declared.incoming.fault.Path.{Path};
-ghost use Rattle.bor_http.specs.Routes.Paths.{IsPath, path_in, path_of, router};
+ghost use Rattle.bor_http.specs.Routes.Paths.{IsPath, path_of};
+ghost use Rattle.bor_http.specs.Routes.Routers.{path_in, router};
 
 use crate::incoming::Path;
 use matchit::{InsertError, Router};
@@ -51,8 +52,8 @@ impl Paths {
 
     /// The path that a text is, if it is one. The text is what stands before a target's first `?`. No
     /// memory is taken.
-    #[tactic(auto, unfolding(crate::specs::Routes::Paths::path_of))]
     pub fn find(&self, text: &str) -> Option<Path>
+        // By its segments, word for word.
         ensures value { result ≡ path_of text.now }
         // Of each path: it is found exactly where the text is the path as it is written.
         ensures written { (path : Path) → (result ≡ Some path) ↔ IsPath path text.now }

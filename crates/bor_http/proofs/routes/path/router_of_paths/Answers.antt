@@ -1,6 +1,6 @@
 use Rattle.std.proofs.Common.{ap, ◌∙◌}
 use Rattle.bor_http.specs.declared.incoming.fault.Path.TheVariants as paths
-use Rattle.bor_http.specs.Routes.Paths.{router, with_path}
+use Rattle.bor_http.specs.Routes.Routers.{router, with_path}
 use Rattle.bor_http.proofs.OnRoutes.Inserts.{with_path-inserted}
 use Rattle.bor_http.proofs.routes.path.router_of_paths.Goals as goal
 

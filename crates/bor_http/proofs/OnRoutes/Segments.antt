@@ -1,0 +1,228 @@
+-- The path that a text is by its segments is the one that it is as it stands, and so the one that is found.
+use Rattle.std.proofs.Common.{◌≡◌, ◌<◌, ℕ, List, [], ◌∷◌, ◌++◌, length, Option, Some, None, Bool, true, false, cond, not, ◌&&◌, ◌||◌, ◌==◌, codes, refl, sym, ap, ◌∙◌, subst, arith, nat_lt}
+use Rattle.std.specs.Prelude.{IsUtf8, find, if◌then◌else◌}
+use Rattle.std.specs.List.{list_any, list_all, onto_first, join_with_byte}
+use Rattle.std.specs.Option.{option_map}
+use Rattle.std.specs.Str.{bytes_eq}
+use Rattle.std.specs.Cmp.Lexicographic.{pointwise, same_text}
+use Rattle.std.proofs.lemmas.List.Splits.{join_with_byte-slice_split}
+use Rattle.std.proofs.lemmas.Bool.Decides.{nat_tests}
+use Rattle.bor_http.specs.declared.incoming.fault.Path.{Path}
+use Rattle.bor_http.specs.declared.incoming.fault.Path.TheVariants as paths
+use Rattle.bor_http.specs.Routes.Routes.{Line, table, path_word}
+use Rattle.bor_http.specs.Routes.Paths.{segments, stands_for, is_written_as, path_of, IsSegment, IsPath}
+use Rattle.bor_http.specs.Routes.Routers.{router, path_in}
+use Rattle.bor_http.proofs.OnRoutes.AsWritten.{is_found, is_path}
+use Rattle.bor_http.proofs.OnRoutes.Utf8Bytes.{text_bytes}
+
+both : (a b : Bool) → (a && b) ≡ true → (a ≡ true) × (b ≡ true)
+both true b h = (refl, h)
+both false b h = cc
+
+-- ---- the segments of a text
+
+abbrev has_slash : List ℕ → Bool
+has_slash bytes = list_any (λ b. b == 47) bytes
+
+one_segment : (key : List ℕ) → has_slash key ≡ false → segments key ≡ key ∷ []
+one_segment [] h = refl
+one_segment (b ∷ key) h = by_byte (b == 47) h (one_segment key)
+  where
+    by_byte : (t : Bool) → (t || has_slash key) ≡ false → (has_slash key ≡ false → segments key ≡ key ∷ [])
+        → cond t ([] ∷ segments key) (onto_first b (segments key)) ≡ (b ∷ key) ∷ []
+    by_byte true h more = cc
+    by_byte false h more = ap (onto_first b) (more h)
+
+first_segment : (key rest : List ℕ) → has_slash key ≡ false → segments (key ++ 47 ∷ rest) ≡ key ∷ segments rest
+first_segment [] rest h = refl
+first_segment (b ∷ key) rest h = by_byte (b == 47) h (first_segment key rest)
+  where
+    by_byte : (t : Bool) → (t || has_slash key) ≡ false → (has_slash key ≡ false → segments (key ++ 47 ∷ rest) ≡ key ∷ segments rest)
+        → cond t ([] ∷ segments (key ++ 47 ∷ rest)) (onto_first b (segments (key ++ 47 ∷ rest))) ≡ (b ∷ key) ∷ segments rest
+    by_byte true h more = cc
+    by_byte false h more = ap (onto_first b) (more h)
+
+abbrev lack_slashes : List (List ℕ) → Bool
+lack_slashes parts = list_all (λ part. not (has_slash part)) parts
+
+segments_lack : (text : List ℕ) → lack_slashes (segments text) ≡ true
+segments_lack [] = refl
+segments_lack (b ∷ text) = by_byte (b == 47) refl (segments text) (segments_lack text)
+  where
+    by_byte : (t : Bool) → (b == 47) ≡ t → (parts : List (List ℕ)) → lack_slashes parts ≡ true → lack_slashes (cond t ([] ∷ parts) (onto_first b parts)) ≡ true
+    by_byte true e parts h = h
+    by_byte false e [] h = rw e refl
+    by_byte false e (part ∷ parts) h = rw e h
+
+lacks : (has : Bool) → not has ≡ true → has ≡ false
+lacks true h = cc
+lacks false h = refl
+
+-- ---- segments that stand for the words of a path
+
+some_bytes : (n : ℕ) → nat_lt 0 n ≡ true → 0 < n
+some_bytes n h = grind (arith, nat_tests)
+
+tests_some : (n : ℕ) → 0 < n → nat_lt 0 n ≡ true
+tests_some n h = grind (arith, nat_tests)
+
+-- the first stands for the first, and the others for the others
+record Stand (parts : List (List ℕ)) (word : List ℕ) (words : List (List ℕ)) : Type 0 where
+  first : List ℕ
+  others : List (List ℕ)
+  are : parts ≡ first ∷ others
+  one : stands_for first word ≡ true
+  more : pointwise stands_for others words ≡ true
+
+stand : (parts : List (List ℕ)) (word : List ℕ) (words : List (List ℕ)) → pointwise stands_for parts (word ∷ words) ≡ true → Stand parts word words
+stand [] word words h = absurd cc
+stand (part ∷ parts) word words h =
+    let each = both (stands_for part word) (pointwise stands_for parts words) h in
+    record { first = part; others = parts; are = refl; one = each.0; more = each.1 }
+
+none_left : (parts : List (List ℕ)) → pointwise stands_for parts [] ≡ true → parts ≡ []
+none_left [] h = refl
+none_left (part ∷ parts) h = cc
+
+-- where no word is a key, the segments are the words
+same_words : (parts words : List (List ℕ)) → list_all (λ word. not (bytes_eq word (codes "{key}"))) words ≡ true → pointwise stands_for parts words ≡ true → parts ≡ words
+same_words [] [] plain h = refl
+same_words [] (word ∷ words) plain h = cc
+same_words (part ∷ parts) [] plain h = cc
+same_words (part ∷ parts) (word ∷ words) plain h = by_word (bytes_eq word (codes "{key}")) plain h (same_words parts words)
+  where
+    by_word : (key : Bool) → (not key && list_all (λ word. not (bytes_eq word (codes "{key}"))) words) ≡ true
+        → ((if key then nat_lt 0 (length part) else bytes_eq part word) && pointwise stands_for parts words) ≡ true
+        → (list_all (λ word. not (bytes_eq word (codes "{key}"))) words ≡ true → pointwise stands_for parts words ≡ true → parts ≡ words)
+        → part ∷ parts ≡ word ∷ words
+    by_word true plain h more = cc
+    by_word false plain h more =
+        let each = both (bytes_eq part word) (pointwise stands_for parts words) h in
+        let first : part ≡ word = same_text part word (sym each.0) in
+        ap (λ p. p ∷ parts) first ∙ ap (λ ps. word ∷ ps) (more plain each.1)
+
+-- ---- a text that is written as a path is that path
+
+plain_path : (text : List ℕ) (path : Path) → list_all (λ word. not (bytes_eq word (codes "{key}"))) (segments (path_word path)) ≡ true
+    → is_written_as text path ≡ true → text ≡ path_word path
+plain_path text path plain h =
+    sym (join_with_byte-slice_split 47 text) ∙ ap (join_with_byte 47) (same_words (segments text) (segments (path_word path)) plain h)
+    ∙ join_with_byte-slice_split 47 (path_word path)
+
+abbrev filing_key : List ℕ → List (List ℕ) → List (List ℕ)
+filing_key key rest = [] ∷ codes "filings" ∷ key ∷ rest
+
+-- a key behind "/filings/", with what stands for the words behind it
+record Keyed (text : List ℕ) (words : List (List ℕ)) : Type 0 where
+  key : List ℕ
+  rest : List (List ℕ)
+  are : segments text ≡ filing_key key rest
+  segment : IsSegment key
+  more : pointwise stands_for rest words ≡ true
+
+keyed : (text : List ℕ) (words : List (List ℕ)) → pointwise stands_for (segments text) (filing_key (codes "{key}") words) ≡ true → Keyed text words
+keyed text words h =
+    let a : Stand (segments text) [] (codes "filings" ∷ codes "{key}" ∷ words) = stand (segments text) [] (codes "filings" ∷ codes "{key}" ∷ words) h in
+    let b : Stand a.others (codes "filings") (codes "{key}" ∷ words) = stand a.others (codes "filings") (codes "{key}" ∷ words) a.more in
+    let c : Stand b.others (codes "{key}") words = stand b.others (codes "{key}") words b.more in
+    let front : a.first ≡ [] = same_text a.first [] (sym a.one) in
+    let filings : b.first ≡ codes "filings" = same_text b.first (codes "filings") (sym b.one) in
+    let later : b.first ∷ b.others ≡ codes "filings" ∷ c.first ∷ c.others = ap (λ p. p ∷ b.others) filings ∙ ap (λ ps. codes "filings" ∷ ps) c.are in
+    let are : segments text ≡ filing_key c.first c.others = a.are ∙ ap (λ p. p ∷ a.others) front ∙ ap (λ ps. [] ∷ ps) (b.are ∙ later) in
+    let lack : (not (has_slash c.first) && lack_slashes c.others) ≡ true = subst (λ parts. lack_slashes parts ≡ true) are (segments_lack text) in
+    record {
+      key = c.first;
+      rest = c.others;
+      are = are;
+      segment = record {
+        some = some_bytes (length c.first) c.one;
+        one = lacks (has_slash c.first) (both (not (has_slash c.first)) (lack_slashes c.others) lack).0;
+      };
+      more = c.more;
+    }
+
+is_filing : (text : List ℕ) → is_written_as text paths.Filing ≡ true → IsPath paths.Filing text
+is_filing text h =
+    let k : Keyed text [] = keyed text [] h in
+    (k.key, k.segment, sym (join_with_byte-slice_split 47 text) ∙ ap (join_with_byte 47) (k.are ∙ ap (filing_key k.key) (none_left k.rest k.more)))
+
+is_file : (text : List ℕ) → is_written_as text paths.File ≡ true → IsPath paths.File text
+is_file text h =
+    let k : Keyed text (codes "file" ∷ []) = keyed text (codes "file" ∷ []) h in
+    let last : k.rest ≡ codes "file" ∷ [] = same_words k.rest (codes "file" ∷ []) refl k.more in
+    (k.key, k.segment, sym (join_with_byte-slice_split 47 text) ∙ ap (join_with_byte 47) (k.are ∙ ap (filing_key k.key) last))
+
+is_the_path : (path : Path) (text : List ℕ) → is_written_as text path ≡ true → IsPath path text
+is_the_path paths.Filing text h = is_filing text h
+is_the_path paths.Filings text h = plain_path text paths.Filings refl h
+is_the_path paths.File text h = is_file text h
+is_the_path paths.Published text h = plain_path text paths.Published refl h
+is_the_path paths.Snapshot text h = plain_path text paths.Snapshot refl h
+is_the_path paths.Chains text h = plain_path text paths.Chains refl h
+is_the_path paths.Day text h = plain_path text paths.Day refl h
+is_the_path paths.Agents text h = plain_path text paths.Agents refl h
+
+-- the line that is found has the path
+written_so : (lines : List Line) (text : List ℕ) (path : Path) → option_map (λ line. line.path) (find (λ line. is_written_as text line.path) lines) ≡ Some path
+    → is_written_as text path ≡ true
+written_so [] text path e = cc
+written_so (line ∷ lines) text path e = by_test (is_written_as text line.path) refl e (written_so lines text path)
+  where
+    by_test : (t : Bool) → is_written_as text line.path ≡ t
+        → option_map (λ line. line.path) (cond t (Some line) (find (λ line. is_written_as text line.path) lines)) ≡ Some path
+        → (option_map (λ line. line.path) (find (λ line. is_written_as text line.path) lines) ≡ Some path → is_written_as text path ≡ true)
+        → is_written_as text path ≡ true
+    by_test true is e more = let same : line.path ≡ path = cc in subst (λ p. is_written_as text p ≡ true) same is
+    by_test false is e more = more e
+
+said_path : (path : Path) (text : List ℕ) → path_of text ≡ Some path → IsPath path text
+unfolding path_of
+said_path path text e = is_the_path path text (written_so table text path e)
+
+-- ---- a path is the one of its segments
+
+abbrev path_by : List (List ℕ) → Option Path
+path_by parts = option_map (λ line. line.path) (find (λ line. pointwise stands_for parts (segments (path_word line.path))) table)
+
+filing_by : (key : List ℕ) → nat_lt 0 (length key) ≡ true → path_by (filing_key key []) ≡ Some paths.Filing
+filing_by key some = rw some refl
+
+file_by : (key : List ℕ) → nat_lt 0 (length key) ≡ true → path_by (filing_key key (codes "file" ∷ [])) ≡ Some paths.File
+file_by key some = simp some
+
+path_said : (path : Path) (text : List ℕ) → IsPath path text → path_of text ≡ Some path
+unfolding path_of
+path_said paths.Filing text (key, segment, is) =
+    let parts : segments (codes "/filings/" ++ key) ≡ filing_key key [] = ap (λ ps. [] ∷ codes "filings" ∷ ps) (one_segment key segment.one) in
+    ap path_by (ap segments is ∙ parts) ∙ filing_by key (tests_some (length key) segment.some)
+path_said paths.File text (key, segment, is) =
+    let parts : segments (codes "/filings/" ++ key ++ codes "/file") ≡ filing_key key (codes "file" ∷ []) =
+    ap (λ ps. [] ∷ codes "filings" ∷ ps) (first_segment key (codes "file") segment.one) in
+    ap path_by (ap segments is ∙ parts) ∙ file_by key (tests_some (length key) segment.some)
+path_said paths.Filings text is = ap path_of is
+path_said paths.Published text is = ap path_of is
+path_said paths.Snapshot text is = ap path_of is
+path_said paths.Chains text is = ap path_of is
+path_said paths.Day text is = ap path_of is
+path_said paths.Agents text is = ap path_of is
+
+-- ---- what is found
+
+not_both : (found : Option Path) (path : Path) → found ≡ None → found ≡ Some path → ⊥
+not_both None path none some = cc
+not_both (Some other) path none some = cc
+
+agree : (text : List ℕ) → IsUtf8 text → path_in router text ≡ path_of text
+agree text h = by_found (path_in router text) refl
+  where
+    by_said : (said : Option Path) → path_of text ≡ said → path_in router text ≡ None → None ≡ path_of text
+    by_said None said none = sym said
+    by_said (Some path) said none =
+        absurd (not_both (path_in router text) path none (is_found path text (text_bytes text h) (said_path path text said)))
+
+    by_found : (found : Option Path) → path_in router text ≡ found → found ≡ path_of text
+    by_found None none = by_said (path_of text) refl none
+    by_found (Some path) some = sym (path_said path text (is_path path text (text_bytes text h) some))
+
+pub value : (text : List ℕ) → IsUtf8 text → (found : Option Path) → found ≡ path_in router text → found ≡ path_of text
+value text h found is = is ∙ agree text h
