@@ -1,5 +1,5 @@
 -- The definitions on worked lists.
-use Rattle.std.proofs.Common.{◌≡◌, ℕ, List, [], ◌∷◌, Ok, Err, refl, codes}
+use Rattle.std.proofs.Common.{◌≡◌, ℕ, List, [], ◌∷◌, Some, None, Ok, Err, refl, sym, arith, codes, take}
 use Rattle.bor_register.specs.Register.{Register}
 use Rattle.bor_desk.specs.Runs.{Asked}
 use Rattle.bor_desk.specs.declared.request.Request.TheVariants.{Filings}
@@ -11,7 +11,8 @@ use Rattle.bor_wire.specs.declared.replies.Reply.{Reply}
 use Rattle.bor_wire.specs.declared.replies.Reply.TheVariants.{Full, Unavailable}
 use Rattle.bor_wire.specs.Runs.{AreReplies, register_left, served, full}
 use Rattle.bor_wire.specs.Histories.{asked_in, told_in}
-use Rattle.bor_wire.specs.Exchanges.{read_faults, write_faults}
+use Rattle.bor_wire.specs.Exchanges.{IsExchanged, read_faults, write_faults}
+use Rattle.bor_wire.proofs.Exchanged.{exchanged, no_status, some_status, unread}
 
 -- ---- which inputs are in a run
 
@@ -61,6 +62,37 @@ refusal r = ((refused NoPath, refl, refl), tt)
 
 left : (r : Register) → register_left r (Err NoPath ∷ Err NoPath ∷ []) ≡ r
 left r = refl
+
+-- ---- one exchange
+
+-- Bytes that nobody tells spelled no path: 404 was written, what is shown is as before, and no agent receives anything.
+no_path : (r : Register) → IsExchanged (Replied 404) (λ q. q ≡ r) r None (Some []) (Some (bytes_of (refused NoPath)))
+no_path r = record {
+  unread = λ e. absurd (no_status 404 e);
+  unavailable = λ e. absurd (let is : 404 ≡ 503 = some_status 404 503 e in omega arith);
+  replied = λ status e _. record {
+    spelled = Err NoPath;
+    spells = tt;
+    said = refused NoPath;
+    tells = refl;
+    status_is = some_status status 404 (sym e);
+    bytes = bytes_of (refused NoPath);
+    bytes_are = refl;
+    written = refl;
+    left = refl;
+    exact = tt;
+    alone = λ legal name. tt;
+  };
+}
+
+-- The writer failed after nine bytes of it.
+cut_off : (r : Register) → IsExchanged (WriteFailed 404) (λ q. q ≡ r) r None (Some []) (Some (take 9 (bytes_of (refused NoPath))))
+cut_off r = exchanged (WriteFailed 404) (λ q. q ≡ r) r None (Err NoPath) 404 (bytes_of (refused NoPath)) (Some []) (Some (take 9 (bytes_of (refused NoPath))))
+    (λ is. absurd (omega arith)) tt (refused NoPath, refl, refl, refl, refl) (refl, 9, refl)
+
+-- The reader failed: nothing changed and nothing was written.
+not_read : (r : Register) → IsExchanged ReadFailed (λ q. q ≡ r) r None (Some (codes "HTTP")) (Some (codes "HTTP"))
+not_read r = unread (λ q. q ≡ r) r None (Some (codes "HTTP")) (Some (codes "HTTP")) refl refl
 
 -- ---- faults
 

@@ -1,6 +1,6 @@
 -- What an exchange did, from what went out.
-use Rattle.std.proofs.Common.{◌≡◌, ◌≢◌, ◌≤◌, ℕ, List, [], ◌∷◌, Option, Some, None, take, sym, subst, ◌∙◌, refl}
-use Rattle.std.specs.Io.KnownBytes.{Appends}
+use Rattle.std.proofs.Common.{◌≡◌, ◌≢◌, ◌≤◌, ℕ, List, [], ◌∷◌, Option, Some, None, take, sym, ap, subst, ◌∙◌, refl}
+use Rattle.std.specs.Io.KnownBytes.{Appends, Keeps}
 use Rattle.bor_records.specs.Promises.{Promised}
 use Rattle.bor_register.specs.Register.{Register, IsOrdered}
 use Rattle.bor_http.specs.declared.incoming.fault.Refusal.{Refusal}
@@ -11,36 +11,71 @@ use Rattle.bor_wire.specs.declared.outcome.Outcome.{Outcome}
 use Rattle.bor_wire.specs.declared.outcome.Outcome.TheVariants.{Replied, ReadFailed, WriteFailed}
 use Rattle.bor_wire.specs.declared.outgoing.Outgoing.{Outgoing}
 use Rattle.bor_wire.specs.declared.outgoing.Outgoing.TheVariants as outgoing
-use Rattle.bor_wire.specs.Exchanges.{ByOutgoing, HasStatus, IfRefused, IsResponse, IsSpelled, IsSent, IsReplySent, IsReplied, IsExchanged, IsWritten, TellsUnavailable, TellsRefusal, WithoutReply, OnRefusal}
+use Rattle.bor_wire.specs.Exchanges.{ByOutgoing, HasStatus, IfRefused, IsResponse, IsSpelled, IsSent, IsExchanged, IsWritten, IsWrittenBy, TellsUnavailable, TellsRefusal, WithoutReply, OnRefusal, status_told}
 use Rattle.bor_wire.proofs.HistoryLaws.{alone}
 use Rattle.bor_wire.proofs.ReportLaws.{exact}
 
-reply_sent : (shown : Register → Type 0) (r : Register) (s : Spelled) (status : ℕ) (bytes : List ℕ) → IsSent shown r s status bytes → IsReplySent shown r s status bytes
-reply_sent shown r s status bytes sent = record {
-  said = sent.0;
-  tells = sent.1;
-  bytes_are = sent.2;
-  status_is = sent.3;
-  left = sent.4;
-  exact = exact r s sent.0 sent.1;
-  alone = λ legal name. alone name r (s ∷ []) (bytes ∷ []) legal ((sent.0, sent.1, sent.2), tt);
-}
+pub some_status : (a b : ℕ) → Some a ≡ Some b → a ≡ b
+some_status a b e = cc
+
+pub no_status : (a : ℕ) → Some a ≡ None → ⊥
+no_status a e = cc
 
 -- a reply with another status than 503, of which the bytes or a front of them were written
-replied : (shown : Register → Type 0) (r : Register) (known : Option (List ℕ)) (s : Spelled) (status told : ℕ) (bytes : List ℕ) (written : List ℕ → Type 0) → told ≡ status → status ≢ 503
-    → IsSpelled known s → IsSent shown r s status bytes → written bytes → IsReplied shown r known told written
-replied shown r known s status told bytes written same sure spells sent w = record {
-  unavailable = λ e. absurd (sure (sym same ∙ e));
-  full = λ _. (s, spells, bytes, reply_sent shown r s told bytes (sent.0, sent.1, sent.2, same ∙ sent.3, sent.4), w);
+replied : (outcome : Outcome) (shown : Register → Type 0) (r : Register) (known : Option (List ℕ)) (s : Spelled) (status : ℕ) (bytes : List ℕ) (old new : Option (List ℕ))
+    → status_told outcome ≡ Some status → status ≢ 503 → IsSpelled known s → IsSent shown r s status bytes → IsWrittenBy outcome old new bytes
+    → IsExchanged outcome shown r known old new
+replied outcome shown r known s status bytes old new told sure spells sent written = record {
+  unread = λ none. absurd (no_status status (sym told ∙ none));
+  unavailable = λ e. absurd (sure (some_status status 503 (sym told ∙ e)));
+  replied = λ other is _. record {
+    spelled = s;
+    spells = spells;
+    said = sent.0;
+    tells = sent.1;
+    status_is = some_status other status (sym is ∙ told) ∙ sent.3;
+    bytes = bytes;
+    bytes_are = sent.2;
+    written = written;
+    left = sent.4;
+    exact = exact r s sent.0 sent.1;
+    alone = λ legal name. alone name r (s ∷ []) (bytes ∷ []) legal ((sent.0, sent.1, sent.2), tt);
+  };
 }
 
 pub exchanged : (outcome : Outcome) (shown : Register → Type 0) (r : Register) (known : Option (List ℕ)) (s : Spelled) (status : ℕ) (bytes : List ℕ) (old new : Option (List ℕ)) → status ≢ 503
     → IsSpelled known s → IsSent shown r s status bytes → IsWritten outcome status bytes old new → IsExchanged outcome shown r known old new
 exchanged (Replied told) shown r known s status bytes old new sure spells sent w =
-    replied shown r known s status told bytes (λ bs. Appends old new bs) w.0 sure spells sent w.1
+    replied (Replied told) shown r known s status bytes old new (ap Some w.0) sure spells sent w.1
 exchanged ReadFailed shown r known s status bytes old new sure spells sent w = absurd w
 exchanged (WriteFailed told) shown r known s status bytes old new sure spells sent w =
-    replied shown r known s status told bytes (λ bs. (n : ℕ) × Appends old new (take n bs)) w.0 sure spells sent (w.1, w.2)
+    replied (WriteFailed told) shown r known s status bytes old new (ap Some w.0) sure spells sent (w.1, w.2)
+
+-- nothing changed, and UNAVAILABLE or a front of it was written
+unreplied : (outcome : Outcome) (shown : Register → Type 0) (r : Register) (known old new : Option (List ℕ)) → status_told outcome ≡ Some 503 → shown r → IsWrittenBy outcome old new UNAVAILABLE.now
+    → IsExchanged outcome shown r known old new
+unreplied outcome shown r known old new told is written = record {
+  unread = λ none. absurd (no_status 503 (sym told ∙ none));
+  unavailable = λ _. (is, written);
+  replied = λ status e other. absurd (other (some_status status 503 (sym e ∙ told)));
+}
+
+pub unavailable : (outcome : Outcome) (shown : Register → Type 0) (r : Register) (known old new : Option (List ℕ)) → shown r → IsWritten outcome 503 UNAVAILABLE.now old new
+    → IsExchanged outcome shown r known old new
+unavailable (Replied told) shown r known old new is w = unreplied (Replied told) shown r known old new (ap Some w.0) is w.1
+unavailable ReadFailed shown r known old new is w = absurd w
+unavailable (WriteFailed told) shown r known old new is w = unreplied (WriteFailed told) shown r known old new (ap Some w.0) is (w.1, w.2)
+
+-- the reader failed
+none_told : (a : ℕ) → None ≡ Some a → ⊥
+none_told a e = cc
+
+pub unread : (shown : Register → Type 0) (r : Register) (known old new : Option (List ℕ)) → shown r → Keeps old new → IsExchanged ReadFailed shown r known old new
+unread shown r known old new is keeps = record {
+  unread = λ _. (is, keeps);
+  unavailable = λ e. absurd (none_told 503 e);
+  replied = λ status e _. absurd (none_told status e);
+}
 
 -- ---- what was written, whatever the register
 
@@ -101,10 +136,14 @@ no_refusals_told outcome (Some input) old new w = λ why spells. no_refusal_told
 
 -- ---- what goes out in memory
 
+-- without a whole reply nothing changed
+pub response_unavailable : (shown : Register → Type 0) (r : Register) (input : List ℕ) → shown r → IsResponse shown r input outgoing.Unavailable
+response_unavailable shown r input is = unavailable (Replied 503) shown r (Some input) (Some []) (Some UNAVAILABLE.now) is (refl, refl)
+
 pub responded : {K : Type 0} (shows : K → Register → Type 0) (is_clean : K → Type 0) (old new : K) (input : List ℕ) (out : Outgoing)
     → ByOutgoing (Some out) (Some input) (λ spelled status bytes. Promised shows is_clean old new (λ r. IsOrdered r.members → IsSent (shows new) r spelled status bytes)) (Promised shows is_clean old new (shows new))
     → HasStatus out → Promised shows is_clean old new (λ r. IsOrdered r.members → IsResponse (shows new) r input out)
 responded shows is_clean old new input (outgoing.Full status bytes) h sure = λ r is clean ordered.
     exchanged (Replied status) (shows new) r (Some input) h.0 status bytes.items (Some []) (Some bytes.items) sure h.1 (h.2 r is clean ordered) (refl, refl)
 responded shows is_clean old new input outgoing.Unavailable h sure = λ r is clean ordered.
-    record { unavailable = λ _. (h r is clean, refl); full = λ other. absurd (other refl) }
+    response_unavailable (shows new) r input (h r is clean)

@@ -1,7 +1,6 @@
 -- Exchanges one after the other are a run.
-use Rattle.std.proofs.Common.{◌≡◌, ◌⊎◌, inl, inr, ℕ, List, [], ◌∷◌, Option, Bool, true, false, not, refl, sym, ap, subst, ◌==◌, take}
+use Rattle.std.proofs.Common.{◌≡◌, ◌⊎◌, inl, inr, ℕ, List, [], ◌∷◌, Option, Some, Bool, true, false, not, refl, sym, ap, subst, ◌∙◌, ◌==◌}
 use Rattle.std.specs.Prelude.{if◌then◌else◌}
-use Rattle.std.specs.Io.KnownBytes.{Appends}
 use Rattle.std.proofs.lemmas.Bool.{eqb-true, eqb-false}
 use Rattle.bor_register.specs.Register.{Register}
 use Rattle.bor_desk.specs.Operations.Legality.{IsLegal}
@@ -10,8 +9,8 @@ use Rattle.bor_wire.specs.declared.outcome.Outcome.{Outcome}
 use Rattle.bor_wire.specs.declared.outcome.Outcome.TheVariants.{Replied, ReadFailed, WriteFailed}
 use Rattle.bor_wire.specs.Inputs.{IsReplyTo, after}
 use Rattle.bor_wire.specs.Runs.{AreReplies, register_left}
-use Rattle.bor_wire.specs.Exchanges.{IsReplied, IsExchanged, IsSpelled}
-use Rattle.bor_wire.specs.Sequences.{Exchanged, AreExchanged, AreSpelledBy, AreWritten, ExchangesAreARun, IsWrittenBy, answered, is_answered, keep_left}
+use Rattle.bor_wire.specs.Exchanges.{IsReplied, IsExchanged, IsSpelled, IsWrittenBy, status_told}
+use Rattle.bor_wire.specs.Sequences.{Exchanged, AreExchanged, AreSpelledBy, AreWritten, ExchangesAreARun, answered, is_answered, keep_left}
 use Rattle.bor_wire.proofs.HistoryLaws.{alone}
 use Rattle.bor_wire.proofs.ReportLaws.{reports}
 use Rattle.bor_wire.proofs.RefusalLaws.{refusals_leave}
@@ -27,17 +26,17 @@ Replies shown r known written = (s : Spelled) × IsSpelled known s × (bytes : L
 abbrev Either : Outcome → (Register → Type 0) → Register → Option (List ℕ) → (List ℕ → Type 0) → Type 0
 Either o shown r known written = ((is_answered o ≡ true) × Replies shown r known written) ⊎ ((is_answered o ≡ false) × shown r)
 
-by_status : (b : Bool) (status : ℕ) (shown : Register → Type 0) (r : Register) (known : Option (List ℕ)) (written : List ℕ → Type 0) → (status == 503) ≡ b → IsReplied shown r known status written
-    → ((not (status == 503) ≡ true) × Replies shown r known written) ⊎ ((not (status == 503) ≡ false) × shown r)
-by_status true status shown r known written is h = inr (ap not is, (h.unavailable (eqb-true status 503 is)).0)
-by_status false status shown r known written is h =
-    let full = h.full (eqb-false status 503 is) in
-    inl (ap not is, (full.0, full.1, full.2, (full.3.said, full.3.tells, full.3.bytes_are), full.4, full.3.left))
+by_status : (b : Bool) (o : Outcome) (status : ℕ) (shown : Register → Type 0) (r : Register) (known held holds : Option (List ℕ)) → (status == 503) ≡ b → status_told o ≡ Some status
+    → IsExchanged o shown r known held holds → ((not (status == 503) ≡ true) × Replies shown r known (IsWrittenBy o held holds)) ⊎ ((not (status == 503) ≡ false) × shown r)
+by_status true o status shown r known held holds is told h = inr (ap not is, (h.unavailable (told ∙ ap Some (eqb-true status 503 is))).0)
+by_status false o status shown r known held holds is told h =
+    let a : IsReplied o shown r known held holds status = h.replied status told (eqb-false status 503 is) in
+    inl (ap not is, (a.spelled, a.spells, a.bytes, (a.said, a.tells, a.bytes_are), a.written, a.left))
 
 by_outcome : (o : Outcome) (shown : Register → Type 0) (r : Register) (known held holds : Option (List ℕ)) → IsExchanged o shown r known held holds → Either o shown r known (IsWrittenBy o held holds)
-by_outcome (Replied status) shown r known held holds h = by_status (status == 503) status shown r known (λ bytes. Appends held holds bytes) refl h
-by_outcome ReadFailed shown r known held holds h = inr (refl, h.0)
-by_outcome (WriteFailed status) shown r known held holds h = by_status (status == 503) status shown r known (λ bytes. (n : ℕ) × Appends held holds (take n bytes)) refl h
+by_outcome (Replied status) shown r known held holds h = by_status (status == 503) (Replied status) status shown r known held holds refl refl h
+by_outcome ReadFailed shown r known held holds h = inr (refl, (h.unread refl).0)
+by_outcome (WriteFailed status) shown r known held holds h = by_status (status == 503) (WriteFailed status) status shown r known held holds refl refl h
 
 -- ---- the sequence
 
@@ -86,15 +85,15 @@ no_more shown r e rest is h =
 -- a sequence that ends clean began clean
 began : {K : Type 0} (shows : K → Register → Type 0) (is_clean : K → Type 0) (keep : K) (es : List (Exchanged K)) → AreExchanged shows is_clean keep es → is_clean (keep_left keep es) → is_clean keep
 began shows is_clean keep [] h clean = clean
-began shows is_clean keep (e ∷ rest) h clean = h.0 (began shows is_clean e.keep rest h.2 clean)
+began shows is_clean keep (e ∷ rest) h clean = h.0.began (began shows is_clean e.keep rest h.1 clean)
 
 served : {K : Type 0} (shows : K → Register → Type 0) (is_clean : K → Type 0) (keep : K) (es : List (Exchanged K)) → AreExchanged shows is_clean keep es
     → (r : Register) → shows keep r → is_clean (keep_left keep es) → IsLegal r → IsServed (shows (keep_left keep es)) r es
 served shows is_clean keep [] h r is clean legal = record { spelled = []; spells = tt; sent = []; written = tt; replies = tt; left = is }
 served shows is_clean keep (e ∷ rest) h r is clean legal =
-    elim (by_outcome e.outcome (shows e.keep) r e.known e.held e.holds (h.1 r is (began shows is_clean e.keep rest h.2 clean) legal)) [
-      | inl y ↦ more (shows (keep_left e.keep rest)) r e rest y.1.0 y.1.2 y.0 y.1.1 y.1.3 y.1.4 (served shows is_clean e.keep rest h.2 (after r y.1.0) y.1.5 clean (after_legal r y.1.0 legal))
-      | inr n ↦ no_more (shows (keep_left e.keep rest)) r e rest n.0 (served shows is_clean e.keep rest h.2 r n.1 clean legal)
+    elim (by_outcome e.outcome (shows e.keep) r e.known e.held e.holds (h.0.exchanged r is (began shows is_clean e.keep rest h.1 clean) legal)) [
+      | inl y ↦ more (shows (keep_left e.keep rest)) r e rest y.1.0 y.1.2 y.0 y.1.1 y.1.3 y.1.4 (served shows is_clean e.keep rest h.1 (after r y.1.0) y.1.5 clean (after_legal r y.1.0 legal))
+      | inr n ↦ no_more (shows (keep_left e.keep rest)) r e rest n.0 (served shows is_clean e.keep rest h.1 r n.1 clean legal)
     ]
 
 pub a_run : {K : Type 0} (shows : K → Register → Type 0) (is_clean : K → Type 0) → ExchangesAreARun shows is_clean

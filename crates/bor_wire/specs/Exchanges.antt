@@ -78,26 +78,45 @@ faults_unread (Some reply) n = n
 
 -- ---- the exchange
 
--- These bytes, with this status, are the reply to an input that spells this, and the register after it is shown. A report on chains with status 200 names exactly the persons joined to the entity; and from a legal register each agent receives what it would receive alone.
-pub record IsReplySent (shown : Register → Type 0) (r : Register) (spelled : Spelled) (status : ℕ) (bytes : List ℕ) : Type 0 where
+-- the status of the reply; none where the reader failed
+abbrev pub status_told : Outcome → Option ℕ
+status_told (Replied status) = Some status
+status_told ReadFailed = None
+status_told (WriteFailed status) = Some status
+
+-- these bytes were written, or a front of them where the writer failed
+abbrev pub IsWrittenBy : Outcome → Option (List ℕ) → Option (List ℕ) → List ℕ → Type 0
+IsWrittenBy (Replied status) old new bytes = Appends old new bytes
+IsWrittenBy ReadFailed old new bytes = ⊥
+IsWrittenBy (WriteFailed status) old new bytes = (n : ℕ) × Appends old new (take n bytes)
+
+-- The input was replied to with this status.
+pub record IsReplied (outcome : Outcome) (shown : Register → Type 0) (r : Register) (known old new : Option (List ℕ)) (status : ℕ) : Type 0 where
+  -- it spells this, where its bytes are known
+  pub spelled : Spelled
+  pub spells : IsSpelled known spelled
+  -- this is said to it, with this status and in these bytes
   pub said : Said
   pub tells : IsSaid r spelled said
-  pub bytes_are : bytes ≡ bytes_of said
   pub status_is : status ≡ status_of said
+  pub bytes : List ℕ
+  pub bytes_are : bytes ≡ bytes_of said
+  pub written : IsWrittenBy outcome old new bytes
+  -- the register after it is shown
   pub left : shown (after r spelled)
+  -- a report on chains with status 200 names exactly the persons joined to the entity
   pub exact : IsExact r spelled said
+  -- from a legal register each agent receives what it would receive alone
   pub alone : IsLegal r → (name : List ℕ) → IsAlone name r (spelled ∷ []) (bytes ∷ [])
 
--- What was replied with a status; `written` says of bytes that they, or a front of them, were written and nothing else.
-pub record IsReplied (shown : Register → Type 0) (r : Register) (known : Option (List ℕ)) (status : ℕ) (written : List ℕ → Type 0) : Type 0 where
-  pub unavailable : status ≡ 503 → shown r × written UNAVAILABLE.now
-  pub full : status ≢ 503 → (spelled : Spelled) × IsSpelled known spelled × (bytes : List ℕ) × IsReplySent shown r spelled status bytes × written bytes
-
--- What an exchange did with a reader and a writer, of whichever the bytes are known: what is said of the register and of the status holds of any.
-abbrev pub IsExchanged : Outcome → (Register → Type 0) → Register → Option (List ℕ) → Option (List ℕ) → Option (List ℕ) → Type 0
-IsExchanged (Replied status) shown r known old new = IsReplied shown r known status (λ bytes. Appends old new bytes)
-IsExchanged ReadFailed shown r known old new = shown r × Keeps old new
-IsExchanged (WriteFailed status) shown r known old new = IsReplied shown r known status (λ bytes. (n : ℕ) × Appends old new (take n bytes))
+-- What an exchange did that ended so, from the register r: `shown` says of a register that it is shown after it. Its reader had the bytes `known`, and its writer held those of `old` before it and those of `new` after it. Where a reader or a writer doesn't tell its bytes, nothing is said of them.
+pub record IsExchanged (outcome : Outcome) (shown : Register → Type 0) (r : Register) (known old new : Option (List ℕ)) : Type 0 where
+  -- where the reader failed, nothing changed and nothing was written
+  pub unread : status_told outcome ≡ None → shown r × Keeps old new
+  -- with status 503 nothing changed, and what was written is `UNAVAILABLE`
+  pub unavailable : status_told outcome ≡ Some 503 → shown r × IsWrittenBy outcome old new UNAVAILABLE.now
+  -- with another status the input was replied to
+  pub replied : (status : ℕ) → status_told outcome ≡ Some status → status ≢ 503 → IsReplied outcome shown r known old new status
 
 -- ---- what goes out in memory
 

@@ -1,7 +1,6 @@
 -- Exchanges one after the other, as a run.
-use Rattle.std.specs.Prelude.{ℕ, List, [], ◌∷◌, filter, take, Option, Bool, false, not, ◌==◌}
+use Rattle.std.specs.Prelude.{ℕ, List, [], ◌∷◌, filter, Option, Bool, false, not, ◌==◌}
 use Rattle.std.specs.List.{AllZip}
-use Rattle.std.specs.Io.KnownBytes.{Appends}
 use Rattle.bor_records.specs.Promises.{Promised}
 use Rattle.bor_register.specs.Register.{Register}
 use Rattle.bor_desk.specs.Operations.Legality.{IsLegal}
@@ -12,7 +11,7 @@ use Rattle.bor_wire.specs.Runs.{AreReplies, register_left}
 use Rattle.bor_wire.specs.Histories.{IsAlone}
 use Rattle.bor_wire.specs.Reports.{AreReports}
 use Rattle.bor_wire.specs.Refused.{RefusalsLeave}
-use Rattle.bor_wire.specs.Exchanges.{IsExchanged, IsSpelled}
+use Rattle.bor_wire.specs.Exchanges.{IsExchanged, IsSpelled, IsWrittenBy}
 
 -- One exchange of a sequence: the bytes that its reader had, how it ended, what its writer held before it and after it, and the keep that it left. Bytes that a reader or a writer doesn't tell, as a socket doesn't, aren't known.
 pub record Exchanged (K : Type 0) : Type 0 where
@@ -27,13 +26,17 @@ abbrev pub keep_left : {K : Type 0} → K → List (Exchanged K) → K
 keep_left keep [] = keep
 keep_left keep (e ∷ rest) = keep_left e.keep rest
 
--- each is as the contract of an exchange says, from the keep that the one before it left
+-- One exchange more, from the keep that the one before it left.
+pub record IsNext {K : Type 0} (shows : K → Register → Type 0) (is_clean : K → Type 0) (keep : K) (e : Exchanged K) : Type 0 where
+  -- where it ends clean it began clean
+  pub began : is_clean e.keep → is_clean keep
+  -- where it ends clean, and a legal register was shown, it is as the contract of an exchange says
+  pub exchanged : Promised shows is_clean keep e.keep (λ r. IsLegal r → IsExchanged e.outcome (shows e.keep) r e.known e.held e.holds)
+
+-- each of them
 abbrev pub AreExchanged : {K : Type 0} → (K → Register → Type 0) → (K → Type 0) → K → List (Exchanged K) → Type 0
 AreExchanged shows is_clean keep [] = Unit {0}
-AreExchanged shows is_clean keep (e ∷ rest) =
-    (is_clean e.keep → is_clean keep)
-    × Promised shows is_clean keep e.keep (λ r. IsLegal r → IsExchanged e.outcome (shows e.keep) r e.known e.held e.holds)
-    × AreExchanged shows is_clean e.keep rest
+AreExchanged shows is_clean keep (e ∷ rest) = IsNext shows is_clean keep e × AreExchanged shows is_clean e.keep rest
 
 -- whether the request was answered: the reader didn't fail, and the reply isn't 503
 abbrev pub is_answered : Outcome → Bool
@@ -48,12 +51,7 @@ answered exchanges = filter (λ e. is_answered e.outcome) exchanges
 abbrev pub AreSpelledBy : {K : Type 0} → List (Exchanged K) → List Spelled → Type 0
 AreSpelledBy exchanges spelled = AllZip (λ e s. IsSpelled e.known s) exchanges spelled
 
--- the reply was written, or a front of it where the writer failed
-abbrev pub IsWrittenBy : Outcome → Option (List ℕ) → Option (List ℕ) → List ℕ → Type 0
-IsWrittenBy (Replied status) held holds bytes = Appends held holds bytes
-IsWrittenBy ReadFailed held holds bytes = ⊥
-IsWrittenBy (WriteFailed status) held holds bytes = (n : ℕ) × Appends held holds (take n bytes)
-
+-- each reply was written, or a front of it where the writer failed
 abbrev pub AreWritten : {K : Type 0} → List (Exchanged K) → List (List ℕ) → Type 0
 AreWritten exchanges replies = AllZip (λ e bytes. IsWrittenBy e.outcome e.held e.holds bytes) exchanges replies
 

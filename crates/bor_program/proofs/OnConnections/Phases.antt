@@ -11,6 +11,7 @@ use Rattle.bor_desk.specs.Operations.Legality.{IsLegal}
 use Rattle.bor_wire.specs.declared.outgoing.Outgoing.{Outgoing}
 use Rattle.bor_wire.specs.declared.outgoing.Outgoing.TheVariants.{Unavailable}
 use Rattle.bor_wire.specs.Exchanges.{IsResponse}
+use Rattle.bor_wire.proofs.Exchanged.{response_unavailable}
 use Rattle.bor_program.specs.declared.connections.phase.Phase.{Phase}
 use Rattle.bor_program.specs.declared.connections.phase.Pace.{Pace}
 use Rattle.bor_program.specs.declared.connections.phase.Step.{Step}
@@ -57,7 +58,7 @@ answer_step shows is_clean remaining contents old new request reply at pace is b
 -- without an exchange, the reply that says so is one to any request
 pub unavailable : {K : Type 0} (shows : K → Register → Type 0) (is_clean : K → Type 0) (keep : K) (request : List ℕ)
     → Promised shows is_clean keep keep (λ r. IsOrdered r.members → IsResponse (shows keep) r request Unavailable)
-unavailable shows is_clean keep request = λ r shown clean ordered. record { unavailable = λ _. (shown, refl); full = λ other. absurd (other refl) }
+unavailable shows is_clean keep request = λ r shown clean ordered. response_unavailable (shows keep) r request shown
 
 pub then_steps : {K S : Type 0} (shows : K → Register → Type 0) (is_clean : K → Type 0) (remaining contents : S → Option (List ℕ)) (old keep new : K) (mine : List Answer) (at : Phase S) (pace : Pace) (taken : Step S)
     → IsStep shows is_clean remaining contents old keep mine (step.Goes at pace) → IsStep shows is_clean remaining contents keep new (telling at) taken

@@ -35,7 +35,7 @@ left_more keep (x ∷ es) e = left_more x.keep es e
 each_more : {K : Type 0} (shows : K → Register → Type 0) (is_clean : K → Type 0) (keep : K) (es : List (Exchanged K)) (e : Exchanged K) → AreExchanged shows is_clean keep es
     → AreExchanged shows is_clean (keep_left keep es) (e ∷ []) → AreExchanged shows is_clean keep (es ++ e ∷ [])
 each_more shows is_clean keep [] e h last = last
-each_more shows is_clean keep (x ∷ es) e h last = (h.0, h.1, each_more shows is_clean x.keep es e h.2 last)
+each_more shows is_clean keep (x ∷ es) e h last = (h.0, each_more shows is_clean x.keep es e h.1 last)
 
 -- ---- the server
 
@@ -60,7 +60,7 @@ answers {K} shows is_clean Is old keep new telling connections pending told answ
     let one : Answered K = record { answer = answer; keep = new } in
     let es : List (Exchanged K) = exchanges_of h.answered in
     let more : exchanges_of (h.answered ++ one ∷ []) ≡ es ++ exchange_of one ∷ [] = map-append exchange_of h.answered (one ∷ []) in
-    let last : AreExchanged shows is_clean keep (exchange_of one ∷ []) = (began, exchanged, tt) in
+    let last : AreExchanged shows is_clean keep (exchange_of one ∷ []) = (record { began = began; exchanged = exchanged }, tt) in
     let each = each_more shows is_clean old es (exchange_of one) h.each (subst (λ k. AreExchanged shows is_clean k (exchange_of one ∷ [])) (sym h.left) last) in
     let front : answers_in (h.answered ++ one ∷ []) ≡ answers_in h.answered ++ answer ∷ [] = map-append (λ a. a.answer) h.answered (one ∷ []) in
     record {
