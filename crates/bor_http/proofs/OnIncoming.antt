@@ -1,4 +1,6 @@
+pub mod BodyLines
 pub mod BufferLemmas
+pub mod ByTable
 pub mod FieldLemmas
 pub mod HeadLemmas
 pub mod Laws

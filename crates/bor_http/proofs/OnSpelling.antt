@@ -1,5 +1,4 @@
 pub mod Examples
 pub mod Texts
 pub mod Stepwise
-pub mod Lengths
 pub mod Messages

@@ -2,6 +2,7 @@ pub mod Words
 pub mod Counted
 pub mod Head
 pub mod Message
+pub mod Refusals
 pub mod Steps
 pub mod Progress
 pub mod Reading

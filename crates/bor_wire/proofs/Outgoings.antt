@@ -14,7 +14,8 @@ use Rattle.bor_desk.specs.Laws.{is_long}
 use Rattle.bor_desk.proofs.Unchanged.{reads}
 use Rattle.bor_http.specs.declared.incoming.fault.Refusal.{Refusal}
 use Rattle.bor_http.specs.Incoming.Message.{Message}
-use Rattle.bor_http.specs.Incoming.Steps.{◌>>=◌, IsMessage}
+use Rattle.bor_http.specs.Incoming.Steps.{◌>>=◌}
+use Rattle.bor_http.specs.Incoming.Refusals.{IsMessage}
 use Rattle.bor_http.specs.Spelling.Spell.{Spelled, spell}
 use Rattle.bor_http.proofs.OnSpelling.Messages.{message_spelled, one_spelling}
 use Rattle.bor_wire.specs.Rendering.Replies.{refused}

@@ -11,7 +11,8 @@ use Rattle.httparse.specs.Grammar.{crlf, Field, IsField, RequestHead, is_token_b
 use Rattle.bor_http.specs.declared.incoming.fault.Refusal.TheVariants.{HeadTooLarge, CutShort, BadLength, BodyTooLarge}
 use Rattle.bor_http.specs.Incoming.Counted.{after_fault, takes_nothing}
 use Rattle.bor_http.specs.Incoming.Head.{head_len}
-use Rattle.bor_http.specs.Incoming.Steps.{head_within, head_at, HasParts, IsMessage, body_len, length_of, with_body}
+use Rattle.bor_http.specs.Incoming.Steps.{head_within, head_at, HasParts, body_len, length_of, with_body}
+use Rattle.bor_http.specs.Incoming.Refusals.{message_read, IsMessage}
 use Rattle.bor_http.specs.Incoming.Message.{Parts, FieldText, BeginsWith, only_value}
 
 -- ---- where a head ends
@@ -112,8 +113,8 @@ begins = record {
 
 -- and it is a request
 is_message : IsMessage (codes "GET /filings HTTP/1.1\r\nHost:  localhost \r\n\r\nGET /") (Ok (record { parts = of_literal; body = [] }))
-unfolding head_len
-is_message = (Ok of_literal, taken_apart, refl)
+unfolding head_len message_read
+is_message = (Some of_literal, begins, refl)
 
 -- ---- how long a body is
 

@@ -1,33 +1,22 @@
 -- An input is one request, whatever stands behind it.
-use Rattle.std.proofs.Common.{◌≡◌, ◌≢◌, ◌≤◌, ◌<◌, ℕ, List, [], ◌++◌, Option, Some, None, Bool, true, false, Result, Ok, Err, refl, sym, ap, ◌∙◌, take, drop, length, cond, nat_lt, subst, append_assoc, length-append, take_all, arith}
+use Rattle.std.proofs.Common.{◌≡◌, ◌≢◌, ◌≤◌, ◌<◌, ℕ, List, ◌++◌, Option, Some, None, Bool, true, false, Result, Ok, Err, refl, sym, ap, ◌∙◌, take, drop, length, cond, nat_lt, subst, append_assoc, length-append, take_all, arith}
 use Rattle.std.specs.Prelude.{⊤}
 use Rattle.std.specs.Option.{option_map_or}
 use Rattle.std.proofs.lemmas.List.{take-append-drop, take-append-le, drop-append-le, length-take, length-take-le}
 use Rattle.std.proofs.lemmas.Bool.Decides.{nat_tests}
-use Rattle.httparse.proofs.GrammarLemmas.{request_unique}
 use Rattle.bor_http.specs.declared.incoming.fault.Refusal.{Refusal}
 use Rattle.bor_http.specs.declared.incoming.fault.Refusal.TheVariants.{HeadTooLarge, CutShort}
 use Rattle.bor_http.specs.Incoming.Head.{head_len, line_feeds, line_limit, head_limit}
-use Rattle.bor_http.specs.Incoming.Message.{Parts, Message, parts_of}
-use Rattle.bor_http.specs.Incoming.Steps.{head_at, head_within, without_head, with_few_lines, HasParts, IsMessage, IsAt, and_then, with_body, body_of, body_len}
+use Rattle.bor_http.specs.Incoming.Message.{Parts, Message}
+use Rattle.bor_http.specs.Incoming.Steps.{head_at, head_within, without_head, with_few_lines, HasParts, IsAt, and_then, with_body, body_of, body_len, IsMessageBySteps}
+use Rattle.bor_http.specs.Incoming.Refusals.{message_read, IsMessage}
 use Rattle.bor_http.specs.Incoming.Laws.{OneRequest, RestIsIgnored}
+use Rattle.bor_http.proofs.OnIncoming.ByTable.{one_head, to_steps, from_steps}
 use Rattle.bor_http.proofs.OnIncoming.HeadLemmas.{head_len-le}
 use Rattle.bor_http.proofs.OnIncoming.ReadingLemmas.{head-found, head-too_large, head-cut_short}
 
-parts_unique : (head : List ℕ) (a b : Result Parts Refusal) → HasParts head a → HasParts head b → a ≡ b
-parts_unique head (Ok a) (Ok b) x y =
-    ap Ok (x.2 ∙ ap parts_of (request_unique head x.0 y.0 [] [] x.1 y.1).0 ∙ sym y.2)
-parts_unique head (Ok a) (Err s) x y = absurd (y.1 x.0 x.1)
-parts_unique head (Err r) (Ok b) x y = absurd (x.1 y.0 y.1)
-parts_unique head (Err r) (Err s) x y = ap Err (x.0 ∙ sym y.0)
-
-at_unique : (input : List ℕ) (at : Result ℕ Refusal) (a b : Result Message Refusal) → IsAt input at a → IsAt input at b → a ≡ b
-at_unique input (Ok n) a b x y =
-    x.2 ∙ ap (and_then (with_body (drop n input))) (parts_unique (take n input) x.0 y.0 x.1 y.1) ∙ sym y.2
-at_unique input (Err r) a b x y = x ∙ sym y
-
 pub message_unique : OneRequest
-message_unique input a b x y = at_unique input (head_at input) a b x y
+message_unique input a b x y = x.2 ∙ ap (message_read input) (one_head input x.0 y.0 x.1 y.1) ∙ sym y.2
 
 -- ---- the head ends where it ended
 
@@ -123,10 +112,13 @@ kept input more (Ok n) read le ne is = (
 cut_at : (input : List ℕ) (at : Result ℕ Refusal) (read : Result Message Refusal) → at ≡ Err CutShort → IsAt input at read → read ≡ Err CutShort
 cut_at input at read cut is = subst (λ a. IsAt input a read) cut is
 
-pub message_follows : (input more : List ℕ) (read : Result Message Refusal) → read ≢ Err CutShort → IsMessage input read → IsMessage (input ++ more) read
-message_follows input more read ne is =
+follows : (input more : List ℕ) (read : Result Message Refusal) → read ≢ Err CutShort → IsMessageBySteps input read → IsMessageBySteps (input ++ more) read
+follows input more read ne is =
     let end : head_at (input ++ more) ≡ head_at input = head_kept head_limit input more (λ cut. ne (cut_at input (head_at input) read cut is)) in
     subst (λ at. IsAt (input ++ more) at read) (sym end) (kept input more (head_at input) read (inside head_limit input) ne is)
+
+pub message_follows : (input more : List ℕ) (read : Result Message Refusal) → read ≢ Err CutShort → IsMessage input read → IsMessage (input ++ more) read
+message_follows input more read ne is = from_steps (input ++ more) read (follows input more read ne (to_steps input read is))
 
 pub rest_ignored : RestIsIgnored
 rest_ignored input more m is = message_follows input more (Ok m) (λ cut. cc) is

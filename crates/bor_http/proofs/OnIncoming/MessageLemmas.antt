@@ -11,9 +11,11 @@ use Rattle.bor_http.specs.declared.incoming.fault.Refusal.TheVariants.{BadLength
 use Rattle.bor_http.specs.declared.incoming.fault.WireFault.{WireFault}
 use Rattle.bor_http.specs.declared.incoming.fault.WireFault.TheVariants.{Refused, Read, Memory}
 use Rattle.bor_http.specs.Incoming.Head.{head_limit}
-use Rattle.bor_http.specs.Incoming.Steps.{head_at, HasParts, HeadFault, IsMessage, IsAt, IsBehind, and_then, with_body, body_of, body_len, length_of}
+use Rattle.bor_http.specs.Incoming.Steps.{head_at, HasParts, HeadFault, IsAt, IsBehind, and_then, with_body, body_of, body_len, length_of}
+use Rattle.bor_http.specs.Incoming.Refusals.{IsMessage}
 use Rattle.bor_http.specs.Incoming.Reading.{Grows, FaultFits, EndsBefore, IsBody, ReadsBody, Tells, TakesAtMost}
 use Rattle.bor_http.specs.Incoming.Message.{Parts, Message, FieldText, is_numeral, how_many, first_value, body_limit, request_limit}
+use Rattle.bor_http.proofs.OnIncoming.ByTable.{from_steps}
 use Rattle.bor_http.proofs.OnIncoming.ReadingLemmas.{from_whole_with, from_end_with, grows_behind}
 
 -- with its head and what stands behind it, an input is what its parts make of it
@@ -25,7 +27,7 @@ message input head behind n parts at is len has =
     let here : IsBehind input n (and_then (with_body behind) parts) =
     (parts, subst (λ b. HasParts b parts) (sym front) has, ap (λ b. and_then (with_body b) parts) (sym back)) in
     let P : Result ℕ Refusal → Type 0 = λ a. IsAt input a (and_then (with_body behind) parts) in
-    subst P (sym at) here
+    from_steps input (and_then (with_body behind) parts) (subst P (sym at) here)
 
 -- where the buffer lies in the input
 abbrev Found : ℕ → List ℕ → Type 0

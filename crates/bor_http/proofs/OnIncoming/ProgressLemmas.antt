@@ -10,12 +10,14 @@ use Rattle.bor_http.specs.declared.incoming.fault.Refusal.TheVariants.{HeadTooLa
 use Rattle.bor_http.specs.declared.incoming.progress.Progress.{Progress}
 use Rattle.bor_http.specs.declared.incoming.progress.Progress.TheVariants.{Searched, Needs}
 use Rattle.bor_http.specs.Incoming.Head.{head_len, head_limit}
-use Rattle.bor_http.specs.Incoming.Steps.{IsScanned, with_few_lines, HasParts, IsAt, IsMessage, and_then, body_len, body_of, length_of, with_body}
+use Rattle.bor_http.specs.Incoming.Steps.{IsScanned, with_few_lines, HasParts, and_then, body_len, body_of, length_of, with_body}
+use Rattle.bor_http.specs.Incoming.Refusals.{IsMessage}
 use Rattle.bor_http.specs.Incoming.Message.{FieldText, Message, Parts, body_limit, first_value, how_many, is_numeral}
 use Rattle.bor_http.specs.Incoming.Progress.{IsProgress, IsWhole, needs}
 use Rattle.bor_http.proofs.OnIncoming.HeadLemmas.{head_len-le, scanned_before}
 use Rattle.bor_http.proofs.OnIncoming.ReadingLemmas.{head-cut_short, head-found, head-too_large}
 use Rattle.bor_http.proofs.OnIncoming.MessageLemmas.{body_whole, message}
+use Rattle.bor_http.proofs.OnIncoming.ByTable.{head_refused}
 use Rattle.bor_http.proofs.OnIncoming.Laws.{message_unique}
 
 -- ---- where the search goes on
@@ -30,7 +32,7 @@ searched_all bytes none = (omega arith, rw (take_all (length bytes) bytes (omega
 
 pub missing : (bytes : List ℕ) → length bytes < head_limit → head_len bytes ≡ None → IsWhole bytes → ⊥
 missing bytes short none whole =
-    whole (subst (λ at. IsAt bytes at (Err CutShort)) (sym (head-cut_short head_limit bytes short none)) refl)
+    whole (head_refused bytes CutShort (head-cut_short head_limit bytes short none))
 
 -- ---- what is refused for what has come
 
@@ -46,12 +48,12 @@ refused bytes n why other le is = λ more. (
 pub too_large : (bytes : List ℕ) → length bytes ≡ head_limit → head_len bytes ≡ None → IsProgress bytes (Needs head_limit)
 too_large bytes full none =
     refused bytes head_limit HeadTooLarge (λ e. cc) (omega arith)
-    (λ more. subst (λ at. IsAt (bytes ++ more) at (Err HeadTooLarge)) (sym (head-too_large head_limit bytes more full none)) refl)
+    (λ more. head_refused (bytes ++ more) HeadTooLarge (head-too_large head_limit bytes more full none))
 
 pub many_lines_come : (bytes : List ℕ) (n : ℕ) → length bytes ≤ head_limit → head_len bytes ≡ Some n → with_few_lines bytes n ≡ Err HeadTooLarge → IsProgress bytes (Needs n)
 many_lines_come bytes n within head many =
     refused bytes n HeadTooLarge (λ e. cc) (head_len-le bytes n head)
-    (λ more. subst (λ at. IsAt (bytes ++ more) at (Err HeadTooLarge)) (sym (head-found head_limit bytes more n within head ∙ many)) refl)
+    (λ more. head_refused (bytes ++ more) HeadTooLarge (head-found head_limit bytes more n within head ∙ many))
 
 -- the input is what its parts make of it, whatever comes
 with_parts : (bytes more : List ℕ) (n : ℕ) (parts : Result Parts Refusal) → length bytes ≤ head_limit → head_len bytes ≡ Some n → with_few_lines bytes n ≡ Ok n

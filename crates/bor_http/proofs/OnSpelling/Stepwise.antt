@@ -18,7 +18,8 @@ use Rattle.bor_http.specs.declared.routes.route.Route.{Route}
 use Rattle.bor_http.specs.declared.routes.route.Route.TheVariants as routes
 use Rattle.bor_http.specs.Routes.Routes.{route_at}
 use Rattle.bor_http.specs.Spelling.Parts as part
-use Rattle.bor_http.specs.Spelling.Refusals.{refuse, asks, lines_of_method, lines_of_names, lines_of_message}
+use Rattle.bor_http.specs.Incoming.Refusals.{refuse}
+use Rattle.bor_http.specs.Spelling.Refusals.{asks, lines_of_method, lines_of_names, lines_of_message}
 use Rattle.bor_http.specs.Spelling.Spell.{request_of, asked, spell}
 use Rattle.bor_http.specs.Spelling.Steps.{or_refuse, named, node_by_steps, request_by_steps, spell_by_steps}
 

@@ -2,7 +2,7 @@
 use Rattle.std.specs.Prelude.{◌≡◌, ℕ, List, ◌++◌, Result, Ok}
 use Rattle.bor_http.specs.declared.incoming.fault.Refusal.{Refusal}
 use Rattle.bor_http.specs.Incoming.Message.{Message}
-use Rattle.bor_http.specs.Incoming.Steps.{IsMessage}
+use Rattle.bor_http.specs.Incoming.Refusals.{IsMessage}
 
 -- An input is one request, or is refused as one thing.
 abbrev pub OneRequest : Type 0

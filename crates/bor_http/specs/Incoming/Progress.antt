@@ -4,7 +4,7 @@ use Rattle.bor_http.specs.declared.incoming.fault.Refusal.TheVariants.{CutShort}
 use Rattle.bor_http.specs.declared.incoming.progress.Progress.{Progress}
 use Rattle.bor_http.specs.declared.incoming.progress.Progress.TheVariants.{Searched, Needs}
 use Rattle.bor_http.specs.Incoming.Head.{head_len, head_limit}
-use Rattle.bor_http.specs.Incoming.Steps.{IsMessage}
+use Rattle.bor_http.specs.Incoming.Refusals.{IsMessage}
 
 -- The bytes are one request, or are refused for what has come: nothing is missing of them.
 abbrev pub IsWhole : List ℕ → Type 0

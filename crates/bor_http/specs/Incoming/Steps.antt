@@ -1,4 +1,4 @@
--- What an input is, one part looked at after the other: each refuses, or the next is looked at. What it spells is said without these (`Spelling`), and they are proved to say the same.
+-- What an input is, one part looked at after the other: each refuses, or the next is looked at. For clauses of private functions alone, but for `◌>>=◌`; it is proved to be what the table says (`Refusals`).
 use Rattle.std.specs.Prelude.{◌≡◌, ℕ, ◌+◌, nat_lt, nat_le, List, [], length, take, drop, map, Result, Ok, Err, if◌then◌else◌, codes, All, ⊤}
 use Rattle.std.specs.Option.{option_map, option_map_or}
 use Rattle.std.specs.Str.Parse.{digits_value}
@@ -111,5 +111,5 @@ IsAt input (Ok n) answer = IsBehind input n answer
 IsAt input (Err r) answer = answer ≡ Err r
 
 -- the whole input is this request and whatever follows it, or is refused
-abbrev pub IsMessage : List ℕ → Result Message Refusal → Type 0
-IsMessage input answer = IsAt input (head_at input) answer
+abbrev pub IsMessageBySteps : List ℕ → Result Message Refusal → Type 0
+IsMessageBySteps input answer = IsAt input (head_at input) answer

@@ -3,7 +3,8 @@ use Rattle.std.specs.Prelude.{◌≡◌, ◌≢◌, ℕ, List, ◌++◌, Result,
 use Rattle.bor_http.specs.declared.incoming.fault.Refusal.{Refusal}
 use Rattle.bor_http.specs.declared.incoming.fault.Refusal.TheVariants.{CutShort}
 use Rattle.bor_http.specs.Incoming.Message.{Message}
-use Rattle.bor_http.specs.Incoming.Steps.{◌>>=◌, IsMessage}
+use Rattle.bor_http.specs.Incoming.Steps.{◌>>=◌}
+use Rattle.bor_http.specs.Incoming.Refusals.{IsMessage}
 use Rattle.bor_http.specs.Spelling.Spell.{Spelled, Spells, spell}
 
 -- an input spells one thing

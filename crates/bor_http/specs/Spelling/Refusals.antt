@@ -1,66 +1,19 @@
--- The order of refusals: a table of what may stand against an input, of which the first line that holds is the answer.
-use Rattle.std.specs.Prelude.{ℕ, ◌&&◌, ◌||◌, not, nat_lt, Bool, List, [], ◌∷◌, ◌++◌, length, take, drop, map, Option, Some, None, is_some, if◌then◌else◌, codes}
-use Rattle.std.specs.List.{filter, list_any}
+-- The order of refusals: a table of what may stand against an input, of which the first line that holds is the answer. Its lines 1 to 6, on the head and the body, are in `Incoming/Refusals`.
+use Rattle.std.specs.Prelude.{ℕ, List, [], ◌∷◌, ◌++◌, drop, Option, Some, None}
 use Rattle.std.specs.Option.{is_none}
-use Rattle.std.specs.Str.Parse.{digits_value}
 use Rattle.bods_read.specs.Outcome.{table}
 use Rattle.bor_http.specs.declared.incoming.fault.Path.{Path}
 use Rattle.bor_http.specs.declared.incoming.fault.Name.{Name}
 use Rattle.bor_http.specs.declared.incoming.fault.Name.TheVariants as names
 use Rattle.bor_http.specs.declared.incoming.fault.Refusal.{Refusal}
-use Rattle.bor_http.specs.declared.incoming.fault.Refusal.TheVariants.{HeadTooLarge, CutShort, BadHead, BadLength, BodyTooLarge, NoPath, WrongMethod, NoToken, BadQuery}
-use Rattle.bor_http.specs.Incoming.Head.{head_end, head_limit, line_limit, line_feeds}
-use Rattle.bor_http.specs.Incoming.Message.{Parts, Message, FieldText, is_named, is_numeral, body_limit}
+use Rattle.bor_http.specs.declared.incoming.fault.Refusal.TheVariants.{NoPath, WrongMethod, NoToken, BadQuery}
+use Rattle.bor_http.specs.Incoming.Head.{head_end}
+use Rattle.bor_http.specs.Incoming.Message.{Parts, Message}
+use Rattle.bor_http.specs.Incoming.Refusals.{refuse, lines_of_input, message_of}
 use Rattle.bor_http.specs.declared.routes.route.Route.{Route}
 use Rattle.bor_http.specs.declared.routes.route.Route.TheVariants as routes
 use Rattle.bor_http.specs.Routes.Routes.{route_at}
 use Rattle.bor_http.specs.Spelling.Parts as part
-
--- a line of the table: it refuses so where the condition holds
-abbrev pub refuse : Refusal → Bool → List Refusal
-refuse why holds = if holds then why ∷ [] else []
-
--- ---- 1 to 3: where the head ends, and whether it is one
-
--- none ends within the limit, of as many bytes; or the one that does has too many lines
-abbrev pub is_too_large : List ℕ → Option ℕ → Bool
-is_too_large input None = not (nat_lt (length input) head_limit)
-is_too_large input (Some n) = nat_lt line_limit (line_feeds (take n input))
-
--- about an input, where its head ends, and the head taken apart
-abbrev pub lines_of_head : List ℕ → Option ℕ → Option Parts → List Refusal
-lines_of_head input end head =
-    table (refuse HeadTooLarge (is_too_large input end)
-    ∷ refuse CutShort (is_none end && nat_lt (length input) head_limit)
-    ∷ refuse BadHead (is_some end && is_none head)
-    ∷ [])
-
--- ---- 4 to 6: the length of the body, and whether the body is there
-
--- the values of the fields that have a name
-abbrev pub values : List ℕ → List FieldText → List (List ℕ)
-values name fields = map (λ field. field.1) (filter (is_named name) fields)
-
-abbrev pub lengths : List FieldText → List (List ℕ)
-lengths fields = values (codes "content-length") fields
-
--- one of the lengths is a number beyond this one
-abbrev pub exceeds : ℕ → List (List ℕ) → Bool
-exceeds limit lengths = list_any (λ value. is_numeral value && nat_lt limit (digits_value 10 value)) lengths
-
--- there is a transfer coding, more than one length, or a length that is no number
-abbrev pub has_bad_length : List FieldText → Bool
-has_bad_length fields =
-    nat_lt 0 (length (values (codes "transfer-encoding") fields))
-    || nat_lt 1 (length (lengths fields)) || list_any (λ value. not (is_numeral value)) (lengths fields)
-
--- about a head with these fields, and what stands behind it
-abbrev pub lines_of_body : List FieldText → List ℕ → List Refusal
-lines_of_body fields rest =
-    table (refuse BadLength (has_bad_length fields)
-    ∷ refuse BodyTooLarge (exceeds body_limit (lengths fields))
-    ∷ refuse CutShort (exceeds (length rest) (lengths fields))
-    ∷ [])
 
 -- ---- 7 to 10: what is asked, and by whom
 
@@ -100,20 +53,11 @@ lines_of_message m =
 
 -- ---- the whole table
 
--- the message behind a head: as many bytes as the first length says
-abbrev pub stated : List (List ℕ) → ℕ
-stated [] = 0
-stated (value ∷ more) = digits_value 10 value
-
-abbrev pub message_of : Parts → List ℕ → Message
-message_of parts rest = record { parts = parts; body = take (stated (lengths parts.fields)) rest }
-
 -- behind what is no head there is nothing to look at
 abbrev pub lines_behind : List ℕ → Option ℕ → Option Parts → List Refusal
-lines_behind input (Some n) (Some parts) =
-    lines_of_body parts.fields (drop n input) ++ lines_of_message (message_of parts (drop n input))
+lines_behind input (Some n) (Some parts) = lines_of_message (message_of parts (drop n input))
 lines_behind input end head = []
 
 -- all refusals that hold of an input whose head is taken apart so, in their order
 unfoldable pub refusals : List ℕ → Option Parts → List Refusal
-refusals input head = lines_of_head input (head_end input) head ++ lines_behind input (head_end input) head
+refusals input head = lines_of_input input (head_end input) head ++ lines_behind input (head_end input) head

@@ -11,7 +11,8 @@ use Rattle.bor_http.specs.declared.routes.route.Route.TheVariants as routes
 use Rattle.bor_http.specs.declared.spelling.asking.Asking.{Asking}
 use Rattle.bor_http.specs.Spelling.Parts as part
 use Rattle.bor_http.specs.Incoming.Head.{head_end}
-use Rattle.bor_http.specs.Spelling.Refusals.{message_of, lines_of_message, refusals}
+use Rattle.bor_http.specs.Incoming.Refusals.{message_of}
+use Rattle.bor_http.specs.Spelling.Refusals.{lines_of_message, refusals}
 
 abbrev pub Spelled : Type 0
 Spelled = Result Asked Refusal

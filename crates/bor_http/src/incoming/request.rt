@@ -5,7 +5,8 @@ ghost use Rattle.std.specs.Option.{option_map};
 ghost use Rattle.bor_http.specs.Incoming.Head.{line_feeds, line_limit};
 ghost use Rattle.bor_http.specs.Incoming.Reading.{Answers, FaultsTell, TakesAtMost};
 ghost use Rattle.bor_http.specs.Incoming.Message.{only_value, request_limit};
-ghost use Rattle.bor_http.specs.Incoming.Steps.{AreWithin, HeadAnswers, parts_at, IsMessage};
+ghost use Rattle.bor_http.specs.Incoming.Steps.{AreWithin, HeadAnswers, parts_at};
+ghost use Rattle.bor_http.specs.Incoming.Refusals.{IsMessage};
 
 use crate::incoming::buffer::Buffer;
 use crate::incoming::counted::Counted;

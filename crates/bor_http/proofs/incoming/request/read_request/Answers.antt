@@ -2,8 +2,14 @@ use Rattle.std.proofs.Common.{sym, ap, ◌∙◌, ◌≡◌, take, drop, Ok, Err
 use Rattle.std.proofs.lemmas.Result.{err_from_is_err_and}
 use Rattle.bor_http.specs.Incoming.Message.{Parts}
 use Rattle.bor_http.specs.Incoming.Steps.{HasParts, parts_at, body_len}
+use Rattle.bor_http.proofs.OnIncoming.ByTable.{head_fault}
 use Rattle.bor_http.proofs.OnIncoming.MessageLemmas.{bad_head, bad_length, read_behind, taken_whole, body_len-le}
 use Rattle.bor_http.proofs.incoming.request.read_request.Goals as goal
+
+pub returns-in_err-len-clause-request : goal.returns-in_err-len-clause-request
+returns-in_err-len-clause-request g c =
+    let p = err_from_is_err_and c.from_residual.result c.from_residual.ensures.1 in
+    rw (p.1, p.2) (head_fault (g.R.Read.remaining c.args.reader.now.inner) c.in_err-len.field-0.0 c.in_err-len.ensures.head)
 
 pub returns-in_err-spans-clause-request : goal.returns-in_err-spans-clause-request
 returns-in_err-spans-clause-request g c =

@@ -1,5 +1,5 @@
 -- The length of a body, and what the table says of it.
-use Rattle.std.proofs.Common.{◌≡◌, ℕ, ◌+◌, List, [], ◌∷◌, ◌++◌, length, take, Option, Some, None, Ok, Err, Bool, true, false, cond, suc, not, ◌&&◌, ◌||◌, refl, ap, ◌∙◌, arith, codes}
+use Rattle.std.proofs.Common.{◌≡◌, ℕ, ◌+◌, List, [], ◌∷◌, length, take, Option, Some, None, Ok, Err, Bool, true, false, cond, suc, not, ◌&&◌, ◌||◌, refl, ap, ◌∙◌, arith, codes}
 use Rattle.std.specs.Prelude.{Result, nat_lt, nat_le, count_by, if◌then◌else◌}
 use Rattle.std.specs.List.{list_any}
 use Rattle.std.specs.Option.{option_map_or}
@@ -10,9 +10,8 @@ use Rattle.bods_read.specs.Outcome.{table, outcome}
 use Rattle.bor_http.specs.declared.incoming.fault.Refusal.{Refusal}
 use Rattle.bor_http.specs.declared.incoming.fault.Refusal.TheVariants.{BadLength, BodyTooLarge, CutShort}
 use Rattle.bor_http.specs.Incoming.Message.{Parts, Message, FieldText, is_named, is_numeral, how_many, first_value, body_limit}
-use Rattle.bor_http.specs.Incoming.Steps.{◌>>=◌, and_then, length_of, body_len, body_of, with_body}
-use Rattle.bor_http.specs.Spelling.Refusals.{refuse, values, lengths, exceeds, lines_of_body, lines_of_message, stated, message_of}
-use Rattle.bor_http.specs.Spelling.Spell.{asked, spell}
+use Rattle.bor_http.specs.Incoming.Refusals.{refuse, values, lengths, exceeds, lines_of_body, stated, message_of}
+use Rattle.bor_http.specs.Incoming.Steps.{and_then, length_of, body_len, body_of, with_body}
 
 -- ---- the values of fields
 
@@ -60,16 +59,15 @@ lt_from_le n limit = grind (arith, nat_tests)
 -- no length, or one that is a number, is too large, or goes beyond what there is
 one_length : (is_number is_large is_beyond : Bool) (n : ℕ) (m : Message) (body : ℕ → Result Message Refusal)
     → body n ≡ (if is_beyond then Err CutShort else Ok m)
-    → (and_then body (if is_number then (if not is_large then Ok n else Err BodyTooLarge) else Err BadLength) >>= spell)
+    → and_then body (if is_number then (if not is_large then Ok n else Err BodyTooLarge) else Err BadLength)
     ≡ outcome
     (table (refuse BadLength (not is_number || false) ∷ refuse BodyTooLarge ((is_number && is_large) || false)
-    ∷ refuse CutShort ((is_number && is_beyond) || false) ∷ []) ++ lines_of_message m)
-    (asked m)
-unfolding spell
+    ∷ refuse CutShort ((is_number && is_beyond) || false) ∷ []))
+    m
 one_length false is_large is_beyond n m body e = refl
 one_length true true is_beyond n m body e = refl
-one_length true false true n m body e = ap (λ r. r >>= spell) e
-one_length true false false n m body e = ap (λ r. r >>= spell) e
+one_length true false true n m body e = e
+one_length true false false n m body e = e
 
 two_lengths : (n : ℕ) → nat_lt 1 (suc (suc n)) ≡ true
 two_lengths n = grind (arith, nat_tests)
@@ -78,16 +76,14 @@ none_below : (n : ℕ) → nat_lt n 0 ≡ false
 none_below n = grind (arith, nat_tests)
 
 by_values : (encoded : Bool) (parts : Parts) (rest : List ℕ) (ls : List (List ℕ))
-    → (and_then (body_of parts rest)
+    → and_then (body_of parts rest)
     (if encoded then Err BadLength
     else (if nat_lt 1 (length ls) then Err BadLength else option_map_or (length_of body_limit) (first_of ls) (Ok 0)))
-    >>= spell)
     ≡ outcome
     (table (refuse BadLength (encoded || nat_lt 1 (length ls) || list_any (λ value. not (is_numeral value)) ls)
-    ∷ refuse BodyTooLarge (exceeds body_limit ls) ∷ refuse CutShort (exceeds (length rest) ls) ∷ [])
-    ++ lines_of_message (record { parts = parts; body = take (stated ls) rest }))
-    (asked (record { parts = parts; body = take (stated ls) rest }))
-unfolding spell first_of
+    ∷ refuse BodyTooLarge (exceeds body_limit ls) ∷ refuse CutShort (exceeds (length rest) ls) ∷ []))
+    (record { parts = parts; body = take (stated ls) rest })
+unfolding first_of
 by_values true parts rest ls = refl
 by_values false parts rest [] = rw (none_below (length rest)) refl
 by_values false parts rest (value ∷ []) =
@@ -96,10 +92,8 @@ by_values false parts rest (value ∷ []) =
     (record { parts = parts; body = take (digits_value 10 value) rest }) (body_of parts rest) refl)
 by_values false parts rest (value ∷ other ∷ more) = rw (two_lengths (length more)) refl
 
-pub body_refused : (parts : Parts) (rest : List ℕ)
-    → (with_body rest parts >>= spell)
-    ≡ outcome (lines_of_body parts.fields rest ++ lines_of_message (message_of parts rest)) (asked (message_of parts rest))
+pub body_is : (parts : Parts) (rest : List ℕ) → with_body rest parts ≡ outcome (lines_of_body parts.fields rest) (message_of parts rest)
 unfolding length_by
-body_refused parts rest =
-    ap (λ n. and_then (body_of parts rest) n >>= spell) (body_len_is parts.fields)
+body_is parts rest =
+    ap (and_then (body_of parts rest)) (body_len_is parts.fields)
     ∙ by_values (nat_lt 0 (length (values (codes "transfer-encoding") parts.fields))) parts rest (lengths parts.fields)
