@@ -1,9 +1,11 @@
 -- What a reply has of the step.
-use Rattle.std.specs.Prelude.{◌≡◌, ℕ, ℤ, List, Option, Some, None, Result, Ok, Err}
+use Rattle.std.specs.Prelude.{◌≡◌, ℕ, ℤ, List, Option, Some, None, IfSome, Result, Ok, Err}
 use Rattle.bor_records.specs.declared.links.node.Node.{Node}
 use Rattle.bor_chains.specs.declared.line.PersonLine.{PersonLine}
 use Rattle.bor_records.specs.Links.Shown.{Shown}
 use Rattle.bor_chains.specs.Chains.{AreJoined}
+use Rattle.bor_register.specs.declared.caller.Caller.{Caller}
+use Rattle.bor_register.specs.declared.caller.Caller.TheVariants.{Agent}
 use Rattle.bor_register.specs.declared.fault.StoreFault.{StoreFault}
 use Rattle.bor_register.specs.Register.{Register, IsOrdered}
 use Rattle.bor_desk.specs.Operations.Outcomes.{ByStore, IsFaultOf}
@@ -46,6 +48,17 @@ IsLeft reply shown r after = ByStore (fault_of reply) (shown after) (λ fault. s
 -- a reply that tells a fault of the store tells it as what it is, by whether the keep's count of faults moved; any other leaves the count
 abbrev pub IsReplyAccounted : (StoreFault → Type 0) → DeskReply → ℕ → ℕ → Type 0
 IsReplyAccounted may_tell reply before after = ByStore (fault_of reply) (after ≡ before) (IsFaultOf may_tell before after)
+
+-- ---- which agent is answered
+
+-- the agent that a caller is; none where it is the registrar, or nobody
+abbrev pub agent_of : Option Caller → Option (List ℕ)
+agent_of (Some (Agent name)) = Some name
+agent_of caller = None
+
+-- The agent that is named beside a reply is the one that asks, if one does; beside a fault of the store none has to be named.
+abbrev pub IsNamed : DeskReply → Option (List ℕ) → Option (List ℕ) → Type 0
+IsNamed reply named asks = ByStore (fault_of reply) (named ≡ asks) (λ fault. IfSome named (λ name. asks ≡ Some name))
 
 -- ---- parts of an answer, for clauses of private functions alone
 

@@ -8,11 +8,11 @@ ghost use Rattle.bor_desk.specs.Operations.Sight.{seen_by, sight_of};
 ghost use Rattle.bor_desk.specs.Operations.Outcomes.{IsCounted};
 ghost use Rattle.bor_desk.specs.Step.{step, agent_answer, agent_step, may_change_own, registrar_step, file_answer, chains_answer, snapshot_answer};
 ghost use Rattle.bor_desk.specs.Laws.{IsToldAlone};
-ghost use Rattle.bor_desk.specs.Outcomes.{IsAnswered, IsLeft, IsOrderedFor, IsReplyAccounted, reply_of, denial};
+ghost use Rattle.bor_desk.specs.Outcomes.{IsAnswered, IsLeft, IsNamed, IsOrderedFor, IsReplyAccounted, agent_of, reply_of, denial};
 
 use crate::operations::{Caller, Keep, StoreFault, advance, enrol, lodge, withdraw};
 use crate::refusal::{DeskFault, Refusal};
-use crate::reply::DeskReply;
+use crate::reply::{Answered, DeskReply};
 use crate::report::persons_seen;
 use crate::request::Request;
 use bor_chains::Node;
@@ -192,33 +192,46 @@ fn answer_registrar<K: Keep>(
     }
 }
 
-fn answer_caller<K: Keep>(
+// What was answered, and which agent was.
+fn named(agent: Option<AgentName>, made: Result<DeskReply, DeskFault>) -> Answered
+    ensures agent { result.agent ≡ agent }
+    ensures reply { result.reply ≡ reply_of made }
+{
+    match made {
+        Ok(reply) => Answered { agent, reply },
+        Err(fault) => Answered {
+            agent,
+            reply: DeskReply::from(fault),
+        },
+    }
+}
+
+/// Answers the request of whoever has the token, as [`answer`] does, and names the agent that has it.
+///
+/// The name is the one that the keep told for the answer: it isn't asked once more.
+pub fn answer_naming<K: Keep>(
     alloc: Global,
     keep: &mut K,
     token: &Token,
     request: &Request,
-) -> Result<DeskReply, DeskFault>
+) -> Answered
     ensures began { K.is_clean keep.new → K.is_clean keep.old }
     ensures step { Promised K.shows K.is_clean keep.old keep.new (λ r. IsOrderedFor request.now r
-        → IsAnswered (reply_of result) (step r (caller_of token.now r) request.now).answer) }
+        → IsAnswered result.reply (step r (caller_of token.now r) request.now).answer) }
     ensures left { Promised K.shows K.is_clean keep.old keep.new (λ r.
-        IsLeft (reply_of result) (K.shows keep.new) r (step r (caller_of token.now r) request.now).register) }
-    ensures accounted { IsReplyAccounted K.may_tell (reply_of result) (K.fault_count keep.old) (K.fault_count keep.new) }
+        IsLeft result.reply (K.shows keep.new) r (step r (caller_of token.now r) request.now).register) }
+    ensures agent { Promised K.shows K.is_clean keep.old keep.new (λ r.
+        IsNamed result.reply result.agent (agent_of (caller_of token.now r))) }
+    ensures accounted { IsReplyAccounted K.may_tell result.reply (K.fault_count keep.old) (K.fault_count keep.new) }
 {
-    match keep.who(token)? {
-        None => Err(DeskFault::Refused(Refusal::NoAgent)),
-        Some(Caller::Registrar) => answer_registrar(alloc, keep, request),
-        Some(Caller::Agent(name)) => answer_agent(alloc, keep, &name, request),
-    }
-}
-
-// The reply that was made, or the one that tells why there is none.
-fn reply_of(made: Result<DeskReply, DeskFault>) -> DeskReply
-    ensures { result ≡ reply_of made }
-{
-    match made {
-        Ok(reply) => reply,
-        Err(fault) => DeskReply::from(fault),
+    match keep.who(token) {
+        Err(fault) => named(None, Err(DeskFault::Failed(fault))),
+        Ok(None) => named(None, Err(DeskFault::Refused(Refusal::NoAgent))),
+        Ok(Some(Caller::Registrar)) => named(None, answer_registrar(alloc, keep, request)),
+        Ok(Some(Caller::Agent(name))) => {
+            let made = answer_agent(alloc, keep, &name, request);
+            named(Some(name), made)
+        }
     }
 }
 
@@ -243,5 +256,6 @@ pub fn answer<K: Keep>(alloc: Global, keep: &mut K, token: &Token, request: &Req
     ensures legal { Promised K.shows K.is_clean keep.old keep.new (λ r.
         IsLegal r → (left : Register) × K.shows keep.new left × IsLegal left) }
 {
-    reply_of(answer_caller(alloc, keep, token, request))
+    let Answered { reply, .. } = answer_naming(alloc, keep, token, request);
+    reply
 }

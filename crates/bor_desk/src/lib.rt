@@ -31,9 +31,9 @@ mod request;
 mod text;
 
 pub use check::{FILE_LIMIT, check_text};
-pub use desk::answer;
+pub use desk::{answer, answer_naming};
 pub use refusal::Refusal;
-pub use reply::DeskReply;
+pub use reply::{Answered, DeskReply};
 pub use report::report_text;
 pub use request::Request;
 pub use text::Text;
