@@ -1,16 +1,17 @@
 -- What goes out for an input, from what goes out for what it spells.
-use Rattle.std.proofs.Common.{◌≡◌, ℕ, List, true, Option, Some, None, Result, Err, refl, subst}
+use Rattle.std.proofs.Common.{◌≡◌, ◌≢◌, ◌≤◌, ℕ, List, true, Option, Some, None, Result, Ok, Err, refl, sym, subst, ◌∙◌}
 use Rattle.std.specs.Prelude.{⊤}
 use Rattle.std.specs.Option.{IfSome}
 use Rattle.bor_records.specs.Promises.{Promised}
 use Rattle.bor_register.specs.declared.caller.Caller.{Caller}
-use Rattle.bor_register.specs.Register.{Register, IsOrdered}
+use Rattle.bor_register.specs.Register.{Register, IsOrdered, caller_of}
 use Rattle.bor_desk.specs.declared.request.Request.{Request}
 use Rattle.bor_desk.specs.declared.request.Request.TheVariants as ask
 use Rattle.bor_desk.specs.declared.reply.DeskReply.{DeskReply}
 use Rattle.bor_desk.specs.Step.{step}
 use Rattle.bor_desk.specs.Outcomes.{IsTold, IsOrderedFor}
 use Rattle.bor_desk.specs.Laws.{is_long}
+use Rattle.bor_desk.specs.Runs.{Asked, exchange}
 use Rattle.bor_desk.proofs.Unchanged.{reads}
 use Rattle.bor_http.specs.declared.incoming.fault.Refusal.{Refusal}
 use Rattle.bor_http.specs.Incoming.Message.{Message}
@@ -18,10 +19,12 @@ use Rattle.bor_http.specs.Incoming.Steps.{◌>>=◌}
 use Rattle.bor_http.specs.Incoming.Refusals.{IsMessage}
 use Rattle.bor_http.specs.Spelling.Spell.{Spelled, spell}
 use Rattle.bor_http.proofs.OnSpelling.Messages.{message_spelled, one_spelling}
-use Rattle.bor_wire.specs.Rendering.Replies.{refused}
+use Rattle.bor_wire.specs.Rendering.Replies.{refused, answered}
+use Rattle.bor_wire.specs.Rendering.Statuses.{desk_status}
 use Rattle.bor_wire.specs.declared.outgoing.Outgoing.{Outgoing}
 use Rattle.bor_wire.specs.declared.outgoing.Outgoing.TheVariants.{Full, Unavailable}
-use Rattle.bor_wire.specs.Exchanges.{ByOutgoing, GoesOut, IfRefusing, IsRefusal, IsSent, IsSpelled, OnRefusal}
+use Rattle.bor_wire.specs.Exchanges.{ByOutgoing, GoesOut, HasStatus, IfRefusing, IsFor, IsRefusal, IsRendered, IsSent, IsSpelled, OnRefusal, OnSpelled}
+use Rattle.bor_wire.proofs.RefusalLaws.{refused_leaves}
 
 -- what was read is spelled, where the input is known
 pub spelled_known : (known : Option (List ℕ)) (read : Result Message Refusal) → IfSome known (λ input. IsMessage input read) → IsSpelled known (read >>= spell)
@@ -45,6 +48,46 @@ pub long_leaves : (r : Register) (caller : Option Caller) (request : Request) (r
     → (step r caller request).register ≡ r
 long_leaves r caller (ask.Snapshot agent declaration date) reply told long = reads.by_request r caller (ask.Snapshot agent declaration date) refl
 long_leaves r caller request reply told long = reads.by_reply r caller request reply (told tt) long
+
+-- ---- what goes out of a reply
+
+pub rendered_goes : (o : Outgoing) (shown : Register → Type 0) (r : Register) (asked : Asked) (reply : DeskReply) → IsRendered o reply → IsTold (exchange r asked).answer reply
+    → shown (exchange r asked).register → GoesOut o shown r (Ok asked)
+rendered_goes (Full status bytes) shown r asked reply is told left = (answered reply, (reply, told, refl), is.1, is.0, left)
+rendered_goes Unavailable shown r asked reply is told left = subst shown (long_leaves r (caller_of asked.token r) asked.request reply (λ _. told) is) left
+
+pub rendered_keeps : (o : Outgoing) (shown : Register → Type 0) (r : Register) (asked : Asked) (reply : DeskReply) → IsRendered o reply
+    → (IsOrderedFor asked.request r → IsTold (exchange r asked).answer reply) → shown (exchange r asked).register → IfRefusing o (shown r)
+rendered_keeps (Full status bytes) shown r asked reply is told left = λ least.
+    subst shown (refused_leaves r (caller_of asked.token r) asked.request reply told (subst (λ n. 400 ≤ n) is.0 least)) left
+rendered_keeps Unavailable shown r asked reply is told left = subst shown (long_leaves r (caller_of asked.token r) asked.request reply told is) left
+
+pub rendered_status : (o : Outgoing) (reply : DeskReply) → IsRendered o reply → desk_status reply ≢ 503 → HasStatus o
+rendered_status (Full status bytes) reply is sure = λ e. sure (sym is.0 ∙ e)
+rendered_status Unavailable reply is sure = tt
+
+-- ---- whom it is for
+
+-- who is named beside a reply of the desk is so beside what goes out of it
+pub named_beside : (o : Outgoing) (named asks : Option (List ℕ)) → named ≡ asks → IsFor o named asks
+named_beside (Full status bytes) named asks same = same
+named_beside Unavailable None asks same = tt
+named_beside Unavailable (Some name) asks same = sym same
+
+-- nobody is named where no agent asks
+pub nobody_named : (o : Outgoing) → IsFor o None None
+nobody_named (Full status bytes) = refl
+nobody_named Unavailable = tt
+
+-- what holds of what was read holds of all that the input spells
+pub on_spelled : (known : Option (List ℕ)) (read : Result Message Refusal) (P : Spelled → Type 0) → IfSome known (λ input. IsMessage input read) → P (read >>= spell) → OnSpelled known P
+on_spelled None read P is h = tt
+on_spelled (Some input) read P is h = λ spelled spells. subst P (one_spelling input (read >>= spell) spelled (message_spelled input read is) spells) h
+
+-- and so does what holds of anything
+pub on_any : (known : Option (List ℕ)) (P : Spelled → Type 0) → ((spelled : Spelled) → P spelled) → OnSpelled known P
+on_any None P h = tt
+on_any (Some input) P h = λ spelled spells. h spelled
 
 -- ---- the refusal that an input spells
 

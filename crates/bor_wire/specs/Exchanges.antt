@@ -1,20 +1,22 @@
 -- What one exchange over a reader and a writer does.
-use Rattle.std.specs.Prelude.{◌≡◌, ◌≢◌, ◌≤◌, ℕ, List, [], ◌∷◌, take, Option, Some, None, Err, IfSome, ⊤}
+use Rattle.std.specs.Prelude.{◌≡◌, ◌≢◌, ◌≤◌, ℕ, List, [], ◌∷◌, take, Option, Some, None, Ok, Err, IfSome, true, ⊤}
 use Rattle.std.specs.Io.KnownBytes.{Appends, Keeps}
-use Rattle.bor_register.specs.Register.{Register}
+use Rattle.bor_register.specs.Register.{Register, caller_of}
 use Rattle.bor_desk.specs.Operations.Legality.{IsLegal}
 use Rattle.bor_desk.specs.declared.reply.DeskReply.{DeskReply}
-use Rattle.bor_desk.specs.Outcomes.{IsTold}
+use Rattle.bor_desk.specs.Laws.{is_long}
+use Rattle.bor_desk.specs.Outcomes.{IsTold, agent_of}
 use Rattle.bor_desk.specs.Runs.{Asked, exchange}
 use Rattle.bor_http.specs.Incoming.Counted.{after_fault}
 use Rattle.bor_http.specs.declared.incoming.fault.Refusal.{Refusal}
 use Rattle.bor_http.specs.Spelling.Spell.{Spelled, Spells}
-use Rattle.bor_wire.specs.Rendering.Replies.{Said, refused, status_of, bytes_of}
+use Rattle.bor_wire.specs.Rendering.Replies.{Said, refused, answered, status_of, bytes_of}
 use Rattle.bor_wire.specs.declared.rendering.reply.TheConstants.{UNAVAILABLE}
 use Rattle.bor_wire.specs.declared.outcome.Outcome.{Outcome}
 use Rattle.bor_wire.specs.declared.outcome.Outcome.TheVariants.{Replied, ReadFailed, WriteFailed}
 use Rattle.bor_wire.specs.declared.outgoing.Outgoing.{Outgoing}
 use Rattle.bor_wire.specs.declared.outgoing.Outgoing.TheVariants as outgoing
+use Rattle.bor_wire.specs.declared.outgoing.Response.{Response}
 use Rattle.bor_wire.specs.Inputs.{IsSaid, after}
 use Rattle.bor_wire.specs.Reports.{IsExact}
 use Rattle.bor_wire.specs.Histories.{IsAlone}
@@ -54,6 +56,11 @@ TellsAnswer reply r asked = IfSome reply (λ told. IsTold (exchange r asked).ans
 abbrev pub left_by : Option DeskReply → Register → Asked → Register
 left_by (Some reply) r asked = (exchange r asked).register
 left_by None r asked = r
+
+-- what goes out of the desk's reply has its status and its bytes; nothing may go out of one that only tells what was read
+abbrev pub IsRendered : Outgoing → DeskReply → Type 0
+IsRendered (outgoing.Full status bytes) reply = (status ≡ status_of (answered reply)) × (bytes.items ≡ bytes_of (answered reply))
+IsRendered outgoing.Unavailable reply = is_long reply ≡ true
 
 -- where there is no whole reply, or one with a status of 400 or more, P holds
 abbrev pub IfRefusing : Outgoing → Type 0 → Type 0
@@ -132,6 +139,31 @@ bytes_out outgoing.Unavailable = UNAVAILABLE.now
 -- what an exchange over these bytes does, whose reply this is
 abbrev pub IsResponse : (Register → Type 0) → Register → List ℕ → Outgoing → Type 0
 IsResponse shown r input out = IsExchanged (Replied (status_out out)) shown r (Some input) (Some []) (Some (bytes_out out))
+
+-- ---- whom it is for
+
+-- the agent that has the token which is spelled; none where the registrar or nobody has it, and where no request is spelled
+abbrev pub agent_spelled : Register → Spelled → Option (List ℕ)
+agent_spelled r (Ok asked) = agent_of (caller_of asked.token r)
+agent_spelled r (Err why) = None
+
+-- beside a whole reply the agent that asks is named, if one does; with 503 none has to be
+abbrev pub IsFor : Outgoing → Option (List ℕ) → Option (List ℕ) → Type 0
+IsFor (outgoing.Full status bytes) named asks = named ≡ asks
+IsFor outgoing.Unavailable named asks = IfSome named (λ name. asks ≡ Some name)
+
+-- The response to an input names the agent that has the token which the input spells, and none where there is no such agent, or no request; with 503 it may name none.
+abbrev pub NamesWhoAsks : Register → List ℕ → Response → Type 0
+NamesWhoAsks r input response = (spelled : Spelled) → Spells input spelled → IsFor response.outgoing response.agent (agent_spelled r spelled)
+
+-- the same of the desk's reply, where there is one (for clauses of private functions alone)
+abbrev pub IsToldFor : Option DeskReply → Option (List ℕ) → Option (List ℕ) → Type 0
+IsToldFor (Some reply) named asks = named ≡ asks
+IsToldFor None named asks = IfSome named (λ name. asks ≡ Some name)
+
+-- whatever the input spells, P holds of it
+abbrev pub OnSpelled : Option (List ℕ) → (Spelled → Type 0) → Type 0
+OnSpelled known P = IfSome known (λ input. (spelled : Spelled) → Spells input spelled → P spelled)
 
 -- ---- what holds of any register and of any keep
 

@@ -30,5 +30,5 @@ pub use crate::rendering::{UNAVAILABLE, render};
 pub use bor_http::incoming::{Counted, Name, Path, RawRequest, Refusal, WireFault, read_request};
 pub use bor_http::spelling::{Asking, parse};
 pub use outcome::{Outcome, exchange};
-pub use outgoing::{Outgoing, respond};
+pub use outgoing::{Outgoing, Response, respond};
 pub use replies::{Reply, replay};

@@ -75,7 +75,8 @@ pub fn exchange<K: Keep, R: Read, W: Write>(
     let Ok(paths) = Paths::new(alloc) else {
         return write_reply(writer, 503, UNAVAILABLE);
     };
-    match read_reply(alloc, &paths, keep, reader) {
+    let (_, outgoing) = read_reply(alloc, &paths, keep, reader);
+    match outgoing {
         Some(Outgoing::Full(status, bytes)) => write_reply(writer, status, &bytes),
         Some(Outgoing::Unavailable) => write_reply(writer, 503, UNAVAILABLE),
         None => Outcome::ReadFailed,

@@ -1,25 +1,27 @@
-//! What goes out for an input: it is read, asked of the desk, and made into bytes.
+//! What goes out for an input, and for whom: it is read, asked of the desk, and made into bytes.
 
-ghost use Rattle.std.specs.Prelude.{◌≡◌, ◌≢◌, Ok, Err, IfSome};
+ghost use Rattle.std.specs.Prelude.{◌≡◌, ◌≢◌, ◌≤◌, [], Ok, Err, IfSome, vec_capacity};
 ghost use Rattle.bor_records.specs.Promises.{Promised};
-ghost use Rattle.bor_register.specs.Register.{IsOrdered};
-ghost use Rattle.bor_desk.specs.Outcomes.{IsOrderedFor};
+ghost use Rattle.bor_register.specs.Register.{IsOrdered, caller_of};
+ghost use Rattle.bor_desk.specs.Outcomes.{IsOrderedFor, agent_of};
 ghost use Rattle.bor_http.specs.declared.incoming.fault.Refusal as fault;
 ghost use Rattle.bor_http.specs.Incoming.Message.{request_limit};
 ghost use Rattle.bor_http.specs.Incoming.Reading.{TakesAtMost};
 ghost use Rattle.bor_http.specs.Spelling.Spell.{asked_view, spell};
 ghost use Rattle.bor_http.specs.Spelling.Steps.{Finds};
+ghost use Rattle.bor_wire.specs.Rendering.Limits.{reserved};
 ghost use Rattle.bor_wire.specs.Rendering.Statuses.{desk_status};
-ghost use Rattle.bor_wire.specs.Exchanges.{ByOutgoing, GoesOut, GoesOutRefused, HasStatus, IfNoChange, IfRefusing, IsRefusal, IsResponse, IsSent, OnRefusal, TellsAnswer, faults_unread, left_by};
+ghost use Rattle.bor_wire.specs.Exchanges.{ByOutgoing, GoesOut, GoesOutRefused, HasStatus, IfNoChange, IfRefusing, IsFor, IsRefusal, IsRendered, IsResponse, IsSent, IsToldFor, NamesWhoAsks, OnRefusal, OnSpelled, TellsAnswer, agent_spelled, faults_unread, left_by};
 
 use crate::rendering::{
     RESERVED, UNAVAILABLE, desk_status, is_long, refusal_status, render, render_refusal,
     render_short,
 };
 use bor_desk::operations::Keep;
-use bor_desk::{DeskReply, answer};
+use bor_desk::{Answered, DeskReply, answer_naming};
 use bor_http::incoming::{Counted, RawRequest, Refusal, WireFault, read_request};
 use bor_http::spelling::{Asking, Paths, parse_by};
+use bor_terms::AgentName;
 use std::alloc::Global;
 use std::io::Read;
 
@@ -56,18 +58,34 @@ impl Outgoing {
     }
 }
 
+/// What goes out for an input, and for whom.
+#[derive(Drop)]
+pub struct Response {
+    /// The agent whose token the request has; `None` where the registrar or nobody has it, where the input
+    /// spells no request, or where the status is 503 and it isn't known.
+    pub agent: Option<AgentName>,
+    /// What goes out.
+    pub outgoing: Outgoing,
+}
+
 /// Answers the request in these bytes: an [`exchange`](crate::exchange) over them, whose reply stays in
-/// memory.
-pub fn respond<K: Keep>(alloc: Global, paths: &Paths, keep: &mut K, input: &[u8]) -> Outgoing
+/// memory. It names the agent that is answered.
+pub fn respond<K: Keep>(alloc: Global, paths: &Paths, keep: &mut K, input: &[u8]) -> Response
     ensures began { K.is_clean keep.new → K.is_clean keep.old }
     ensures exchanged { Promised K.shows K.is_clean keep.old keep.new (λ r.
-        IsOrdered r.members → IsResponse (K.shows keep.new) r input.now result) }
-    ensures refused_kept { Promised K.shows K.is_clean keep.old keep.new (λ r. IfRefusing result (K.shows keep.new r)) }
+        IsOrdered r.members → IsResponse (K.shows keep.new) r input.now result.outgoing) }
+    ensures refused_kept { Promised K.shows K.is_clean keep.old keep.new (λ r.
+        IfRefusing result.outgoing (K.shows keep.new r)) }
+    ensures agent { Promised K.shows K.is_clean keep.old keep.new (λ r. NamesWhoAsks r input.now result) }
 {
     let mut reader = Counted::new(input);
-    match read_reply(alloc, paths, keep, &mut reader) {
-        Some(outgoing) => outgoing,
-        None => Outgoing::Unavailable,
+    let (agent, outgoing) = read_reply(alloc, paths, keep, &mut reader);
+    match outgoing {
+        Some(outgoing) => Response { agent, outgoing },
+        None => Response {
+            agent: None,
+            outgoing: Outgoing::Unavailable,
+        },
     }
 }
 
@@ -83,45 +101,74 @@ fn refused(alloc: Global, refusal: Refusal) -> Outgoing
     Outgoing::Full(refusal_status(refusal).as_u16(), out)
 }
 
-// What the desk replies; nothing where the keep failed.
-fn asked<K: Keep>(alloc: Global, keep: &mut K, asking: &Asking) -> Option<DeskReply>
+// What the desk replies, and to which agent; no reply where the keep failed.
+fn asked<K: Keep>(
+    alloc: Global,
+    keep: &mut K,
+    asking: &Asking,
+) -> (Option<AgentName>, Option<DeskReply>)
     ensures began { K.is_clean keep.new → K.is_clean keep.old }
     ensures reply { Promised K.shows K.is_clean keep.old keep.new (λ r.
-        IsOrderedFor asking.now.request r → TellsAnswer result r (asked_view asking.now)) }
+        IsOrderedFor asking.now.request r → TellsAnswer result.1 r (asked_view asking.now)) }
     ensures left { Promised K.shows K.is_clean keep.old keep.new (λ r.
-        K.shows keep.new (left_by result r (asked_view asking.now))) }
-    ensures status { IfSome result (λ reply. desk_status reply ≢ 503) }
+        K.shows keep.new (left_by result.1 r (asked_view asking.now))) }
+    ensures agent { Promised K.shows K.is_clean keep.old keep.new (λ r.
+        IsToldFor result.1 result.0 (agent_of (caller_of asking.now.token r))) }
+    ensures status { IfSome result.1 (λ reply. desk_status reply ≢ 503) }
 {
-    match answer(alloc, keep, &asking.token, &asking.request) {
-        DeskReply::Failed(_) => None,
-        reply => Some(reply),
+    let Answered { agent, reply } = answer_naming(alloc, keep, &asking.token, &asking.request);
+    match reply {
+        DeskReply::Failed(_) => (agent, None),
+        reply => (agent, Some(reply)),
+    }
+}
+
+// What goes out of a reply, into room that was reserved for a short one.
+fn rendered(alloc: Global, mut out: Vec<u8>, reply: &DeskReply) -> Outgoing
+    requires room { reserved ≤ vec_capacity out }
+    requires empty { out.items ≡ [] }
+    ensures { IsRendered result reply.now }
+{
+    let status = desk_status(reply).as_u16();
+    if is_long(reply) {
+        match render(alloc, reply) {
+            Ok(bytes) => Outgoing::Full(status, bytes),
+            Err(_) => Outgoing::Unavailable,
+        }
+    } else {
+        render_short(&mut out, reply);
+        Outgoing::Full(status, out)
     }
 }
 
 /// The reply to a request. The room for a short one is reserved before the desk is asked, so that no
 /// change is made whose reply finds no memory.
-fn answered<K: Keep>(alloc: Global, keep: &mut K, asking: &Asking) -> Outgoing
+fn answered<K: Keep>(alloc: Global, keep: &mut K, asking: &Asking) -> Response
     ensures began { K.is_clean keep.new → K.is_clean keep.old }
-    ensures reply { Promised K.shows K.is_clean keep.old keep.new (λ r.
-        IsOrderedFor asking.now.request r → GoesOut result (K.shows keep.new) r (Ok (asked_view asking.now))) }
-    ensures kept { Promised K.shows K.is_clean keep.old keep.new (λ r. IfRefusing result (K.shows keep.new r)) }
-    ensures status { HasStatus result }
+    ensures reply { Promised K.shows K.is_clean keep.old keep.new (λ r. IsOrderedFor asking.now.request r
+        → GoesOut result.outgoing (K.shows keep.new) r (Ok (asked_view asking.now))) }
+    ensures kept { Promised K.shows K.is_clean keep.old keep.new (λ r.
+        IfRefusing result.outgoing (K.shows keep.new r)) }
+    ensures agent { Promised K.shows K.is_clean keep.old keep.new (λ r.
+        IsFor result.outgoing result.agent (agent_of (caller_of asking.now.token r))) }
+    ensures status { HasStatus result.outgoing }
 {
     let Ok(mut out) = Vec::with_capacity(alloc, RESERVED) else {
-        return Outgoing::Unavailable;
+        return Response {
+            agent: None,
+            outgoing: Outgoing::Unavailable,
+        };
     };
-    let Some(reply) = asked(alloc, keep, asking) else {
-        return Outgoing::Unavailable;
-    };
-    let status = desk_status(&reply).as_u16();
-    if is_long(&reply) {
-        match render(alloc, &reply) {
-            Ok(bytes) => Outgoing::Full(status, bytes),
-            Err(_) => Outgoing::Unavailable,
-        }
-    } else {
-        render_short(&mut out, &reply);
-        Outgoing::Full(status, out)
+    let (agent, reply) = asked(alloc, keep, asking);
+    match reply {
+        Some(reply) => Response {
+            agent,
+            outgoing: rendered(alloc, out, &reply),
+        },
+        None => Response {
+            agent,
+            outgoing: Outgoing::Unavailable,
+        },
     }
 }
 
@@ -133,43 +180,59 @@ fn spelled(alloc: Global, paths: &Paths, raw: RawRequest) -> Result<Asking, Wire
 }
 
 /// The reply to a request that was read.
-fn reply_for<K: Keep>(alloc: Global, paths: &Paths, keep: &mut K, raw: RawRequest) -> Outgoing
+fn reply_for<K: Keep>(alloc: Global, paths: &Paths, keep: &mut K, raw: RawRequest) -> Response
     ensures began { K.is_clean keep.new → K.is_clean keep.old }
     ensures reply { Promised K.shows K.is_clean keep.old keep.new (λ r.
-        IsOrdered r.members → GoesOut result (K.shows keep.new) r (spell raw)) }
-    ensures kept { Promised K.shows K.is_clean keep.old keep.new (λ r. IfRefusing result (K.shows keep.new r)) }
-    ensures refused { (why : fault.Refusal) → spell raw ≡ Err why → IsRefusal result why }
-    ensures status { HasStatus result }
+        IsOrdered r.members → GoesOut result.outgoing (K.shows keep.new) r (spell raw)) }
+    ensures kept { Promised K.shows K.is_clean keep.old keep.new (λ r.
+        IfRefusing result.outgoing (K.shows keep.new r)) }
+    ensures agent { Promised K.shows K.is_clean keep.old keep.new (λ r.
+        IsFor result.outgoing result.agent (agent_spelled r (spell raw))) }
+    ensures refused { (why : fault.Refusal) → spell raw ≡ Err why → IsRefusal result.outgoing why }
+    ensures status { HasStatus result.outgoing }
 {
     match spelled(alloc, paths, raw) {
         Ok(asking) => answered(alloc, keep, &asking),
-        Err(WireFault::Refused(refusal)) => refused(alloc, refusal),
-        Err(_) => Outgoing::Unavailable,
+        Err(WireFault::Refused(refusal)) => Response {
+            agent: None,
+            outgoing: refused(alloc, refusal),
+        },
+        Err(_) => Response {
+            agent: None,
+            outgoing: Outgoing::Unavailable,
+        },
     }
 }
 
-/// The reply to the request that a reader gives; nothing where the reader failed.
+/// The reply to the request that a reader gives, and the agent that it is for; no reply where the reader
+/// failed.
 pub(crate) fn read_reply<K: Keep, R: Read>(
     alloc: Global,
     paths: &Paths,
     keep: &mut K,
     reader: &mut Counted<R>,
-) -> Option<Outgoing>
+) -> (Option<AgentName>, Option<Outgoing>)
     ensures began { K.is_clean keep.new → K.is_clean keep.old }
-    ensures reply { ByOutgoing result (R.remaining reader.old.inner)
+    ensures reply { ByOutgoing result.1 (R.remaining reader.old.inner)
         (λ spelled status bytes. Promised K.shows K.is_clean keep.old keep.new (λ r.
         IsOrdered r.members → IsSent (K.shows keep.new) r spelled status bytes))
         (Promised K.shows K.is_clean keep.old keep.new (K.shows keep.new)) }
-    ensures kept { Promised K.shows K.is_clean keep.old keep.new (λ r. IfNoChange result (K.shows keep.new r)) }
-    ensures refused { OnRefusal (R.remaining reader.old.inner) (GoesOutRefused result) }
-    ensures status { IfSome result HasStatus }
+    ensures kept { Promised K.shows K.is_clean keep.old keep.new (λ r. IfNoChange result.1 (K.shows keep.new r)) }
+    ensures agent { OnSpelled (R.remaining reader.old.inner) (λ spelled.
+        Promised K.shows K.is_clean keep.old keep.new (λ r.
+        IfSome result.1 (λ out. IsFor out result.0 (agent_spelled r spelled)))) }
+    ensures refused { OnRefusal (R.remaining reader.old.inner) (GoesOutRefused result.1) }
+    ensures status { IfSome result.1 HasStatus }
     ensures taken { TakesAtMost request_limit (R.remaining reader.old.inner) (R.remaining reader.new.inner) }
-    ensures faults { reader.new.faults ≡ faults_unread result reader.old.faults }
+    ensures faults { reader.new.faults ≡ faults_unread result.1 reader.old.faults }
 {
     match read_request(alloc, reader) {
-        Ok(raw) => Some(reply_for(alloc, paths, keep, raw)),
-        Err(WireFault::Refused(refusal)) => Some(refused(alloc, refusal)),
-        Err(WireFault::Memory) => Some(Outgoing::Unavailable),
-        Err(WireFault::Read) => None,
+        Ok(raw) => {
+            let Response { agent, outgoing } = reply_for(alloc, paths, keep, raw);
+            (agent, Some(outgoing))
+        }
+        Err(WireFault::Refused(refusal)) => (None, Some(refused(alloc, refusal))),
+        Err(WireFault::Memory) => (None, Some(Outgoing::Unavailable)),
+        Err(WireFault::Read) => (None, None),
     }
 }

@@ -39,7 +39,8 @@ fn reply_to<K: Keep>(alloc: Global, paths: &Paths, keep: &mut K, input: &[u8]) -
     ensures turn { TakesTurn K.shows K.is_clean keep.old keep.new input.now result }
 {
     let mut reader = Counted::new(input);
-    match read_reply(alloc, paths, keep, &mut reader) {
+    let (_, outgoing) = read_reply(alloc, paths, keep, &mut reader);
+    match outgoing {
         Some(Outgoing::Full(_, bytes)) => Reply::Full(Listed::new(bytes)),
         Some(Outgoing::Unavailable) | None => Reply::Unavailable,
     }

@@ -4,25 +4,25 @@ use Rattle.bor_wire.proofs.outcome.exchange.Goals as goal
 pub returns-in-Some-Full-clause-exchanged : goal.returns-in-Some-Full-clause-exchanged
 returns-in-Some-Full-clause-exchanged g c = λ r is clean ordered.
     let full = c.in-Some-Full in
-    let said = rw full.field-0-is at full.ensures.reply in
-    let status = rw full.field-0-is at full.ensures.status in
+    let said = rw full.field-0-is at (rw full.is at c.read_reply-outgoing.ensures.reply) in
+    let status = rw full.field-0-is at (rw full.is at c.read_reply-outgoing.ensures.status) in
     let written = rw c.deref.ensures.value at c.write_reply-in-Some-Full.ensures.written in
-    exchanged c.write_reply-in-Some-Full.result (g.K.Keep.shows c.read_reply.new.keep) r (g.R.Read.remaining c.args.reader.now.inner) said.0 full.status full.bytes.items _ _ status
+    exchanged c.write_reply-in-Some-Full.result (g.K.Keep.shows c.read_reply-outgoing.new.keep) r (g.R.Read.remaining c.args.reader.now.inner) said.0 full.status full.bytes.items _ _ status
     said.1 (said.2 r is clean ordered) written
 
 pub returns-in-Some-Full-clause-unavailable : goal.returns-in-Some-Full-clause-unavailable
 returns-in-Some-Full-clause-unavailable g c =
     let full = c.in-Some-Full in
-    available_told c.write_reply-in-Some-Full.result full.status _ _ _ (rw full.field-0-is at full.ensures.status) c.write_reply-in-Some-Full.ensures.written
+    available_told c.write_reply-in-Some-Full.result full.status _ _ _ (rw full.field-0-is at (rw full.is at c.read_reply-outgoing.ensures.status)) c.write_reply-in-Some-Full.ensures.written
 
 pub returns-in-Some-Full-clause-refused : goal.returns-in-Some-Full-clause-refused
 returns-in-Some-Full-clause-refused g c =
     let full = c.in-Some-Full in
     let written = rw c.deref.ensures.value at c.write_reply-in-Some-Full.ensures.written in
-    refusals_told c.write_reply-in-Some-Full.result (g.R.Read.remaining c.args.reader.now.inner) full.status full.bytes.items _ _ (rw full.field-0-is at full.ensures.refused) written
+    refusals_told c.write_reply-in-Some-Full.result (g.R.Read.remaining c.args.reader.now.inner) full.status full.bytes.items _ _ (rw full.field-0-is at (rw full.is at c.read_reply-outgoing.ensures.refused)) written
 
 pub returns-in-Some-Full-clause-refused_kept : goal.returns-in-Some-Full-clause-refused_kept
 returns-in-Some-Full-clause-refused_kept g c = λ r is clean.
     let full = c.in-Some-Full in
-    let kept = rw full.field-0-is at full.ensures.kept in
-    refused_kept c.write_reply-in-Some-Full.result full.status _ _ _ (g.K.Keep.shows c.read_reply.new.keep r) (kept r is clean) c.write_reply-in-Some-Full.ensures.written
+    let kept = rw full.field-0-is at (rw full.is at c.read_reply-outgoing.ensures.kept) in
+    refused_kept c.write_reply-in-Some-Full.result full.status _ _ _ (g.K.Keep.shows c.read_reply-outgoing.new.keep r) (kept r is clean) c.write_reply-in-Some-Full.ensures.written

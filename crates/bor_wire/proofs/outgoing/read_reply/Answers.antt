@@ -1,18 +1,20 @@
-use Rattle.std.proofs.Common.{Ok, Err, refl}
+use Rattle.std.proofs.Common.{None, Ok, Err, refl}
+use Rattle.bor_records.specs.Promises.{Promised}
 use Rattle.bor_http.specs.Spelling.Spell.{spell}
-use Rattle.bor_wire.proofs.Outgoings.{by_outgoing, if_refusing, refusal_goes, spelled_known, refused_out, is_that, nothing_out}
+use Rattle.bor_wire.specs.Exchanges.{IsFor, agent_spelled}
+use Rattle.bor_wire.proofs.Outgoings.{by_outgoing, if_refusing, nobody_named, on_any, on_spelled, refusal_goes, spelled_known, refused_out, is_that, nothing_out}
 use Rattle.bor_wire.proofs.outgoing.read_reply.Goals as goal
 
 pub returns-in-Ok-clause-reply : goal.returns-in-Ok-clause-reply
 returns-in-Ok-clause-reply g c =
     let known = g.R.Read.remaining c.args.reader.now.inner in
     let keep = g.K.Keep in
-    by_outgoing keep.shows keep.is_clean c.args.keep.now c.reply_for.new.keep c.reply_for.result known (spell c.in-Ok.raw)
-    (spelled_known known (Ok c.in-Ok.raw) c.in-Ok.ensures.request) c.reply_for.ensures.reply c.reply_for.ensures.kept
+    by_outgoing keep.shows keep.is_clean c.args.keep.now c.reply_for-agent.new.keep c.reply_for-agent.result.outgoing known (spell c.in-Ok.raw)
+    (spelled_known known (Ok c.in-Ok.raw) c.in-Ok.ensures.request) c.reply_for-agent.ensures.reply c.reply_for-agent.ensures.kept
 
 pub returns-in-Ok-clause-refused : goal.returns-in-Ok-clause-refused
 returns-in-Ok-clause-refused g c =
-    refused_out (g.R.Read.remaining c.args.reader.now.inner) (Ok c.in-Ok.raw) c.reply_for.result c.in-Ok.ensures.request c.reply_for.ensures.refused
+    refused_out (g.R.Read.remaining c.args.reader.now.inner) (Ok c.in-Ok.raw) c.reply_for-agent.result.outgoing c.in-Ok.ensures.request c.reply_for-agent.ensures.refused
 
 pub returns-in-Err-Refused-clause-refused : goal.returns-in-Err-Refused-clause-refused
 returns-in-Err-Refused-clause-refused g c =
@@ -38,3 +40,23 @@ returns-in-Err-Refused-clause-reply g c =
 
 pub returns-in-Err-Refused-clause-kept : goal.returns-in-Err-Refused-clause-kept
 returns-in-Err-Refused-clause-kept g c = λ r is clean. if_refusing c.refused.result (g.K.Keep.shows c.args.keep.now r) is
+
+pub returns-in-Ok-clause-agent : goal.returns-in-Ok-clause-agent
+returns-in-Ok-clause-agent g c =
+    let keep = g.K.Keep in
+    on_spelled (g.R.Read.remaining c.args.reader.now.inner) (Ok c.in-Ok.raw)
+    (λ spelled. Promised keep.shows keep.is_clean c.args.keep.now c.reply_for-agent.new.keep (λ r. IsFor c.reply_for-agent.result.outgoing c.reply_for-agent.result.agent (agent_spelled r spelled)))
+    c.in-Ok.ensures.request c.reply_for-agent.ensures.agent
+
+pub returns-in-Err-Refused-clause-agent : goal.returns-in-Err-Refused-clause-agent
+returns-in-Err-Refused-clause-agent g c =
+    let keep = g.K.Keep in
+    on_spelled (g.R.Read.remaining c.args.reader.now.inner) (Err c.in-Err-Refused.refusal)
+    (λ spelled. Promised keep.shows keep.is_clean c.args.keep.now c.args.keep.now (λ r. IsFor c.refused.result None (agent_spelled r spelled)))
+    (rw c.in-Err-Refused.field-0-is at c.in-Err-Refused.ensures.request) (λ r is clean. nobody_named c.refused.result)
+
+pub returns-in-Err-Memory-clause-agent : goal.returns-in-Err-Memory-clause-agent
+returns-in-Err-Memory-clause-agent g c = on_any (g.R.Read.remaining c.args.reader.now.inner) _ (λ spelled r is clean. tt)
+
+pub returns-in-Err-Read-clause-agent : goal.returns-in-Err-Read-clause-agent
+returns-in-Err-Read-clause-agent g c = on_any (g.R.Read.remaining c.args.reader.now.inner) _ (λ spelled r is clean. tt)

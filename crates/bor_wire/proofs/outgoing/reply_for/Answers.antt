@@ -1,7 +1,7 @@
 use Rattle.std.proofs.Common.{◌≡◌, Ok}
 use Rattle.bor_desk.proofs.Steps.{ordered_for}
 use Rattle.bor_http.specs.Spelling.Spell.{asked_view, spell}
-use Rattle.bor_wire.proofs.Outgoings.{if_refusing, refusal_goes, is_that}
+use Rattle.bor_wire.proofs.Outgoings.{if_refusing, nobody_named, refusal_goes, is_that}
 use Rattle.bor_wire.proofs.outgoing.reply_for.Goals as goal
 
 pub returns-in-Ok-clause-refused : goal.returns-in-Ok-clause-refused
@@ -22,3 +22,9 @@ returns-in-Ok-clause-reply g c = λ r is clean ordered.
 
 pub returns-in-Err-Refused-clause-kept : goal.returns-in-Err-Refused-clause-kept
 returns-in-Err-Refused-clause-kept g c = λ r is clean. if_refusing c.refused.result (g.K.Keep.shows c.args.keep.now r) is
+
+pub returns-in-Ok-clause-agent : goal.returns-in-Ok-clause-agent
+returns-in-Ok-clause-agent g c = λ r is clean. rw c.in-Ok.ensures (c.answered.ensures.agent r is clean)
+
+pub returns-in-Err-Refused-clause-agent : goal.returns-in-Err-Refused-clause-agent
+returns-in-Err-Refused-clause-agent g c = λ r is clean. rw (rw c.in-Err-Refused.field-0-is at c.in-Err-Refused.ensures) (nobody_named c.refused.result)
