@@ -94,7 +94,7 @@ impl Watch<TcpListener> for Waiting<'_> {
             status: note.status,
             bytes: note.bytes,
             millis: u64::try_from(millis).unwrap_or(u64::MAX),
-            agent: None,
+            agent: note.agent.as_ref(),
         };
         write_entry(self.rt.alloc(), &entry, &mut self.rt.stderr());
     }

@@ -1,20 +1,24 @@
 -- What the log of a server tells of a request that was answered.
-use Rattle.std.specs.Prelude.{◌+◌, ◌/◌, ◌%◌, ◌++◌, ℕ, List, [], ◌∷◌, Option, Some, None, codes, decimal}
+use Rattle.std.specs.Prelude.{◌≡◌, ◌⊎◌, ◌+◌, ◌/◌, ◌%◌, ◌++◌, ℕ, List, [], ◌∷◌, length, Option, Some, None, codes, decimal}
 use Rattle.std.specs.Borrow.{Bor}
 use Rattle.std.specs.Option.{option_map_or}
 use Rattle.bor_terms.specs.Day.{day_text}
 use Rattle.bor_terms.specs.declared.agent_name.NameForm.{NameForm}
 use Rattle.bor_terms.specs.declared.text.Text.{Text}
+use Rattle.bor_register.specs.Register.{Register}
 use Rattle.bor_http.specs.declared.incoming.fault.Path.{Path}
 use Rattle.bor_http.specs.declared.incoming.fault.Path.TheVariants as paths
 use Rattle.bor_http.specs.declared.routes.route.Route.{Route}
 use Rattle.bor_http.specs.declared.routes.route.Route.TheVariants as asks
 use Rattle.bor_http.specs.Routes.Routes.{path_word, route_at}
 use Rattle.bor_http.specs.Spelling.Parts.{path_in}
+use Rattle.bor_wire.specs.declared.outgoing.Outgoing.{Outgoing}
+use Rattle.bor_wire.specs.Exchanges.{NamesWhoAsks, bytes_out, status_out}
 use Rattle.bor_program.specs.declared.log.Asked.{Asked}
 use Rattle.bor_program.specs.declared.log.Asked.TheVariants as asked
 use Rattle.bor_program.specs.declared.log.Entry.{Entry}
 use Rattle.bor_program.specs.declared.log.Moment.{Moment}
+use Rattle.bor_program.specs.declared.log.Note.{Note}
 use Rattle.bor_program.specs.Splitting.{before, behind}
 
 -- ---- what was asked for
@@ -67,6 +71,19 @@ abbrev pub asked_path_word : Asked → List ℕ
 asked_path_word (asked.Route route) = path_word (route_path route)
 asked_path_word (asked.Path path) = path_word path
 asked_path_word asked.Nothing = untold
+
+-- ---- what is noted
+
+-- A note of a request that had this reply: what it asks for, and the reply's status and bytes. The agent is the one that has the token which the request spells, in the register as it was, and none where no agent has it or no request is spelled; with 503 it may be none.
+pub record IsNoteOf (promised : (Register → Type 0) → Type 0) (request : List ℕ) (out : Outgoing) (note : Note) : Type 0 where
+  pub asked : note.asked ≡ asked_of request
+  pub status : note.status ≡ status_out out
+  pub bytes : note.bytes ≡ length (bytes_out out)
+  pub agent : promised (λ r. NamesWhoAsks r request (record { agent = note.agent; outgoing = out }))
+
+-- the notes are as they were, or with one more, of which P holds
+abbrev pub MayAdd : (Note → Type 0) → List Note → List Note → Type 0
+MayAdd P old new = (new ≡ old) ⊎ ((note : Note) × (new ≡ old ++ note ∷ []) × P note)
 
 -- ---- when
 

@@ -51,7 +51,7 @@ pub struct Moment {
 }
 
 /// What is noted of a request that was answered, until its line is written.
-#[derive(Clone, Copy, Debug, PartialEq, Eq)]
+#[derive(Debug, Drop)]
 pub struct Note {
     /// What was asked for.
     pub asked: Asked,
@@ -59,19 +59,24 @@ pub struct Note {
     pub status: u16,
     /// The bytes of the whole reply.
     pub bytes: u64,
+    /// The agent whose token the request had, if there is one.
+    pub agent: Option<AgentName>,
 }
 
 impl Note {
-    /// What is noted of the request in these bytes, which had this reply. No memory is taken.
-    pub fn of(paths: &Paths, request: &[u8], reply: &Outgoing) -> Note
+    /// What is noted of the request in these bytes, which had this reply and this agent's token. No memory is
+    /// taken.
+    pub fn of(paths: &Paths, request: &[u8], agent: Option<AgentName>, reply: &Outgoing) -> Note
         ensures asked { result.asked ≡ asked_of request.now }
         ensures status { result.status ≡ status_out reply.now }
         ensures bytes { result.bytes ≡ length (bytes_out reply.now) }
+        ensures agent { result.agent ≡ agent }
     {
         Note {
             asked: asked_by(paths, request),
             status: reply.status(),
             bytes: reply.bytes().len() as u64,
+            agent,
         }
     }
 }
@@ -89,7 +94,7 @@ pub struct Entry<'a> {
     pub bytes: u64,
     /// From when the server saw that something had come until the reply was made, in milliseconds.
     pub millis: u64,
-    /// The agent whose token the request had, if it is known.
+    /// The agent whose token the request had, if there is one.
     pub agent: Option<&'a AgentName>,
 }
 

@@ -3,11 +3,12 @@
 ghost use Rattle.bor_records.specs.Promises.{Promised};
 ghost use Rattle.bor_register.specs.Register.{IsOrdered};
 ghost use Rattle.bor_wire.specs.Exchanges.{IsResponse};
+ghost use Rattle.bor_program.specs.Logging.{IsNoteOf, MayAdd};
 
 use crate::log::Note;
 use bor_desk::operations::Keep;
 use bor_http::spelling::Paths;
-use bor_wire::{Outgoing, respond};
+use bor_wire::{Outgoing, Response, respond};
 use std::alloc::Global;
 use std::mem;
 
@@ -41,17 +42,19 @@ impl Service {
         ensures began { K.is_clean keep.new → K.is_clean keep.old }
         ensures exchanged { Promised K.shows K.is_clean keep.old keep.new (λ r.
             IsOrdered r.members → IsResponse (K.shows keep.new) r request.now result) }
+        ensures noted { MayAdd (IsNoteOf (Promised K.shows K.is_clean keep.old keep.new) request.now result)
+            self.old.notes.items self.new.notes.items }
     {
         if self.paths.is_none() {
             self.paths = Paths::new(self.alloc).ok();
         }
         match &self.paths {
             Some(paths) => {
-                let reply = respond(self.alloc, paths, keep, request);
+                let Response { agent, outgoing } = respond(self.alloc, paths, keep, request);
                 if self.is_noting {
-                    let _ = self.notes.push(Note::of(paths, request, &reply));
+                    let _ = self.notes.push(Note::of(paths, request, agent, &outgoing));
                 }
-                reply
+                outgoing
             }
             None => Outgoing::Unavailable,
         }

@@ -1,0 +1,29 @@
+use Rattle.std.proofs.Common.{◌≡◌, ◌∙◌, ap, inl, subst, sym}
+use Rattle.bor_records.specs.Promises.{Promised}
+use Rattle.bor_wire.specs.Exchanges.{NamesWhoAsks}
+use Rattle.bor_program.specs.Logging.{IsNoteOf, MayAdd}
+use Rattle.bor_program.proofs.Logged.{may_add}
+use Rattle.bor_program.proofs.connections.service.Service.respond.Goals as goal
+use Rattle.bor_program.proofs.connections.service.Service.respond.Goals.{then-is_none+in-Some-1, then-is_none+in-None-1, else-is_none, then-self, else-self}
+
+pub returns-after-self-clause-noted : goal.returns-after-self-clause-noted
+returns-after-self-clause-noted g c =
+    let out = c.respond-agent.result.outgoing in
+    let promised = Promised g.K.Keep.shows g.K.Keep.is_clean c.args.keep.now c.respond-agent.new.keep in
+    let P = IsNoteOf promised c.args.request.now out in
+    let before : c.if-is_none.self.notes.items ≡ c.args.self.now.notes.items = elim c.if-is_none.branch [
+      | then-is_none+in-Some-1 w ↦ ap (λ s. s.notes.items) w.self-is
+      | then-is_none+in-None-1 w ↦ ap (λ s. s.notes.items) w.self-is
+      | else-is_none w ↦ ap (λ s. s.notes.items) w.self-is
+    ] in
+    subst (λ notes. MayAdd P notes c.if-self.self.notes.items) before (elim c.if-self.branch [
+      | then-self w ↦
+          may_add P c.if-is_none.self.notes.items c.if-self.self.notes.items _ w.of.result (ap (λ s. s.notes.items) w.self-is ∙ w.push.ensures.items) (record {
+            asked = w.of.ensures.asked;
+            status = w.of.ensures.status;
+            bytes = w.of.ensures.bytes;
+            agent =
+                subst (λ agent. promised (λ r. NamesWhoAsks r c.args.request.now (record { agent = agent; outgoing = out }))) (sym w.of.ensures.agent) c.respond-agent.ensures.agent;
+          })
+      | else-self w ↦ inl (ap (λ s. s.notes.items) w.self-is)
+    ])
