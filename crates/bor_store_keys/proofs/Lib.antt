@@ -1,5 +1,4 @@
 pub mod Holding
-pub mod ByRecord
 pub mod SeriesSeen
 pub mod OpenAt
 pub mod Placing
@@ -7,6 +6,4 @@ pub mod Told
 pub mod Infos
 pub mod Answered
 pub mod Recording
-pub mod Linking
 pub mod Signing
-pub mod Following

@@ -30,7 +30,8 @@ use Rattle.bor_store_sql.proofs.OnRows.Apart.{all_apart}
 use Rattle.bor_store_sql.specs.Selected.{identified_by, in_record, placed_of}
 use Rattle.bor_store_sql.proofs.Alone.{IsAlone, each_alone, own_placed}
 use Rattle.bor_store_keys.specs.Recorded.{CoverRecords, record_at, record_of}
-use Rattle.bor_store_keys.specs.Signed.{CoverSign, record_standing, with_identifier, with_sign}
+use Rattle.bor_chains.specs.Alike.{CoverSign}
+use Rattle.bor_store_keys.specs.Signed.{record_standing, with_identifier, with_sign}
 use Rattle.bor_store_keys.specs.Viewed.{rows_seen}
 use Rattle.bor_store_keys.specs.declared.view.View.{View}
 use Rattle.bor_store_keys.proofs.Recording.{placed_there, recorded}
@@ -129,5 +130,5 @@ module _ (view : View) (r : Register) (stored : IsStored r) (k : Sign) (row : Ro
   ]
 
 pub sign_covered : (view : View) (r : Register) → IsStored r → (k : Sign) (nodes : List Node) → CoverRecords (with_sign k r) nodes → CoverSign (rows_seen view r) k nodes
-sign_covered view r stored k nodes cover row x at is has =
+sign_covered view r stored k nodes cover row x at is entity has =
     recorded r row (stand view r stored k row x at is) (with_sign k r) nodes cover (has_sign view r stored k row x at is has)

@@ -1,14 +1,9 @@
 -- Which records have had a sign.
-use Rattle.std.specs.Prelude.{◌≡◌, ℕ, List, Contains, filter, ◌&&◌, Option, Some, option_map, slice_get, if◌then◌else◌}
+use Rattle.std.specs.Prelude.{ℕ, List, filter, ◌&&◌, Option, option_map, slice_get, if◌then◌else◌}
 use Rattle.std.specs.List.{list_any}
 use Rattle.bor_terms.specs.Texts.{is_same}
-use Rattle.bor_records.specs.declared.row.Row.{Row}
 use Rattle.bor_records.specs.declared.links.node.Node.{Node}
-use Rattle.bor_records.specs.declared.links.node.OpenNode.{OpenNode}
 use Rattle.bor_records.specs.declared.links.sign.Sign.{Sign}
-use Rattle.bor_records.specs.Links.Rows.{node_in}
-use Rattle.bor_records.specs.Links.Series.{series_of}
-use Rattle.bor_records.specs.Links.Signs.{signs}
 use Rattle.bor_register.specs.declared.member.Member.{Member}
 use Rattle.bor_register.specs.Register.{Register}
 use Rattle.bor_store_sql.specs.declared.rows.places.At.{At}
@@ -28,7 +23,3 @@ with_identifier scheme id ps = filter (λ p. list_any (λ i. is_same i.scheme sc
 -- the live statements that have a sign: those of an agent's record, or those with an identifier
 abbrev pub with_sign : Sign → Register → List Placed
 with_sign k r = if k.of_record then in_record k.name (placed_of k.group r) else with_identifier k.group k.name (placed r.members)
-
--- among the nodes is the record of each row that has the sign
-abbrev pub CoverSign : List Row → Sign → List Node → Type 0
-CoverSign rows k nodes = (row : Row) (x : OpenNode) → Contains rows row → node_in row ≡ Some x → Contains (signs x) k → Contains nodes (series_of row)

@@ -8,10 +8,10 @@ ghost use Rattle.bor_records.specs.Links.ByKey.{node_at};
 ghost use Rattle.bor_records.specs.Links.Growth.{Grown};
 ghost use Rattle.bor_records.specs.Links.Shown.{is_like};
 ghost use Rattle.bor_records.specs.Links.Signs.{by_identifier, sign_cmp, signs};
-ghost use Rattle.bor_store_keys.specs.Candidates.{IsAlike, IsAlikeIn};
+ghost use Rattle.bor_chains.specs.Candidates.{IsAlike, IsAlikeIn};
 ghost use Rattle.bor_register.specs.Seen.{seen_at};
 ghost use Rattle.bor_store_reads.specs.Answering.{Answers, ReadsOnly};
-ghost use Rattle.bor_store_keys.specs.Alike.{Expands, Follows};
+ghost use Rattle.bor_chains.specs.Alike.{Expands, Follows};
 ghost use Rattle.bor_store_keys.specs.Viewed.{rows_seen, seen};
 
 use crate::listed::same_listed;

@@ -5,7 +5,7 @@ use Rattle.bor_records.specs.Links.Signs.{sign_cmp}
 use Rattle.bor_store_reads.proofs.Found.{still_shows}
 use Rattle.bor_store_keys.specs.Viewed.{rows_seen}
 use Rattle.bor_store_keys.proofs.Answered.{answered}
-use Rattle.bor_store_keys.proofs.Following.{follows_closed, follows_entity, follows_person}
+use Rattle.bor_chains.proofs.Aliasing.{follows_closed, follows_entity, follows_person}
 use Rattle.bor_store_keys.proofs.alike.add_aliases.Goals as goal
 
 pub returns-in_default-clause-answer : goal.returns-in_default-clause-answer

@@ -1,6 +1,6 @@
 use Rattle.std.proofs.Common.{arith, ◌∙◌}
 use Rattle.sqlite.specs.Held.{state}
-use Rattle.bor_store_keys.proofs.ByRecord.{alike_more}
+use Rattle.bor_chains.proofs.ByRecord.{alike_more}
 use Rattle.bor_store_reads.proofs.Found.{still_shows}
 use Rattle.bor_store_keys.specs.Viewed.{rows_seen}
 use Rattle.bor_store_keys.proofs.alike.add_alike.Goals as goal

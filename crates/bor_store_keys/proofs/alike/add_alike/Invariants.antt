@@ -1,7 +1,7 @@
 use Rattle.std.proofs.Common.{◌≡◌, false, take}
 use Rattle.sqlite.specs.Held.{state}
 use Rattle.bor_records.specs.Links.Growth.{Grown}
-use Rattle.bor_store_keys.specs.Candidates.{IsAlikeIn}
+use Rattle.bor_chains.specs.Candidates.{IsAlikeIn}
 use Rattle.bor_register.specs.Register.{Register}
 use Rattle.bor_store_sql.specs.Shown.{IsClean, ShowsIn}
 use Rattle.bor_store_keys.specs.Viewed.{rows_seen}

@@ -5,9 +5,9 @@ use Rattle.sqlite.specs.Held.{state}
 use Rattle.bods_read.specs.declared.details.Identifier.{Identifier}
 use Rattle.bor_records.specs.Links.Signs.{by_identifier, sign_cmp}
 use Rattle.bor_store_reads.proofs.Found.{still_shows}
-use Rattle.bor_store_keys.specs.Alike.{Expands}
+use Rattle.bor_chains.specs.Alike.{Expands}
 use Rattle.bor_store_keys.specs.Viewed.{rows_seen}
-use Rattle.bor_store_keys.proofs.Following.{expands_none, expands_identifier}
+use Rattle.bor_chains.proofs.Aliasing.{expands_none, expands_identifier}
 use Rattle.bor_store_keys.proofs.alike.add_identified.Goals as goal
 
 pub loop-identifier-init : goal.loop-identifier-init

@@ -4,7 +4,7 @@ use Rattle.sqlite.specs.Held.{state}
 use Rattle.bor_records.specs.Links.Signs.{by_identifier, sign_cmp}
 use Rattle.bor_register.specs.Register.{Register}
 use Rattle.bor_store_sql.specs.Shown.{IsClean, ShowsIn}
-use Rattle.bor_store_keys.specs.Alike.{Expands}
+use Rattle.bor_chains.specs.Alike.{Expands}
 use Rattle.bor_store_keys.specs.Viewed.{rows_seen}
 use Rattle.bor_store_keys.proofs.alike.add_identified.Given as goal
 

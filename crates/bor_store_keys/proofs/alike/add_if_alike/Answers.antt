@@ -1,5 +1,5 @@
 use Rattle.std.proofs.Common.{sym, ◌∙◌}
-use Rattle.bor_store_keys.proofs.ByRecord.{alike_there, alike_not, alike_added}
+use Rattle.bor_chains.proofs.ByRecord.{alike_there, alike_not, alike_added}
 use Rattle.bor_store_keys.specs.Viewed.{rows_seen}
 use Rattle.bor_store_keys.proofs.alike.add_if_alike.Goals as goal
 

@@ -4,10 +4,10 @@ use Rattle.sqlite.specs.Held.{state}
 use Rattle.bor_records.specs.declared.links.node.Node.{Node}
 use Rattle.bor_records.specs.Links.Growth.{Grown}
 use Rattle.bor_records.specs.Links.Signs.{sign_cmp}
-use Rattle.bor_store_keys.specs.Candidates.{IsAlikeIn}
+use Rattle.bor_chains.specs.Candidates.{IsAlikeIn}
 use Rattle.bor_store_reads.proofs.Found.{still_shows}
 use Rattle.bor_store_keys.specs.Viewed.{rows_seen}
-use Rattle.bor_store_keys.proofs.Following.{expands_seen, expands_sign}
+use Rattle.bor_chains.proofs.Aliasing.{expands_seen, expands_sign}
 use Rattle.bor_store_keys.proofs.Signing.{sign_covered}
 use Rattle.bor_store_keys.proofs.alike.add_signed.Goals as goal
 

@@ -4,10 +4,10 @@ use Rattle.sqlite.specs.Held.{state}
 use Rattle.bor_chains.proofs.Classes.{empty_has}
 use Rattle.bor_records.specs.Links.Signs.{sign_cmp}
 use Rattle.bor_records.proofs.OnLinks.Reached.{gathered_reached}
-use Rattle.bor_store_keys.proofs.ByRecord.{reached_told}
+use Rattle.bor_chains.proofs.ByRecord.{reached_told}
 use Rattle.bor_store_reads.proofs.Found.{still_shows}
 use Rattle.bor_store_keys.specs.Viewed.{rows_seen, seen}
-use Rattle.bor_store_keys.proofs.Following.{gathered_more, gathered_start}
+use Rattle.bor_chains.proofs.Aliasing.{gathered_more, gathered_start}
 use Rattle.bor_store_keys.proofs.alike.same_in.Goals as goal
 
 pub loop-next-init : goal.loop-next-init

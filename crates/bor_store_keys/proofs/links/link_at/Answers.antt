@@ -1,7 +1,7 @@
 use Rattle.std.proofs.Common.{option_and_then, sym, ap, ◌∙◌}
 use Rattle.sqlite.specs.Held.{state}
 use Rattle.bor_store_reads.proofs.Found.{still_shows}
-use Rattle.bor_store_keys.specs.Candidates.{link_into}
+use Rattle.bor_chains.specs.Candidates.{link_into}
 use Rattle.bor_store_keys.specs.Viewed.{rows_seen}
 use Rattle.bor_store_keys.proofs.Answered.{answered}
 use Rattle.bor_store_keys.proofs.links.link_at.Goals as goal

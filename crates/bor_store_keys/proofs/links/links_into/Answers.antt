@@ -1,8 +1,8 @@
 use Rattle.std.proofs.Common.{ap, sym, ◌∙◌}
 use Rattle.std.specs.List.{filter_map}
 use Rattle.sqlite.specs.Held.{state}
-use Rattle.bor_store_keys.specs.Candidates.{link_at}
-use Rattle.bor_store_keys.proofs.ByRecord.{links_told, no_links}
+use Rattle.bor_chains.specs.Candidates.{link_at}
+use Rattle.bor_chains.proofs.ByRecord.{links_told, no_links}
 use Rattle.bor_store_reads.proofs.Found.{still_shows}
 use Rattle.bor_store_keys.specs.Viewed.{rows_seen}
 use Rattle.bor_store_keys.proofs.Answered.{answered}

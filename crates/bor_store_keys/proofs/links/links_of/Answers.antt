@@ -1,10 +1,10 @@
 use Rattle.std.proofs.Common.{◌∙◌, arith}
 use Rattle.std.specs.List.{filter_map}
 use Rattle.sqlite.specs.Held.{state}
-use Rattle.bor_store_keys.specs.Candidates.{link_at}
+use Rattle.bor_chains.specs.Candidates.{link_at}
 use Rattle.bor_store_reads.proofs.Found.{still_shows}
 use Rattle.bor_store_keys.specs.Viewed.{rows_seen}
-use Rattle.bor_store_keys.proofs.Linking.{one_more}
+use Rattle.bor_chains.proofs.Linking.{one_more}
 use Rattle.bor_store_keys.proofs.links.links_of.Goals as goal
 
 pub loop-one-preserved : goal.loop-one-preserved

@@ -5,7 +5,7 @@ use Rattle.bor_records.specs.declared.links.node.Node.{Node}
 use Rattle.bor_store_sql.specs.declared.rows.typed.IdentifierRow.{IdentifierRow}
 use Rattle.bor_store_reads.proofs.Found.{still_shows}
 use Rattle.bor_store_keys.specs.Signed.{record_standing}
-use Rattle.bor_store_keys.proofs.Linking.{one_more}
+use Rattle.bor_chains.proofs.Linking.{one_more}
 use Rattle.bor_store_keys.proofs.records.records_standing.Goals as goal
 
 pub loop-row-preserved : goal.loop-row-preserved

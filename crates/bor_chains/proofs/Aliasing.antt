@@ -1,6 +1,7 @@
 -- Nodes that stand for one entity, sign by sign.
-use Rattle.std.proofs.Common.{◌≡◌, ◌⊎◌, ◌+◌, ◌<◌, ◌++◌, ℕ, ℤ, Bool, true, false, cond, Option, Some, None, option_and_then, List, [], ◌∷◌, Contains, map, take, length, get_or, refl, sym, ap, ◌∙◌, subst, inl, inr, arith, append-nil, append_assoc}
+use Rattle.std.proofs.Common.{◌≡◌, ◌⊎◌, ◌+◌, ◌<◌, ◌++◌, ◌&&◌, ◌||◌, not, ℕ, ℤ, Bool, true, false, cond, Option, Some, None, option_and_then, List, [], ◌∷◌, Contains, map, take, length, get_or, refl, sym, ap, ◌∙◌, subst, inl, inr, arith, append-nil, append_assoc}
 use Rattle.std.specs.Ordering.{is_eq}
+use Rattle.std.proofs.lemmas.Bool.{and_parts}
 use Rattle.std.proofs.lemmas.Option.{same_Some}
 use Rattle.std.proofs.lemmas.List.{take-append-le}
 use Rattle.std.proofs.lemmas.List.Elements.{Contains-get_or, Contains-append_left, Contains-append_right, Contains-append_cases}
@@ -18,7 +19,8 @@ use Rattle.bor_records.specs.Links.ByKey.{node_at}
 use Rattle.bor_records.specs.Links.Growth.{Grown}
 use Rattle.bor_records.specs.Links.Rows.{node_in, node_with, nodes_of, shown_of}
 use Rattle.bor_records.specs.Links.Series.{open_at, series_of}
-use Rattle.bor_records.specs.Links.Shown.{Shown, listed_at, is_entity, is_like, are_alike}
+use Rattle.bor_records.specs.Links.Nodes.{same_node}
+use Rattle.bor_records.specs.Links.Shown.{Shown, listed_at, is_entity, is_like, are_alike, same_record, share_identifier}
 use Rattle.bor_records.specs.Links.Signs.{by_identifier, by_record, sign_cmp, signs}
 use Rattle.bor_records.proofs.OnLinks.ByKey.{alias_by_key, listed_by_key, open_at_in, open_row_at, open_row_is}
 use Rattle.bor_records.proofs.OnLinks.Exact.{exact_sign}
@@ -29,9 +31,8 @@ use Rattle.bor_records.proofs.OnLinks.Sames.{same_more}
 use Rattle.bor_chains.specs.Classes.{HasSign}
 use Rattle.bor_chains.proofs.Classes.{common_alike, one_of}
 use Rattle.bor_chains.proofs.Signs.{identifiers_more}
-use Rattle.bor_store_keys.specs.Candidates.{IsAlikeIn}
-use Rattle.bor_store_keys.specs.Alike.{Expands, Follows}
-use Rattle.bor_store_keys.specs.Signed.{CoverSign}
+use Rattle.bor_chains.specs.Candidates.{IsAlikeIn}
+use Rattle.bor_chains.specs.Alike.{CoverSign, Expands, Follows}
 
 -- the node that a row makes is its record
 node_of : (row : Row) (x : OpenNode) → node_in row ≡ Some x → x.node ≡ series_of row
@@ -93,10 +94,15 @@ module _ (day : ℤ) (rows : List Row) (one : OpenNode) where
       kept true c h = refl
       kept false c h = h
 
+      entity_alike : (x : OpenNode) → are_alike one x ≡ true → is_entity x.info ≡ true
+      entity_alike x alike =
+          let both = and_parts (is_entity one.info && is_entity x.info) (same_record one.node x.node || share_identifier one.identifiers x.identifiers && not (same_node one.node x.node)) alike in
+          (and_parts (is_entity one.info) (is_entity x.info) both.0).1
+
       all : (k : Sign) → key ≡ k → (n : Node) (x : OpenNode) → node_at day n rows ≡ Some x → Contains (signs x) k → are_alike one x ≡ true → Contains new n
       all k same n x at has alike =
           let o = opened_node day rows n x at in
-          let there = cover o.0 x o.1 o.2 (subst (λ (z : Sign). Contains (signs x) z) (sym same) has) in
+          let there = cover o.0 x o.1 o.2 (entity_alike x alike) (subst (λ (z : Sign). Contains (signs x) z) (sym same) has) in
           g.every n (subst (λ (m : Node). Contains candidates m) o.3 there, ap (is_like one) at ∙ alike)
 
       from : (k : Sign) (b : Bool) → is_eq (sign_cmp key k) ≡ b → cond b true (was k) ≡ true

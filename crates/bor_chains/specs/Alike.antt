@@ -1,14 +1,20 @@
 -- Nodes that stand for one entity, while they are looked for sign by sign; for clauses of private functions alone.
-use Rattle.std.specs.Prelude.{◌≡◌, ◌⊎◌, ◌++◌, ℤ, true, Bool, List, Contains, Some}
+use Rattle.std.specs.Prelude.{◌≡◌, ◌⊎◌, ◌++◌, ℤ, true, Bool, List, Contains, IsTrue, Some}
 use Rattle.bor_records.specs.declared.row.Row.{Row}
 use Rattle.bor_records.specs.declared.links.node.Node.{Node}
 use Rattle.bor_records.specs.declared.links.node.OpenNode.{OpenNode}
 use Rattle.bor_records.specs.declared.links.sign.Sign.{Sign}
 use Rattle.bor_records.specs.Links.Aliases.{Alias}
 use Rattle.bor_records.specs.Links.ByKey.{node_at}
-use Rattle.bor_records.specs.Links.Shown.{Shown, are_alike, is_like, listed_at}
+use Rattle.bor_records.specs.Links.Rows.{node_in}
+use Rattle.bor_records.specs.Links.Series.{series_of}
+use Rattle.bor_records.specs.Links.Shown.{Shown, are_alike, is_entity, is_like, listed_at}
 use Rattle.bor_records.specs.Links.Signs.{signs}
 use Rattle.bor_chains.specs.Classes.{HasSign}
+
+-- among the nodes is the record of each row of an entity that has the sign
+abbrev pub CoverSign : List Row → Sign → List Node → Type 0
+CoverSign rows k nodes = (row : Row) (x : OpenNode) → Contains rows row → node_in row ≡ Some x → IsTrue (is_entity x.info) → Contains (signs x) k → Contains nodes (series_of row)
 
 -- Nodes are added that are alike by their latest statements. These signs have been looked up, and of each that hadn't been before, all that have it and are alike are there.
 pub record Expands (day : ℤ) (rows : List Row) (one : OpenNode) (ks : List Sign) (old new : List Node) (was now : Sign → Bool) : Type 0 where

@@ -27,7 +27,7 @@ use Rattle.bor_records.proofs.OnLinks.Found.{none, Contains-filter_map, Contains
 use Rattle.bor_records.proofs.OnLinks.Growth.{grown_none, grown_like, grown_more, Contains-take_more, Contains-take_front, Contains-take_last}
 use Rattle.bor_records.proofs.OnLinks.Reached.{AreReached, reached_end}
 use Rattle.bor_records.proofs.OnLinks.SameNode.{same_node_is}
-use Rattle.bor_store_keys.specs.Candidates.{names, is_into, link_into, link_at, IsAlike, IsAlikeIn}
+use Rattle.bor_chains.specs.Candidates.{names, is_into, link_into, link_at, IsAlike, IsAlikeIn}
 
 -- ---- links
 
