@@ -10,3 +10,4 @@ pub mod SeenRows
 pub mod Withdrawals
 pub mod Examples
 pub mod OneAgent
+pub mod OnKeeping

@@ -1,5 +1,8 @@
 -- Laws of the members of a register.
-use Rattle.std.proofs.Common.{◌≡◌, ℕ, List, [], ◌∷◌, refl, arith, false}
+use Rattle.std.proofs.Common.{◌≡◌, ℕ, suc, List, [], ◌∷◌, length, refl, ap, arith, false, true}
+use Rattle.std.specs.Prelude.{if◌then◌else◌}
+use Rattle.bor_terms.specs.Texts.{is_same}
+use Rattle.bor_terms.proofs.Texts.{same_is}
 use Rattle.bor_register.specs.declared.member.Member.{Member}
 use Rattle.bor_register.specs.declared.filing.AcceptedFiling.{AcceptedFiling}
 use Rattle.bor_register.specs.Register.{is_enrolled, filings_of, with_filings}
@@ -13,3 +16,22 @@ with_filings_same name (m ∷ ms) = grind (arith, with_filings_same name ms)
 pub with_filings_absent : (name : List ℕ) (fs : List AcceptedFiling) (ms : List Member) → is_enrolled name ms ≡ false → with_filings name fs ms ≡ ms
 with_filings_absent name fs [] h = refl
 with_filings_absent name fs (m ∷ ms) h = grind (arith, with_filings_absent name fs ms)
+
+-- ---- the filings of one agent, once some agent's are written
+
+pub filings_absent : (name : List ℕ) (ms : List Member) → is_enrolled name ms ≡ false → filings_of name ms ≡ []
+filings_absent name [] h = refl
+filings_absent name (m ∷ ms) h = grind (arith, filings_absent name ms)
+
+pub filings_written : (name : List ℕ) (fs : List AcceptedFiling) (ms : List Member) → is_enrolled name ms ≡ true → filings_of name (with_filings name fs ms) ≡ fs
+filings_written name fs [] h = absurd cc
+filings_written name fs (m ∷ ms) h = grind (arith, filings_written name fs ms)
+
+pub other_filings : (name other : List ℕ) (fs : List AcceptedFiling) (ms : List Member) → is_same name other ≡ false → filings_of other (with_filings name fs ms) ≡ filings_of other ms
+other_filings name other fs [] h = refl
+other_filings name other fs (m ∷ ms) h = grind (arith, other_filings name other fs ms h, same_is m.name name)
+
+pub long-with_filings : (name : List ℕ) (fs : List AcceptedFiling) (ms : List Member) → length (with_filings name fs ms) ≡ length ms
+long-with_filings name fs [] = refl
+long-with_filings name fs (m ∷ ms) =
+    elim (is_same m.name name) as (λ b. length (if b then record m { filings = fs } ∷ ms else m ∷ with_filings name fs ms) ≡ length (m ∷ ms)) [ true ↦ refl | false ↦ ap suc (long-with_filings name fs ms) ]

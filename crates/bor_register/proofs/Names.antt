@@ -1,10 +1,11 @@
 -- The members in the order of their names.
 use Rattle.std.proofs.Common.{◌≡◌, ℕ, List, [], ◌∷◌, Bool, true, false, refl, arith}
 use Rattle.std.specs.Prelude.{if◌then◌else◌}
-use Rattle.bor_terms.specs.Texts.{is_below}
+use Rattle.bor_terms.specs.Texts.{is_below, is_same}
 use Rattle.bor_terms.proofs.Texts.{below_trans, above}
 use Rattle.bor_register.specs.declared.member.Member.{Member}
-use Rattle.bor_register.specs.Register.{is_enrolled, with_member, AllAbove, IsOrdered}
+use Rattle.bor_register.specs.declared.filing.AcceptedFiling.{AcceptedFiling}
+use Rattle.bor_register.specs.Register.{is_enrolled, with_filings, with_member, AllAbove, IsOrdered}
 
 above-with_member : (low : List ℕ) (new : Member) (ms : List Member) → is_below low new.name ≡ true → AllAbove low ms → AllAbove low (with_member new ms)
 above-with_member low new [] lt h = (lt, tt)
@@ -26,3 +27,18 @@ ordered-with-by new m ms false is fresh h rest =
 pub ordered-with_member : (new : Member) (ms : List Member) → is_enrolled new.name ms ≡ false → IsOrdered ms → IsOrdered (with_member new ms)
 ordered-with_member new [] fresh h = (tt, tt)
 ordered-with_member new (m ∷ ms) fresh h = ordered-with-by new m ms (is_below m.name new.name) refl fresh h (ordered-with_member new ms)
+
+-- ---- an agent's filings are written
+
+above-with_filings : (low name : List ℕ) (fs : List AcceptedFiling) (ms : List Member) → AllAbove low ms → AllAbove low (with_filings name fs ms)
+above-with_filings low name fs [] h = tt
+above-with_filings low name fs (m ∷ ms) h =
+    elim (is_same m.name name) as (λ b. AllAbove low (if b then record m { filings = fs } ∷ ms else m ∷ with_filings name fs ms)) [ true ↦ h | false ↦ (h.0, above-with_filings low name fs ms h.1) ]
+
+pub ordered-with_filings : (name : List ℕ) (fs : List AcceptedFiling) (ms : List Member) → IsOrdered ms → IsOrdered (with_filings name fs ms)
+ordered-with_filings name fs [] h = tt
+ordered-with_filings name fs (m ∷ ms) h =
+    elim (is_same m.name name) as (λ b. IsOrdered (if b then record m { filings = fs } ∷ ms else m ∷ with_filings name fs ms)) [
+      | true ↦ h
+      | false ↦ (above-with_filings m.name name fs ms h.0, ordered-with_filings name fs ms h.1)
+    ]

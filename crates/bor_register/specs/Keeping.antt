@@ -1,1 +1,4 @@
 pub mod Holding
+pub mod Sited
+pub mod Indexed
+pub mod Sighted

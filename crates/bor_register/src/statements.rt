@@ -11,7 +11,8 @@ use bor_records::Last;
 use bor_terms::{Day, Ident, Listed};
 use std::alloc::{AllocError, Global};
 
-fn known(statement: &Statement, due: Day) -> Last
+/// What is known of a statement that is due on a day.
+pub(crate) fn known(statement: &Statement, due: Day) -> Last
     ensures { result ≡ known_of (as_live due statement.now) }
 {
     Last {

@@ -1,13 +1,23 @@
 //! The register in memory.
 
-ghost use Rattle.std.specs.Prelude.{◌≡◌, ◌+◌, ◌%◌, ◌^◌, IfOk};
+ghost use Rattle.std.specs.Prelude.{◌≡◌, ◌+◌, ◌++◌, ◌∷◌, [], ◌%◌, ◌^◌, true, IfOk, IfSome};
+ghost use Rattle.bor_records.specs.Admission.{last_of};
+ghost use Rattle.bor_records.specs.Settling.{has_id};
 ghost use Rattle.bor_records.specs.Links.Answers.{AreLinksInto, AreSame};
 ghost use Rattle.bor_records.specs.Links.Shown.{info_of};
-ghost use Rattle.bor_register.specs.Register.{empty_register};
+ghost use Rattle.bor_register.specs.declared.filing.AcceptedFiling.{AcceptedFiling};
+ghost use Rattle.bor_register.specs.Keeping.Indexed.{IsIndex};
+ghost use Rattle.bor_register.specs.Keeping.Sighted.{IsIndexed, in_sight};
+ghost use Rattle.bor_register.specs.Live.{live_of};
+ghost use Rattle.bor_register.specs.Register.{empty_register, filings_of, is_enrolled, with_filings};
 ghost use Rattle.bor_register.specs.Seen.{seen_at};
 
+use crate::keeping::index::{Index, StatementKey};
 use crate::keeping::keep::Keep;
 use crate::keeping::last_asked::LastAsked;
+use crate::keeping::sames::same_told;
+use crate::keeping::sight::{Sight, links_told, node_told};
+use crate::keeping::standing::{any_stands, last_known};
 use crate::{
     Caller, Filing, FilingLine, Member, Outward, StoreFault, all_lines, all_published, all_visible,
     any_live_has_id, caller_with, enrol_member, filing_under, is_enrolled, is_filed, is_succeeded,
@@ -24,15 +34,18 @@ use std::marker::Model;
 /// A register in memory: the plain implementation of `Keep`. It has no store that could fail, so
 /// its one fault is want of memory.
 ///
-/// What a viewer sees is listed as nodes and links where a chain first asks for one of them, and
-/// the lists are kept until another viewer or day is asked for, or the register changes. So a
-/// report makes them once.
+/// Maps beside the filings (`Index`) follow each change, so what is asked of a record is read by its
+/// key, and a report takes what it meets. Where memory is wanting while a filing is added, they are let
+/// go: from then on statements are looked for one by one, and what a viewer sees is listed as nodes and
+/// links where a chain first asks for one of them. These lists are kept until another viewer or day is
+/// asked for, or the register changes.
 #[derive(Drop)]
 pub struct ListKeep {
     alloc: Global,
     day: Day,
     registrar: Token,
     members: Vec<Member>,
+    index: Option<Index>,
     last_asked: Option<LastAsked>,
     faults: u64,
 }
@@ -40,6 +53,8 @@ pub struct ListKeep {
 impl Model for ListKeep {
     ghost use Rattle.std.specs.Prelude.{◌≡◌, IfSome};
     ghost use Rattle.bor_register.specs.Keeping.Holding.{Holding};
+    ghost use Rattle.bor_register.specs.Keeping.Indexed.{IsIndex};
+    ghost use Rattle.bor_register.specs.Register.{IsOrdered};
     ghost use Rattle.bor_register.specs.Seen.{seen_at};
 
     ghost Value = { Holding };
@@ -49,9 +64,11 @@ impl Model for ListKeep {
       faults = k.faults;
     } };
 
-    // What was last asked is of the register as it is.
-    ghost invariant = { λ k. IfSome k.last_asked (λ o.
-        o.source.shown ≡ seen_at o.viewer o.day (record { day = k.day; registrar = k.registrar; members = k.members.items })) };
+    // Members stand in the order of their names, and the maps and what was last asked are of the
+    // register as it is.
+    ghost invariant = { λ k. IsOrdered k.members.items
+        × IfSome k.index (λ x. IsIndex k.members.items x)
+        × IfSome k.last_asked (λ o. o.source.shown ≡ seen_at o.viewer o.day (record { day = k.day; registrar = k.registrar; members = k.members.items })) };
 }
 
 impl ListKeep {
@@ -66,6 +83,7 @@ impl ListKeep {
             day,
             registrar,
             members: Vec::new(alloc),
+            index: Some(Index::new(alloc)),
             last_asked: None,
             faults: 0,
         }
@@ -99,7 +117,7 @@ impl ListKeep {
         }
     }
 
-    fn node_seen(
+    fn node_listed(
         &mut self,
         viewer: &AgentName,
         day: Day,
@@ -114,7 +132,7 @@ impl ListKeep {
         told
     }
 
-    fn same_seen(
+    fn same_listed(
         &mut self,
         viewer: &AgentName,
         day: Day,
@@ -129,7 +147,7 @@ impl ListKeep {
         told
     }
 
-    fn links_seen(
+    fn links_listed(
         &mut self,
         viewer: &AgentName,
         day: Day,
@@ -144,6 +162,109 @@ impl ListKeep {
         told
     }
 
+    // What the viewer sees on a day, where the maps are there.
+    fn sight<'a>(&'a self, viewer: &'a AgentName, day: Day) -> Option<Sight<'a>>
+        ensures { IfSome result (λ sight. IsIndexed sight × (in_sight sight ≡ seen_at viewer.now day self.now.register)) }
+    {
+        match &self.index {
+            Some(index) => Some(Sight {
+                alloc: self.alloc,
+                index,
+                members: &self.members,
+                viewer,
+                today: self.day,
+                day,
+            }),
+            None => None,
+        }
+    }
+
+    fn node_seen(
+        &mut self,
+        viewer: &AgentName,
+        day: Day,
+        node: &Node,
+    ) -> Result<Option<NodeInfo>, AllocError>
+        ensures kept { self.new ≡ self.old }
+        ensures told { IfOk result (λ info. info ≡ info_of (seen_at viewer.now day self.old.register) node.now) }
+    {
+        if let Some(sight) = self.sight(viewer, day) {
+            return node_told(&sight, node);
+        }
+        self.node_listed(viewer, day, node)
+    }
+
+    fn same_seen(
+        &mut self,
+        viewer: &AgentName,
+        day: Day,
+        node: &Node,
+    ) -> Result<Vec<Node>, AllocError>
+        ensures kept { self.new ≡ self.old }
+        ensures told { IfOk result (λ nodes. AreSame (seen_at viewer.now day self.old.register) node.now nodes.items) }
+    {
+        if let Some(sight) = self.sight(viewer, day) {
+            return same_told(&sight, node);
+        }
+        self.same_listed(viewer, day, node)
+    }
+
+    fn links_seen(
+        &mut self,
+        viewer: &AgentName,
+        day: Day,
+        node: &Node,
+    ) -> Result<Vec<Link>, AllocError>
+        ensures kept { self.new ≡ self.old }
+        ensures told { IfOk result (λ links. AreLinksInto (seen_at viewer.now day self.old.register) node.now links.items) }
+    {
+        if let Some(sight) = self.sight(viewer, day) {
+            return links_told(&sight, node);
+        }
+        self.links_listed(viewer, day, node)
+    }
+
+    fn last_of(&self, agent: &AgentName, declaration: &Ident, rec: &Ident) -> Option<Last>
+        ensures { result ≡ last_of declaration.now rec.now (live_of (filings_of agent.now self.now.register.members)) }
+    {
+        let filings = own_filings(&self.members, agent);
+        if let Some(index) = &self.index {
+            if let Ok(node) = node_named(self.alloc, agent, declaration, rec) {
+                return last_known(filings, index.places_of(&node), &node);
+            }
+        }
+        last_live(filings, declaration, rec)
+    }
+
+    fn has_id(&self, agent: &AgentName, id: &Ident) -> bool
+        ensures { result ≡ has_id id.now (live_of (filings_of agent.now self.now.register.members)) }
+    {
+        let filings = own_filings(&self.members, agent);
+        if let Some(index) = &self.index {
+            if let Ok(key) = key_named(self.alloc, agent, id) {
+                return any_stands(filings, index.places_named(&key), &key);
+            }
+        }
+        any_live_has_id(filings, id)
+    }
+
+    // The maps with a filing that is to be added to an agent's, where there is memory for it. They are
+    // taken out.
+    fn take_index(&mut self, agent: &AgentName, statements: &[Statement]) -> Option<Index>
+        ensures kept { self.new ≡ self.old }
+        ensures grown { IfSome result (λ index. (f : AcceptedFiling) → f.statements ≡ statements.now
+            → is_enrolled agent.now self.old.register.members ≡ true
+            → IsIndex (with_filings agent.now (filings_of agent.now self.old.register.members ++ f ∷ []) self.old.register.members) index) }
+    {
+        let filing = own_filings(&self.members, agent).len();
+        match self.index.take() {
+            Some(index) => index
+                .with_filing(self.alloc, agent, filing, statements)
+                .ok(),
+            None => None,
+        }
+    }
+
     fn want_of_memory(&mut self) -> StoreFault
         ensures fault { result ≡ StoreFault.Memory }
         ensures counted { self.new ≡ record self.old { faults = (self.old.faults + 1) % 2 ^ 64 } }
@@ -151,6 +272,32 @@ impl ListKeep {
         self.faults = self.faults.wrapping_add(1);
         StoreFault::Memory
     }
+}
+
+// A record of an agent's declaration.
+fn node_named(
+    alloc: Global,
+    agent: &AgentName,
+    declaration: &Ident,
+    rec: &Ident,
+) -> Result<Node, AllocError>
+    ensures { IfOk result (λ node. node ≡ record { agent = agent.now; declaration = declaration.now; rec = rec.now }) }
+{
+    Ok(Node {
+        agent: agent.copy(alloc)?,
+        declaration: declaration.copy(alloc)?,
+        rec: rec.copy(alloc)?,
+    })
+}
+
+// An agent's statement, by its identifier.
+fn key_named(alloc: Global, agent: &AgentName, id: &Ident) -> Result<StatementKey, AllocError>
+    ensures { IfOk result (λ key. key ≡ record { id = id.now; agent = agent.now }) }
+{
+    Ok(StatementKey {
+        id: id.copy(alloc)?,
+        agent: agent.copy(alloc)?,
+    })
 }
 
 impl Keep for ListKeep {
@@ -232,11 +379,11 @@ impl Keep for ListKeep {
         declaration: &Ident,
         rec: &Ident,
     ) -> Result<Option<Last>, StoreFault> {
-        Ok(last_live(own_filings(&self.members, agent), declaration, rec))
+        Ok(self.last_of(agent, declaration, rec))
     }
 
     fn has_statement(&mut self, agent: &AgentName, id: &Ident) -> Result<bool, StoreFault> {
-        Ok(any_live_has_id(own_filings(&self.members, agent), id))
+        Ok(self.has_id(agent, id))
     }
 
     fn has_successor(&mut self, agent: &AgentName, number: u32) -> Result<bool, StoreFault> {
@@ -302,6 +449,7 @@ impl Keep for ListKeep {
         bytes: &[u8],
         statements: &[Statement],
     ) -> Result<u32, StoreFault> {
+        let index = self.take_index(agent, statements);
         self.last_asked = None;
         match push_filing(
             self.alloc,
@@ -312,7 +460,10 @@ impl Keep for ListKeep {
             bytes,
             statements,
         ) {
-            Ok(number) => Ok(number),
+            Ok(number) => {
+                self.index = index;
+                Ok(number)
+            }
             Err(_) => Err(self.want_of_memory()),
         }
     }

@@ -23,9 +23,13 @@
 //! A keep does what it is asked and tests nothing of it: `bor_desk::operations`, which hands all of this
 //! on, says which lodging, which withdrawal and which day may be.
 
+mod index;
 mod keep;
 mod last_asked;
 mod list_keep;
+mod sames;
+mod sight;
+mod standing;
 
 pub use keep::Keep;
 pub use list_keep::ListKeep;

@@ -1,8 +1,8 @@
-use Rattle.std.proofs.Common.{ap, sym, ◌∙◌}
-use Rattle.bor_register.specs.Keeping.Holding.{Holding}
-use Rattle.bor_register.specs.Seen.{seen_at}
+use Rattle.std.proofs.Common.{subst}
+use Rattle.bor_records.specs.Links.Answers.{AreLinksInto}
+use Rattle.bor_records.specs.Links.Shown.{Shown}
+use Rattle.bor_register.proofs.OnKeeping.Told.{told_then}
 use Rattle.bor_register.proofs.keeping.list_keep.ListKeep.links_seen.Goals as goal
 
-pub put_source-requires : goal.put_source-requires
-put_source-requires c =
-    (c.links_into-told.ensures.reads.kept.same tt _).0 c.in_ok-source.ensures.seen ∙ ap (λ (h : Holding). seen_at c.args.viewer.now c.args.day h.register) (sym c.in_ok-source.ensures.kept)
+pub returns-in-Some-clause-told : goal.returns-in-Some-clause-told
+returns-in-Some-clause-told c = told_then c.links_told.result _ _ (λ links h. subst (λ (s : Shown). AreLinksInto s c.args.node.now links.items) c.in-Some.ensures.1 h) c.links_told.ensures

@@ -1,7 +1,7 @@
 use Rattle.std.proofs.Common.{ap, sym, ◌∙◌}
 use Rattle.bor_register.specs.Keeping.Holding.{Holding}
 use Rattle.bor_register.specs.Seen.{seen_at}
-use Rattle.bor_register.proofs.keeping.list_keep.ListKeep.same_seen.Goals as goal
+use Rattle.bor_register.proofs.keeping.list_keep.ListKeep.same_listed.Goals as goal
 
 pub put_source-requires : goal.put_source-requires
 put_source-requires c =
