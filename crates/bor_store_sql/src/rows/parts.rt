@@ -1,9 +1,10 @@
 //! What the table `statement` has of a statement's details.
 
-ghost use Rattle.std.specs.Prelude.{◌≡◌, ℕ, List, Option, IfSome};
+ghost use Rattle.std.specs.Prelude.{◌≡◌, ℕ, List, Option, IfOk, IfSome};
 ghost use Rattle.sqlite.specs.declared.types.Value.TheVariants.{Text};
 ghost use Rattle.sqlite_value.specs.Order.{column};
 ghost use Rattle.bods_read.specs.Words.{entity_word, person_word, type_word};
+ghost use Rattle.bods_read.specs.declared.statement.RecordType.TheVariants as types;
 ghost use Rattle.bods_read.specs.Forms.{IsFreeText, IsIdent};
 ghost use Rattle.bor_store_sql.specs.declared.rows.typed.Part.TheVariants as part;
 ghost use Rattle.bor_store_sql.specs.Rows.Encoding.{or_null, kind_word, part_columns};
@@ -12,7 +13,7 @@ ghost use Rattle.bor_store_sql.specs.Rows.RowForms.{IsFormedPart};
 
 use crate::rows::fault::RowFault;
 use crate::rows::typed::Part;
-use crate::rows::values::{text_or_null, value_at};
+use crate::rows::values::{are_null, text_or_null, value_at};
 use crate::rows::words::by_word;
 use bods_read::{EntityKind, PersonKind, RecordType};
 use sqlite::Row;
@@ -20,29 +21,35 @@ use std::alloc::Global;
 
 #[tactic(auto, using(crate::proofs::OnRows::Utf8::free_utf8))]
 fn entity(alloc: Global, row: &Row) -> Result<Part, RowFault>
-    ensures { (kind : EntityKind) (name : Option (List ℕ)) → HasFour row.now 9 (part_columns (part.Entity kind name)) → IfSome name IsFreeText
+    ensures reads { (kind : EntityKind) (name : Option (List ℕ)) → HasFour row.now 9 (part_columns (part.Entity kind name)) → IfSome name IsFreeText
         → IsRead result (part.Entity kind name) }
+    ensures exact { IfOk result (λ p. (kind_word p ≡ type_word types.Entity) × HasFour row.now 9 (part_columns p) × IsFormedPart p) }
 {
     let kind: EntityKind = by_word(value_at(row, 9))?;
     let name = text_or_null(alloc, value_at(row, 10))?;
+    are_null(value_at(row, 11), value_at(row, 12))?;
     Ok(Part::Entity { kind, name })
 }
 
 #[tactic(auto, using(crate::proofs::OnRows::Utf8::free_utf8))]
 fn person(alloc: Global, row: &Row) -> Result<Part, RowFault>
-    ensures { (kind : PersonKind) (name : Option (List ℕ)) → HasFour row.now 9 (part_columns (part.Person kind name)) → IfSome name IsFreeText
+    ensures reads { (kind : PersonKind) (name : Option (List ℕ)) → HasFour row.now 9 (part_columns (part.Person kind name)) → IfSome name IsFreeText
         → IsRead result (part.Person kind name) }
+    ensures exact { IfOk result (λ p. (kind_word p ≡ type_word types.Person) × HasFour row.now 9 (part_columns p) × IsFormedPart p) }
 {
     let kind: PersonKind = by_word(value_at(row, 9))?;
     let name = text_or_null(alloc, value_at(row, 10))?;
+    are_null(value_at(row, 11), value_at(row, 12))?;
     Ok(Part::Person { kind, name })
 }
 
 #[tactic(auto, using(crate::proofs::OnRows::Utf8::ident_utf8))]
 fn relationship(alloc: Global, row: &Row) -> Result<Part, RowFault>
-    ensures { (subject party : Option (List ℕ)) → HasFour row.now 9 (part_columns (part.Relationship subject party)) → IfSome subject IsIdent → IfSome party IsIdent
+    ensures reads { (subject party : Option (List ℕ)) → HasFour row.now 9 (part_columns (part.Relationship subject party)) → IfSome subject IsIdent → IfSome party IsIdent
         → IsRead result (part.Relationship subject party) }
+    ensures exact { IfOk result (λ p. (kind_word p ≡ type_word types.Relationship) × HasFour row.now 9 (part_columns p) × IsFormedPart p) }
 {
+    are_null(value_at(row, 9), value_at(row, 10))?;
     let subject = text_or_null(alloc, value_at(row, 11))?;
     let party = text_or_null(alloc, value_at(row, 12))?;
     Ok(Part::Relationship { subject, party })
@@ -50,7 +57,8 @@ fn relationship(alloc: Global, row: &Row) -> Result<Part, RowFault>
 
 /// The part of a statement, by the columns from `kind` on.
 pub(crate) fn part_of(alloc: Global, row: &Row) -> Result<Part, RowFault>
-    ensures { (p : Part) → column row.now 7 ≡ Text (kind_word p) → HasFour row.now 9 (part_columns p) → IsFormedPart p → IsRead result p }
+    ensures reads { (p : Part) → column row.now 7 ≡ Text (kind_word p) → HasFour row.now 9 (part_columns p) → IsFormedPart p → IsRead result p }
+    ensures exact { IfOk result (λ p. (column row.now 7 ≡ Text (kind_word p)) × HasFour row.now 9 (part_columns p) × IsFormedPart p) }
 {
     let kind: RecordType = by_word(value_at(row, 7))?;
     match kind {

@@ -1,6 +1,6 @@
 //! Rows of the tables, read column by column.
 
-ghost use Rattle.std.specs.Prelude.{◌≡◌, pos, Ok, List, map, All, MatchResult, Option, Some, option_map, IfSome};
+ghost use Rattle.std.specs.Prelude.{◌≡◌, pos, Ok, List, map, All, MatchResult, Option, Some, option_map, IfOk, IfSome};
 ghost use Rattle.sqlite.specs.declared.types.Value.TheVariants.{Int, Text};
 ghost use Rattle.sqlite_value.specs.Order.{column};
 ghost use Rattle.bods_read.specs.Forms.{IsShare};
@@ -17,8 +17,11 @@ use crate::rows::places::At;
 use crate::rows::typed::{
     AgentRow, FilingRow, IdentifierRow, InterestLine, PeriodRow, RegisterRow, StatementRow,
 };
-use crate::rows::values::{blob, day, day_or_null, flag, number, percent, text, value_at};
+use crate::rows::values::{
+    blob, day, day_or_null, flag, has_columns, is_number, number, percent, text, value_at,
+};
 use crate::rows::words::by_word;
+use crate::texts::changes::VERSION;
 use bods_read::{Identifier, Status};
 use bor_register::Filing;
 use bor_terms::Span;
@@ -28,7 +31,7 @@ use std::alloc::Global;
 
 /// A row that can be read from the columns of a table.
 pub trait TableRow: Sized {
-    ghost use Rattle.std.specs.Prelude.{◌≡◌, List};
+    ghost use Rattle.std.specs.Prelude.{◌≡◌, IfOk, List};
     ghost use Rattle.sqlite.specs.declared.types.Value.{Value as SqlValue};
     ghost use Rattle.bor_store_sql.specs.Rows.Reading.{IsRead};
 
@@ -36,10 +39,10 @@ pub trait TableRow: Sized {
 
     ghost is_formed: { Self → Type 0 };
 
-    /// The value whose columns these are. A row that is no value's is read as another value, or is
-    /// `Damaged`.
+    /// The value whose columns these are. `Damaged` comes of a row that is no value's, and of no other.
     fn read(alloc: Global, row: &Row) -> Result<Self, RowFault>
-        ensures { (x : Self) → row.now ≡ columns x → is_formed x → IsRead result x };
+        ensures reads { (x : Self) → row.now ≡ columns x → is_formed x → IsRead result x }
+        ensures exact { IfOk result (λ x. (row.now ≡ columns x) × is_formed x) };
 }
 
 impl TableRow for AgentRow {
@@ -52,6 +55,7 @@ impl TableRow for AgentRow {
 
     #[tactic(auto, using(crate::proofs::OnRows::Utf8::name_utf8, crate::proofs::OnRows::Utf8::token_utf8))]
     fn read(alloc: Global, row: &Row) -> Result<AgentRow, RowFault> {
+        has_columns(row, 2)?;
         Ok(AgentRow {
             name: text(alloc, value_at(row, 0))?,
             token: text(alloc, value_at(row, 1))?,
@@ -69,6 +73,9 @@ impl TableRow for RegisterRow {
 
     #[tactic(auto, using(crate::proofs::OnRows::Utf8::token_utf8))]
     fn read(alloc: Global, row: &Row) -> Result<RegisterRow, RowFault> {
+        has_columns(row, 4)?;
+        is_number(value_at(row, 0), 1)?;
+        is_number(value_at(row, 1), VERSION)?;
         Ok(RegisterRow {
             day: day(value_at(row, 2))?,
             registrar: text(alloc, value_at(row, 3))?,
@@ -87,6 +94,7 @@ impl TableRow for FilingRow {
 
     #[tactic(auto, using(crate::proofs::OnRows::Utf8::name_utf8, crate::proofs::OnRows::Utf8::key_utf8))]
     fn read(alloc: Global, row: &Row) -> Result<FilingRow, RowFault> {
+        has_columns(row, 5)?;
         Ok(FilingRow {
             agent: text(alloc, value_at(row, 0))?,
             number: number(value_at(row, 1))?,
@@ -107,6 +115,7 @@ impl TableRow for Filing {
     ghost is_formed = { IsFormedShown };
 
     fn read(alloc: Global, row: &Row) -> Result<Filing, RowFault> {
+        has_columns(row, 4)?;
         Ok(Filing {
             number: number(value_at(row, 0))?,
             due: day(value_at(row, 1))?,
@@ -127,6 +136,7 @@ impl TableRow for IdentifierRow {
 
     #[tactic(auto, using(crate::proofs::OnRows::Utf8::free_utf8))]
     fn read(alloc: Global, row: &Row) -> Result<IdentifierRow, RowFault> {
+        has_columns(row, 6)?;
         Ok(IdentifierRow {
             at: place_at(alloc, row)?,
             item: number(value_at(row, 3))?,
@@ -141,8 +151,9 @@ impl TableRow for IdentifierRow {
 /// Where a statement stands, by the first three columns.
 #[tactic(auto, using(crate::proofs::OnRows::Utf8::name_utf8))]
 fn place_at(alloc: Global, row: &Row) -> Result<At, RowFault>
-    ensures { (at : At) → column row.now 0 ≡ Text at.agent → column row.now 1 ≡ Int (pos at.filing) → column row.now 2 ≡ Int (pos at.place)
+    ensures reads { (at : At) → column row.now 0 ≡ Text at.agent → column row.now 1 ≡ Int (pos at.filing) → column row.now 2 ≡ Int (pos at.place)
         → IsFormedAt at → IsRead result at }
+    ensures exact { IfOk result (λ at. (column row.now 0 ≡ Text at.agent) × (column row.now 1 ≡ Int (pos at.filing)) × (column row.now 2 ≡ Int (pos at.place)) × IsFormedAt at) }
 {
     Ok(At {
         agent: text(alloc, value_at(row, 0))?,
@@ -154,7 +165,8 @@ fn place_at(alloc: Global, row: &Row) -> Result<At, RowFault>
 /// A share, by the last four columns of an interest.
 #[tactic(auto, using(crate::proofs::OnRows::Shares::low_small))]
 fn span_of(row: &Row) -> Result<Span, RowFault>
-    ensures { (s : Range) → HasFour row.now 6 (share_columns (Some s)) → IsShare s → result ≡ Ok s }
+    ensures reads { (s : Range) → HasFour row.now 6 (share_columns (Some s)) → IsShare s → result ≡ Ok s }
+    ensures exact { IfOk result (λ s. HasFour row.now 6 (share_columns (Some s)) × IsShare s) }
 {
     let low = percent(value_at(row, 6))?;
     let low_open = flag(value_at(row, 7))?;
@@ -168,7 +180,8 @@ fn span_of(row: &Row) -> Result<Span, RowFault>
 
 /// The share of an interest; none where its columns are null.
 fn share_of(row: &Row) -> Result<Option<Span>, RowFault>
-    ensures { (o : Option Range) → HasFour row.now 6 (share_columns o) → IfSome o IsShare → result ≡ Ok o }
+    ensures reads { (o : Option Range) → HasFour row.now 6 (share_columns o) → IfSome o IsShare → result ≡ Ok o }
+    ensures exact { IfOk result (λ o. HasFour row.now 6 (share_columns o) × IfSome o IsShare) }
 {
     match (
         value_at(row, 6),
@@ -191,6 +204,7 @@ impl TableRow for InterestLine {
     ghost is_formed = { IsFormedInterestLine };
 
     fn read(alloc: Global, row: &Row) -> Result<InterestLine, RowFault> {
+        has_columns(row, 10)?;
         Ok(InterestLine {
             at: place_at(alloc, row)?,
             item: number(value_at(row, 3))?,
@@ -211,6 +225,7 @@ impl TableRow for PeriodRow {
     ghost is_formed = { IsFormedPeriodRow };
 
     fn read(alloc: Global, row: &Row) -> Result<PeriodRow, RowFault> {
+        has_columns(row, 6)?;
         Ok(PeriodRow {
             at: place_at(alloc, row)?,
             item: number(value_at(row, 3))?,
@@ -231,6 +246,7 @@ impl TableRow for StatementRow {
 
     #[tactic(auto, using(crate::proofs::OnRows::Utf8::ident_utf8))]
     fn read(alloc: Global, row: &Row) -> Result<StatementRow, RowFault> {
+        has_columns(row, 13)?;
         Ok(StatementRow {
             at: place_at(alloc, row)?,
             id: text(alloc, value_at(row, 3))?,
@@ -245,7 +261,8 @@ impl TableRow for StatementRow {
 
 /// The status of a statement; none where it is null.
 fn status_of(row: &Row) -> Result<Option<Status>, RowFault>
-    ensures { (o : Option Status) → column row.now 8 ≡ or_null (option_map status_word o) → result ≡ Ok o }
+    ensures reads { (o : Option Status) → column row.now 8 ≡ or_null (option_map status_word o) → result ≡ Ok o }
+    ensures exact { IfOk result (λ o. column row.now 8 ≡ or_null (option_map status_word o)) }
 {
     match value_at(row, 8) {
         ValueRef::Null => Ok(None),

@@ -1,18 +1,30 @@
 //! The value in a column, read as a value of the register.
 
-ghost use Rattle.std.specs.Prelude.{◌≡◌, ◌<◌, ◌^◌, ℕ, ℤ, List, Bool, Option, IfSome, Ok, MatchResult, pos, true, string_bytes, IsUtf8};
+ghost use Rattle.std.specs.Prelude.{◌≡◌, ◌≢◌, ◌<◌, ◌^◌, ◌+◌, ℕ, ℤ, List, Bool, Option, IfSome, IfOk, Ok, MatchResult, length, pos, true, string_bytes, IsUtf8};
+ghost use Rattle.std.specs.Str.{is_utf8};
 ghost use Rattle.sqlite.specs.declared.types.Value.TheVariants as sql;
 ghost use Rattle.sqlite_value.specs.Value.{owned};
 ghost use Rattle.sqlite_value.specs.Order.{column};
 ghost use Rattle.bor_terms.specs.Day.{IsDay};
 ghost use Rattle.bor_store_sql.specs.Rows.Encoding.{day_or_null, truth, or_null};
-ghost use Rattle.bor_store_sql.specs.Rows.Reading.{IsRead};
+ghost use Rattle.bor_store_sql.specs.Rows.Reading.{IsRead, AreNull};
 
 use crate::rows::fault::RowFault;
 use bor_terms::{Day, Form, Listed, Text};
 use sqlite::Row;
 use sqlite::types::ValueRef;
 use std::alloc::Global;
+
+/// Whether the row has so many columns; one that has more or fewer is `Damaged`.
+pub(crate) fn has_columns(row: &Row, count: usize) -> Result<(), RowFault>
+    ensures { MatchResult result (λ _. length row.now ≡ count) (λ _. length row.now ≢ count) }
+{
+    if row.column_count() == count {
+        Ok(())
+    } else {
+        Err(RowFault::Damaged)
+    }
+}
 
 /// The value in a column, counted from 0; null past the last one.
 pub fn value_at<'a>(row: &'a Row, at: usize) -> ValueRef<'a>
@@ -26,7 +38,8 @@ pub fn value_at<'a>(row: &'a Row, at: usize) -> ValueRef<'a>
 
 /// A text.
 pub(crate) fn word<'a>(value: ValueRef<'a>) -> Result<&'a str, RowFault>
-    ensures { (t : List ℕ) → owned value.entry ≡ sql.Text t → IsUtf8 t → MatchResult result (λ word. word.now ≡ t) (λ _. ⊥) }
+    ensures reads { (t : List ℕ) → owned value.entry ≡ sql.Text t → IsUtf8 t → MatchResult result (λ word. word.now ≡ t) (λ _. ⊥) }
+    ensures exact { IfOk result (λ word. (owned value.entry ≡ sql.Text word.now) × (is_utf8 word.now ≡ true)) }
 {
     match value {
         ValueRef::Text(bytes) => match std::str::from_utf8(bytes) {
@@ -39,7 +52,8 @@ pub(crate) fn word<'a>(value: ValueRef<'a>) -> Result<&'a str, RowFault>
 
 /// A text of the form.
 pub(crate) fn text<F: Form>(alloc: Global, value: ValueRef<'_>) -> Result<Text<F>, RowFault>
-    ensures { (t : List ℕ) → owned value.entry ≡ sql.Text t → IsUtf8 t → F.is_form t ≡ true → IsRead result t }
+    ensures reads { (t : List ℕ) → owned value.entry ≡ sql.Text t → IsUtf8 t → F.is_form t ≡ true → IsRead result t }
+    ensures exact { IfOk result (λ t. (owned value.entry ≡ sql.Text t) × (is_utf8 t ≡ true) × (F.is_form t ≡ true)) }
 {
     match Text::read(alloc, word(value)?)? {
         Some(text) => Ok(text),
@@ -52,7 +66,8 @@ pub(crate) fn text_or_null<F: Form>(
     alloc: Global,
     value: ValueRef<'_>,
 ) -> Result<Option<Text<F>>, RowFault>
-    ensures { (o : Option (List ℕ)) → owned value.entry ≡ or_null o → IfSome o (λ t. IsUtf8 t × (F.is_form t ≡ true)) → IsRead result o }
+    ensures reads { (o : Option (List ℕ)) → owned value.entry ≡ or_null o → IfSome o (λ t. IsUtf8 t × (F.is_form t ≡ true)) → IsRead result o }
+    ensures exact { IfOk result (λ o. (owned value.entry ≡ or_null o) × IfSome o (λ t. (is_utf8 t ≡ true) × (F.is_form t ≡ true))) }
 {
     match value {
         ValueRef::Null => Ok(None),
@@ -62,7 +77,8 @@ pub(crate) fn text_or_null<F: Form>(
 
 /// A number of 32 bits.
 pub(crate) fn number(value: ValueRef<'_>) -> Result<u32, RowFault>
-    ensures { (n : ℕ) → owned value.entry ≡ sql.Int (pos n) → n < 2 ^ 32 → result ≡ Ok n }
+    ensures reads { (n : ℕ) → owned value.entry ≡ sql.Int (pos n) → n < 2 ^ 32 → result ≡ Ok n }
+    ensures exact { IfOk result (λ n. (owned value.entry ≡ sql.Int (pos n)) × (n < 2 ^ 32)) }
 {
     match value {
         ValueRef::Int(n) => match u32::try_from(n) {
@@ -75,7 +91,8 @@ pub(crate) fn number(value: ValueRef<'_>) -> Result<u32, RowFault>
 
 /// A percent, or any other number of 8 bits.
 pub(crate) fn percent(value: ValueRef<'_>) -> Result<u8, RowFault>
-    ensures { (n : ℕ) → owned value.entry ≡ sql.Int (pos n) → n < 2 ^ 8 → result ≡ Ok n }
+    ensures reads { (n : ℕ) → owned value.entry ≡ sql.Int (pos n) → n < 2 ^ 8 → result ≡ Ok n }
+    ensures exact { IfOk result (λ n. (owned value.entry ≡ sql.Int (pos n)) × (n < 2 ^ 8)) }
 {
     match value {
         ValueRef::Int(n) => match u8::try_from(n) {
@@ -88,7 +105,8 @@ pub(crate) fn percent(value: ValueRef<'_>) -> Result<u8, RowFault>
 
 /// A day, by its number.
 pub(crate) fn day(value: ValueRef<'_>) -> Result<Day, RowFault>
-    ensures { (z : ℤ) → owned value.entry ≡ sql.Int z → IsDay z → result ≡ Ok z }
+    ensures reads { (z : ℤ) → owned value.entry ≡ sql.Int z → IsDay z → result ≡ Ok z }
+    ensures exact { IfOk result (λ z. (owned value.entry ≡ sql.Int z) × IsDay z) }
 {
     let ValueRef::Int(n) = value else {
         return Err(RowFault::Damaged);
@@ -104,7 +122,8 @@ pub(crate) fn day(value: ValueRef<'_>) -> Result<Day, RowFault>
 
 /// A day, or null.
 pub(crate) fn day_or_null(value: ValueRef<'_>) -> Result<Option<Day>, RowFault>
-    ensures { (o : Option ℤ) → owned value.entry ≡ day_or_null o → IfSome o IsDay → result ≡ Ok o }
+    ensures reads { (o : Option ℤ) → owned value.entry ≡ day_or_null o → IfSome o IsDay → result ≡ Ok o }
+    ensures exact { IfOk result (λ o. (owned value.entry ≡ day_or_null o) × IfSome o IsDay) }
 {
     match value {
         ValueRef::Null => Ok(None),
@@ -112,9 +131,30 @@ pub(crate) fn day_or_null(value: ValueRef<'_>) -> Result<Option<Day>, RowFault>
     }
 }
 
+/// Whether it is this number; every other value is `Damaged`.
+pub(crate) fn is_number(value: ValueRef<'_>, number: i64) -> Result<(), RowFault>
+    ensures { MatchResult result (λ _. owned value.entry ≡ sql.Int number) (λ _. owned value.entry ≢ sql.Int number) }
+{
+    match value {
+        ValueRef::Int(n) if n == number => Ok(()),
+        _ => Err(RowFault::Damaged),
+    }
+}
+
+/// Whether two values are null; else they are `Damaged`.
+pub(crate) fn are_null(first: ValueRef<'_>, second: ValueRef<'_>) -> Result<(), RowFault>
+    ensures { MatchResult result (λ _. AreNull (owned first.entry) (owned second.entry)) (λ _. AreNull (owned first.entry) (owned second.entry) → ⊥) }
+{
+    match (first, second) {
+        (ValueRef::Null, ValueRef::Null) => Ok(()),
+        _ => Err(RowFault::Damaged),
+    }
+}
+
 /// A truth value: 0 or 1.
 pub(crate) fn flag(value: ValueRef<'_>) -> Result<bool, RowFault>
-    ensures { (b : Bool) → owned value.entry ≡ truth b → result ≡ Ok b }
+    ensures reads { (b : Bool) → owned value.entry ≡ truth b → result ≡ Ok b }
+    ensures exact { IfOk result (λ b. owned value.entry ≡ truth b) }
 {
     match value {
         ValueRef::Int(0) => Ok(false),
@@ -125,7 +165,8 @@ pub(crate) fn flag(value: ValueRef<'_>) -> Result<bool, RowFault>
 
 /// Bytes.
 pub(crate) fn blob(alloc: Global, value: ValueRef<'_>) -> Result<Listed<u8>, RowFault>
-    ensures { (bytes : List ℕ) → owned value.entry ≡ sql.Blob bytes → IsRead result bytes }
+    ensures reads { (bytes : List ℕ) → owned value.entry ≡ sql.Blob bytes → IsRead result bytes }
+    ensures exact { IfOk result (λ bytes. owned value.entry ≡ sql.Blob bytes) }
 {
     match value {
         ValueRef::Blob(bytes) => Ok(Listed::new(Vec::from_slice(alloc, bytes)?)),

@@ -1,6 +1,6 @@
 //! The words that the tables have for kinds, types and statuses (BODS 0.4).
 
-ghost use Rattle.std.specs.Prelude.{◌≡◌, Ok};
+ghost use Rattle.std.specs.Prelude.{◌≡◌, Ok, IfOk};
 ghost use Rattle.sqlite.specs.declared.types.Value.TheVariants.{Text};
 ghost use Rattle.sqlite_value.specs.Value.{owned};
 
@@ -11,7 +11,7 @@ use sqlite::types::ValueRef;
 
 /// A value that stands in a table as a word.
 pub(crate) trait Worded: Sized {
-    ghost use Rattle.std.specs.Prelude.{◌≡◌, ℕ, List, Option, Some};
+    ghost use Rattle.std.specs.Prelude.{◌≡◌, ℕ, List, Option, Some, IfSome};
     ghost use Rattle.std.specs.Str.{IsUtf8};
 
     ghost word: { Self → List ℕ };
@@ -24,12 +24,14 @@ pub(crate) trait Worded: Sized {
 
     /// The value whose word a text is; `None` for another text.
     fn of_word(text: &str) -> Option<Self>
-        ensures { result ≡ worded text.now };
+        ensures reads { result ≡ worded text.now }
+        ensures exact { IfSome result (λ x. text.now ≡ word x) };
 }
 
 /// A value by its word.
 pub(crate) fn by_word<W: Worded>(value: ValueRef<'_>) -> Result<W, RowFault>
-    ensures { (x : W) → owned value.entry ≡ Text (W.word x) → result ≡ Ok x }
+    ensures reads { (x : W) → owned value.entry ≡ Text (W.word x) → result ≡ Ok x }
+    ensures exact { IfOk result (λ x. owned value.entry ≡ Text (W.word x)) }
 {
     match W::of_word(word(value)?) {
         Some(value) => Ok(value),
