@@ -2,12 +2,13 @@
 use Rattle.std.proofs.Common.{◌≡◌, ℕ, Result, Ok, Err, sym, subst, refl, ◌∙◌, ap}
 use Rattle.std.specs.Prelude.{IfOk, IfErr, OnErr, OnOk, ⊤}
 use Rattle.sqlite.specs.State.{State}
+use Rattle.sqlite.specs.declared.error.Error.{Error}
 use Rattle.bor_records.specs.Promises.{counted, left_by}
 use Rattle.bor_register.specs.Register.{Register}
 use Rattle.bor_register.specs.declared.fault.StoreFault.{StoreFault}
 use Rattle.bor_store_reads.specs.declared.fault.ReadError.{ReadError}
 use Rattle.bor_store_sql.specs.Shown.{ShowsIn}
-use Rattle.bor_store.specs.Telling.{fails, tells, IsNextFiling}
+use Rattle.bor_store.specs.Telling.{tells, tells_made, IsNextFiling}
 use Rattle.bor_store_reads.proofs.Found.{still_shows}
 
 pub left_shown : (made : Result ℕ ReadError) (told : Result ℕ StoreFault) (count : ℕ) (r changed : Register) (old new : State) → told ≡ tells made
@@ -32,13 +33,13 @@ any_fault (Err fault) = tt
 -- ---- of a change but the addition of a filing
 
 -- what was made, or what was there where a fault is answered
-pub change_left : {X E : Type 0} (made : Result X E) (told : Result X StoreFault) (r changed : Register) (old new : State) → fails made told
+pub change_left : {X : Type 0} (made : Result X Error) (told : Result X StoreFault) (r changed : Register) (old new : State) → told ≡ tells_made made
     → OnOk made (ShowsIn changed new) → OnErr made (new.committed ≡ old.committed) → ShowsIn r old → ShowsIn (left_by told changed r) new
-change_left {X} (Ok x) told r changed old new fails shown kept shows =
-    subst (λ (t : Result X StoreFault). ShowsIn (left_by t changed r) new) (sym fails) shown
-change_left {X} (Err error) told r changed old new fails shown kept shows =
-    subst (λ (t : Result X StoreFault). ShowsIn (left_by t changed r) new) (sym fails.1) (still_shows r old new kept shows)
+change_left {X} (Ok x) told r changed old new is shown kept shows =
+    subst (λ (t : Result X StoreFault). ShowsIn (left_by t changed r) new) (sym is) shown
+change_left {X} (Err error) told r changed old new is shown kept shows =
+    subst (λ (t : Result X StoreFault). ShowsIn (left_by t changed r) new) (sym is) (still_shows r old new kept shows)
 
-pub counted_failed : {X E : Type 0} (made : Result X E) (told : Result X StoreFault) (n m : ℕ) → fails made told → m ≡ counted made n → m ≡ counted told n
-counted_failed {X} (Ok x) told n m fails is = is ∙ ap (λ (t : Result X StoreFault). counted t n) (sym fails)
-counted_failed {X} (Err error) told n m fails is = is ∙ ap (λ (t : Result X StoreFault). counted t n) (sym fails.1)
+pub counted_made : {X : Type 0} (made : Result X Error) (told : Result X StoreFault) (n m : ℕ) → told ≡ tells_made made → m ≡ counted made n → m ≡ counted told n
+counted_made {X} (Ok x) told n m is count = count ∙ ap (λ (t : Result X StoreFault). counted t n) (sym is)
+counted_made {X} (Err error) told n m is count = count ∙ ap (λ (t : Result X StoreFault). counted t n) (sym is)

@@ -1,12 +1,16 @@
--- How an error of the tables is told as a fault of a keep.
-use Rattle.std.specs.Prelude.{◌≡◌, ◌≢◌, ℕ, ◌+◌, Result, Ok, Err}
+-- How an error of the tables is told as a fault of a keep, and what a keep over tables promises.
+use Rattle.std.specs.Prelude.{◌≡◌, ◌≢◌, ℕ, ◌+◌, if◌then◌else◌, Result, Ok, Err, IfErr}
 use Rattle.sqlite.specs.State.{State}
+use Rattle.sqlite.specs.declared.error.Error.{Error}
+use Rattle.bor_records.specs.Promises.{Changes, Promised, Reads, Sure}
 use Rattle.bor_register.specs.Register.{Register}
+use Rattle.bor_register.specs.declared.keeping.keep.Keep.{Ghosts as Keep}
 use Rattle.bor_register.specs.declared.fault.StoreFault.{StoreFault}
 use Rattle.bor_register.specs.declared.fault.StoreFault.TheVariants as store_faults
 use Rattle.bor_store_sql.specs.Shown.{ShowsIn}
 use Rattle.bor_store_reads.specs.declared.fault.ReadError.{ReadError}
 use Rattle.bor_store_reads.specs.Answering.{told_as}
+use Rattle.bor_store.specs.Opening.{wants_memory}
 
 -- an answer as it is, and an error as its fault
 abbrev pub tells : {X : Type 0} → Result X ReadError → Result X StoreFault
@@ -17,12 +21,34 @@ tells (Err error) = Err (told_as error)
 abbrev pub TellsNoDamage : StoreFault → Type 0
 TellsNoDamage fault = fault ≢ store_faults.Damaged
 
--- what was made, or some fault, which is not of damage
-abbrev pub fails : {X E : Type 0} → Result X E → Result X StoreFault → Type 0
-fails (Ok x) told = told ≡ Ok x
-fails {X} (Err error) told = (fault : StoreFault) × (told ≡ Err fault) × TellsNoDamage fault
+-- what an error of the store is told as: want of memory as that, and each other one as a store that failed
+abbrev pub store_fault_of : Error → StoreFault
+store_fault_of error = if wants_memory error then store_faults.Memory else store_faults.Store
+
+-- what was made, and an error of the store as its fault
+abbrev pub tells_made : {X : Type 0} → Result X Error → Result X StoreFault
+tells_made (Ok x) = Ok x
+tells_made (Err error) = Err (store_fault_of error)
 
 -- the number is the next one after so many filings, and the register is shown
 pub record IsNextFiling (number count : ℕ) (r : Register) (s : State) : Type 0 where
   pub next : number ≡ count + 1
   pub shown : ShowsIn r s
+
+-- ---- what a keep over tables promises of each call
+
+-- what each keep promises of a read
+abbrev pub ReadsKeep : {K X : Type 0} → Keep K → K → K → Result X StoreFault → (Register → X → Type 0) → Type 0
+ReadsKeep keep old new result P = Reads keep.shows keep.is_clean keep.fault_count keep.may_tell old new result P
+
+-- what each keep promises of a change
+abbrev pub ChangesKeep : {K X : Type 0} → Keep K → K → K → Result X StoreFault → (Register → Register) → Type 0
+ChangesKeep keep old new result change = Changes keep.shows keep.is_clean keep.fault_count keep.may_tell old new result change
+
+-- what each keep asks for: it holds of the register that is shown
+abbrev pub IsSure : {K : Type 0} → Keep K → K → (Register → Type 0) → Type 0
+IsSure keep old P = Sure keep.shows keep.is_clean old P
+
+-- and what one over tables promises beside: where a register was shown, no fault is of damage
+abbrev pub IsUndamaged : {K X : Type 0} → Keep K → K → K → Result X StoreFault → Type 0
+IsUndamaged keep old new result = Promised keep.shows keep.is_clean old new (λ r. IfErr result TellsNoDamage)

@@ -1,11 +1,11 @@
 //! A register in tables.
 
-ghost use Rattle.std.specs.Prelude.{◌≡◌, ⊤, ◌+◌, ◌<◌, ◌++◌, ◌∷◌, [], None, IfOk, IfErr, length, map, option_map, true, false, Result};
+ghost use Rattle.std.specs.Prelude.{◌≡◌, ⊤, ◌+◌, ◌<◌, ◌++◌, ◌∷◌, [], None, IfOk, length, map, option_map, true, false, Result};
 ghost use Rattle.sqlite.specs.Held.{state};
 ghost use Rattle.bor_records.specs.Links.Answers.{AreLinksInto, AreSame};
 ghost use Rattle.bor_records.specs.Links.Shown.{info_of};
 ghost use Rattle.bor_records.specs.Admission.{last_of};
-ghost use Rattle.bor_records.specs.Promises.{counted, Changes, Promised, Reads, Sure};
+ghost use Rattle.bor_records.specs.Promises.{counted, Promised};
 ghost use Rattle.bor_records.specs.Settling.{has_id};
 ghost use Rattle.bor_register.specs.Limits.{filings_limit};
 ghost use Rattle.bor_register.specs.Live.{accepted, live_of, AreNew};
@@ -15,7 +15,7 @@ ghost use Rattle.bor_register.specs.Rows.{rows_of};
 ghost use Rattle.bor_register.specs.Seen.{seen_at};
 ghost use Rattle.bor_register.specs.Withdrawal.{has_successor, with_withdrawn};
 ghost use Rattle.bor_store_sql.specs.Shown.{IsClean, ShowsIn};
-ghost use Rattle.bor_store.specs.Telling.{tells, fails, TellsNoDamage};
+ghost use Rattle.bor_store.specs.Telling.{tells, tells_made, store_fault_of, ChangesKeep, IsSure, IsUndamaged, ReadsKeep};
 
 use crate::lodging::add_next_filing;
 use bods_read::Statement;
@@ -30,7 +30,7 @@ use bor_store_reads::{
 };
 use bor_store_sql::{add_agent, set_day, withdraw_filing};
 use bor_terms::{AgentName, Day, Ident, LodgeKey, Token};
-use sqlite::{Alter, Error};
+use sqlite::{Alter, Error, ErrorCode};
 use std::alloc::Global;
 
 /// A register in the tables of a connection. No transaction is open between its calls.
@@ -58,23 +58,33 @@ impl<S: Alter + Drop> SqlKeep<S> {
         }
     }
 
-    // The same of a change.
+    // The same of a change: want of memory is told as that, and each other error as a store that failed.
     fn made<T>(&mut self, made: Result<T, Error>) -> Result<T, StoreFault>
         ensures conn { self.new.conn ≡ self.old.conn }
-        ensures told { fails made result }
+        ensures told { result ≡ tells_made made }
         ensures counts { self.new.faults ≡ counted made self.old.faults }
     {
         match made {
             Ok(made) => Ok(made),
             Err(error) => {
                 self.faults = self.faults.wrapping_add(1);
-                Err(StoreFault::from(ReadError::from(error)))
+                Err(fault_of(error))
             }
         }
     }
 }
 
-#[tactic(auto, using(bor_store_reads::proofs::Found::still_shows, crate::proofs::Kept::still_kept, crate::proofs::Undamaged::undamaged_told))]
+// The fault that an error of the store is told as.
+fn fault_of(error: Error) -> StoreFault
+    ensures { result ≡ store_fault_of error }
+{
+    match error {
+        Error::SqliteFailure(ErrorCode::OutOfMemory) => StoreFault::Memory,
+        _ => StoreFault::Store,
+    }
+}
+
+#[tactic(auto, using(bor_store_reads::proofs::Found::still_shows, crate::proofs::Kept::still_kept, crate::proofs::Undamaged::undamaged_told, crate::proofs::Undamaged::undamaged_made))]
 impl<S: Alter + Drop> Keep for SqlKeep<S> {
     ghost shows = { λ k r. ShowsIn r (state S.Store k.conn) };
 
@@ -89,45 +99,45 @@ impl<S: Alter + Drop> Keep for SqlKeep<S> {
     }
 
     fn who(&mut self, token: &Token) -> Result<Option<Caller>, StoreFault>
-        ensures reads { let keep = ⟦<SqlKeep<S> as Keep>⟧ in Reads keep.shows keep.is_clean keep.fault_count keep.may_tell self.old self.new result (λ r caller.
+        ensures reads { ReadsKeep ⟦<SqlKeep<S> as Keep>⟧ self.old self.new result (λ r caller.
             caller ≡ caller_of token.now r) }
-        ensures undamaged { let keep = ⟦<SqlKeep<S> as Keep>⟧ in Promised keep.shows keep.is_clean self.old self.new (λ r. IfErr result TellsNoDamage) }
+        ensures undamaged { IsUndamaged ⟦<SqlKeep<S> as Keep>⟧ self.old self.new result }
     {
         let answer = read_who(self.conn.connection(), self.alloc, token);
         self.told(answer)
     }
 
     fn has_agent(&mut self, agent: &AgentName) -> Result<bool, StoreFault>
-        ensures reads { let keep = ⟦<SqlKeep<S> as Keep>⟧ in Reads keep.shows keep.is_clean keep.fault_count keep.may_tell self.old self.new result (λ r has.
+        ensures reads { ReadsKeep ⟦<SqlKeep<S> as Keep>⟧ self.old self.new result (λ r has.
             has ≡ is_enrolled agent.now r.members) }
-        ensures undamaged { let keep = ⟦<SqlKeep<S> as Keep>⟧ in Promised keep.shows keep.is_clean self.old self.new (λ r. IfErr result TellsNoDamage) }
+        ensures undamaged { IsUndamaged ⟦<SqlKeep<S> as Keep>⟧ self.old self.new result }
     {
         let answer = has_agent(self.conn.connection(), agent);
         self.told(answer)
     }
 
     fn day(&mut self) -> Result<Day, StoreFault>
-        ensures reads { let keep = ⟦<SqlKeep<S> as Keep>⟧ in Reads keep.shows keep.is_clean keep.fault_count keep.may_tell self.old self.new result (λ r day.
+        ensures reads { ReadsKeep ⟦<SqlKeep<S> as Keep>⟧ self.old self.new result (λ r day.
             day ≡ r.day) }
-        ensures undamaged { let keep = ⟦<SqlKeep<S> as Keep>⟧ in Promised keep.shows keep.is_clean self.old self.new (λ r. IfErr result TellsNoDamage) }
+        ensures undamaged { IsUndamaged ⟦<SqlKeep<S> as Keep>⟧ self.old self.new result }
     {
         let answer = read_day(self.conn.connection(), self.alloc);
         self.told(answer)
     }
 
     fn filing(&mut self, agent: &AgentName, key: &LodgeKey) -> Result<Option<Filing>, StoreFault>
-        ensures reads { let keep = ⟦<SqlKeep<S> as Keep>⟧ in Reads keep.shows keep.is_clean keep.fault_count keep.may_tell self.old self.new result (λ r filing.
+        ensures reads { ReadsKeep ⟦<SqlKeep<S> as Keep>⟧ self.old self.new result (λ r filing.
             filing ≡ option_map filing_shown (filing_keyed key.now (filings_of agent.now r.members))) }
-        ensures undamaged { let keep = ⟦<SqlKeep<S> as Keep>⟧ in Promised keep.shows keep.is_clean self.old self.new (λ r. IfErr result TellsNoDamage) }
+        ensures undamaged { IsUndamaged ⟦<SqlKeep<S> as Keep>⟧ self.old self.new result }
     {
         let answer = read_filing(self.conn.connection(), self.alloc, agent, key);
         self.told(answer)
     }
 
     fn line(&mut self, agent: &AgentName, key: &LodgeKey) -> Result<Option<FilingLine>, StoreFault>
-        ensures reads { let keep = ⟦<SqlKeep<S> as Keep>⟧ in Reads keep.shows keep.is_clean keep.fault_count keep.may_tell self.old self.new result (λ r line.
+        ensures reads { ReadsKeep ⟦<SqlKeep<S> as Keep>⟧ self.old self.new result (λ r line.
             line ≡ option_map (line_of r.day) (filing_keyed key.now (filings_of agent.now r.members))) }
-        ensures undamaged { let keep = ⟦<SqlKeep<S> as Keep>⟧ in Promised keep.shows keep.is_clean self.old self.new (λ r. IfErr result TellsNoDamage) }
+        ensures undamaged { IsUndamaged ⟦<SqlKeep<S> as Keep>⟧ self.old self.new result }
     {
         let answer = read_line(self.conn.connection(), self.alloc, agent, key);
         self.told(answer)
@@ -139,27 +149,27 @@ impl<S: Alter + Drop> Keep for SqlKeep<S> {
         key: &LodgeKey,
         bytes: &[u8],
     ) -> Result<bool, StoreFault>
-        ensures reads { let keep = ⟦<SqlKeep<S> as Keep>⟧ in Reads keep.shows keep.is_clean keep.fault_count keep.may_tell self.old self.new result (λ r has.
+        ensures reads { ReadsKeep ⟦<SqlKeep<S> as Keep>⟧ self.old self.new result (λ r has.
             has ≡ has_bytes bytes.now (filing_keyed key.now (filings_of agent.now r.members))) }
-        ensures undamaged { let keep = ⟦<SqlKeep<S> as Keep>⟧ in Promised keep.shows keep.is_clean self.old self.new (λ r. IfErr result TellsNoDamage) }
+        ensures undamaged { IsUndamaged ⟦<SqlKeep<S> as Keep>⟧ self.old self.new result }
     {
         let answer = has_file(self.conn.connection(), agent, key, bytes);
         self.told(answer)
     }
 
     fn filing_count(&mut self, agent: &AgentName) -> Result<usize, StoreFault>
-        ensures reads { let keep = ⟦<SqlKeep<S> as Keep>⟧ in Reads keep.shows keep.is_clean keep.fault_count keep.may_tell self.old self.new result (λ r count.
+        ensures reads { ReadsKeep ⟦<SqlKeep<S> as Keep>⟧ self.old self.new result (λ r count.
             count ≡ length (filings_of agent.now r.members)) }
-        ensures undamaged { let keep = ⟦<SqlKeep<S> as Keep>⟧ in Promised keep.shows keep.is_clean self.old self.new (λ r. IfErr result TellsNoDamage) }
+        ensures undamaged { IsUndamaged ⟦<SqlKeep<S> as Keep>⟧ self.old self.new result }
     {
         let answer = filing_count(self.conn.connection(), self.alloc, agent);
         self.told(answer)
     }
 
     fn filings(&mut self, agent: &AgentName) -> Result<Vec<FilingLine>, StoreFault>
-        ensures reads { let keep = ⟦<SqlKeep<S> as Keep>⟧ in Reads keep.shows keep.is_clean keep.fault_count keep.may_tell self.old self.new result (λ r lines.
+        ensures reads { ReadsKeep ⟦<SqlKeep<S> as Keep>⟧ self.old self.new result (λ r lines.
             lines.items ≡ map (line_of r.day) (filings_of agent.now r.members)) }
-        ensures undamaged { let keep = ⟦<SqlKeep<S> as Keep>⟧ in Promised keep.shows keep.is_clean self.old self.new (λ r. IfErr result TellsNoDamage) }
+        ensures undamaged { IsUndamaged ⟦<SqlKeep<S> as Keep>⟧ self.old self.new result }
     {
         let answer = read_filings(self.conn.connection(), self.alloc, agent);
         self.told(answer)
@@ -171,27 +181,27 @@ impl<S: Alter + Drop> Keep for SqlKeep<S> {
         declaration: &Ident,
         rec: &Ident,
     ) -> Result<Option<Last>, StoreFault>
-        ensures reads { let keep = ⟦<SqlKeep<S> as Keep>⟧ in Reads keep.shows keep.is_clean keep.fault_count keep.may_tell self.old self.new result (λ r last.
+        ensures reads { ReadsKeep ⟦<SqlKeep<S> as Keep>⟧ self.old self.new result (λ r last.
             last ≡ last_of declaration.now rec.now (live_of (filings_of agent.now r.members))) }
-        ensures undamaged { let keep = ⟦<SqlKeep<S> as Keep>⟧ in Promised keep.shows keep.is_clean self.old self.new (λ r. IfErr result TellsNoDamage) }
+        ensures undamaged { IsUndamaged ⟦<SqlKeep<S> as Keep>⟧ self.old self.new result }
     {
         let answer = read_last(self.conn.connection(), self.alloc, agent, declaration, rec);
         self.told(answer)
     }
 
     fn has_statement(&mut self, agent: &AgentName, id: &Ident) -> Result<bool, StoreFault>
-        ensures reads { let keep = ⟦<SqlKeep<S> as Keep>⟧ in Reads keep.shows keep.is_clean keep.fault_count keep.may_tell self.old self.new result (λ r has.
+        ensures reads { ReadsKeep ⟦<SqlKeep<S> as Keep>⟧ self.old self.new result (λ r has.
             has ≡ has_id id.now (live_of (filings_of agent.now r.members))) }
-        ensures undamaged { let keep = ⟦<SqlKeep<S> as Keep>⟧ in Promised keep.shows keep.is_clean self.old self.new (λ r. IfErr result TellsNoDamage) }
+        ensures undamaged { IsUndamaged ⟦<SqlKeep<S> as Keep>⟧ self.old self.new result }
     {
         let answer = has_statement(self.conn.connection(), agent, id);
         self.told(answer)
     }
 
     fn has_successor(&mut self, agent: &AgentName, number: u32) -> Result<bool, StoreFault>
-        ensures reads { let keep = ⟦<SqlKeep<S> as Keep>⟧ in Reads keep.shows keep.is_clean keep.fault_count keep.may_tell self.old self.new result (λ r has.
+        ensures reads { ReadsKeep ⟦<SqlKeep<S> as Keep>⟧ self.old self.new result (λ r has.
             has ≡ has_successor number (filings_of agent.now r.members)) }
-        ensures undamaged { let keep = ⟦<SqlKeep<S> as Keep>⟧ in Promised keep.shows keep.is_clean self.old self.new (λ r. IfErr result TellsNoDamage) }
+        ensures undamaged { IsUndamaged ⟦<SqlKeep<S> as Keep>⟧ self.old self.new result }
     {
         let answer = has_successor(self.conn.connection(), self.alloc, agent, number);
         self.told(answer)
@@ -203,9 +213,9 @@ impl<S: Alter + Drop> Keep for SqlKeep<S> {
         agent: &AgentName,
         declaration: &Ident,
     ) -> Result<Vec<Row>, StoreFault>
-        ensures reads { let keep = ⟦<SqlKeep<S> as Keep>⟧ in Reads keep.shows keep.is_clean keep.fault_count keep.may_tell self.old self.new result (λ r rows.
+        ensures reads { ReadsKeep ⟦<SqlKeep<S> as Keep>⟧ self.old self.new result (λ r rows.
             rows.items ≡ rows_of viewer.now r.day agent.now declaration.now (filings_of agent.now r.members)) }
-        ensures undamaged { let keep = ⟦<SqlKeep<S> as Keep>⟧ in Promised keep.shows keep.is_clean self.old self.new (λ r. IfErr result TellsNoDamage) }
+        ensures undamaged { IsUndamaged ⟦<SqlKeep<S> as Keep>⟧ self.old self.new result }
     {
         let answer = read_rows_of(
             self.conn.connection(),
@@ -223,18 +233,18 @@ impl<S: Alter + Drop> Keep for SqlKeep<S> {
         day: Day,
         node: &Node,
     ) -> Result<Option<NodeInfo>, StoreFault>
-        ensures reads { let keep = ⟦<SqlKeep<S> as Keep>⟧ in Reads keep.shows keep.is_clean keep.fault_count keep.may_tell self.old self.new result (λ r info.
+        ensures reads { ReadsKeep ⟦<SqlKeep<S> as Keep>⟧ self.old self.new result (λ r info.
             info ≡ info_of (seen_at viewer.now day r) node.now) }
-        ensures undamaged { let keep = ⟦<SqlKeep<S> as Keep>⟧ in Promised keep.shows keep.is_clean self.old self.new (λ r. IfErr result TellsNoDamage) }
+        ensures undamaged { IsUndamaged ⟦<SqlKeep<S> as Keep>⟧ self.old self.new result }
     {
         let answer = read_node(&mut self.conn, self.alloc, viewer, day, node);
         self.told(answer)
     }
 
     fn same(&mut self, viewer: &AgentName, day: Day, node: &Node) -> Result<Vec<Node>, StoreFault>
-        ensures reads { let keep = ⟦<SqlKeep<S> as Keep>⟧ in Reads keep.shows keep.is_clean keep.fault_count keep.may_tell self.old self.new result (λ r nodes.
+        ensures reads { ReadsKeep ⟦<SqlKeep<S> as Keep>⟧ self.old self.new result (λ r nodes.
             AreSame (seen_at viewer.now day r) node.now nodes.items) }
-        ensures undamaged { let keep = ⟦<SqlKeep<S> as Keep>⟧ in Promised keep.shows keep.is_clean self.old self.new (λ r. IfErr result TellsNoDamage) }
+        ensures undamaged { IsUndamaged ⟦<SqlKeep<S> as Keep>⟧ self.old self.new result }
     {
         let answer = read_same(&mut self.conn, self.alloc, viewer, day, node);
         self.told(answer)
@@ -246,18 +256,18 @@ impl<S: Alter + Drop> Keep for SqlKeep<S> {
         day: Day,
         node: &Node,
     ) -> Result<Vec<Link>, StoreFault>
-        ensures reads { let keep = ⟦<SqlKeep<S> as Keep>⟧ in Reads keep.shows keep.is_clean keep.fault_count keep.may_tell self.old self.new result (λ r links.
+        ensures reads { ReadsKeep ⟦<SqlKeep<S> as Keep>⟧ self.old self.new result (λ r links.
             AreLinksInto (seen_at viewer.now day r) node.now links.items) }
-        ensures undamaged { let keep = ⟦<SqlKeep<S> as Keep>⟧ in Promised keep.shows keep.is_clean self.old self.new (λ r. IfErr result TellsNoDamage) }
+        ensures undamaged { IsUndamaged ⟦<SqlKeep<S> as Keep>⟧ self.old self.new result }
     {
         let answer = read_links_into(&mut self.conn, self.alloc, viewer, day, node);
         self.told(answer)
     }
 
     fn published(&mut self) -> Result<Vec<Outward>, StoreFault>
-        ensures reads { let keep = ⟦<SqlKeep<S> as Keep>⟧ in Reads keep.shows keep.is_clean keep.fault_count keep.may_tell self.old self.new result (λ r outwards.
+        ensures reads { ReadsKeep ⟦<SqlKeep<S> as Keep>⟧ self.old self.new result (λ r outwards.
             outwards.items ≡ published r.day r.members) }
-        ensures undamaged { let keep = ⟦<SqlKeep<S> as Keep>⟧ in Promised keep.shows keep.is_clean self.old self.new (λ r. IfErr result TellsNoDamage) }
+        ensures undamaged { IsUndamaged ⟦<SqlKeep<S> as Keep>⟧ self.old self.new result }
     {
         let answer = read_published(self.conn.connection(), self.alloc);
         self.told(answer)
@@ -271,22 +281,22 @@ impl<S: Alter + Drop> Keep for SqlKeep<S> {
         bytes: &[u8],
         statements: &[Statement],
     ) -> Result<u32, StoreFault>
-        requires enrolled { let keep = ⟦<SqlKeep<S> as Keep>⟧ in Sure keep.shows keep.is_clean self.old (λ r. is_enrolled agent.now r.members ≡ true) }
-        requires room { let keep = ⟦<SqlKeep<S> as Keep>⟧ in Sure keep.shows keep.is_clean self.old (λ r.
+        requires enrolled { IsSure ⟦<SqlKeep<S> as Keep>⟧ self.old (λ r. is_enrolled agent.now r.members ≡ true) }
+        requires room { IsSure ⟦<SqlKeep<S> as Keep>⟧ self.old (λ r.
             length (filings_of agent.now r.members) < filings_limit) }
-        requires fresh { let keep = ⟦<SqlKeep<S> as Keep>⟧ in Sure keep.shows keep.is_clean self.old (λ r.
+        requires fresh { IsSure ⟦<SqlKeep<S> as Keep>⟧ self.old (λ r.
             filing_keyed key.now (filings_of agent.now r.members) ≡ None) }
-        requires statements { let keep = ⟦<SqlKeep<S> as Keep>⟧ in Sure keep.shows keep.is_clean self.old (λ r.
+        requires statements { IsSure ⟦<SqlKeep<S> as Keep>⟧ self.old (λ r.
             AreNew (live_of (filings_of agent.now r.members)) statements.now) }
         ensures number { let keep = ⟦<SqlKeep<S> as Keep>⟧ in Promised keep.shows keep.is_clean self.old self.new (λ r. IfOk result (λ number.
             number ≡ length (filings_of agent.now r.members) + 1)) }
-        ensures changes { let keep = ⟦<SqlKeep<S> as Keep>⟧ in Changes keep.shows keep.is_clean keep.fault_count keep.may_tell self.old self.new result (λ r.
+        ensures changes { ChangesKeep ⟦<SqlKeep<S> as Keep>⟧ self.old self.new result (λ r.
             let own = filings_of agent.now r.members in
             record r {
               members = with_filings agent.now
                   (own ++ accepted own key.now due bytes.now statements.now ∷ []) r.members;
             }) }
-        ensures undamaged { let keep = ⟦<SqlKeep<S> as Keep>⟧ in Promised keep.shows keep.is_clean self.old self.new (λ r. IfErr result TellsNoDamage) }
+        ensures undamaged { IsUndamaged ⟦<SqlKeep<S> as Keep>⟧ self.old self.new result }
     {
         let made = add_next_filing(
             self.conn.connection(),
@@ -301,33 +311,33 @@ impl<S: Alter + Drop> Keep for SqlKeep<S> {
     }
 
     fn withdraw(&mut self, agent: &AgentName, number: u32) -> Result<(), StoreFault>
-        ensures changes { let keep = ⟦<SqlKeep<S> as Keep>⟧ in Changes keep.shows keep.is_clean keep.fault_count keep.may_tell self.old self.new result (λ r. record r {
+        ensures changes { ChangesKeep ⟦<SqlKeep<S> as Keep>⟧ self.old self.new result (λ r. record r {
           members = with_filings agent.now
               (with_withdrawn number (filings_of agent.now r.members)) r.members;
         }) }
-        ensures undamaged { let keep = ⟦<SqlKeep<S> as Keep>⟧ in Promised keep.shows keep.is_clean self.old self.new (λ r. IfErr result TellsNoDamage) }
+        ensures undamaged { IsUndamaged ⟦<SqlKeep<S> as Keep>⟧ self.old self.new result }
     {
         let made = withdraw_filing(self.conn.connection(), agent.as_str(), number);
         self.made(made)
     }
 
     fn set_day(&mut self, day: Day) -> Result<(), StoreFault>
-        ensures changes { let keep = ⟦<SqlKeep<S> as Keep>⟧ in Changes keep.shows keep.is_clean keep.fault_count keep.may_tell self.old self.new result (λ r.
+        ensures changes { ChangesKeep ⟦<SqlKeep<S> as Keep>⟧ self.old self.new result (λ r.
             record r { day = day }) }
-        ensures undamaged { let keep = ⟦<SqlKeep<S> as Keep>⟧ in Promised keep.shows keep.is_clean self.old self.new (λ r. IfErr result TellsNoDamage) }
+        ensures undamaged { IsUndamaged ⟦<SqlKeep<S> as Keep>⟧ self.old self.new result }
     {
         let made = set_day(self.conn.connection(), day);
         self.made(made)
     }
 
     fn add_agent(&mut self, agent: &AgentName, token: &Token) -> Result<(), StoreFault>
-        requires new_name { let keep = ⟦<SqlKeep<S> as Keep>⟧ in Sure keep.shows keep.is_clean self.old (λ r.
+        requires new_name { IsSure ⟦<SqlKeep<S> as Keep>⟧ self.old (λ r.
             is_enrolled agent.now r.members ≡ false) }
-        requires new_token { let keep = ⟦<SqlKeep<S> as Keep>⟧ in Sure keep.shows keep.is_clean self.old (λ r. is_taken token.now r ≡ false) }
-        ensures changes { let keep = ⟦<SqlKeep<S> as Keep>⟧ in Changes keep.shows keep.is_clean keep.fault_count keep.may_tell self.old self.new result (λ r. record r {
+        requires new_token { IsSure ⟦<SqlKeep<S> as Keep>⟧ self.old (λ r. is_taken token.now r ≡ false) }
+        ensures changes { ChangesKeep ⟦<SqlKeep<S> as Keep>⟧ self.old self.new result (λ r. record r {
           members = with_member (new_member agent.now token.now) r.members;
         }) }
-        ensures undamaged { let keep = ⟦<SqlKeep<S> as Keep>⟧ in Promised keep.shows keep.is_clean self.old self.new (λ r. IfErr result TellsNoDamage) }
+        ensures undamaged { IsUndamaged ⟦<SqlKeep<S> as Keep>⟧ self.old self.new result }
     {
         let made = add_agent(self.conn.connection(), agent, token);
         self.made(made)

@@ -3,7 +3,7 @@ use Rattle.sqlite.specs.Held.{state}
 use Rattle.bor_records.specs.Promises.{left_by}
 use Rattle.bor_store_sql.specs.Changing.{withdrawn}
 use Rattle.bor_store_sql.specs.Shown.{IsClean, ShowsIn}
-use Rattle.bor_store.proofs.Filing.{any_fault, change_left, counted_failed}
+use Rattle.bor_store.proofs.Filing.{any_fault, change_left, counted_made}
 use Rattle.bor_store.proofs.sql_keep.SqlKeepKeep.withdraw.Goals as goal
 
 pub returns-clause-changes : goal.returns-clause-changes
@@ -14,7 +14,7 @@ returns-clause-changes g c =
     let began : IsClean (state g.S.Store c.made.new.self.conn) → IsClean (state g.S.Store c.args.self.now.conn) = λ clean. subst (λ k. IsClean (state g.S.Store k)) same (made.began (subst (λ k. IsClean (state g.S.Store k)) told.conn clean)) in
     record {
       began = began;
-      counts = counted_failed c.withdraw_filing-made.result c.made.result c.args.self.now.faults c.made.new.self.faults told.told told.counts;
+      counts = counted_made c.withdraw_filing-made.result c.made.result c.args.self.now.faults c.made.new.self.faults told.told told.counts;
       told = any_fault c.made.result;
       changed = λ r shows clean.
           (let ended = subst (λ k. IsClean (state g.S.Store k)) told.conn clean in
