@@ -39,5 +39,6 @@ pub mod Pairs
 pub mod Told
 pub mod Alone
 pub mod Fits
+pub mod OneRegister
 pub mod OnTexts
 pub mod OnRows

@@ -53,10 +53,10 @@ file_by_number_asks schema = understood_never schema file_by_number_text refl
 
 -- ---- the interests of which a day is said
 
-abbrev is_said : InterestRow → Bool
+abbrev pub is_said : InterestRow → Bool
 is_said i = is_some i.interest.starts || is_some i.interest.ends
 
-abbrev day_columns : InterestRow → Row
+abbrev pub day_columns : InterestRow → Row
 day_columns i = period_columns (period_of i)
 
 -- its row, before those of others
@@ -69,7 +69,7 @@ one_listed i rows is more = go i.interest.starts i.interest.ends
     go None (Some end) = ap (λ l. day_columns i ∷ l) more
     go (Some start) ends = ap (λ l. day_columns i ∷ l) more
 
-listed : (is : List InterestRow) → map period_columns (flat_map period_rows is) ≡ map day_columns (filter is_said is)
+pub listed : (is : List InterestRow) → map period_columns (flat_map period_rows is) ≡ map day_columns (filter is_said is)
 listed [] = refl
 listed (i ∷ is) = one_listed i (flat_map period_rows is) is (listed is)
 
@@ -81,10 +81,10 @@ all_listed : (ps : List Placed) → flat_map (λ (p : Placed). flat_map days_of 
 all_listed [] = refl
 all_listed (p ∷ ps) = ap (λ l. flat_map days_of (interest_rows p) ++ l) (all_listed ps) ∙ sym (flat_map-append days_of (interest_rows p) (flat_map interest_rows ps))
 
-abbrev all_interests : List Member → List InterestRow
+abbrev pub all_interests : List Member → List InterestRow
 all_interests ms = flat_map interest_rows (placed ms)
 
-table_is : (ms : List Member) → flat_map (λ (p : Placed). flat_map days_of (interest_rows p)) (placed ms) ≡ map day_columns (filter is_said (all_interests ms))
+pub table_is : (ms : List Member) → flat_map (λ (p : Placed). flat_map days_of (interest_rows p)) (placed ms) ≡ map day_columns (filter is_said (all_interests ms))
 table_is ms = all_listed (placed ms) ∙ days_listed (all_interests ms) ∙ listed (all_interests ms)
 
 -- which of two tests comes first is the same

@@ -6,6 +6,7 @@ pub mod Selected
 pub mod Blank
 pub mod Ran
 pub mod Moving
+pub mod Laws
 pub mod Fitting
 pub mod Texts
 pub mod Rows

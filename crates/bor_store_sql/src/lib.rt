@@ -11,6 +11,7 @@ mod columns;
 mod creation;
 mod fitting;
 mod keyed;
+pub mod laws;
 mod moving;
 mod queries;
 mod reads;

@@ -15,14 +15,14 @@ use Rattle.bor_store_sql.specs.declared.rows.typed.IdentifierRow.{IdentifierRow}
 use Rattle.bor_store_sql.specs.Rows.Placed.{same_place, bare, interest_rows, identifier_rows, interests_from, identifiers_from, interests_of, identifiers_of, part_of, details_with, with_lists, AreApart}
 use Rattle.bor_store_sql.proofs.OnRows.Numbers.{same_number}
 
-at_itself : (at : At) → same_place at at ≡ true
+pub at_itself : (at : At) → same_place at at ≡ true
 at_itself at = rw (same_refl at.agent, same_number at.filing, same_number at.place) refl
 
-interests_at : (at : At) (item : ℕ) (is : List Interest) → AllByRecursion (λ (row : InterestRow). same_place row.at at ≡ true) (interests_from at item is)
+pub interests_at : (at : At) (item : ℕ) (is : List Interest) → AllByRecursion (λ (row : InterestRow). same_place row.at at ≡ true) (interests_from at item is)
 interests_at at item [] = tt
 interests_at at item (i ∷ is) = (at_itself at, interests_at at (item + 1) is)
 
-identifiers_at : (at : At) (item : ℕ) (is : List Identifier) → AllByRecursion (λ (row : IdentifierRow). same_place row.at at ≡ true) (identifiers_from at item is)
+pub identifiers_at : (at : At) (item : ℕ) (is : List Identifier) → AllByRecursion (λ (row : IdentifierRow). same_place row.at at ≡ true) (identifiers_from at item is)
 identifiers_at at item [] = tt
 identifiers_at at item (i ∷ is) = (at_itself at, identifiers_at at (item + 1) is)
 
@@ -34,11 +34,11 @@ other_identifiers : (at other : At) (item : ℕ) (is : List Identifier) → same
 other_identifiers at other item [] e = tt
 other_identifiers at other item (i ∷ is) e = (e, other_identifiers at other (item + 1) is e)
 
-no_interests_at : (at : At) (ps : List Placed) → AllByRecursion (λ (q : Placed). same_place q.at at ≡ false) ps → AllByRecursion (λ (row : InterestRow). same_place row.at at ≡ false) (flat_map interest_rows ps)
+pub no_interests_at : (at : At) (ps : List Placed) → AllByRecursion (λ (q : Placed). same_place q.at at ≡ false) ps → AllByRecursion (λ (row : InterestRow). same_place row.at at ≡ false) (flat_map interest_rows ps)
 no_interests_at at [] all = tt
 no_interests_at at (p ∷ ps) all = all-append _ (interest_rows p) (flat_map interest_rows ps) (other_interests at p.at 1 (interests_of p.statement.details) all.0) (no_interests_at at ps all.1)
 
-no_identifiers_at : (at : At) (ps : List Placed) → AllByRecursion (λ (q : Placed). same_place q.at at ≡ false) ps → AllByRecursion (λ (row : IdentifierRow). same_place row.at at ≡ false) (flat_map identifier_rows ps)
+pub no_identifiers_at : (at : At) (ps : List Placed) → AllByRecursion (λ (q : Placed). same_place q.at at ≡ false) ps → AllByRecursion (λ (row : IdentifierRow). same_place row.at at ≡ false) (flat_map identifier_rows ps)
 no_identifiers_at at [] all = tt
 no_identifiers_at at (p ∷ ps) all = all-append _ (identifier_rows p) (flat_map identifier_rows ps) (other_identifiers at p.at 1 (identifiers_of p.statement.details) all.0) (no_identifiers_at at ps all.1)
 

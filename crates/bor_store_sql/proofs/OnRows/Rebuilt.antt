@@ -23,7 +23,7 @@ Splits {R} is_own rows own rest = (mine more : List R) → rows ≡ mine ++ more
 
 -- ---- the statements of a filing
 
-statements_at : (agent : List ℕ) (number place : ℕ) (ss : List Statement) → AllByRecursion (λ (p : Placed). (p.at.filing == number) ≡ true) (placed_from agent number place ss)
+pub statements_at : (agent : List ℕ) (number place : ℕ) (ss : List Statement) → AllByRecursion (λ (p : Placed). (p.at.filing == number) ≡ true) (placed_from agent number place ss)
 statements_at agent number place [] = tt
 statements_at agent number place (s ∷ ss) = (same_number number, statements_at agent number (place + 1) ss)
 
@@ -31,14 +31,14 @@ other_statements : (agent : List ℕ) (number other place : ℕ) (ss : List Stat
 other_statements agent number other place [] low = tt
 other_statements agent number other place (s ∷ ss) low = (grind (arith, nat_tests), other_statements agent number other (place + 1) ss low)
 
-later_statements : (agent : List ℕ) (number n : ℕ) (fs : List AcceptedFiling) → number < n → AreNumbered n fs → AllByRecursion (λ (p : Placed). (p.at.filing == number) ≡ false) (placed_by agent fs)
+pub later_statements : (agent : List ℕ) (number n : ℕ) (fs : List AcceptedFiling) → number < n → AreNumbered n fs → AllByRecursion (λ (p : Placed). (p.at.filing == number) ≡ false) (placed_by agent fs)
 later_statements agent number n [] low numbered = tt
 later_statements agent number n (f ∷ fs) low numbered =
     all-append _ (placed_from agent f.number 1 f.statements) (placed_by agent fs)
     (other_statements agent number f.number 1 f.statements (let is = numbered.0 in omega (arith, is)))
     (later_statements agent number (n + 1) fs (omega arith) numbered.1)
 
-statements_back : (agent : List ℕ) (number place : ℕ) (ss : List Statement) → map (λ (p : Placed). p.statement) (placed_from agent number place ss) ≡ ss
+pub statements_back : (agent : List ℕ) (number place : ℕ) (ss : List Statement) → map (λ (p : Placed). p.statement) (placed_from agent number place ss) ≡ ss
 statements_back agent number place [] = refl
 statements_back agent number place (s ∷ ss) = ap (λ l. s ∷ l) (statements_back agent number (place + 1) ss)
 
@@ -107,7 +107,7 @@ agent_from : (agent : List ℕ) (number place : ℕ) (ss : List Statement) → A
 agent_from agent number place [] = tt
 agent_from agent number place (s ∷ ss) = (same_refl agent, agent_from agent number (place + 1) ss)
 
-agent_by : (agent : List ℕ) (fs : List AcceptedFiling) → AllByRecursion (λ (p : Placed). is_same p.at.agent agent ≡ true) (placed_by agent fs)
+pub agent_by : (agent : List ℕ) (fs : List AcceptedFiling) → AllByRecursion (λ (p : Placed). is_same p.at.agent agent ≡ true) (placed_by agent fs)
 agent_by agent [] = tt
 agent_by agent (f ∷ fs) = all-append _ (placed_from agent f.number 1 f.statements) (placed_by agent fs) (agent_from agent f.number 1 f.statements) (agent_by agent fs)
 
@@ -119,14 +119,14 @@ other_by : (agent other : List ℕ) (fs : List AcceptedFiling) → is_same other
 other_by agent other [] e = tt
 other_by agent other (f ∷ fs) e = all-append _ (placed_from other f.number 1 f.statements) (placed_by other fs) (other_from agent other f.number 1 f.statements e) (other_by agent other fs e)
 
-differs : (agent other : List ℕ) → is_below agent other ≡ true → is_same other agent ≡ false
+pub differs : (agent other : List ℕ) → is_below agent other ≡ true → is_same other agent ≡ false
 differs agent other h = same_sym other agent ∙ below_differs agent other h
 
 above_filings : (agent : List ℕ) (ms : List Member) → AllAbove agent ms → AllByRecursion (λ (row : FilingRow). is_same row.agent agent ≡ false) (filing_lines ms)
 above_filings agent [] h = tt
 above_filings agent (m ∷ ms) h = all-append _ (map (filing_row m.name) m.filings) (filing_lines ms) (other_filings agent m.name m.filings (differs agent m.name h.0)) (above_filings agent ms h.1)
 
-above_statements : (agent : List ℕ) (ms : List Member) → AllAbove agent ms → AllByRecursion (λ (p : Placed). is_same p.at.agent agent ≡ false) (placed ms)
+pub above_statements : (agent : List ℕ) (ms : List Member) → AllAbove agent ms → AllByRecursion (λ (p : Placed). is_same p.at.agent agent ≡ false) (placed ms)
 above_statements agent [] h = tt
 above_statements agent (m ∷ ms) h = all-append _ (placed_by m.name m.filings) (placed ms) (other_by agent m.name m.filings (differs agent m.name h.0)) (above_statements agent ms h.1)
 

@@ -1,0 +1,170 @@
+-- The rows of a database are those of one register at most.
+use Rattle.std.proofs.Common.{◌≡◌, ℕ, zero, suc, pos, ◌+◌, List, [], ◌∷◌, ◌++◌, map, filter, refl, sym, ap, ap₂, subst, ◌∙◌, arith, IsPermutation, IsSorted}
+use Rattle.std.specs.List.{flat_map}
+use Rattle.std.specs.Ordering.{is_lt, ordering_reverse}
+use Rattle.std.proofs.lemmas.List.{map-append}
+use Rattle.std.proofs.lemmas.List.Sorted.{IsPermutation-trans, IsPermutation-sym}
+use Rattle.sqlite.specs.Effect.{Database}
+use Rattle.sqlite.specs.Order.{Row}
+use Rattle.sqlite.specs.State.{State}
+use Rattle.sqlite.specs.Tree.{IsAscending}
+use Rattle.sqlite.specs.declared.types.Value.TheVariants.{Int}
+use Rattle.sqlite_keyed.proofs.ListLemmas.{ascending-filter, ascending-map, map-flat_map}
+use Rattle.sqlite_keyed.proofs.SortLemmas.{sorted_unique}
+use Rattle.sqlite_sql.proofs.QueryLemmas.{key_cmp_total}
+use Rattle.sqlite_sql.specs.Query.{key_cmp}
+use Rattle.sqlite_value.specs.declared.keys.Key.{Key}
+use Rattle.bor_register.specs.Register.{Register}
+use Rattle.bor_register.specs.declared.filing.AcceptedFiling.{AcceptedFiling}
+use Rattle.bor_register.specs.declared.member.Member.{Member}
+use Rattle.bor_store_sql.specs.Kept.{AreRows, Keeps}
+use Rattle.bor_store_sql.specs.Rows.Encoding.{agent_columns, contents, filing_columns, filing_rows, identifier_columns, interest_columns, interest_line_columns, period_columns, register_columns, statement_columns}
+use Rattle.bor_store_sql.specs.Rows.Placed.{agent_row, bare, identifier_rows, interest_rows, line_of, period_rows, placed, register_row}
+use Rattle.bor_store_sql.specs.Rows.Stored.{IsStored}
+use Rattle.bor_store_sql.specs.Shown.{Has, ShowsIn}
+use Rattle.bor_store_sql.specs.declared.rows.typed.InterestRow.{InterestRow}
+use Rattle.bor_store_sql.specs.declared.rows.typed.Placed.{Placed}
+use Rattle.bor_store_sql.proofs.OnRows.Apart.{all_apart}
+use Rattle.bor_store_sql.proofs.OnRows.Decoded.{agent_in, filed, filing_back, filing_in, identifier_back, identifier_in, line_back, line_in, period_back, period_in, register_in, same_values, statement_back, statement_in}
+use Rattle.bor_store_sql.proofs.OnRows.Once.{all_filed, same_joined, same_members, same_timed}
+use Rattle.bor_store_sql.proofs.OnRows.Timings.{all_several}
+use Rattle.bor_store_sql.proofs.Orders.{IsInterestBefore, IsLower, agents_rise, filing_rows_are, identifier_rows_rise, interest_rows_rise, owned, owned_rise, placed_rise, up, whole}
+use Rattle.bor_store_sql.proofs.PeriodReads.{all_interests, day_columns, is_said, listed, table_is}
+
+-- ---- the rows of one table
+
+-- what stands under rising rowids
+same_stored : (low other : ℕ) (xs ys rows : List Row) → AreRows low xs rows → AreRows other ys rows → xs ≡ ys
+same_stored low other [] [] rows a b = refl
+same_stored low other [] (y ∷ ys) rows a b = let no : [] ≡ (Int (pos b.0) ∷ y) ∷ b.1 = sym a ∙ b.3 in absurd cc
+same_stored low other (x ∷ xs) [] rows a b = let no : [] ≡ (Int (pos a.0) ∷ x) ∷ a.1 = sym b ∙ a.3 in absurd cc
+same_stored low other (x ∷ xs) (y ∷ ys) rows a b =
+    let both : (Int (pos a.0) ∷ x) ∷ a.1 ≡ (Int (pos b.0) ∷ y) ∷ b.1 = sym a.3 ∙ b.3 in
+    let here : x ≡ y = cc in
+    let more : a.1 ≡ b.1 = cc in
+    ap₂ (λ z l. z ∷ l) here (same_stored (a.0 + 1) (b.0 + 1) xs ys a.1 a.4 (subst (λ l. AreRows (b.0 + 1) ys l) (sym more) b.4))
+
+-- rows that rise are sorted
+sorted_so : (keys : List Key) (xs : List Row) → IsAscending (IsLower keys) xs → IsSorted (key_cmp 0 keys) xs
+sorted_so keys [] rise k d a b = absurd (omega (arith, b))
+sorted_so keys (x ∷ []) rise k d a b = absurd (omega (arith, b))
+sorted_so keys (x ∷ y ∷ xs) rise zero d a b = ap is_lt ((key_cmp_total keys 0).antisymm y x ∙ ap ordering_reverse rise.0.0)
+sorted_so keys (x ∷ y ∷ xs) rise (suc k) d a b =
+    let e : suc k + 1 ≡ suc (k + 1) = omega arith in
+    rw e (sorted_so keys (y ∷ xs) rise.1 k d (omega arith) (omega (arith, b)))
+
+-- a table has one list of rows that rise
+same_rows : (keys : List Key) (xs ys rows : List Row) → IsAscending (IsLower keys) xs → IsAscending (IsLower keys) ys → Keeps xs rows → Keeps ys rows → xs ≡ ys
+same_rows keys xs ys rows rise rise_too a b =
+    let stored = same_stored 1 1 a.stored b.stored rows a.under b.under in
+    sym (sorted_unique (key_cmp 0 keys) (key_cmp_total keys 0) xs ys rise (IsPermutation-trans _ _ _ (IsPermutation-sym _ _ a.same) (subst (λ l. IsPermutation l ys) (sym stored) b.same)) (sorted_so keys ys rise_too))
+
+-- ---- the values of each table
+
+filed_by : (agent : List ℕ) (fs : List AcceptedFiling) → map filing_in (map (filing_columns agent) fs) ≡ map (filed agent) fs
+filed_by agent [] = refl
+filed_by agent (f ∷ fs) = ap₂ (λ x l. x ∷ l) (filing_back agent f) (filed_by agent fs)
+
+filed_are : (ms : List Member) → map filing_in (filing_rows ms) ≡ all_filed ms
+filed_are [] = refl
+filed_are (m ∷ ms) = map-append filing_in (map (filing_columns m.name) m.filings) (filing_rows ms) ∙ ap₂ (λ x l. x ++ l) (filed_by m.name m.filings) (filed_are ms)
+
+rows_of : (ms : List Member) → map (λ p. statement_columns (bare p)) (placed ms) ≡ map statement_columns (map bare (placed ms))
+rows_of ms = go (placed ms)
+  where
+    go : (ps : List Placed) → map (λ p. statement_columns (bare p)) ps ≡ map statement_columns (map bare ps)
+    go [] = refl
+    go (p ∷ ps) = ap (λ l. statement_columns (bare p) ∷ l) (go ps)
+
+lines_are : (is : List InterestRow) → map interest_columns is ≡ map interest_line_columns (map line_of is)
+lines_are [] = refl
+lines_are (i ∷ is) = ap (λ l. interest_columns i ∷ l) (lines_are is)
+
+agents_are : (ms : List Member) → map agent_in (map agent_columns ms) ≡ map agent_row ms
+agents_are [] = refl
+agents_are (m ∷ ms) = ap (λ l. agent_row m ∷ l) (agents_are ms)
+
+module _ (r q : Register) (db : Database) (stored : IsStored r) (stored_too : IsStored q) (has : Has (contents r) db) (has_too : Has (contents q) db) where
+  registers : register_row r ≡ register_row q
+  registers =
+      let one : register_columns r ∷ [] ≡ register_columns q ∷ [] = same_rows [] (register_columns r ∷ []) (register_columns q ∷ []) (db.trees 0) (tt, tt) (tt, tt) has.register has_too.register in
+      let row : register_columns r ≡ register_columns q = cc in
+      ap register_in row
+
+  agents : map agent_row r.members ≡ map agent_row q.members
+  agents =
+      sym (agents_are r.members)
+      ∙ ap (map agent_in) (same_rows (up ∷ []) (map agent_columns r.members) (map agent_columns q.members) (db.trees 2)
+      (ascending-map (IsLower (up ∷ [])) agent_columns r.members (agents_rise r.members stored.ordered)) (ascending-map (IsLower (up ∷ [])) agent_columns q.members (agents_rise q.members stored_too.ordered)) has.agents has_too.agents)
+      ∙ agents_are q.members
+
+  filings_up : (s : Register) → IsStored s → IsAscending (IsLower (up ∷ up ∷ [])) (filing_rows s.members)
+  filings_up s is = subst (IsAscending (IsLower (up ∷ up ∷ []))) (sym (filing_rows_are s.members)) (ascending-map (IsLower (up ∷ up ∷ [])) whole (owned s.members) (owned_rise s.members is.ordered is.numbered))
+
+  filings : all_filed r.members ≡ all_filed q.members
+  filings =
+      sym (filed_are r.members) ∙ ap (map filing_in) (same_rows (up ∷ up ∷ []) (filing_rows r.members) (filing_rows q.members) (db.trees 5) (filings_up r stored) (filings_up q stored_too) has.filings has_too.filings) ∙ filed_are q.members
+
+  statements_up : (s : Register) → IsStored s → IsAscending (IsLower (up ∷ up ∷ up ∷ [])) (map (λ p. statement_columns (bare p)) (placed s.members))
+  statements_up s is = ascending-map (IsLower (up ∷ up ∷ up ∷ [])) (λ p. statement_columns (bare p)) (placed s.members) (placed_rise s.members is.ordered is.numbered)
+
+  statements : map bare (placed r.members) ≡ map bare (placed q.members)
+  statements =
+      same_values statement_columns statement_in statement_back (map bare (placed r.members)) (map bare (placed q.members))
+      (sym (rows_of r.members) ∙ same_rows (up ∷ up ∷ up ∷ []) (map (λ p. statement_columns (bare p)) (placed r.members)) (map (λ p. statement_columns (bare p)) (placed q.members)) (db.trees 8) (statements_up r stored) (statements_up q stored_too) has.statements has_too.statements ∙ rows_of q.members)
+
+  interests_up : (s : Register) → IsStored s → IsAscending (IsLower (up ∷ up ∷ up ∷ up ∷ [])) (contents s).interests
+  interests_up s is =
+      subst (IsAscending (IsLower (up ∷ up ∷ up ∷ up ∷ []))) (map-flat_map interest_columns interest_rows (placed s.members))
+      (ascending-map (IsLower (up ∷ up ∷ up ∷ up ∷ [])) interest_columns (all_interests s.members) (interest_rows_rise s.members is.ordered is.numbered))
+
+  lines : map line_of (all_interests r.members) ≡ map line_of (all_interests q.members)
+  lines =
+      same_values interest_line_columns line_in line_back (map line_of (all_interests r.members)) (map line_of (all_interests q.members))
+      (sym (lines_are (all_interests r.members)) ∙ map-flat_map interest_columns interest_rows (placed r.members)
+      ∙ same_rows (up ∷ up ∷ up ∷ up ∷ []) (contents r).interests (contents q).interests (db.trees 11) (interests_up r stored) (interests_up q stored_too) has.interests has_too.interests
+      ∙ sym (map-flat_map interest_columns interest_rows (placed q.members)) ∙ lines_are (all_interests q.members))
+
+  periods_up : (s : Register) → IsStored s → IsAscending (IsLower (up ∷ up ∷ up ∷ up ∷ [])) (contents s).periods
+  periods_up s is =
+      subst (IsAscending (IsLower (up ∷ up ∷ up ∷ up ∷ []))) (sym (table_is s.members))
+      (ascending-map (IsLower (up ∷ up ∷ up ∷ up ∷ [])) day_columns (filter is_said (all_interests s.members)) (ascending-filter IsInterestBefore is_said (all_interests s.members) (interest_rows_rise s.members is.ordered is.numbered)))
+
+  periods : flat_map period_rows (all_interests r.members) ≡ flat_map period_rows (all_interests q.members)
+  periods =
+      same_values period_columns period_in period_back (flat_map period_rows (all_interests r.members)) (flat_map period_rows (all_interests q.members))
+      (listed (all_interests r.members) ∙ sym (table_is r.members)
+      ∙ same_rows (up ∷ up ∷ up ∷ up ∷ []) (contents r).periods (contents q).periods (db.trees 19) (periods_up r stored) (periods_up q stored_too) has.periods has_too.periods
+      ∙ table_is q.members ∙ sym (listed (all_interests q.members)))
+
+  identifiers_up : (s : Register) → IsStored s → IsAscending (IsLower (up ∷ up ∷ up ∷ up ∷ [])) (contents s).identifiers
+  identifiers_up s is =
+      subst (IsAscending (IsLower (up ∷ up ∷ up ∷ up ∷ []))) (map-flat_map identifier_columns identifier_rows (placed s.members))
+      (ascending-map (IsLower (up ∷ up ∷ up ∷ up ∷ [])) identifier_columns (flat_map identifier_rows (placed s.members)) (identifier_rows_rise s.members is.ordered is.numbered))
+
+  identifiers : flat_map identifier_rows (placed r.members) ≡ flat_map identifier_rows (placed q.members)
+  identifiers =
+      same_values identifier_columns identifier_in identifier_back (flat_map identifier_rows (placed r.members)) (flat_map identifier_rows (placed q.members))
+      (map-flat_map identifier_columns identifier_rows (placed r.members)
+      ∙ same_rows (up ∷ up ∷ up ∷ up ∷ []) (contents r).identifiers (contents q).identifiers (db.trees 13) (identifiers_up r stored) (identifiers_up q stored_too) has.identifiers has_too.identifiers
+      ∙ sym (map-flat_map identifier_columns identifier_rows (placed q.members)))
+
+  -- ---- one register
+
+  interests : all_interests r.members ≡ all_interests q.members
+  interests =
+      same_timed (all_interests r.members) (all_interests q.members) (all_several (placed r.members) (all_apart r.members stored.ordered stored.numbered))
+      (all_several (placed q.members) (all_apart q.members stored_too.ordered stored_too.numbered)) lines periods
+
+  all_placed : placed r.members ≡ placed q.members
+  all_placed =
+      same_joined (placed r.members) (placed q.members) (all_apart r.members stored.ordered stored.numbered) (all_apart q.members stored_too.ordered stored_too.numbered) statements interests identifiers
+
+  pub one_register : r ≡ q
+  one_register =
+      let members = same_members r.members q.members stored.ordered stored_too.ordered stored.numbered stored_too.numbered agents filings all_placed in
+      λ k. record { day = (registers k).day; registrar = (registers k).registrar; members = members k }
+
+-- the same of what the last commit left
+pub one_shown : (r q : Register) (s : State) → ShowsIn r s → ShowsIn q s → r ≡ q
+one_shown r q s shows too = one_register r q s.committed shows.stored too.stored shows.has too.has
