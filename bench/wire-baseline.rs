@@ -1,9 +1,11 @@
 //! The baseline of `bench/wire`: a register in memory with hash maps and `serde_json`, with no proofs. It answers what the mix asks
-//! and takes what is well formed: not every refusal is here, and no value is escaped. Usage: wire-baseline TIMES SETUP ASKED OUT
+//! and takes what is well formed: not every refusal is here, and no value is escaped. Usage: wire-baseline TIMES SETUP ASKED OUT.
+//! With the feature `file` it also keeps a register in a file: `bench/file-baseline.rs`.
 
 use serde::Serialize;
 use serde_json::Value;
 use std::{collections::{BTreeMap, BTreeSet, HashMap, HashSet}, env, fs, io};
+#[cfg(feature = "file")] mod file;
 
 #[derive(Serialize)] #[serde(rename_all = "camelCase")]
 struct Share { high: u64, high_open: bool, low: u64, low_open: bool }
@@ -43,7 +45,7 @@ use Reply::{No, Yes};
 }
 #[derive(Serialize)] struct Outward<'a> { agent: &'a str, due: &'a str, statements: Vec<Shown<'a>> }
 #[derive(Serialize)] struct Snapshot<'a> { date: &'a str, records: Vec<Shown<'a>> }
-#[derive(Serialize)] struct Person<'a> { agent: &'a str, declaration: &'a str, name: Option<&'a str>, record: &'a str }
+#[derive(Serialize)] struct Person<'a> { agent: &'a str, declaration: &'a str, links: usize, name: Option<&'a str>, record: &'a str }
 #[derive(Serialize)] struct Chains<'a> { agent: &'a str, date: &'a str, declaration: &'a str, persons: Vec<Person<'a>>, record: &'a str }
 
 fn json<T: Serialize>(status: u16, value: &T) -> Reply { Yes(status, serde_json::to_vec(value).unwrap()) }
@@ -95,29 +97,38 @@ impl Filing {
         Line { due: &self.due, filing: number, key: with_key.then_some(self.key.as_str()), state: self.state(day) }
     }
 }
+/// What is known of a record's last live statement: its type, status and date, and when its filing is due.
+type Last = (String, String, String, String);
+/// Settles the statements of a file after those that are there, or tells the place and the rule that is broken.
+fn settle(due: &str, statements: &mut [Statement], has_id: impl Fn(&str) -> bool, last_of: impl Fn(&Series) -> Option<Last>) -> Result<(), (usize, &'static str)> {
+    let mut ids = HashSet::new();
+    let mut last: HashMap<Series, Last> = HashMap::new();
+    for (i, new) in statements.iter_mut().enumerate() {
+        if has_id(&new.id) || !ids.insert(new.id.clone()) { return Err((i + 1, "StatementTwice")); }
+        let series = new.series();
+        let before = last.get(&series).cloned().or_else(|| last_of(&series));
+        let rules = match &before {
+            Some((kind, status, date, day)) => [(*kind != new.kind, "TypeChanged"), (new.status == "new", "RecordExists"), (status == "closed", "RecordClosed"),
+                (new.date < *date, "DateBack"), (due < day.as_str(), "DueBeforeRecord")],
+            None => [(new.status == "updated" || new.status == "closed", "RecordUnknown"); 5],
+        };
+        if let Some((_, rule)) = rules.into_iter().find(|(broken, _)| *broken) { return Err((i + 1, rule)); }
+        if new.status.is_empty() { new.status = if before.is_some() { "updated" } else { "new" }.to_string(); }
+        last.insert(series, (new.kind.clone(), new.status.clone(), new.date.clone(), due.to_string()));
+    }
+    Ok(())
+}
+/// The statements of a file, or why it isn't read.
+fn read(body: &[u8]) -> Result<Vec<Statement>, &'static str> {
+    let file = serde_json::from_slice::<Value>(body).map_err(|_| "NotJson")?;
+    let Value::Array(list) = &file else { return Err("NotAList") };
+    list.iter().map(statement).collect::<Option<Vec<_>>>().ok_or("Missing")
+}
 impl Agent {
-    /// Settles the statements after those that are there, or the place and the rule that is broken.
-    fn settle(&self, due: &str, statements: &mut [Statement]) -> Result<(), (usize, &'static str)> {
-        let mut ids = HashSet::new();
-        let mut last: HashMap<Series, (String, String, String, String)> = HashMap::new();
-        for (i, new) in statements.iter_mut().enumerate() {
-            if self.ids.contains(&new.id) || !ids.insert(new.id.clone()) { return Err((i + 1, "StatementTwice")); }
-            let series = new.series();
-            let before = last.get(&series).cloned().or_else(|| {
-                let (f, p) = *self.series.get(&series)?.last()?;
-                let s = &self.filings[f].statements[p];
-                Some((s.kind.clone(), s.status.clone(), s.date.clone(), self.filings[f].due.clone()))
-            });
-            let rules = match &before {
-                Some((kind, status, date, day)) => [(*kind != new.kind, "TypeChanged"), (new.status == "new", "RecordExists"), (status == "closed", "RecordClosed"),
-                    (new.date < *date, "DateBack"), (due < day.as_str(), "DueBeforeRecord")],
-                None => [(new.status == "updated" || new.status == "closed", "RecordUnknown"); 5],
-            };
-            if let Some((_, rule)) = rules.into_iter().find(|(broken, _)| *broken) { return Err((i + 1, rule)); }
-            if new.status.is_empty() { new.status = if before.is_some() { "updated" } else { "new" }.to_string(); }
-            last.insert(series, (new.kind.clone(), new.status.clone(), new.date.clone(), due.to_string()));
-        }
-        Ok(())
+    fn last(&self, series: &Series) -> Option<Last> {
+        let (f, p) = *self.series.get(series)?.last()?;
+        let s = &self.filings[f].statements[p];
+        Some((s.kind.clone(), s.status.clone(), s.date.clone(), self.filings[f].due.clone()))
     }
 }
 fn is_counting(i: &Interest) -> bool { i.kind != "other" && i.directness != "indirect" }
@@ -127,6 +138,24 @@ fn is_stake(interests: &[Interest]) -> bool {
     let held = interests.iter().any(|i| is_counting(i) && i.kind != "appointmentOfBoard" && is_some(i));
     interests.iter().any(|i| is_counting(i) && (i.kind == "votingRights" && i.share.as_ref().is_some_and(is_most)
         || i.kind == "appointmentOfBoard" && held && i.share.as_ref().map_or(true, is_most)))
+}
+struct Asked<'a> { method: &'a str, path: Vec<&'a str>, query: HashMap<&'a str, String>, token: Option<&'a str>, body: &'a [u8] }
+/// What an input asks for, or why it asks nothing.
+fn asked(input: &[u8]) -> Result<Asked<'_>, Reply> {
+    let Some(end) = input.windows(4).position(|w| w == b"\r\n\r\n") else { return Err(No(400, "CutShort", None)) };
+    let Ok(head) = std::str::from_utf8(&input[..end]) else { return Err(No(400, "BadHead", None)) };
+    let mut lines = head.split("\r\n");
+    let mut first = lines.next().unwrap_or("").split(' ');
+    let (method, target) = (first.next().unwrap_or(""), first.next().unwrap_or(""));
+    let (mut token, mut length) = (None, 0);
+    for (name, value) in lines.filter_map(|line| line.split_once(':')) {
+        if name.eq_ignore_ascii_case("authorization") { token = value.trim().strip_prefix("Bearer "); }
+        if name.eq_ignore_ascii_case("content-length") { length = value.trim().parse().unwrap_or(0); }
+    }
+    let Some(body) = input.get(end + 4..end + 4 + length) else { return Err(No(400, "CutShort", None)) };
+    let (path, query) = target.split_once('?').unwrap_or((target, ""));
+    let query = query.split('&').filter_map(|p| p.split_once('=')).map(|(n, v)| (n, v.to_string())).collect();
+    Ok(Asked { method, path: path.split('/').skip(1).collect(), query, token, body })
 }
 impl Register {
     fn latest(&self, viewer: &str, (agent, declaration, record): &Node, date: &str) -> Option<&Statement> {
@@ -143,10 +172,8 @@ impl Register {
         }
         if agent.filings.len() >= 999 { return No(409, "FilingsFull", None); }
         if due < self.day.as_str() { return No(422, "DuePast", None); }
-        let Ok(file) = serde_json::from_slice::<Value>(body) else { return No(422, "NotJson", None) };
-        let Value::Array(list) = &file else { return No(422, "NotAList", None) };
-        let Some(mut statements) = list.iter().map(statement).collect::<Option<Vec<_>>>() else { return No(422, "Missing", None) };
-        if let Err((place, rule)) = agent.settle(due, &mut statements) { return No(422, rule, Some(place)); }
+        let mut statements = match read(body) { Ok(statements) => statements, Err(fault) => return No(422, fault, None) };
+        if let Err((place, rule)) = settle(due, &mut statements, |id| agent.ids.contains(id), |series| agent.last(series)) { return No(422, rule, Some(place)); }
         let at = agent.filings.len();
         for (i, s) in statements.iter().enumerate() {
             agent.ids.insert(s.id.clone());
@@ -200,8 +227,10 @@ impl Register {
     }
     fn chains(&self, viewer: &str, entity: Node, date: &str) -> Reply {
         if !matches!(self.latest(viewer, &entity, date), Some(s) if s.kind == "entity") { return No(404, "NoEntity", None); }
-        let (mut seen, mut persons, mut wave, mut is_first) = (HashSet::new(), BTreeMap::new(), vec![entity.clone()], true);
+        let (mut seen, mut persons, mut wave, mut links) = (HashSet::new(), BTreeMap::new(), vec![entity.clone()], 0);
         while !wave.is_empty() {
+            let is_first = links == 0;
+            links += 1;
             let mut class: Vec<Node> = wave.into_iter().filter(|n| seen.insert((is_first, n.clone()))).collect();
             let mut at = 0;
             while at < class.len() {
@@ -217,35 +246,21 @@ impl Register {
                     if subject.as_ref() != Some(&node.2) || !counts { continue; }
                     let party = (node.0.clone(), node.1.clone(), party.clone());
                     match self.latest(viewer, &party, date).map(|s| &s.details) {
-                        Some(Details::Person { name, .. }) => { persons.insert(party, name.as_deref()); }
+                        Some(Details::Person { name, .. }) => { persons.entry(party).or_insert((links, name.as_deref())); }
                         Some(Details::Entity { kind, .. }) if kind == "registeredEntity" || kind == "legalEntity" => wave.push(party),
                         _ => {}
                     }
                 }
             }
-            is_first = false;
         }
-        let persons = persons.iter().map(|((agent, declaration, record), name)| Person { agent, declaration, name: *name, record }).collect();
+        let persons = persons.iter().map(|((agent, declaration, record), (links, name))| Person { agent, declaration, links: *links, name: *name, record }).collect();
         json(200, &Chains { agent: &entity.0, date, declaration: &entity.1, persons, record: &entity.2 })
     }
     fn answer(&mut self, input: &[u8]) -> Reply {
-        let Some(end) = input.windows(4).position(|w| w == b"\r\n\r\n") else { return No(400, "CutShort", None) };
-        let Ok(head) = std::str::from_utf8(&input[..end]) else { return No(400, "BadHead", None) };
-        let mut lines = head.split("\r\n");
-        let mut first = lines.next().unwrap_or("").split(' ');
-        let (method, target) = (first.next().unwrap_or(""), first.next().unwrap_or(""));
-        let (mut token, mut length) = (None, 0);
-        for (name, value) in lines.filter_map(|line| line.split_once(':')) {
-            if name.eq_ignore_ascii_case("authorization") { token = value.trim().strip_prefix("Bearer "); }
-            if name.eq_ignore_ascii_case("content-length") { length = value.trim().parse().unwrap_or(0); }
-        }
-        let Some(body) = input.get(end + 4..end + 4 + length) else { return No(400, "CutShort", None) };
-        let (path, query) = target.split_once('?').unwrap_or((target, ""));
-        let query: HashMap<&str, String> = query.split('&').filter_map(|p| p.split_once('=')).map(|(n, v)| (n, v.to_string())).collect();
+        let Asked { method, path, query, token, body } = match asked(input) { Ok(asked) => asked, Err(refusal) => return refusal };
         let get = |name: &str| query.get(name).cloned().unwrap_or_default();
         let date = query.get("date").cloned().unwrap_or_else(|| self.day.clone());
         let Some(token) = token else { return No(401, "NoToken", None) };
-        let path: Vec<&str> = path.split('/').skip(1).collect();
         if token == self.registrar {
             let (name, token) = (get("name"), String::from_utf8_lossy(body).to_string());
             self.agents.insert(name.clone(), Agent::default());
@@ -285,6 +300,7 @@ fn tell_time(word: &str) {
 }
 fn main() -> io::Result<()> {
     let words: Vec<String> = env::args().collect();
+    #[cfg(feature = "file")] if words[1] == "file" { return file::answer_all(&words[2], &words[3..]); }
     let read = |path: &str| -> io::Result<Vec<Vec<u8>>> { Ok(fs::read(path)?.split(|b| *b == 30).map(<[u8]>::to_vec).collect()) };
     let (setup, asked) = (read(&words[2])?, read(&words[3])?);
     for _ in 0..words[1].parse().unwrap_or(1) {

@@ -12,36 +12,42 @@ def request(agent, method, target, body=""):
     )
 
 
-def statement(sid, record, kind, details):
+def statement(sid, record, kind, details, declaration):
     return (
-        f'{{"statementId":"{sid}","statementDate":"2024-01-10","declarationSubject":"c1",'
+        f'{{"statementId":"{sid}","statementDate":"2024-01-10","declarationSubject":"{declaration}",'
         f'"recordId":"{record}","recordType":"{kind}","recordDetails":{{{details}}}}}'
     )
 
 
-def entity(sid, record, identifier):
+def entity(sid, record, identifier, declaration="c1"):
     return statement(
         sid,
         record,
         "entity",
         f'"entityType":{{"type":"registeredEntity"}},"name":"Company {record}",'
         f'"identifiers":[{{"scheme":"GB-COH","id":"{identifier}"}}]',
+        declaration,
     )
 
 
-def person(sid, record):
+def person(sid, record, declaration="c1"):
     return statement(
-        sid, record, "person", f'"personType":"knownPerson","names":[{{"fullName":"Person {record}"}}]'
+        sid,
+        record,
+        "person",
+        f'"personType":"knownPerson","names":[{{"fullName":"Person {record}"}}]',
+        declaration,
     )
 
 
-def held(sid, record, subject, party):
+def held(sid, record, subject, party, declaration="c1"):
     return statement(
         sid,
         record,
         "relationship",
         f'"subject":"{subject}","interestedParty":"{party}","interests":['
         '{"type":"votingRights","directOrIndirect":"direct","share":{"minimum":50,"exclusiveMinimum":true,"maximum":75}}]',
+        declaration,
     )
 
 
