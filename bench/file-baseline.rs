@@ -2,7 +2,7 @@
 //! transaction that is flushed. Each statement of SQL is prepared once. It answers no other request.
 
 use super::*;
-use std::{ffi::{c_char, c_int, c_void, CString}, io::Write, ops::Range, ptr, slice};
+use std::{ffi::{c_char, c_int, c_void, CString}, ops::Range, ptr, slice};
 
 type Handle = *mut c_void;
 #[link(name = "sqlite3")]

@@ -1,10 +1,11 @@
 //! The baseline of `bench/wire`: a register in memory with hash maps and `serde_json`, with no proofs. It answers what the mix asks
-//! and takes what is well formed: not every refusal is here, and no value is escaped. Usage: wire-baseline TIMES SETUP ASKED OUT.
-//! With the feature `file` it also keeps a register in a file: `bench/file-baseline.rs`.
+//! and takes what is well formed: not every refusal is here, and no value is escaped. Usage: wire-baseline TIMES SETUP ASKED OUT,
+//! or wire-baseline exchange REQUEST.. for a run over files of requests. With the feature `file`, wire-baseline file PATH REQUEST..
+//! keeps the register in a file: `bench/file-baseline.rs`.
 
 use serde::Serialize;
 use serde_json::Value;
-use std::{collections::{BTreeMap, BTreeSet, HashMap, HashSet}, env, fs, io};
+use std::{collections::{BTreeMap, BTreeSet, HashMap, HashSet}, env, fs, io::{self, Write}};
 #[cfg(feature = "file")] mod file;
 
 #[derive(Serialize)] #[serde(rename_all = "camelCase")]
@@ -158,6 +159,9 @@ fn asked(input: &[u8]) -> Result<Asked<'_>, Reply> {
     Ok(Asked { method, path: path.split('/').skip(1).collect(), query, token, body })
 }
 impl Register {
+    fn new() -> Register {
+        Register { day: "2024-02-01".to_string(), registrar: "registrar-token-0001".to_string(), tokens: HashMap::new(), agents: BTreeMap::new(), signs: HashMap::new() }
+    }
     fn latest(&self, viewer: &str, (agent, declaration, record): &Node, date: &str) -> Option<&Statement> {
         let own = self.agents.get(agent)?;
         let seen = own.series.get(&(declaration.clone(), record.clone()))?.iter().rev().filter(|(f, _)| agent == viewer || own.filings[*f].due <= self.day);
@@ -298,13 +302,21 @@ fn tell_time(word: &str) {
     unsafe { clock_gettime(2, &mut time) }; // CLOCK_PROCESS_CPUTIME_ID
     println!("{word} {}", time[0] * 1_000_000_000 + time[1]);
 }
+/// Answers the requests in these files, and writes the replies.
+fn exchange(files: &[String]) -> io::Result<()> {
+    let inputs = files.iter().map(fs::read).collect::<io::Result<Vec<_>>>()?;
+    let mut register = Register::new();
+    let replies = inputs.iter().fold(Vec::new(), |mut all, input| { all.extend(bytes_of(register.answer(input))); all });
+    io::stdout().write_all(&replies)
+}
 fn main() -> io::Result<()> {
     let words: Vec<String> = env::args().collect();
     #[cfg(feature = "file")] if words[1] == "file" { return file::answer_all(&words[2], &words[3..]); }
+    if words[1] == "exchange" { return exchange(&words[2..]); }
     let read = |path: &str| -> io::Result<Vec<Vec<u8>>> { Ok(fs::read(path)?.split(|b| *b == 30).map(<[u8]>::to_vec).collect()) };
     let (setup, asked) = (read(&words[2])?, read(&words[3])?);
     for _ in 0..words[1].parse().unwrap_or(1) {
-        let mut register = Register { day: "2024-02-01".to_string(), registrar: "registrar-token-0001".to_string(), tokens: HashMap::new(), agents: BTreeMap::new(), signs: HashMap::new() };
+        let mut register = Register::new();
         for input in &setup { register.answer(input); }
         tell_time("from");
         let replies: Vec<Vec<u8>> = asked.iter().map(|input| bytes_of(register.answer(input))).collect();
