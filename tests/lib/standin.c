@@ -7,6 +7,8 @@
 //   STANDIN_FAIL=N    fails its Nth call that reads, changes or flushes such a file, as a disk with a fault does.
 //   STANDIN_FAILS=N   fails that call and each behind it.
 //   STANDIN_MARK=P    makes the file P where the Nth call came.
+//   STANDIN_STARVE=P  refuses all memory between two reads of /dev/zero, and adds a line to the file P at the second
+//                     one, which tells how often memory was asked for.
 //
 // Files of a register are those with ".db" in their names. Real calls go to the kernel, or to the C library's
 // own allocator, so that nothing here needs memory.
@@ -26,6 +28,7 @@
 extern void *__libc_malloc(size_t);
 extern void *__libc_calloc(size_t, size_t);
 extern void *__libc_realloc(void *, size_t);
+extern void *__libc_memalign(size_t, size_t);
 
 // The number of the call at which something is done, by the variable of this name; 0 where there is none.
 static long number_of(const char *name) {
@@ -41,8 +44,14 @@ static void mark(void) {
 // ---- memory
 
 static long taken, refused = -1;
+static long asked, is_starving;
 
 static int is_refused(void) {
+    if (is_starving) {
+        asked++;
+        errno = ENOMEM;
+        return 1;
+    }
     if (refused < 0) refused = number_of("STANDIN_REFUSE");
     if (refused == 0 || ++taken != refused) return 0;
     mark();
@@ -53,6 +62,27 @@ static int is_refused(void) {
 void *malloc(size_t size) { return is_refused() ? NULL : __libc_malloc(size); }
 void *calloc(size_t count, size_t size) { return is_refused() ? NULL : __libc_calloc(count, size); }
 void *realloc(void *old, size_t size) { return is_refused() ? NULL : __libc_realloc(old, size); }
+void *memalign(size_t boundary, size_t size) { return is_refused() ? NULL : __libc_memalign(boundary, size); }
+void *aligned_alloc(size_t boundary, size_t size) { return memalign(boundary, size); }
+
+int posix_memalign(void **at, size_t boundary, size_t size) {
+    void *made = memalign(boundary, size);
+    if (made) *at = made;
+    return made ? 0 : ENOMEM;
+}
+
+// Begins to refuse all memory, or ends it and tells how often some was asked for.
+static void turn_starving(const char *path) {
+    char line[32];
+    is_starving = !is_starving;
+    if (!is_starving) {
+        int size = snprintf(line, sizeof line, "%ld\n", asked);
+        int out = syscall(SYS_openat, AT_FDCWD, path, O_CREAT | O_WRONLY | O_APPEND, 0600);
+        if (syscall(SYS_write, out, line, size) != size) abort();
+        syscall(SYS_close, out);
+    }
+    asked = 0;
+}
 
 // ---- files
 
@@ -228,7 +258,15 @@ ssize_t pwritev(int fd, const struct iovec *parts, int count, off_t offset) {
     return pwritev64(fd, parts, count, offset);
 }
 
+// Where all memory is to be refused between two reads of /dev/zero, this may be one of them.
+static void before_read(int fd) {
+    char path[LENGTH];
+    const char *told = getenv("STANDIN_STARVE");
+    if (told && path_of(fd, path) && !strcmp(path, "/dev/zero")) turn_starving(told);
+}
+
 ssize_t read(int fd, void *bytes, size_t size) {
+    before_read(fd);
     return fails(is_fd_of_a_register(fd)) ? -1 : syscall(SYS_read, fd, bytes, size);
 }
 

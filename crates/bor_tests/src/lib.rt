@@ -35,3 +35,5 @@ mod serving;
 mod streams;
 #[cfg(test)]
 mod terms;
+#[cfg(test)]
+mod without_memory;

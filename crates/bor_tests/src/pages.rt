@@ -31,8 +31,8 @@ fn the_page_of_files(rt: HostRuntime) {
     assert_eq!(rt; refused.err(), Some(ReadFault::File(fault)));
 }
 
-// The statements of a file in words.
-fn statements(rt: &impl Abort, alloc: Global, words: &str) -> Vec<Statement> {
+/// The statements of a file in words.
+pub(crate) fn statements(rt: &impl Abort, alloc: Global, words: &str) -> Vec<Statement> {
     read_file(alloc, file(rt, alloc, words).as_bytes()).expect(rt, "not read")
 }
 
@@ -54,8 +54,8 @@ fn the_page_of_records(rt: HostRuntime) {
     assert_eq!(rt; admit(None, two, due), Ok(Status::New));
 }
 
-// The statements of a file in words as new rows of alder's.
-fn rows(rt: &impl Abort, alloc: Global, words: &str) -> Vec<Row> {
+/// The statements of a file in words as new rows of alder's.
+pub(crate) fn rows(rt: &impl Abort, alloc: Global, words: &str) -> Vec<Row> {
     let mut rows = Vec::new(alloc);
     for statement in statements(rt, alloc, words) {
         let row = Row {
@@ -70,14 +70,16 @@ fn rows(rt: &impl Abort, alloc: Global, words: &str) -> Vec<Row> {
     rows
 }
 
-fn interests_of(statement: &Statement) -> &[Interest] {
+/// The interests of a relationship.
+pub(crate) fn interests_of(statement: &Statement) -> &[Interest] {
     match &statement.details {
         Details::Relationship { interests, .. } => interests.as_slice(),
         _ => &[],
     }
 }
 
-fn open_node(rt: &impl Abort, alloc: Global, row: &Row) -> OpenNode {
+/// The node of a row.
+pub(crate) fn open_node(rt: &impl Abort, alloc: Global, row: &Row) -> OpenNode {
     node_of(alloc, row)
         .expect(rt, "memory")
         .expect(rt, "no node")
@@ -115,8 +117,14 @@ fn the_page_of_chains(rt: HostRuntime) {
     assert_eq!(rt; persons[0].links, 2);
 }
 
-// Adds a filing of one statement, due on a day, where there is room.
-fn add(rt: &impl Abort, alloc: Global, members: &mut Vec<Member>, agent: &AgentName, due: Day) {
+/// Adds a filing of one statement, due on a day, where there is room.
+pub(crate) fn add(
+    rt: &impl Abort,
+    alloc: Global,
+    members: &mut Vec<Member>,
+    agent: &AgentName,
+    due: Day,
+) {
     assert!(rt; is_enrolled(members, agent), "not enrolled");
     assert!(rt;
         own_filings(members, agent).len() < FILINGS_LIMIT,
