@@ -1,15 +1,17 @@
 -- What is known of a client's stream, read after read and write after write.
-use Rattle.std.proofs.Common.{◌≡◌, ◌≤◌, ◌<◌, ◌↔◌, Bool, true, false, inl, inr, arith, ℕ, List, [], ◌++◌, Option, Some, None, take, refl, sym, ap, ◌∙◌, append_assoc, append-nil}
+use Rattle.std.proofs.Common.{◌≡◌, ◌≤◌, ◌<◌, ◌↔◌, Bool, true, false, inl, inr, arith, ℕ, List, [], ◌++◌, Option, Some, None, length, take, refl, sym, ap, subst, ◌∙◌, append_assoc, append-nil, length-append}
 use Rattle.std.proofs.lemmas.Bool.{cases_lt, iff_false}
 use Rattle.std.specs.Io.KnownBytes.{Appends, Consumes, Keeps}
-use Rattle.bor_program.specs.Connections.Streams.{Came}
+use Rattle.bor_program.specs.Connections.Limits.{rest_limit}
+use Rattle.bor_program.specs.Connections.Serving.{Answer}
+use Rattle.bor_program.specs.Connections.Streams.{Came, Drops, IsDraining, IsTold, IsWriting}
+
+consumes_nothing : (known : Option (List ℕ)) → Consumes known known []
+consumes_nothing None = tt
+consumes_nothing (Some xs) = refl
 
 pub came_new : {S : Type 0} (remaining : S → Option (List ℕ)) (stream : S) → Came remaining stream []
-came_new remaining stream = (stream, nothing (remaining stream))
-  where
-    nothing : (known : Option (List ℕ)) → Consumes known known []
-    nothing None = tt
-    nothing (Some xs) = refl
+came_new remaining stream = (stream, consumes_nothing (remaining stream))
 
 consumes_more : (a b c : Option (List ℕ)) (bs cs : List ℕ) → Consumes a b bs → Consumes b c cs → Consumes a c (bs ++ cs)
 consumes_more None b c bs cs p q = tt
@@ -44,3 +46,33 @@ not_reached needed count len is_whole both isnt same = elim (cases_lt count need
   | inl lt ↦ lt
   | inr le ↦ absurd (iff_false both isnt (omega (arith, le, same)))
 ]
+
+-- ---- behind a reply
+
+-- nothing was read yet
+pub drains_none : {S : Type 0} (remaining contents : S → Option (List ℕ)) (stream : S) (answer : Answer) (sent left : ℕ) → sent ≡ length answer.reply → left ≡ rest_limit
+    → IsWriting remaining contents stream answer sent → IsDraining remaining contents stream answer left
+drains_none remaining contents stream answer sent left whole all h =
+    record { written = stream; told = subst (IsWriting remaining contents stream answer) whole h; dropped = ([], consumes_nothing (remaining stream), omega (arith, all)) }
+
+pub drains_more : {S : Type 0} (remaining contents : S → Option (List ℕ)) (old new : S) (answer : Answer) (before after : ℕ) → IsDraining remaining contents old answer before
+    → Drops (remaining old) (remaining new) before after → IsDraining remaining contents new answer after
+drains_more remaining contents old new answer before after h more =
+    let first = h.dropped in
+    record {
+      written = h.written;
+      told = h.told;
+      dropped = (first.0 ++ more.0, consumes_more (remaining h.written) (remaining old) (remaining new) first.0 more.0 first.1 more.1, omega (arith, first.2, more.2, length-append first.0 more.0));
+    }
+
+-- ---- as the stream is let go
+
+pub told_writing : {S : Type 0} (remaining contents : S → Option (List ℕ)) (stream : S) (answer : Answer) (sent : ℕ) → IsWriting remaining contents stream answer sent → IsTold remaining contents answer sent
+told_writing remaining contents stream answer sent h =
+    record { written = stream; told = h; let_go = stream; dropped = []; behind = consumes_nothing (remaining stream); bound = omega arith }
+
+pub told_draining : {S : Type 0} (remaining contents : S → Option (List ℕ)) (stream : S) (answer : Answer) (left : ℕ) → IsDraining remaining contents stream answer left
+    → IsTold remaining contents answer (length answer.reply)
+told_draining remaining contents stream answer left h =
+    let drops = h.dropped in
+    record { written = h.written; told = h.told; let_go = stream; dropped = drops.0; behind = drops.1; bound = omega (arith, drops.2) }

@@ -2,18 +2,21 @@
 use Rattle.std.specs.Prelude.{◌≡◌, ◌≤◌, ◌<◌, ◌⊎◌, ◌+◌, ◌++◌, ℕ, List, length, take, Option, ⊤}
 use Rattle.std.specs.Io.KnownBytes.{Appends, Consumes, IsAtEnd}
 use Rattle.bor_http.specs.declared.incoming.progress.Progress.{Progress}
+use Rattle.bor_http.specs.Incoming.Message.{request_limit}
 use Rattle.bor_http.specs.Incoming.Progress.{IsProgress, IsWhole, needs}
+use Rattle.bor_program.specs.Connections.Limits.{rest_limit}
 use Rattle.bor_program.specs.Connections.Serving.{Answer, Ended, Absent, Unanswered, Told}
 
 -- these bytes were read from the stream, since it came
 abbrev pub Came : {S : Type 0} → (S → Option (List ℕ)) → S → List ℕ → Type 0
 Came {S} remaining stream bytes = (came : S) × Consumes (remaining came) (remaining stream) bytes
 
--- What is known of a client whose request is read: where its bytes come from, and how far they are known.
+-- What is known of a client whose request is read: where its bytes come from, how far they are known, and that they are no more than a head and a body may have.
 pub record IsReading {S : Type 0} (remaining : S → Option (List ℕ)) (stream : S) (received : List ℕ) (progress : Progress) : Type 0 where
   pub came : Came remaining stream received
   pub known : IsProgress received progress
   pub missing : length received < needs progress
+  pub fits : length received ≤ request_limit
 
 -- One read of a request took n bytes of the stream, at most as many as there was room for, and put them behind those that had come; none only at the end.
 pub record Received (known left : Option (List ℕ)) (old new : List ℕ) (room n : ℕ) : Type 0 where
@@ -28,23 +31,36 @@ pub record Received (known left : Option (List ℕ)) (old new : List ℕ) (room 
 abbrev pub IsReady : {S : Type 0} → (S → Option (List ℕ)) → S → Answer → Type 0
 IsReady remaining stream answer = IsWhole answer.request ⊎ (IsAtEnd (remaining stream) ⊎ (answer.status ≡ 503))
 
--- The request was read from this very stream, and was ready when it was answered; and so many bytes of the reply to it, and nothing else, were written to the same stream since then.
+-- The request was read from this very stream, is no longer than a request may be, and was ready when it was answered; and so many bytes of the reply to it, and nothing else, were written to the same stream since then.
 pub record IsWriting {S : Type 0} (remaining contents : S → Option (List ℕ)) (stream : S) (answer : Answer) (sent : ℕ) : Type 0 where
   pub read : S
   pub came : Came remaining read answer.request
+  pub fits : length answer.request ≤ request_limit
   pub ready : IsReady remaining read answer
   pub within : sent ≤ length answer.reply
   pub written : Appends (contents read) (contents stream) (take sent answer.reply)
-
-abbrev pub IsTold : {S : Type 0} → (S → Option (List ℕ)) → (S → Option (List ℕ)) → Answer → ℕ → Type 0
-IsTold {S} remaining contents answer sent = (stream : S) × IsWriting remaining contents stream answer sent
 
 -- of as many bytes as may still be read, those that were read are left out
 abbrev pub Drops : Option (List ℕ) → Option (List ℕ) → ℕ → ℕ → Type 0
 Drops known left before after = (bytes : List ℕ) × Consumes known left bytes × (length bytes + after ≡ before)
 
+-- The whole reply was written to this very stream; and what was read of it since then, and dropped, and what may still be read, are together as much as is read behind a reply.
+pub record IsDraining {S : Type 0} (remaining contents : S → Option (List ℕ)) (stream : S) (answer : Answer) (left : ℕ) : Type 0 where
+  pub written : S
+  pub told : IsWriting remaining contents written answer (length answer.reply)
+  pub dropped : Drops (remaining written) (remaining stream) rest_limit left
+
+-- So many bytes of the reply were written to the stream that its request was read from, and since then no more was read of it than is read behind a reply, until it was let go.
+pub record IsTold {S : Type 0} (remaining contents : S → Option (List ℕ)) (answer : Answer) (sent : ℕ) : Type 0 where
+  pub written : S
+  pub told : IsWriting remaining contents written answer sent
+  pub let_go : S
+  pub dropped : List ℕ
+  pub behind : Consumes (remaining written) (remaining let_go) dropped
+  pub bound : length dropped ≤ rest_limit
+
 -- a connection ended so, on a stream of these
 abbrev pub IsOf : {S : Type 0} → (S → Option (List ℕ)) → (S → Option (List ℕ)) → Ended → Type 0
 IsOf remaining contents Absent = ⊤
-IsOf {S} remaining contents (Unanswered request) = (stream : S) × Came remaining stream request
+IsOf {S} remaining contents (Unanswered request) = (stream : S) × Came remaining stream request × (length request ≤ request_limit)
 IsOf remaining contents (Told answer sent) = IsTold remaining contents answer sent

@@ -30,6 +30,6 @@ pub(crate) enum Pace {
 pub(crate) enum Step<S> {
     /// It is in this phase.
     Goes(Phase<S>, Pace),
-    /// Its connection ended, and failed or not.
-    Ends(bool),
+    /// Its connection ends in this phase.
+    Ends(Phase<S>),
 }

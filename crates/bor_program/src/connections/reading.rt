@@ -2,8 +2,9 @@
 
 ghost use Rattle.std.specs.Prelude.{◌≡◌, ◌≤◌, ◌<◌, ◌+◌, ◌⊎◌, length, IfOk, MatchResult, vec_len, vec_capacity};
 ghost use Rattle.std.specs.Io.KnownBytes.{IsAtEnd, Keeps};
+ghost use Rattle.bor_http.specs.Incoming.Message.{request_limit};
 ghost use Rattle.bor_http.specs.Incoming.Progress.{IsProgress, IsWhole, needs};
-ghost use Rattle.bor_program.specs.declared.connections.reading.Taken.TheVariants.{Blocked, More, Whole};
+ghost use Rattle.bor_program.specs.declared.connections.reading.Taken.TheVariants.{Blocked, Failed, More, Whole};
 ghost use Rattle.bor_program.specs.Connections.Streams.{Came, IsReading, Received};
 
 use bor_http::incoming::Progress;
@@ -56,7 +57,8 @@ impl<S: Read> Reading<S> {
     pub(crate) fn read(&mut self, alloc: Global) -> Taken
         requires { IsReading S.remaining self.old.stream self.old.received.items self.old.progress }
         ensures came { Came S.remaining self.new.stream self.new.received.items }
-        ensures held { (result ≡ More) ⊎ (result ≡ Blocked) →
+        ensures fits { length self.new.received.items ≤ request_limit }
+        ensures held { (result ≡ More) ⊎ ((result ≡ Blocked) ⊎ (result ≡ Failed)) →
             IsReading S.remaining self.new.stream self.new.received.items self.new.progress }
         ensures whole { result ≡ Whole → IsWhole self.new.received.items ⊎ IsAtEnd (S.remaining self.new.stream) }
     {
@@ -77,8 +79,10 @@ impl<S: Read> Reading<S> {
         requires came { Came S.remaining self.old.stream self.old.received.items }
         requires known { IsProgress self.old.received.items self.old.progress }
         requires within { length self.old.received.items ≤ needs self.old.progress }
+        requires fits { length self.old.received.items ≤ request_limit }
         ensures came { Came S.remaining self.new.stream self.new.received.items }
-        ensures held { (result ≡ More) ⊎ (result ≡ Blocked) →
+        ensures fits { length self.new.received.items ≤ request_limit }
+        ensures held { (result ≡ More) ⊎ ((result ≡ Blocked) ⊎ (result ≡ Failed)) →
             IsReading S.remaining self.new.stream self.new.received.items self.new.progress }
         ensures whole { result ≡ Whole → IsWhole self.new.received.items }
     {

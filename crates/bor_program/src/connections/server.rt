@@ -251,7 +251,11 @@ impl<S: Read + Write + OpenStream + Drop> Server<S> {
                 },
                 now,
             ),
-            Step::Ends(failed) => self.end(place, failed),
+            Step::Ends(phase) => self.give_up(Client {
+                place,
+                timing,
+                phase,
+            }),
         }
     }
 
@@ -297,7 +301,7 @@ impl<S: Read + Write + OpenStream + Drop> Server<S> {
         }
     }
 
-    // Ends the connection of a client that is waited for no longer.
+    // Ends the connection of a client, which is waited for no longer.
     fn give_up(&mut self, client: Client<S>)
         requires held { AreHeld S.remaining S.contents self.old.queue.items }
         requires client { IsHeld S.remaining S.contents client.phase }

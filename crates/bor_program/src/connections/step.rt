@@ -3,7 +3,7 @@
 ghost use Rattle.std.specs.Prelude.{◌≡◌, ◌∷◌, []};
 ghost use Rattle.bor_program.specs.Connections.Serving.{answer_of};
 ghost use Rattle.bor_program.specs.declared.connections.phase.Phase.TheVariants as Phase;
-ghost use Rattle.bor_program.specs.Connections.Phases.{EndsAs, HoldsOn, IsHeld, IsStep, Tells, telling};
+ghost use Rattle.bor_program.specs.Connections.Phases.{EndsAs, IsHeld, IsStep, phase_of, telling};
 
 use crate::connections::phase::{Pace, Phase, Step};
 use crate::connections::reading::{Reading, Taken};
@@ -26,8 +26,8 @@ pub(crate) fn step<K: Keep, S: Read + Write + OpenStream + Drop>(
     phase: Phase<S>,
 ) -> Step<S>
     requires { IsHeld S.remaining S.contents phase }
-    ensures held { HoldsOn S.remaining S.contents result }
-    ensures step { IsStep K.shows K.is_clean S.remaining S.contents keep.old keep.new (telling phase) result }
+    ensures held { IsHeld S.remaining S.contents (phase_of result) }
+    ensures step { IsStep K.shows K.is_clean S.remaining S.contents keep.old keep.new (telling phase) (telling (phase_of result)) }
 {
     match phase {
         Phase::Reading(reading) => read_on(service, keep, reading),
@@ -43,8 +43,8 @@ fn read_on<K: Keep, S: Read + Write + OpenStream + Drop>(
     mut reading: Reading<S>,
 ) -> Step<S>
     requires { IsHeld S.remaining S.contents (Phase.Reading reading) }
-    ensures held { HoldsOn S.remaining S.contents result }
-    ensures step { IsStep K.shows K.is_clean S.remaining S.contents keep.old keep.new [] result }
+    ensures held { IsHeld S.remaining S.contents (phase_of result) }
+    ensures step { IsStep K.shows K.is_clean S.remaining S.contents keep.old keep.new [] (telling (phase_of result)) }
 {
     match reading.read(service.alloc()) {
         Taken::More => Step::Goes(Phase::Reading(reading), Pace::Moved),
@@ -57,34 +57,34 @@ fn read_on<K: Keep, S: Read + Write + OpenStream + Drop>(
             let writing = Writing::new(reading, Outgoing::Unavailable);
             Step::Goes(Phase::Writing(writing), Pace::Turned)
         }
-        Taken::Failed => Step::Ends(true),
+        Taken::Failed => Step::Ends(Phase::Reading(reading)),
     }
 }
 
 // Writes once of a reply.
 fn write_on<S: Read + Write + OpenStream + Drop>(mut writing: Writing<S>) -> Step<S>
     requires { IsHeld S.remaining S.contents (Phase.Writing writing) }
-    ensures held { HoldsOn S.remaining S.contents result }
-    ensures tells { Tells S.remaining S.contents (answer_of writing.request.items writing.reply ∷ []) result }
+    ensures held { IsHeld S.remaining S.contents (phase_of result) }
+    ensures tells { telling (phase_of result) ≡ answer_of writing.request.items writing.reply ∷ [] }
 {
     match writing.write() {
         Written::More => Step::Goes(Phase::Writing(writing), Pace::Moved),
         Written::Blocked => Step::Goes(Phase::Writing(writing), Pace::Blocked),
         Written::Whole => Step::Goes(Phase::Draining(writing.end()), Pace::Turned),
-        Written::Failed => Step::Ends(writing.has_failed()),
+        Written::Failed => Step::Ends(Phase::Writing(writing)),
     }
 }
 
 // Reads once behind a reply.
 fn drain_on<S: Read + Write + Drop>(mut draining: Draining<S>) -> Step<S>
     requires { IsHeld S.remaining S.contents (Phase.Draining draining) }
-    ensures held { HoldsOn S.remaining S.contents result }
-    ensures tells { Tells S.remaining S.contents (answer_of draining.request.items draining.reply ∷ []) result }
+    ensures held { IsHeld S.remaining S.contents (phase_of result) }
+    ensures tells { telling (phase_of result) ≡ answer_of draining.request.items draining.reply ∷ [] }
 {
     match draining.drain() {
         Drained::More => Step::Goes(Phase::Draining(draining), Pace::Moved),
         Drained::Blocked => Step::Goes(Phase::Draining(draining), Pace::Blocked),
-        Drained::Over => Step::Ends(draining.has_failed()),
+        Drained::Over => Step::Ends(Phase::Draining(draining)),
     }
 }
 
@@ -97,8 +97,8 @@ pub(crate) fn steps<K: Keep, S: Read + Write + OpenStream + Drop>(
     now: Duration,
 ) -> Step<S>
     requires { IsHeld S.remaining S.contents phase }
-    ensures held { HoldsOn S.remaining S.contents result }
-    ensures step { IsStep K.shows K.is_clean S.remaining S.contents keep.old keep.new (telling phase) result }
+    ensures held { IsHeld S.remaining S.contents (phase_of result) }
+    ensures step { IsStep K.shows K.is_clean S.remaining S.contents keep.old keep.new (telling phase) (telling (phase_of result)) }
 {
     for _ in 0..STEPS {
         if !timing.is_ready() {
@@ -109,7 +109,7 @@ pub(crate) fn steps<K: Keep, S: Read + Write + OpenStream + Drop>(
                 timing.pass(pace, now);
                 phase = next;
             }
-            Step::Ends(failed) => return Step::Ends(failed),
+            Step::Ends(last) => return Step::Ends(last),
         }
     }
     Step::Goes(phase, Pace::Moved)

@@ -1,11 +1,11 @@
 //! A client to whom its reply is written, and what it still sends behind it.
 
-ghost use Rattle.std.specs.Prelude.{◌≡◌, length};
+ghost use Rattle.std.specs.Prelude.{◌≡◌, ◌≤◌, length};
+ghost use Rattle.bor_http.specs.Incoming.Message.{request_limit};
 ghost use Rattle.bor_wire.specs.Exchanges.{bytes_out};
 ghost use Rattle.bor_program.specs.declared.connections.writing.Written.TheVariants.{Whole};
-ghost use Rattle.bor_program.specs.Connections.Limits.{rest_limit};
 ghost use Rattle.bor_program.specs.Connections.Serving.{Told, answer_of, has_failed};
-ghost use Rattle.bor_program.specs.Connections.Streams.{Came, Drops, IsReady, IsTold, IsWriting};
+ghost use Rattle.bor_program.specs.Connections.Streams.{Came, Drops, IsDraining, IsReady, IsWriting};
 
 use crate::connections::reading::{PART, Reading, is_blocked};
 use bor_wire::Outgoing;
@@ -38,6 +38,7 @@ impl<S: Read + Write + OpenStream> Writing<S> {
     /// A client whose request has come, and of whose reply nothing was written.
     pub(crate) fn new(reading: Reading<S>, reply: Outgoing) -> Writing<S>
         requires came { Came S.remaining reading.stream reading.received.items }
+        requires fits { length reading.received.items ≤ request_limit }
         requires ready { IsReady S.remaining reading.stream (answer_of reading.received.items reply) }
         ensures held { IsWriting S.remaining S.contents result.stream (answer_of result.request.items result.reply) result.sent }
         ensures request { result.request.items ≡ reading.received.items }
@@ -85,10 +86,9 @@ impl<S: Read + Write + OpenStream> Writing<S> {
     pub(crate) fn end(self) -> Draining<S>
         requires whole { self.sent ≡ length (bytes_out self.reply) }
         requires held { IsWriting S.remaining S.contents self.stream (answer_of self.request.items self.reply) self.sent }
-        ensures told { IsTold S.remaining S.contents (answer_of result.request.items result.reply) (length (bytes_out result.reply)) }
+        ensures held { IsDraining S.remaining S.contents result.stream (answer_of result.request.items result.reply) result.left }
         ensures request { result.request ≡ self.request }
         ensures reply { result.reply ≡ self.reply }
-        ensures left { result.left ≡ rest_limit }
     {
         let _ = self.stream.shutdown(Shutdown::Write);
         Draining {

@@ -1,13 +1,21 @@
-use Rattle.std.proofs.Common.{length, refl}
-use Rattle.bor_wire.specs.Exchanges.{bytes_out}
-use Rattle.bor_program.specs.Connections.Serving.{Told, answer_of}
+use Rattle.bor_program.specs.Connections.Serving.{answer_of}
+use Rattle.bor_program.proofs.OnConnections.Streams.{drains_more}
 use Rattle.bor_program.proofs.connections.step.drain_on.Goals as goal
 
-pub returns-in-Over-clause-tells : goal.returns-in-Over-clause-tells
-returns-in-Over-clause-tells g c =
-    let d = c.drain.new.self in (
-      Told (answer_of d.request.items d.reply) (length (bytes_out d.reply)),
-      rw (c.drain.ensures.request, c.drain.ensures.reply) c.requires,
-      rw (c.drain.ensures.request, c.drain.ensures.reply) refl,
-      c.has_failed.ensures,
-    )
+pub returns-in-Over-clause-held : goal.returns-in-Over-clause-held
+returns-in-Over-clause-held g c =
+    let old = c.args.draining in
+    let new = c.drain.new.self in
+    rw (c.drain.ensures.request, c.drain.ensures.reply) (drains_more g.S.Read.remaining g.S.Write.contents old.stream new.stream (answer_of old.request.items old.reply) old.left new.left c.requires c.drain.ensures.dropped)
+
+pub returns-in-More-clause-held : goal.returns-in-More-clause-held
+returns-in-More-clause-held g c =
+    let old = c.args.draining in
+    let new = c.drain.new.self in
+    rw (c.drain.ensures.request, c.drain.ensures.reply) (drains_more g.S.Read.remaining g.S.Write.contents old.stream new.stream (answer_of old.request.items old.reply) old.left new.left c.requires c.drain.ensures.dropped)
+
+pub returns-in-Blocked-clause-held : goal.returns-in-Blocked-clause-held
+returns-in-Blocked-clause-held g c =
+    let old = c.args.draining in
+    let new = c.drain.new.self in
+    rw (c.drain.ensures.request, c.drain.ensures.reply) (drains_more g.S.Read.remaining g.S.Write.contents old.stream new.stream (answer_of old.request.items old.reply) old.left new.left c.requires c.drain.ensures.dropped)

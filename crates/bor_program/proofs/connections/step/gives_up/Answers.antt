@@ -1,16 +1,25 @@
 use Rattle.std.proofs.Common.{length, refl}
 use Rattle.bor_wire.specs.Exchanges.{bytes_out}
-use Rattle.bor_program.specs.Connections.Serving.{Told, answer_of}
+use Rattle.bor_program.specs.Connections.Serving.{Told, Unanswered, answer_of}
+use Rattle.bor_program.proofs.OnConnections.Streams.{told_draining, told_writing}
 use Rattle.bor_program.proofs.connections.step.gives_up.Goals as goal
+
+pub returns-in-Reading : goal.returns-in-Reading
+returns-in-Reading g c =
+    let r = c.in-Reading.field-0 in
+    let held = rw c.in-Reading.is at c.requires in
+    (Unanswered r.received.items, (r.stream, held.came, held.fits), rw c.in-Reading.is refl, refl)
 
 pub returns-in-Writing : goal.returns-in-Writing
 returns-in-Writing g c =
     let w = c.in-Writing.writing in
     let held = rw c.in-Writing.is at c.requires in
-    (Told (answer_of w.request.items w.reply) w.sent, (w.stream, held), rw c.in-Writing.is refl, c.has_failed.ensures)
+    let answer = answer_of w.request.items w.reply in
+    (Told answer w.sent, told_writing g.S.Read.remaining g.S.Write.contents w.stream answer w.sent held, rw c.in-Writing.is refl, c.has_failed.ensures)
 
 pub returns : goal.returns
 returns g c =
     let d = c.in-Draining.draining in
     let held = rw c.in-Draining.is at c.requires in
-    (Told (answer_of d.request.items d.reply) (length (bytes_out d.reply)), held, rw c.in-Draining.is refl, c.has_failed-in-Draining.ensures)
+    let answer = answer_of d.request.items d.reply in
+    (Told answer (length (bytes_out d.reply)), told_draining g.S.Read.remaining g.S.Write.contents d.stream answer d.left held, rw c.in-Draining.is refl, c.has_failed-in-Draining.ensures)

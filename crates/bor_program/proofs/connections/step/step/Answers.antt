@@ -1,4 +1,4 @@
-use Rattle.bor_program.proofs.OnConnections.Phases.{tells_step}
+use Rattle.bor_program.proofs.OnConnections.Phases.{same_step}
 use Rattle.bor_program.proofs.connections.step.step.Goals as goal
 
 pub returns-in-Reading-clause-step : goal.returns-in-Reading-clause-step
@@ -6,8 +6,8 @@ returns-in-Reading-clause-step g c = rw c.in-Reading.is c.read_on.ensures.step
 
 pub returns-in-Writing-clause-step : goal.returns-in-Writing-clause-step
 returns-in-Writing-clause-step g c =
-    rw c.in-Writing.is (tells_step g.K.Keep.shows g.K.Keep.is_clean g.S.Read.remaining g.S.Write.contents c.args.keep.now _ c.write_on.result c.write_on.ensures.tells)
+    rw c.in-Writing.is (same_step g.K.Keep.shows g.K.Keep.is_clean g.S.Read.remaining g.S.Write.contents c.args.keep.now _ _ c.write_on.ensures.tells)
 
 pub returns-in-Draining-clause-step : goal.returns-in-Draining-clause-step
 returns-in-Draining-clause-step g c =
-    rw c.in-Draining.is (tells_step g.K.Keep.shows g.K.Keep.is_clean g.S.Read.remaining g.S.Write.contents c.args.keep.now _ c.drain_on.result c.drain_on.ensures.tells)
+    rw c.in-Draining.is (same_step g.K.Keep.shows g.K.Keep.is_clean g.S.Read.remaining g.S.Write.contents c.args.keep.now _ _ c.drain_on.ensures.tells)

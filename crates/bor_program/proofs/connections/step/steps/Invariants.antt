@@ -1,10 +1,8 @@
-use Rattle.bor_program.specs.declared.connections.phase.Pace.TheVariants.{Moved}
-use Rattle.bor_program.specs.declared.connections.phase.Step.TheVariants as step
 use Rattle.bor_program.specs.Connections.Phases.{IsHeld, IsStep, telling}
 use Rattle.bor_program.proofs.connections.step.steps.Given as goal
 
 abbrev pub invariant-loop : goal.invariant-loop
 invariant-loop g l = record {
   held : IsHeld g.S.Read.remaining g.S.Write.contents l.phase;
-  step : IsStep g.K.Keep.shows g.K.Keep.is_clean g.S.Read.remaining g.S.Write.contents l.fn.keep l.keep (telling l.fn.phase) (step.Goes l.phase Moved);
+  step : IsStep g.K.Keep.shows g.K.Keep.is_clean g.S.Read.remaining g.S.Write.contents l.fn.keep l.keep (telling l.fn.phase) (telling l.phase);
 }

@@ -1,4 +1,4 @@
-use Rattle.std.proofs.Common.{arith, []}
+use Rattle.std.proofs.Common.{arith, ap, length, []}
 use Rattle.bor_program.proofs.OnConnections.Streams.{came_new}
 use Rattle.bor_program.proofs.connections.reading.Reading.new.Goals as goal
 
@@ -7,4 +7,5 @@ returns g c = rw c.new.ensures.items (record {
   came = came_new g.S.Read.remaining c.args.stream;
   known = c.none.ensures.known [];
   missing = omega (arith, c.none.ensures.needs);
+  fits = omega arith;
 })

@@ -1,5 +1,6 @@
 use Rattle.std.proofs.Common.{arith, length, ap, length-append}
 use Rattle.bor_http.proofs.OnIncoming.ProgressLemmas.{progress_kept}
+use Rattle.bor_program.proofs.OnConnections.Bounds.{needs_within}
 use Rattle.bor_program.proofs.OnConnections.Streams.{came_more}
 use Rattle.bor_program.proofs.connections.reading.Reading.read.Goals as goal
 
@@ -20,3 +21,20 @@ pub look-requires-clause-within : goal.look-requires-clause-within
 look-requires-clause-within g c =
     let r = c.in-Ok-receive.ensures in
     omega (arith, ap length r.appended, ap length c.in-Ok.ensures.items, length-append c.make_room.new.received.items r.bytes, r.count, r.within, c.in-Ok.ensures.within, c.wanted-wanted.ensures, c.len.ensures, c.requires.missing)
+
+pub look-requires-clause-fits : goal.look-requires-clause-fits
+look-requires-clause-fits g c =
+    let r = c.in-Ok-receive.ensures in
+    omega (
+      arith,
+      ap length r.appended,
+      ap length c.in-Ok.ensures.items,
+      length-append c.make_room.new.received.items r.bytes,
+      r.count,
+      r.within,
+      c.in-Ok.ensures.within,
+      c.wanted-wanted.ensures,
+      c.len.ensures,
+      c.requires.missing,
+      needs_within c.args.self.now.received.items c.args.self.now.progress c.requires.known c.requires.missing,
+    )

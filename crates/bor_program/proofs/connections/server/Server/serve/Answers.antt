@@ -8,9 +8,10 @@ pub returns-in-Goes-clause-serves : goal.returns-in-Goes-clause-serves
 returns-in-Goes-clause-serves g c = λ start connections before.
     let old = c.args.self.now in
     lets_go_on g.K.Keep.shows g.K.Keep.is_clean g.S.Read.remaining g.S.Write.contents start c.steps.new.keep (telling c.in-Goes.phase ++ telling_in old) connections (pending_in old + 1) old.status c.go_on.new.self
-    (c.in-Goes.ensures.step start (telling_in old) connections (pending_in old) old.status before) c.go_on.ensures
+    (c.in-Goes.ensures.step start (telling_in old) connections (pending_in old + 1) old.status before) c.go_on.ensures
 
 pub returns-in-Ends-clause-serves : goal.returns-in-Ends-clause-serves
 returns-in-Ends-clause-serves g c = λ start connections before.
     let old = c.args.self.now in
-    rw (c.end.ensures.queue, c.end.ensures.left, c.end.ensures.status) (c.in-Ends.ensures.step start (telling_in old) connections (pending_in old) old.status before)
+    lets_go_on g.K.Keep.shows g.K.Keep.is_clean g.S.Read.remaining g.S.Write.contents start c.steps.new.keep (telling c.in-Ends.phase ++ telling_in old) connections (pending_in old + 1) old.status c.give_up.new.self
+    (c.in-Ends.ensures.step start (telling_in old) connections (pending_in old + 1) old.status before) c.give_up.ensures.lets

@@ -12,6 +12,7 @@ returns-in-Ok-clause-held g c =
     record {
       read = w.read;
       came = w.came;
+      fits = w.fits;
       ready = w.ready;
       within = omega (arith, w.within, few, to_end_length bytes c.args.self.now.sent);
       written = appends_more _ _ _ bytes c.args.self.now.sent c.in-Ok.count w.written more;
