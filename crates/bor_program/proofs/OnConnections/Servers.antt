@@ -1,8 +1,9 @@
 -- Servers from which connections end.
-use Rattle.std.proofs.Common.{◌≡◌, ◌+◌, ◌≤◌, ◌<◌, ℕ, List, [], ◌∷◌, ◌++◌, length, take, drop, get_or, replicate, Bool, true, false, Option, refl, sym, ap, subst, ◌∙◌, arith, append-nil, append_assoc, length-append, suc, zero}
+use Rattle.std.proofs.Common.{◌≡◌, ◌+◌, ◌≤◌, ◌<◌, inl, inr, ℕ, List, [], ◌∷◌, ◌++◌, length, take, drop, get_or, replicate, Bool, true, false, Option, refl, sym, ap, subst, ◌∙◌, arith, append-nil, append_assoc, length-append, suc, zero}
 use Rattle.std.specs.Prelude.{if◌then◌else◌, ◌||◌, remove}
 use Rattle.std.specs.List.{All, list_any}
 use Rattle.std.specs.List.Sorted.{IsPermutation}
+use Rattle.std.proofs.lemmas.Bool.{cases_lt}
 use Rattle.std.proofs.lemmas.List.{length-replicate}
 use Rattle.std.proofs.lemmas.List.Folds.{list_any-append}
 use Rattle.std.proofs.lemmas.List.Elements.{All-append, All-cons, All-nil, All-replicate}
@@ -13,7 +14,8 @@ use Rattle.bor_program.specs.declared.connections.server.Server.{Server}
 use Rattle.bor_program.specs.Connections.Serving.{Answer, Ended, Absent, IsServedAs, IsServing, has_failed, told_in, told_on}
 use Rattle.bor_program.specs.Connections.Streams.{IsOf}
 use Rattle.bor_program.specs.Connections.Phases.{EndsAs, IsHeld, telling}
-use Rattle.bor_program.specs.Connections.Servers.{AreHeld, Becomes, IsAt, Lets, pending_in, telling_in, telling_to}
+use Rattle.bor_program.specs.Connections.Servers.{AreHeld, Becomes, IsAt, Lets, idle_times, pending_in, telling_in, telling_to}
+use Rattle.std.specs.Duration.{as_nanos}
 use Rattle.bor_program.proofs.OnConnections.Served.{all_served, either, ends, nothing_served, told_in-append}
 
 pub telling_to-append : {S : Type 0} (xs ys : List (Client S)) → telling_to (xs ++ ys) ≡ telling_to xs ++ telling_to ys
@@ -228,3 +230,26 @@ finished shows is_clean remaining contents start keep connections server h none 
     all_served shows is_clean (IsOf remaining contents) start keep connections server.status
     (subst (λ n. IsServing shows is_clean (IsOf remaining contents) start keep [] connections n server.status) none
     (subst (λ l. IsServing shows is_clean (IsOf remaining contents) start keep l connections (pending_in server) server.status) (none_told server.queue.items server.left none) h))
+
+-- ---- which client gives way
+
+pub idle_at : {S : Type 0} (clients : List (Client S)) (place : ℕ) (client : Client S) → place < length clients → client ≡ get_or clients place client
+    → get_or (idle_times clients) place 0 ≡ as_nanos client.timing.idle_since
+idle_at [] place client lt is = absurd (omega (arith, lt))
+idle_at (c ∷ rest) zero client lt is = ap (λ x. as_nanos x.timing.idle_since) (sym is)
+idle_at (c ∷ rest) (suc place) client lt is = idle_at rest place client (omega (arith, lt)) is
+
+-- of the first clients one is idle for the longest, and the next is idle for longer still, or not
+pub longer_idle : (times : List ℕ) (longest place other : ℕ) → ((k : ℕ) → k < place → get_or times longest 0 ≤ get_or times k 0)
+    → get_or times place 0 ≤ get_or times longest 0 → other < place + 1 → get_or times place 0 ≤ get_or times other 0
+longer_idle times longest place other before less lt = elim (cases_lt other place) [
+  | inl earlier ↦ omega (arith, before other earlier, less)
+  | inr le ↦ let same : other ≡ place = omega (arith, le, lt) in rw same (omega arith)
+]
+
+pub as_idle : (times : List ℕ) (longest place other : ℕ) → ((k : ℕ) → k < place → get_or times longest 0 ≤ get_or times k 0)
+    → get_or times longest 0 ≤ get_or times place 0 → other < place + 1 → get_or times longest 0 ≤ get_or times other 0
+as_idle times longest place other before less lt = elim (cases_lt other place) [
+  | inl earlier ↦ before other earlier
+  | inr le ↦ let same : other ≡ place = omega (arith, le, lt) in rw same less
+]

@@ -1,5 +1,6 @@
 -- What a server does, for clauses of private functions alone.
-use Rattle.std.specs.Prelude.{◌≡◌, ◌+◌, ℕ, List, [], ◌∷◌, ◌++◌, length, Option, if◌then◌else◌}
+use Rattle.std.specs.Prelude.{◌≡◌, ◌≤◌, ◌<◌, ◌+◌, ℕ, List, [], ◌∷◌, ◌++◌, length, map, get_or, remove, Option, if◌then◌else◌}
+use Rattle.std.specs.Duration.{as_nanos}
 use Rattle.std.specs.List.{All, list_any}
 use Rattle.std.specs.List.Sorted.{IsPermutation}
 use Rattle.bor_register.specs.Register.{Register}
@@ -25,6 +26,19 @@ telling_in server = telling_to server.queue.items
 -- how many connections have not ended
 abbrev pub pending_in : {S : Type 0} → Server S → ℕ
 pending_in server = length server.queue.items + server.left
+
+-- since when each of these clients is idle: nothing was read of it or written to it since then
+abbrev pub idle_times : {S : Type 0} → List (Client S) → List ℕ
+idle_times clients = map (λ client. as_nanos client.timing.idle_since) clients
+
+-- the client at this place is idle for the longest: since no later than any other
+pub record IsLongestIdle {S : Type 0} (clients : List (Client S)) (place : ℕ) : Type 0 where
+  pub there : place < length clients
+  pub longest : (other : ℕ) → other < length clients → get_or (idle_times clients) place 0 ≤ get_or (idle_times clients) other 0
+
+-- of these clients, one that is idle for the longest leaves the others, where there is one
+abbrev pub GivesWay : {S : Type 0} → List (Client S) → List (Client S) → Type 0
+GivesWay old new = 0 < length old → (place : ℕ) × IsLongestIdle old place × (new ≡ remove old place)
 
 -- its clients, its connections and its status are the same
 pub record Becomes {S : Type 0} (old new : Server S) : Type 0 where

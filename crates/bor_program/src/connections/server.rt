@@ -1,8 +1,9 @@
 //! A server: its clients, and how many are still to come.
 
-ghost use Rattle.std.specs.Prelude.{◌≡◌, ◌+◌, ◌-◌, ◌<◌, ◌++◌, [], length, if◌then◌else◌, IsTrue};
+ghost use Rattle.std.specs.Prelude.{◌≡◌, ◌+◌, ◌-◌, ◌<◌, ◌≤◌, ◌++◌, [], length, if◌then◌else◌, IsTrue};
+ghost use Rattle.std.specs.Duration.{as_nanos};
 ghost use Rattle.bor_program.specs.Connections.Phases.{IsHeld, telling};
-ghost use Rattle.bor_program.specs.Connections.Servers.{Advances, AreHeld, Becomes, Lets, Serves, pending_in, telling_in};
+ghost use Rattle.bor_program.specs.Connections.Servers.{Advances, AreHeld, Becomes, GivesWay, IsLongestIdle, Lets, Serves, pending_in, telling_in};
 
 use crate::connections::limits::Limits;
 use crate::connections::phase::{Phase, Step};
@@ -27,6 +28,15 @@ pub(crate) struct Client<S> {
     place: usize,
     timing: Timing,
     pub(crate) phase: Phase<S>,
+}
+
+impl<S> Client<S> {
+    // Since when nothing was read of it or written to it, in nanoseconds.
+    fn idle_nanos(&self) -> u128
+        ensures { result ≡ as_nanos self.now.timing.idle_since }
+    {
+        self.timing.idle_since().as_nanos()
+    }
 }
 
 /// A server: the clients that are there, and how many connections are still to come.
@@ -162,7 +172,9 @@ impl<S: Read + Write + OpenStream + Drop> Server<S> {
     // Where all places are taken, the client that was idle for the longest gives way.
     fn make_way(&mut self)
         requires { AreHeld S.remaining S.contents self.old.queue.items }
-        ensures { Lets S.remaining S.contents (telling_in self.old) (pending_in self.old) self.old.status self.new }
+        ensures lets { Lets S.remaining S.contents (telling_in self.old) (pending_in self.old) self.old.status self.new }
+        ensures full { 256 ≤ length self.old.queue.items → GivesWay self.old.queue.items self.new.queue.items }
+        ensures other { length self.old.queue.items < 256 → self.new.queue ≡ self.old.queue }
     {
         if self.queue.len() >= PLACES {
             self.turn_out();
@@ -188,7 +200,8 @@ impl<S: Read + Write + OpenStream + Drop> Server<S> {
     // Has the client give way that was idle for the longest.
     fn turn_out(&mut self)
         requires { AreHeld S.remaining S.contents self.old.queue.items }
-        ensures { Lets S.remaining S.contents (telling_in self.old) (pending_in self.old) self.old.status self.new }
+        ensures lets { Lets S.remaining S.contents (telling_in self.old) (pending_in self.old) self.old.status self.new }
+        ensures way { GivesWay self.old.queue.items self.new.queue.items }
     {
         let index = longest_idle(&self.queue);
         if let Some(client) = self.queue.remove(index) {
@@ -371,13 +384,13 @@ impl<S: Read + Write + OpenStream + Drop> Server<S> {
 }
 
 // The place in the queue of the client that is idle for the longest.
-fn longest_idle<S>(queue: &VecDeque<Client<S>>) -> usize {
+fn longest_idle<S>(queue: &VecDeque<Client<S>>) -> usize
+    ensures { 0 < length queue.now.items → IsLongestIdle queue.now.items result }
+{
     let mut longest = 0;
-    let mut since = Duration::MAX;
-    for (index, client) in queue.iter().enumerate() {
-        if client.timing.idle_since() < since {
-            longest = index;
-            since = client.timing.idle_since();
+    for place in 1..queue.len() {
+        if queue[place].idle_nanos() < queue[longest].idle_nanos() {
+            longest = place;
         }
     }
     longest

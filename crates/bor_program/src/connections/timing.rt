@@ -1,7 +1,8 @@
 //! How long a client is waited for.
 
-ghost use Rattle.std.specs.Prelude.{◌≡◌, ◌-◌, Some, unwrap_or};
+ghost use Rattle.std.specs.Prelude.{◌≡◌, ◌≢◌, ◌-◌, Some, unwrap_or};
 ghost use Rattle.std.specs.Duration.{as_nanos};
+ghost use Rattle.bor_program.specs.declared.connections.phase.Pace.TheVariants.{Blocked};
 
 use crate::connections::limits::Limits;
 use crate::connections::phase::{Pace, Phase};
@@ -48,7 +49,10 @@ impl Timing {
     }
 
     /// A step was made at this time.
-    pub(crate) fn pass(&mut self, pace: Pace, now: Duration) {
+    pub(crate) fn pass(&mut self, pace: Pace, now: Duration)
+        ensures idle { pace ≡ Blocked → self.new.idle_since ≡ self.old.idle_since }
+        ensures busy { pace ≢ Blocked → self.new.idle_since ≡ now }
+    {
         match pace {
             Pace::Blocked => self.is_ready = false,
             Pace::Moved => self.idle_since = now,
