@@ -1,6 +1,8 @@
 //! Waiting for sockets, and the log of what was answered meanwhile.
 
-use bor_program::connections::{PLACES, Places, Watch};
+ghost use Rattle.std.specs.Prelude.{⊤};
+
+use bor_program::connections::{PLACES, Places, Watch, accepted};
 use bor_program::log::{Entry, Moment, Note, write_entry};
 use mio::unix::SourceFd;
 use mio::{Events, Interest, Poll, Token};
@@ -53,8 +55,15 @@ fn time(rt: &HostRuntime) -> Duration {
 }
 
 impl Watch<TcpListener> for Waiting<'_> {
+    // What the system tells of sockets has no model.
+    ghost does = { λ _ _ _. ⊤ };
+
     fn watch_listener(&mut self, listener: &TcpListener) -> io::Result<()> {
         self.register(listener.as_raw_fd(), PLACES, Interest::READABLE)
+    }
+
+    fn accept(&mut self, listener: &TcpListener) -> io::Result<Option<TcpStream>> {
+        accepted(listener)
     }
 
     fn watch(&mut self, stream: &TcpStream, place: usize) -> io::Result<()> {

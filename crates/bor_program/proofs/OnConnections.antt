@@ -1,5 +1,7 @@
 pub mod Served
+pub mod Watching
 pub mod Phases
 pub mod Servers
+pub mod Running
 pub mod Streams
 pub mod Bounds

@@ -1,6 +1,7 @@
 -- Many clients, served at once.
 pub mod Limits
 pub mod Serving
+pub mod Watching
 pub mod Streams
 pub mod Phases
 pub mod Servers

@@ -1,6 +1,9 @@
 //! Clients without sockets, a listener that they wait at, and a clock that goes on by being read.
 
-use bor_program::connections::{PLACES, Places, Watch};
+ghost use Rattle.std.specs.Prelude.{⊤};
+
+use bor_program::connections::{PLACES, Places, Watch, accepted};
+use bor_program::log::Note;
 use std::alloc::Global;
 use std::cell::{Cell, RefCell};
 use std::io;
@@ -204,8 +207,14 @@ impl<'a> Waits<'a> {
 }
 
 impl<'a> Watch<Queue<'a>> for Waits<'a> {
+    ghost does = { λ _ _ _. ⊤ };
+
     fn watch_listener(&mut self, _listener: &Queue<'a>) -> io::Result<()> {
         Ok(())
+    }
+
+    fn accept(&mut self, listener: &Queue<'a>) -> io::Result<Option<Line<'a>>> {
+        accepted(listener)
     }
 
     fn watch(&mut self, _stream: &Line<'a>, _place: usize) -> io::Result<()> {
@@ -231,4 +240,6 @@ impl<'a> Watch<Queue<'a>> for Waits<'a> {
         places.call();
         Ok(())
     }
+
+    fn note(&mut self, _note: Note) {}
 }

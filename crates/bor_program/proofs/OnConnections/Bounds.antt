@@ -1,5 +1,5 @@
 -- How many bytes are missing of a request: with those that have come, no more than a head and a body may have.
-use Rattle.std.proofs.Common.{◌≡◌, ◌≤◌, ◌<◌, ◌-◌, ℕ, List, [], ◌++◌, Bool, true, false, length, take, drop, replicate, cond, codes, Option, Some, None, Ok, Err, Result, refl, sym, ap, ◌∙◌, arith, length-append, nat_lt, nat_le, inl, inr}
+use Rattle.std.proofs.Common.{◌≡◌, ◌≤◌, ◌<◌, ◌-◌, ℕ, List, [], ◌++◌, Bool, true, false, length, take, drop, replicate, cond, codes, Option, Some, None, Ok, Err, Result, refl, ap, ◌∙◌, arith, length-append, nat_lt, nat_le, inl, inr}
 use Rattle.std.specs.Option.{option_map_or}
 use Rattle.std.specs.Str.Parse.{digits_value}
 use Rattle.std.proofs.lemmas.Bool.{cases_lt}

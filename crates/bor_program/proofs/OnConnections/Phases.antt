@@ -14,16 +14,16 @@ use Rattle.bor_program.proofs.OnConnections.Served.{answers}
 -- nothing was answered
 pub same_step : {K S : Type 0} (shows : K → Register → Type 0) (is_clean : K → Type 0) (remaining contents : S → Option (List ℕ)) (keep : K) (this that : List Answer)
     → that ≡ this → IsStep shows is_clean remaining contents keep keep this that
-same_step shows is_clean remaining contents keep this that same = λ start others connections pending told before.
-    subst (λ l. IsServing shows is_clean (IsOf remaining contents) start keep (l ++ others) connections pending told) (sym same) before
+same_step shows is_clean remaining contents keep this that same = λ start others connections pending absent told before.
+    subst (λ l. IsServing shows is_clean (IsOf remaining contents) start keep (l ++ others) connections pending absent told) (sym same) before
 
 pub answer_step : {K S : Type 0} (shows : K → Register → Type 0) (is_clean : K → Type 0) (remaining contents : S → Option (List ℕ)) (old new : K) (request : List ℕ) (reply : Outgoing) (that : List Answer)
     → that ≡ answer_of request reply ∷ [] → (is_clean new → is_clean old)
     → Promised shows is_clean old new (λ r. IsOrdered r.members → IsResponse (shows new) r request reply)
     → IsStep shows is_clean remaining contents old new [] that
-answer_step shows is_clean remaining contents old new request reply that is began exchanged = λ start others connections pending told before.
-    subst (λ l. IsServing shows is_clean (IsOf remaining contents) start new (l ++ others) connections pending told) (sym is)
-    (answers shows is_clean (IsOf remaining contents) start old new others connections pending told (answer_of request reply) before began
+answer_step shows is_clean remaining contents old new request reply that is began exchanged = λ start others connections pending absent told before.
+    subst (λ l. IsServing shows is_clean (IsOf remaining contents) start new (l ++ others) connections pending absent told) (sym is)
+    (answers shows is_clean (IsOf remaining contents) start old new others connections pending absent told (answer_of request reply) before began
     (λ r shown clean legal. exchanged r shown clean legal.names))
 
 -- without an exchange, the reply that says so is one to any request
@@ -34,5 +34,5 @@ unavailable shows is_clean keep request = λ r shown clean ordered. response_una
 pub then_steps : {K S : Type 0} (shows : K → Register → Type 0) (is_clean : K → Type 0) (remaining contents : S → Option (List ℕ)) (old keep new : K) (this between that : List Answer)
     → IsStep shows is_clean remaining contents old keep this between → IsStep shows is_clean remaining contents keep new between that
     → IsStep shows is_clean remaining contents old new this that
-then_steps shows is_clean remaining contents old keep new this between that first second = λ start others connections pending told before.
-    second start others connections pending told (first start others connections pending told before)
+then_steps shows is_clean remaining contents old keep new this between that first second = λ start others connections pending absent told before.
+    second start others connections pending absent told (first start others connections pending absent told before)

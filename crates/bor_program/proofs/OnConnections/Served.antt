@@ -1,11 +1,12 @@
 -- A server of many connections: one answers, or some end.
-use Rattle.std.proofs.Common.{◌≡◌, ◌+◌, ℕ, List, [], ◌∷◌, ◌++◌, length, map, Bool, true, false, Some, refl, sym, ap, subst, ◌∙◌, arith, append_assoc, length-append}
-use Rattle.std.specs.Prelude.{if◌then◌else◌, ◌||◌}
+use Rattle.std.proofs.Common.{◌≡◌, ◌+◌, ℕ, List, [], ◌∷◌, ◌++◌, length, Bool, true, false, Some, refl, sym, ap, subst, ◌∙◌, arith, append_assoc, length-append}
+use Rattle.std.specs.Prelude.{cond, if◌then◌else◌, ◌||◌}
 use Rattle.std.specs.List.{All, list_any}
 use Rattle.std.specs.List.Sorted.{IsPermutation}
 use Rattle.std.proofs.lemmas.List.{map-append}
 use Rattle.std.proofs.lemmas.List.Folds.{list_any-append}
 use Rattle.std.proofs.lemmas.List.Elements.{All-append, All-nil, All-weaker}
+use Rattle.std.proofs.lemmas.List.Sums.{sum_by-append}
 use Rattle.std.proofs.lemmas.List.Sorted.{IsPermutation-append_left, IsPermutation-cons, IsPermutation-refl, IsPermutation-to_front, IsPermutation-trans}
 use Rattle.bor_records.specs.Promises.{Promised}
 use Rattle.bor_register.specs.Register.{Register}
@@ -14,13 +15,16 @@ use Rattle.bor_wire.specs.declared.outcome.Outcome.TheVariants.{Replied}
 use Rattle.bor_wire.specs.Exchanges.{IsExchanged}
 use Rattle.bor_wire.specs.Sequences.{AreExchanged, Exchanged, IsRun, keep_left}
 use Rattle.bor_wire.proofs.SequenceLaws.{a_run}
-use Rattle.bor_program.specs.Connections.Serving.{Answer, Answered, Ended, IsServed, IsServedAs, IsServing, answers_in, exchange_of, exchanges_of, has_failed, status_of, told_in, told_on}
+use Rattle.bor_program.specs.Connections.Serving.{Answer, Answered, Ended, IsServed, IsServedAs, IsServing, absent_in, answers_in, exchange_of, exchanges_of, has_failed, is_absent, told_in, told_on}
 
 -- ---- lists
 
 pub told_in-append : (xs ys : List Ended) → told_in (xs ++ ys) ≡ told_in xs ++ told_in ys
 told_in-append [] ys = refl
 told_in-append (e ∷ xs) ys = ap (λ l. told_on e ++ l) (told_in-append xs ys) ∙ sym (append_assoc (told_on e) (told_in xs) (told_in ys))
+
+pub absent_in-append : (xs ys : List Ended) → absent_in (xs ++ ys) ≡ absent_in xs + absent_in ys
+absent_in-append xs ys = sum_by-append (λ e. cond (is_absent e) 1 0) xs ys
 
 pub either : (now before : Bool) (m n : ℕ) → (if now then m else (if before then m else n)) ≡ (if (now || before) then m else n)
 either true before m n = refl
@@ -39,7 +43,7 @@ each_more shows is_clean keep (x ∷ es) e h last = (h.0, each_more shows is_cle
 
 -- ---- the server
 
-pub nothing_served : {K : Type 0} (shows : K → Register → Type 0) (is_clean : K → Type 0) (Is : Ended → Type 0) (keep : K) (connections : ℕ) → IsServing shows is_clean Is keep keep [] connections connections 0
+pub nothing_served : {K : Type 0} (shows : K → Register → Type 0) (is_clean : K → Type 0) (Is : Ended → Type 0) (keep : K) (connections : ℕ) → IsServing shows is_clean Is keep keep [] connections connections 0 0
 nothing_served shows is_clean Is keep connections = record {
   answered = [];
   ended = [];
@@ -48,15 +52,16 @@ nothing_served shows is_clean Is keep connections = record {
   left = refl;
   told_once = IsPermutation-refl [];
   ended_so = All-nil Is;
+  missing = refl;
   status = refl;
 }
 
 -- a request was answered
-pub answers : {K : Type 0} (shows : K → Register → Type 0) (is_clean : K → Type 0) (Is : Ended → Type 0) (old keep new : K) (telling : List Answer) (connections pending told : ℕ) (answer : Answer)
-    → IsServing shows is_clean Is old keep telling connections pending told → (is_clean new → is_clean keep)
+pub answers : {K : Type 0} (shows : K → Register → Type 0) (is_clean : K → Type 0) (Is : Ended → Type 0) (old keep new : K) (telling : List Answer) (connections pending absent told : ℕ) (answer : Answer)
+    → IsServing shows is_clean Is old keep telling connections pending absent told → (is_clean new → is_clean keep)
     → Promised shows is_clean keep new (λ r. IsLegal r → IsExchanged (Replied answer.status) (shows new) r (Some answer.request) (Some []) (Some answer.reply))
-    → IsServing shows is_clean Is old new (answer ∷ telling) connections pending told
-answers {K} shows is_clean Is old keep new telling connections pending told answer h began exchanged =
+    → IsServing shows is_clean Is old new (answer ∷ telling) connections pending absent told
+answers {K} shows is_clean Is old keep new telling connections pending absent told answer h began exchanged =
     let one : Answered K = record { answer = answer; keep = new } in
     let es : List (Exchanged K) = exchanges_of h.answered in
     let more : exchanges_of (h.answered ++ one ∷ []) ≡ es ++ exchange_of one ∷ [] = map-append exchange_of h.answered (one ∷ []) in
@@ -75,14 +80,15 @@ answers {K} shows is_clean Is old keep new telling connections pending told answ
           (IsPermutation-cons answer (answers_in h.answered) (telling ++ told_in h.ended) h.told_once)
           );
       ended_so = h.ended_so;
+      missing = h.missing;
       status = h.status;
     }
 
 -- some connections ended
-pub ends : {K : Type 0} (shows : K → Register → Type 0) (is_clean : K → Type 0) (Is : Ended → Type 0) (old keep : K) (telling rest : List Answer) (connections pending left told : ℕ) (ended : List Ended)
-    → IsServing shows is_clean Is old keep telling connections pending told → All Is ended → length ended + left ≡ pending → IsPermutation telling (rest ++ told_in ended)
-    → IsServing shows is_clean Is old keep rest connections left (if list_any has_failed ended then 3 else told)
-ends shows is_clean Is old keep telling rest connections pending left told ended h so count once = record {
+pub ends : {K : Type 0} (shows : K → Register → Type 0) (is_clean : K → Type 0) (Is : Ended → Type 0) (old keep : K) (telling rest : List Answer) (connections pending left absent more told : ℕ) (ended : List Ended)
+    → IsServing shows is_clean Is old keep telling connections pending absent told → All Is ended → length ended + left ≡ pending → absent_in ended ≡ more → IsPermutation telling (rest ++ told_in ended)
+    → IsServing shows is_clean Is old keep rest connections left (more + absent) (if list_any has_failed ended then 3 else told)
+ends shows is_clean Is old keep telling rest connections pending left absent more told ended h so count gone once = record {
   answered = h.answered;
   ended = ended ++ h.ended;
   count = omega (arith, h.count, count, length-append ended h.ended);
@@ -93,6 +99,7 @@ ends shows is_clean Is old keep telling rest connections pending left told ended
       (IsPermutation-trans (answers_in h.answered) (telling ++ told_in h.ended) ((rest ++ told_in ended) ++ told_in h.ended) h.told_once
       (IsPermutation-append_left (told_in h.ended) telling (rest ++ told_in ended) once));
   ended_so = All-append Is ended h.ended so h.ended_so;
+  missing = omega (arith, absent_in-append ended h.ended, gone, h.missing);
   status =
       ap (λ n. if list_any has_failed ended then 3 else n) h.status ∙ either (list_any has_failed ended) (list_any has_failed h.ended) 3 0
       ∙ ap (λ b. if b then 3 else 0) (sym (list_any-append has_failed ended h.ended));
@@ -104,13 +111,14 @@ a_run_to : {K : Type 0} (shows : K → Register → Type 0) (is_clean : K → Ty
     → Promised shows is_clean old new (λ r. IsLegal r → IsRun (shows new) r es)
 a_run_to shows is_clean old new es each left = subst (λ k. Promised shows is_clean old k (λ r. IsLegal r → IsRun (shows k) r es)) left (a_run shows is_clean old es each)
 
-pub all_served : {K : Type 0} (shows : K → Register → Type 0) (is_clean : K → Type 0) (Is : Ended → Type 0) (old new : K) (connections told : ℕ)
-    → IsServing shows is_clean Is old new [] connections 0 told → IsServedAs shows is_clean Is old new connections told
-all_served shows is_clean Is old new connections told h = record { served = h; run = a_run_to shows is_clean old new (exchanges_of h.answered) h.each h.left }
+pub all_served : {K : Type 0} (shows : K → Register → Type 0) (is_clean : K → Type 0) (Is : Ended → Type 0) (old new : K) (connections absent told : ℕ)
+    → IsServing shows is_clean Is old new [] connections 0 absent told → (served : IsServedAs shows is_clean Is old new connections told) × (served.absent ≡ absent)
+all_served shows is_clean Is old new connections absent told h = (record { absent = absent; served = h; run = a_run_to shows is_clean old new (exchanges_of h.answered) h.each h.left }, refl)
 
 pub served_by_any : {K : Type 0} (shows : K → Register → Type 0) (is_clean : K → Type 0) (Is : Ended → Type 0) (old new : K) (connections told : ℕ)
     → IsServedAs shows is_clean Is old new connections told → IsServed shows is_clean old new connections told
 served_by_any shows is_clean Is old new connections told h = record {
+  absent = h.absent;
   served = record {
     answered = h.served.answered;
     ended = h.served.ended;
@@ -119,6 +127,7 @@ served_by_any shows is_clean Is old new connections told h = record {
     left = h.served.left;
     told_once = h.served.told_once;
     ended_so = All-weaker Is _ (λ e is. tt) h.served.ended h.served.ended_so;
+    missing = h.served.missing;
     status = h.served.status;
   };
   run = h.run;

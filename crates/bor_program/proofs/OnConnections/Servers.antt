@@ -1,22 +1,23 @@
 -- Servers from which connections end.
-use Rattle.std.proofs.Common.{◌≡◌, ◌+◌, ◌≤◌, ◌<◌, inl, inr, ℕ, List, [], ◌∷◌, ◌++◌, length, take, drop, get_or, replicate, Bool, true, false, Option, refl, sym, ap, subst, ◌∙◌, arith, append-nil, append_assoc, length-append, suc, zero}
+use Rattle.std.proofs.Common.{◌≡◌, ◌+◌, ◌≤◌, ◌<◌, inl, inr, ℕ, List, [], ◌∷◌, ◌++◌, length, get_or, replicate, cond, Bool, true, false, Option, refl, sym, ap, subst, ◌∙◌, arith, append-nil, append_assoc, length-append, suc, zero}
 use Rattle.std.specs.Prelude.{if◌then◌else◌, ◌||◌, remove}
-use Rattle.std.specs.List.{All, list_any}
+use Rattle.std.specs.List.{list_any}
 use Rattle.std.specs.List.Sorted.{IsPermutation}
 use Rattle.std.proofs.lemmas.Bool.{cases_lt}
 use Rattle.std.proofs.lemmas.List.{length-replicate}
 use Rattle.std.proofs.lemmas.List.Folds.{list_any-append}
+use Rattle.std.proofs.lemmas.List.Sums.{sum_by-cons}
 use Rattle.std.proofs.lemmas.List.Elements.{All-append, All-cons, All-nil, All-replicate}
-use Rattle.std.proofs.lemmas.List.Sorted.{IsPermutation-append, IsPermutation-append_comm, IsPermutation-append_left, IsPermutation-append_right, IsPermutation-refl, IsPermutation-trans}
+use Rattle.std.proofs.lemmas.List.Sorted.{IsPermutation-append_comm, IsPermutation-append_left, IsPermutation-append_right, IsPermutation-refl, IsPermutation-trans}
 use Rattle.bor_register.specs.Register.{Register}
 use Rattle.bor_program.specs.declared.connections.server.Client.{Client}
 use Rattle.bor_program.specs.declared.connections.server.Server.{Server}
-use Rattle.bor_program.specs.Connections.Serving.{Answer, Ended, Absent, IsServedAs, IsServing, has_failed, told_in, told_on}
+use Rattle.bor_program.specs.Connections.Serving.{Answer, Ended, Absent, IsServedAs, IsServing, absent_in, has_failed, is_absent, told_in, told_on}
 use Rattle.bor_program.specs.Connections.Streams.{IsOf}
 use Rattle.bor_program.specs.Connections.Phases.{EndsAs, IsHeld, telling}
 use Rattle.bor_program.specs.Connections.Servers.{AreHeld, Becomes, IsAt, Lets, idle_times, pending_in, telling_in, telling_to}
 use Rattle.std.specs.Duration.{as_nanos}
-use Rattle.bor_program.proofs.OnConnections.Served.{all_served, either, ends, nothing_served, told_in-append}
+use Rattle.bor_program.proofs.OnConnections.Served.{absent_in-append, all_served, either, ends, nothing_served, told_in-append}
 
 pub telling_to-append : {S : Type 0} (xs ys : List (Client S)) → telling_to (xs ++ ys) ≡ telling_to xs ++ telling_to ys
 telling_to-append [] ys = refl
@@ -29,11 +30,12 @@ held-append remaining contents (c ∷ xs) ys h k = (h.0, held-append remaining c
 -- ---- none ends
 
 pub lets_none : {S : Type 0} (remaining contents : S → Option (List ℕ)) (telling : List Answer) (pending status : ℕ) (new : Server S) → AreHeld remaining contents new.queue.items
-    → pending_in new ≡ pending → IsPermutation telling (telling_in new) → new.status ≡ status → Lets remaining contents telling pending status new
+    → pending_in new ≡ pending → IsPermutation telling (telling_in new) → new.status ≡ status → Lets remaining contents telling pending 0 status new
 lets_none remaining contents telling pending status new held count once told = record {
   held = held;
   ended = [];
   ended_so = All-nil (IsOf remaining contents);
+  missing = refl;
   count = omega (arith, count);
   told_once = subst (IsPermutation telling) (sym (append-nil (telling_in new))) once;
   told = told;
@@ -47,27 +49,34 @@ status_one true false before after e h = cc
 status_one false true before after e h = cc
 status_one false false before after e h = h
 
-pub lets_one : {S : Type 0} (remaining contents : S → Option (List ℕ)) (mine others : List Answer) (pending status : ℕ) (failed : Bool) (new : Server S) → AreHeld remaining contents new.queue.items
-    → EndsAs remaining contents mine failed → telling_in new ≡ others → pending_in new + 1 ≡ pending → new.status ≡ (if failed then 3 else status)
-    → Lets remaining contents (mine ++ others) pending status new
-lets_one remaining contents mine others pending status failed new held end same count told =
-    let e : Ended = end.0 in
-    let alone : told_in (e ∷ []) ≡ mine = append-nil (told_on e) ∙ end.2 in
+lets_end : {S : Type 0} (remaining contents : S → Option (List ℕ)) (mine others : List Answer) (pending absent status : ℕ) (failed : Bool) (new : Server S) → AreHeld remaining contents new.queue.items
+    → (e : Ended) → IsOf remaining contents e → told_on e ≡ mine → failed ≡ has_failed e → absent_in (e ∷ []) ≡ absent → telling_in new ≡ others → pending_in new + 1 ≡ pending → new.status ≡ (if failed then 3 else status)
+    → Lets remaining contents (mine ++ others) pending absent status new
+lets_end remaining contents mine others pending absent status failed new held e so is fails gone same count told =
+    let alone : told_in (e ∷ []) ≡ mine = append-nil (told_on e) ∙ is in
     let once : IsPermutation (mine ++ others) (telling_in new ++ told_in (e ∷ [])) = rw (alone, same) (IsPermutation-append_comm mine others) in
     record {
       held = held;
       ended = e ∷ [];
-      ended_so = All-cons (IsOf remaining contents) e [] end.1 (All-nil (IsOf remaining contents));
+      ended_so = All-cons (IsOf remaining contents) e [] so (All-nil (IsOf remaining contents));
+      missing = gone;
       count = omega (arith, count);
       told_once = once;
-      told = status_one failed (has_failed e) status new.status end.3 told;
+      told = status_one failed (has_failed e) status new.status fails told;
     }
 
--- a connection that could not be accepted
+-- a client came on it
+pub lets_one : {S : Type 0} (remaining contents : S → Option (List ℕ)) (mine others : List Answer) (pending status : ℕ) (failed : Bool) (new : Server S) → AreHeld remaining contents new.queue.items
+    → EndsAs remaining contents mine failed → telling_in new ≡ others → pending_in new + 1 ≡ pending → new.status ≡ (if failed then 3 else status)
+    → Lets remaining contents (mine ++ others) pending 0 status new
+lets_one remaining contents mine others pending status failed new held end same count told =
+    lets_end remaining contents mine others pending 0 status failed new held end.0 end.1 end.2 end.3 (rw end.4 refl) same count told
+
+-- a client could not be let in
 pub lets_absent : {S : Type 0} (remaining contents : S → Option (List ℕ)) (others : List Answer) (pending status : ℕ) (new : Server S) → AreHeld remaining contents new.queue.items
-    → telling_in new ≡ others → pending_in new + 1 ≡ pending → new.status ≡ 3 → Lets remaining contents others pending status new
+    → telling_in new ≡ others → pending_in new + 1 ≡ pending → new.status ≡ 3 → Lets remaining contents others pending 1 status new
 lets_absent remaining contents others pending status new held same count told =
-    lets_one remaining contents [] others pending status true new held (Absent, tt, refl, refl) same count told
+    lets_end remaining contents [] others pending 1 status true new held Absent tt refl refl refl same count told
 
 -- ---- the others never come
 
@@ -79,12 +88,17 @@ absent_fail : (n before : ℕ) → 0 < n → 3 ≡ (if list_any has_failed (repl
 absent_fail zero before lt = absurd (omega (arith, lt))
 absent_fail (suc n) before lt = refl
 
+all_absent : (n : ℕ) → absent_in (replicate n Absent) ≡ n
+all_absent zero = refl
+all_absent (suc n) = omega (arith, sum_by-cons (λ e. cond (is_absent e) 1 0) Absent (replicate n Absent), all_absent n)
+
 pub lets_all_absent : {S : Type 0} (remaining contents : S → Option (List ℕ)) (telling : List Answer) (left count status : ℕ) (new : Server S) → AreHeld remaining contents new.queue.items
-    → 0 < left → telling_in new ≡ telling → length new.queue.items ≡ count → new.left ≡ 0 → new.status ≡ 3 → Lets remaining contents telling (count + left) status new
+    → 0 < left → telling_in new ≡ telling → length new.queue.items ≡ count → new.left ≡ 0 → new.status ≡ 3 → Lets remaining contents telling (count + left) left status new
 lets_all_absent remaining contents telling left count status new held some same here none told = record {
   held = held;
   ended = replicate left Absent;
   ended_so = All-replicate (IsOf remaining contents) left Absent tt;
+  missing = all_absent left;
   count = omega (arith, length-replicate left Absent, here, none);
   told_once = rw (absent_tell_nothing left, append-nil, same) (IsPermutation-refl telling);
   told = told ∙ absent_fail left status some;
@@ -93,27 +107,41 @@ lets_all_absent remaining contents telling left count status new held some same 
 -- ---- one after the other
 
 pub lets_same : {S : Type 0} (remaining contents : S → Option (List ℕ)) (server : Server S) → AreHeld remaining contents server.queue.items
-    → Lets remaining contents (telling_in server) (pending_in server) server.status server
+    → Lets remaining contents (telling_in server) (pending_in server) 0 server.status server
 lets_same remaining contents server held = lets_none remaining contents (telling_in server) (pending_in server) server.status server held refl (IsPermutation-refl (telling_in server)) refl
 
-pub lets_as : {S : Type 0} (remaining contents : S → Option (List ℕ)) (telling : List Answer) (pending status : ℕ) (new other : Server S)
-    → Lets remaining contents telling pending status new → Becomes new other → Lets remaining contents telling pending status other
-lets_as remaining contents telling pending status new other h same = record {
+-- no client came or went
+pub lets_kept : {S : Type 0} (remaining contents : S → Option (List ℕ)) (old new : Server S) → AreHeld remaining contents old.queue.items → new.queue.items ≡ old.queue.items → new.left ≡ old.left → new.status ≡ old.status
+    → Lets remaining contents (telling_in old) (pending_in old) 0 old.status new
+lets_kept remaining contents old new held items left told =
+    lets_none remaining contents (telling_in old) (pending_in old) old.status new (subst (AreHeld remaining contents) (sym items) held) (omega (arith, ap length items, left))
+    (subst (IsPermutation (telling_in old)) (sym (ap telling_to items)) (IsPermutation-refl (telling_in old))) told
+
+pub lets_from : {S : Type 0} (remaining contents : S → Option (List ℕ)) (telling other : List Answer) (pending count absent status : ℕ) (new : Server S) → telling ≡ other → pending ≡ count
+    → Lets remaining contents telling pending absent status new → Lets remaining contents other count absent status new
+lets_from remaining contents telling other pending count absent status new same counts h =
+    subst (λ n. Lets remaining contents other n absent status new) counts (subst (λ l. Lets remaining contents l pending absent status new) same h)
+
+pub lets_as : {S : Type 0} (remaining contents : S → Option (List ℕ)) (telling : List Answer) (pending absent status : ℕ) (new other : Server S)
+    → Lets remaining contents telling pending absent status new → Becomes new other → Lets remaining contents telling pending absent status other
+lets_as remaining contents telling pending absent status new other h same = record {
   held = subst (λ q. AreHeld remaining contents q.items) (sym same.queue) h.held;
   ended = h.ended;
   ended_so = h.ended_so;
+  missing = h.missing;
   count = rw (same.queue, same.left) h.count;
   told_once = rw same.queue h.told_once;
   told = same.status ∙ h.told;
 }
 
 -- with some more that were left out of the first
-pub lets_then_more : {S : Type 0} (remaining contents : S → Option (List ℕ)) (telling : List Answer) (pending more status : ℕ) (mid new : Server S)
-    → Lets remaining contents telling pending status mid → Lets remaining contents (telling_in mid) (pending_in mid + more) mid.status new → Lets remaining contents telling (pending + more) status new
-lets_then_more remaining contents telling pending more status mid new first second = record {
+pub lets_then_more : {S : Type 0} (remaining contents : S → Option (List ℕ)) (telling : List Answer) (pending more one two status : ℕ) (mid new : Server S)
+    → Lets remaining contents telling pending one status mid → Lets remaining contents (telling_in mid) (pending_in mid + more) two mid.status new → Lets remaining contents telling (pending + more) (two + one) status new
+lets_then_more remaining contents telling pending more one two status mid new first second = record {
   held = second.held;
   ended = second.ended ++ first.ended;
   ended_so = All-append (IsOf remaining contents) second.ended first.ended second.ended_so first.ended_so;
+  missing = omega (arith, absent_in-append second.ended first.ended, first.missing, second.missing);
   count = omega (arith, first.count, second.count, length-append second.ended first.ended);
   told_once =
       subst (IsPermutation telling) (append_assoc (telling_in new) (told_in second.ended) (told_in first.ended) ∙ ap (λ l. telling_in new ++ l) (sym (told_in-append second.ended first.ended)))
@@ -125,19 +153,20 @@ lets_then_more remaining contents telling pending more status mid new first seco
       ∙ ap (λ b. if b then 3 else status) (sym (list_any-append has_failed second.ended first.ended));
 }
 
-pub lets_then : {S : Type 0} (remaining contents : S → Option (List ℕ)) (telling : List Answer) (pending status : ℕ) (mid new : Server S)
-    → Lets remaining contents telling pending status mid → Lets remaining contents (telling_in mid) (pending_in mid) mid.status new → Lets remaining contents telling pending status new
-lets_then remaining contents telling pending status mid new first second =
+pub lets_then : {S : Type 0} (remaining contents : S → Option (List ℕ)) (telling : List Answer) (pending one two status : ℕ) (mid new : Server S)
+    → Lets remaining contents telling pending one status mid → Lets remaining contents (telling_in mid) (pending_in mid) two mid.status new → Lets remaining contents telling pending (two + one) status new
+lets_then remaining contents telling pending one two status mid new first second =
     let none : (n : ℕ) → n + 0 ≡ n = λ n. omega arith in
-    subst (λ n. Lets remaining contents telling n status new) (none pending)
-    (lets_then_more remaining contents telling pending 0 status mid new first (subst (λ n. Lets remaining contents (telling_in mid) n mid.status new) (sym (none (pending_in mid))) second))
+    subst (λ n. Lets remaining contents telling n (two + one) status new) (none pending)
+    (lets_then_more remaining contents telling pending 0 one two status mid new first (subst (λ n. Lets remaining contents (telling_in mid) n two mid.status new) (sym (none (pending_in mid))) second))
 
-pub lets_of : {S : Type 0} (remaining contents : S → Option (List ℕ)) (telling other : List Answer) (pending status : ℕ) (new : Server S) → IsPermutation other telling
-    → Lets remaining contents telling pending status new → Lets remaining contents other pending status new
-lets_of remaining contents telling other pending status new same h = record {
+pub lets_of : {S : Type 0} (remaining contents : S → Option (List ℕ)) (telling other : List Answer) (pending absent status : ℕ) (new : Server S) → IsPermutation other telling
+    → Lets remaining contents telling pending absent status new → Lets remaining contents other pending absent status new
+lets_of remaining contents telling other pending absent status new same h = record {
   held = h.held;
   ended = h.ended;
   ended_so = h.ended_so;
+  missing = h.missing;
   count = h.count;
   told_once = IsPermutation-trans other telling (telling_in new ++ told_in h.ended) same h.told_once;
   told = h.told;
@@ -145,18 +174,26 @@ lets_of remaining contents telling other pending status new same h = record {
 
 -- ---- the server
 
-pub lets_go_on : {K S : Type 0} (shows : K → Register → Type 0) (is_clean : K → Type 0) (remaining contents : S → Option (List ℕ)) (start keep : K) (telling : List Answer) (connections pending status : ℕ) (new : Server S)
-    → IsServing shows is_clean (IsOf remaining contents) start keep telling connections pending status → Lets remaining contents telling pending status new
-    → IsAt shows is_clean remaining contents start keep connections new
-lets_go_on shows is_clean remaining contents start keep telling connections pending status new h lets =
-    subst (IsServing shows is_clean (IsOf remaining contents) start keep (telling_in new) connections (pending_in new)) (sym lets.told)
-    (ends shows is_clean (IsOf remaining contents) start keep telling (telling_in new) connections pending (pending_in new) status lets.ended h lets.ended_so lets.count lets.told_once)
+pub lets_go_on : {K S : Type 0} (shows : K → Register → Type 0) (is_clean : K → Type 0) (remaining contents : S → Option (List ℕ)) (start keep : K) (telling : List Answer) (connections pending absent more status : ℕ) (new : Server S)
+    → IsServing shows is_clean (IsOf remaining contents) start keep telling connections pending absent status → Lets remaining contents telling pending more status new
+    → IsAt shows is_clean remaining contents start keep connections (more + absent) new
+lets_go_on shows is_clean remaining contents start keep telling connections pending absent more status new h lets =
+    subst (IsServing shows is_clean (IsOf remaining contents) start keep (telling_in new) connections (pending_in new) (more + absent)) (sym lets.told)
+    (ends shows is_clean (IsOf remaining contents) start keep telling (telling_in new) connections pending (pending_in new) absent more status lets.ended h lets.ended_so lets.count lets.missing lets.told_once)
+
+-- of those that ended a client came on each
+pub lets_go_same : {K S : Type 0} (shows : K → Register → Type 0) (is_clean : K → Type 0) (remaining contents : S → Option (List ℕ)) (start keep : K) (telling : List Answer) (connections pending absent status : ℕ) (new : Server S)
+    → IsServing shows is_clean (IsOf remaining contents) start keep telling connections pending absent status → Lets remaining contents telling pending 0 status new
+    → IsAt shows is_clean remaining contents start keep connections absent new
+lets_go_same shows is_clean remaining contents start keep telling connections pending absent status new h lets =
+    let same : 0 + absent ≡ absent = omega arith in
+    subst (λ n. IsAt shows is_clean remaining contents start keep connections n new) same (lets_go_on shows is_clean remaining contents start keep telling connections pending absent 0 status new h lets)
 
 -- ---- a client goes to the end of the queue, or leaves it
 
 pub stays : {S : Type 0} (remaining contents : S → Option (List ℕ)) (client : Client S) (old : List (Client S)) (left status : ℕ) (new : Server S) → new.queue.items ≡ old ++ client ∷ []
     → AreHeld remaining contents old → IsHeld remaining contents client.phase → new.left ≡ left → new.status ≡ status
-    → Lets remaining contents (telling client.phase ++ telling_to old) (length old + left + 1) status new
+    → Lets remaining contents (telling client.phase ++ telling_to old) (length old + left + 1) 0 status new
 stays remaining contents client old left status new items held own same told =
     let both : AreHeld remaining contents (old ++ client ∷ []) = held-append remaining contents old (client ∷ []) held (own, tt) in
     let all : telling_in new ≡ telling_to old ++ telling client.phase = ap telling_to items ∙ telling_to-append old (client ∷ []) ∙ ap (λ l. telling_to old ++ l) (append-nil (telling client.phase)) in
@@ -198,38 +235,38 @@ taken remaining contents (c ∷ rest) (suc i) client lt is held =
 
 -- ---- from the first to the last
 
-pub in_hand : {K S : Type 0} (shows : K → Register → Type 0) (is_clean : K → Type 0) (remaining contents : S → Option (List ℕ)) (start keep : K) (connections : ℕ) (client : Client S) (clients rest : List (Client S)) (left status : ℕ)
-    → clients ≡ client ∷ rest → IsServing shows is_clean (IsOf remaining contents) start keep (telling_to clients) connections (length clients + left) status
-    → IsServing shows is_clean (IsOf remaining contents) start keep (telling client.phase ++ telling_to rest) connections (length rest + left + 1) status
-in_hand shows is_clean remaining contents start keep connections client clients rest left status is h =
+pub in_hand : {K S : Type 0} (shows : K → Register → Type 0) (is_clean : K → Type 0) (remaining contents : S → Option (List ℕ)) (start keep : K) (connections absent : ℕ) (client : Client S) (clients rest : List (Client S)) (left status : ℕ)
+    → clients ≡ client ∷ rest → IsServing shows is_clean (IsOf remaining contents) start keep (telling_to clients) connections (length clients + left) absent status
+    → IsServing shows is_clean (IsOf remaining contents) start keep (telling client.phase ++ telling_to rest) connections (length rest + left + 1) absent status
+in_hand shows is_clean remaining contents start keep connections absent client clients rest left status is h =
     let count : length clients + left ≡ length rest + left + 1 = omega (arith, ap length is) in
-    subst (λ n. IsServing shows is_clean (IsOf remaining contents) start keep (telling client.phase ++ telling_to rest) connections n status) count
-    (subst (λ l. IsServing shows is_clean (IsOf remaining contents) start keep l connections (length clients + left) status) (ap telling_to is) h)
+    subst (λ n. IsServing shows is_clean (IsOf remaining contents) start keep (telling client.phase ++ telling_to rest) connections n absent status) count
+    (subst (λ l. IsServing shows is_clean (IsOf remaining contents) start keep l connections (length clients + left) absent status) (ap telling_to is) h)
 
-pub becomes_at : {K S : Type 0} (shows : K → Register → Type 0) (is_clean : K → Type 0) (remaining contents : S → Option (List ℕ)) (start keep : K) (connections : ℕ) (old new : Server S)
-    → IsAt shows is_clean remaining contents start keep connections old → Becomes old new → IsAt shows is_clean remaining contents start keep connections new
-becomes_at shows is_clean remaining contents start keep connections old new h same = rw (same.queue, same.left, same.status) h
+pub becomes_at : {K S : Type 0} (shows : K → Register → Type 0) (is_clean : K → Type 0) (remaining contents : S → Option (List ℕ)) (start keep : K) (connections absent : ℕ) (old new : Server S)
+    → IsAt shows is_clean remaining contents start keep connections absent old → Becomes old new → IsAt shows is_clean remaining contents start keep connections absent new
+becomes_at shows is_clean remaining contents start keep connections absent old new h same = rw (same.queue, same.left, same.status) h
 
 pub begun : {K S : Type 0} (shows : K → Register → Type 0) (is_clean : K → Type 0) (remaining contents : S → Option (List ℕ)) (keep : K) (connections : ℕ) (server : Server S)
-    → server.queue.items ≡ [] → server.left ≡ connections → server.status ≡ 0 → IsAt shows is_clean remaining contents keep keep connections server
+    → server.queue.items ≡ [] → server.left ≡ connections → server.status ≡ 0 → IsAt shows is_clean remaining contents keep keep connections 0 server
 begun shows is_clean remaining contents keep connections server none all told =
     let Is = IsOf remaining contents in
     let count : connections ≡ pending_in server = omega (arith, ap length none, all) in
     let silent : [] ≡ telling_in server = sym (ap telling_to none) in
-    subst (IsServing shows is_clean Is keep keep (telling_in server) connections (pending_in server)) (sym told)
-    (subst (λ l. IsServing shows is_clean Is keep keep l connections (pending_in server) 0) silent
-    (subst (λ n. IsServing shows is_clean Is keep keep [] connections n 0) count (nothing_served shows is_clean Is keep connections)))
+    subst (IsServing shows is_clean Is keep keep (telling_in server) connections (pending_in server) 0) (sym told)
+    (subst (λ l. IsServing shows is_clean Is keep keep l connections (pending_in server) 0 0) silent
+    (subst (λ n. IsServing shows is_clean Is keep keep [] connections n 0 0) count (nothing_served shows is_clean Is keep connections)))
 
 none_told : {S : Type 0} (clients : List (Client S)) (left : ℕ) → length clients + left ≡ 0 → telling_to clients ≡ []
 none_told [] left e = refl
 none_told (c ∷ rest) left e = absurd (omega (arith, e))
 
-pub finished : {K S : Type 0} (shows : K → Register → Type 0) (is_clean : K → Type 0) (remaining contents : S → Option (List ℕ)) (start keep : K) (connections : ℕ) (server : Server S)
-    → IsAt shows is_clean remaining contents start keep connections server → pending_in server ≡ 0 → IsServedAs shows is_clean (IsOf remaining contents) start keep connections server.status
-finished shows is_clean remaining contents start keep connections server h none =
-    all_served shows is_clean (IsOf remaining contents) start keep connections server.status
-    (subst (λ n. IsServing shows is_clean (IsOf remaining contents) start keep [] connections n server.status) none
-    (subst (λ l. IsServing shows is_clean (IsOf remaining contents) start keep l connections (pending_in server) server.status) (none_told server.queue.items server.left none) h))
+pub finished : {K S : Type 0} (shows : K → Register → Type 0) (is_clean : K → Type 0) (remaining contents : S → Option (List ℕ)) (start keep : K) (connections absent : ℕ) (server : Server S)
+    → IsAt shows is_clean remaining contents start keep connections absent server → pending_in server ≡ 0 → (served : IsServedAs shows is_clean (IsOf remaining contents) start keep connections server.status) × (served.absent ≡ absent)
+finished shows is_clean remaining contents start keep connections absent server h none =
+    all_served shows is_clean (IsOf remaining contents) start keep connections absent server.status
+    (subst (λ n. IsServing shows is_clean (IsOf remaining contents) start keep [] connections n absent server.status) none
+    (subst (λ l. IsServing shows is_clean (IsOf remaining contents) start keep l connections (pending_in server) absent server.status) (none_told server.queue.items server.left none) h))
 
 -- ---- which client gives way
 

@@ -1,11 +1,11 @@
 -- What one step of a client does, for clauses of private functions alone.
-use Rattle.std.specs.Prelude.{◌≡◌, ◌+◌, ℕ, List, [], ◌∷◌, ◌++◌, Bool, Option}
+use Rattle.std.specs.Prelude.{◌≡◌, ℕ, List, [], ◌∷◌, ◌++◌, Bool, false, Option}
 use Rattle.bor_register.specs.Register.{Register}
 use Rattle.bor_program.specs.declared.connections.phase.Phase.{Phase}
 use Rattle.bor_program.specs.declared.connections.phase.Phase.TheVariants as phase
 use Rattle.bor_program.specs.declared.connections.phase.Step.{Step}
 use Rattle.bor_program.specs.declared.connections.phase.Step.TheVariants as step
-use Rattle.bor_program.specs.Connections.Serving.{Answer, Ended, IsServing, answer_of, has_failed, told_on}
+use Rattle.bor_program.specs.Connections.Serving.{Answer, Ended, IsServing, answer_of, has_failed, is_absent, told_on}
 use Rattle.bor_program.specs.Connections.Streams.{IsDraining, IsOf, IsReading, IsWriting}
 
 -- what is being told to a client
@@ -25,12 +25,12 @@ abbrev pub phase_of : {S : Type 0} → Step S → Phase S
 phase_of (step.Goes at pace) = at
 phase_of (step.Ends at) = at
 
--- a connection ended on which this was being told, and failed or not
+-- a connection ended on which a client had come, and this was being told, and failed or not
 abbrev pub EndsAs : {S : Type 0} → (S → Option (List ℕ)) → (S → Option (List ℕ)) → List Answer → Bool → Type 0
-EndsAs remaining contents told failed = (e : Ended) × IsOf remaining contents e × (told_on e ≡ told) × (failed ≡ has_failed e)
+EndsAs remaining contents told failed = (e : Ended) × IsOf remaining contents e × (told_on e ≡ told) × (failed ≡ has_failed e) × (is_absent e ≡ false)
 
 -- a client's step is one of the server, whatever it has done before and whichever other clients there are: this was being told to the client, and then that
 abbrev pub IsStep : {K S : Type 0} → (K → Register → Type 0) → (K → Type 0) → (S → Option (List ℕ)) → (S → Option (List ℕ)) → K → K → List Answer → List Answer → Type 0
 IsStep {K} shows is_clean remaining contents old new this that =
-    (start : K) (others : List Answer) (connections pending told : ℕ) → IsServing shows is_clean (IsOf remaining contents) start old (this ++ others) connections pending told
-    → IsServing shows is_clean (IsOf remaining contents) start new (that ++ others) connections pending told
+    (start : K) (others : List Answer) (connections pending absent told : ℕ) → IsServing shows is_clean (IsOf remaining contents) start old (this ++ others) connections pending absent told
+    → IsServing shows is_clean (IsOf remaining contents) start new (that ++ others) connections pending absent told

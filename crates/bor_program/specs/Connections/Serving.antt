@@ -1,5 +1,5 @@
 -- What serving many clients at once leaves, and the status that it gives.
-use Rattle.std.specs.Prelude.{◌≡◌, ◌+◌, ℕ, List, [], ◌∷◌, ◌++◌, length, map, Some, Bool, true, ◌==◌, ◌||◌, nat_lt, if◌then◌else◌, ⊤}
+use Rattle.std.specs.Prelude.{◌≡◌, ◌+◌, ℕ, List, [], ◌∷◌, ◌++◌, length, map, count_by, Some, Bool, true, false, ◌==◌, ◌||◌, nat_lt, if◌then◌else◌, ⊤}
 use Rattle.std.specs.List.{All, list_any}
 use Rattle.std.specs.List.Sorted.{IsPermutation}
 use Rattle.bor_records.specs.Promises.{Promised}
@@ -9,6 +9,7 @@ use Rattle.bor_wire.specs.declared.outcome.Outcome.TheVariants.{Replied}
 use Rattle.bor_wire.specs.declared.outgoing.Outgoing.{Outgoing}
 use Rattle.bor_wire.specs.Exchanges.{bytes_out, status_out}
 use Rattle.bor_wire.specs.Sequences.{AreExchanged, Exchanged, IsRun, keep_left}
+use Rattle.bor_program.specs.Connections.Watching.{Act, AreDone, IsExcused}
 
 -- ---- what was answered
 
@@ -40,7 +41,7 @@ answers_in answered = map (λ a. a.answer) answered
 
 -- how a connection ended
 pub data Ended : Type 0 where
-  -- it could not be accepted, or the server ended before it came
+  -- its client could not be let in, or the server ended before it came
   Absent : Ended
   -- its client was given up before its request was answered; these bytes had come
   Unanswered : (request : List ℕ) → Ended
@@ -52,6 +53,15 @@ abbrev pub has_failed : Ended → Bool
 has_failed Absent = true
 has_failed (Unanswered request) = true
 has_failed (Told answer sent) = answer.status == 503 || nat_lt sent (length answer.reply)
+
+-- on so many of these no client came
+abbrev pub is_absent : Ended → Bool
+is_absent Absent = true
+is_absent (Unanswered request) = false
+is_absent (Told answer sent) = false
+
+abbrev pub absent_in : List Ended → ℕ
+absent_in ended = count_by is_absent ended
 
 -- the status of a server: 3 where a connection failed, else 0
 abbrev pub status_of : List Ended → ℕ
@@ -69,8 +79,8 @@ told_in (e ∷ rest) = told_on e ++ told_in rest
 
 -- ---- the server
 
--- Of so many connections some have ended, and some are pending, on which these answers are still being told. The requests were answered one after the other, each from the keep that the one before it left; each answer is told on one connection, and on no other. `Is` holds of how each connection ended.
-pub record IsServing {K : Type 0} (shows : K → Register → Type 0) (is_clean : K → Type 0) (Is : Ended → Type 0) (old new : K) (telling : List Answer) (connections pending told : ℕ) : Type 0 where
+-- Of so many connections some have ended, and some are pending, on which these answers are still being told. The requests were answered one after the other, each from the keep that the one before it left; each answer is told on one connection, and on no other. On so many no client came. `Is` holds of how each connection ended.
+pub record IsServing {K : Type 0} (shows : K → Register → Type 0) (is_clean : K → Type 0) (Is : Ended → Type 0) (old new : K) (telling : List Answer) (connections pending absent told : ℕ) : Type 0 where
   pub answered : List (Answered K)
   pub ended : List Ended
   pub count : length ended + pending ≡ connections
@@ -78,13 +88,22 @@ pub record IsServing {K : Type 0} (shows : K → Register → Type 0) (is_clean 
   pub left : keep_left old (exchanges_of answered) ≡ new
   pub told_once : IsPermutation (answers_in answered) (telling ++ told_in ended)
   pub ended_so : All Is ended
+  pub missing : absent_in ended ≡ absent
   pub status : told ≡ status_of ended
 
 -- So many connections were served and have ended, with this status. What was answered on them, one request after the other, is a run from a legal register: the bytes of each request and of its reply are known.
 pub record IsServedAs {K : Type 0} (shows : K → Register → Type 0) (is_clean : K → Type 0) (Is : Ended → Type 0) (old new : K) (connections told : ℕ) : Type 0 where
-  pub served : IsServing shows is_clean Is old new [] connections 0 told
+  pub absent : ℕ
+  pub served : IsServing shows is_clean Is old new [] connections 0 absent told
   pub run : Promised shows is_clean old new (λ r. IsLegal r → IsRun (shows new) r (exchanges_of served.answered))
 
 -- the same, whatever the connections' streams tell
 abbrev pub IsServed : {K : Type 0} → (K → Register → Type 0) → (K → Type 0) → K → K → ℕ → ℕ → Type 0
 IsServed shows is_clean old new connections told = IsServedAs shows is_clean (λ e. ⊤) old new connections told
+
+-- The same, of what the server asked of its watch: no client came only where one could not be let in, or where the server may end.
+pub record IsServedOver {K W : Type 0} (shows : K → Register → Type 0) (is_clean : K → Type 0) (Is : Ended → Type 0) (does : W → Act → W → Type 0) (old new : K) (begun left : W) (connections told : ℕ) : Type 0 where
+  pub served : IsServedAs shows is_clean Is old new connections told
+  pub acts : List Act
+  pub done : AreDone does begun acts left
+  pub excused : IsExcused acts served.absent

@@ -1,8 +1,8 @@
 //! A server of a register on a socket: many clients at once, of each an exchange of one request and its
 //! reply.
 //!
-//! [`serve_on`] takes a keep of a register, a listener that doesn't block, and what tells when something
-//! may be read or written ([`Watch`]):
+//! [`serve_on`] takes a keep of a register, a listener that doesn't block, and what lets clients in and tells
+//! when something may be read or written ([`Watch`]):
 //!
 //! ```
 //! let status = serve_on(&rt, &mut keep, &listener, &mut watch, 1000);       // 0, or 3 where a connection failed
@@ -15,7 +15,8 @@
 //!
 //! `bor_wire` says what is on the wire, and `bor_register` what a register is. The clauses say that what
 //! was answered is a run over the bytes of requests and replies, which are known; and of streams that tell
-//! their bytes, that each reply is written to the stream that its request was read from.
+//! their bytes, that each reply is written to the stream that its request was read from, and how much of that
+//! is read at most. A server ends before all its clients came only where its watch can't go on.
 
 mod limits;
 mod phase;
@@ -30,4 +31,4 @@ mod writing;
 
 pub use limits::Limits;
 pub use serving::{serve_on, serve_within};
-pub use watch::{PLACES, Places, Watch};
+pub use watch::{PLACES, Places, Watch, accepted};

@@ -1,13 +1,14 @@
 //! A server: its clients, and how many are still to come.
 
-ghost use Rattle.std.specs.Prelude.{◌≡◌, ◌+◌, ◌-◌, ◌<◌, ◌≤◌, ◌++◌, [], length, if◌then◌else◌, IsTrue};
+ghost use Rattle.std.specs.Prelude.{◌≡◌, ◌+◌, ◌-◌, ◌<◌, ◌≤◌, ◌++◌, [], length, if◌then◌else◌, is_err, IsTrue};
 ghost use Rattle.std.specs.Duration.{as_nanos};
 ghost use Rattle.bor_program.specs.Connections.Phases.{IsHeld, telling};
-ghost use Rattle.bor_program.specs.Connections.Servers.{Advances, AreHeld, Becomes, GivesWay, IsLongestIdle, Lets, Serves, pending_in, telling_in};
+ghost use Rattle.bor_program.specs.Connections.Servers.{Advances, AreHeld, Becomes, GivesWay, IsLongestIdle, Lets, LetsIn, Serves, pending_in, telling_in};
+ghost use Rattle.bor_program.specs.Connections.Watching.{Does, Waits};
 
 use crate::connections::limits::Limits;
 use crate::connections::phase::{Phase, Step};
-use crate::connections::reading::{Reading, is_blocked};
+use crate::connections::reading::Reading;
 use crate::connections::service::Service;
 use crate::connections::step::{gives_up, steps};
 use crate::connections::timing::{Timing, limit_of};
@@ -78,7 +79,8 @@ impl<S: Read + Write + OpenStream + Drop> Server<S> {
 
     /// Tells of the requests that were answered since this was last done.
     pub(crate) fn tell<L: OpenListener<Stream = S>, W: Watch<L>>(&mut self, watch: &mut W)
-        ensures { Becomes self.old self.new }
+        ensures becomes { Becomes self.old self.new }
+        ensures does { Does W.does watch.old watch.new 0 }
     {
         for note in self.service.take_notes() {
             watch.note(note);
@@ -90,7 +92,8 @@ impl<S: Read + Write + OpenStream + Drop> Server<S> {
         &mut self,
         watch: &mut W,
     ) -> std::io::Result<()>
-        ensures { Becomes self.old self.new }
+        ensures becomes { Becomes self.old self.new }
+        ensures does { (told : W) × Does W.does watch.old told 0 × W.does told (Waits (is_err result)) watch.new }
     {
         self.tell(watch);
         let waited = watch.wait(self.wait, &mut self.places);
@@ -108,7 +111,7 @@ impl<S: Read + Write + OpenStream + Drop> Server<S> {
         now: Duration,
     )
         requires { AreHeld S.remaining S.contents self.old.queue.items }
-        ensures { Lets S.remaining S.contents (telling_in self.old) (pending_in self.old) self.old.status self.new }
+        ensures { LetsIn W.does watch.old watch.new S.remaining S.contents (telling_in self.old) (pending_in self.old) self.old.status self.new }
     {
         for _ in 0..LET_IN {
             if self.left == 0 || !self.places.is_called() {
@@ -127,17 +130,17 @@ impl<S: Read + Write + OpenStream + Drop> Server<S> {
     )
         requires some { 0 < self.old.left }
         requires held { AreHeld S.remaining S.contents self.old.queue.items }
-        ensures { Lets S.remaining S.contents (telling_in self.old) (pending_in self.old) self.old.status self.new }
+        ensures { LetsIn W.does watch.old watch.new S.remaining S.contents (telling_in self.old) (pending_in self.old) self.old.status self.new }
     {
         if self.queue.reserve(1).is_err() {
             return;
         }
-        match listener.accept() {
-            Ok((stream, _)) => {
+        match watch.accept(listener) {
+            Ok(Some(stream)) => {
                 self.left -= 1;
                 self.admit(stream, watch, now);
             }
-            Err(error) if is_blocked(&error) => self.places.answer_call(),
+            Ok(None) => self.places.answer_call(),
             Err(_) => {
                 self.left -= 1;
                 self.status = 3;
@@ -145,7 +148,7 @@ impl<S: Read + Write + OpenStream + Drop> Server<S> {
         }
     }
 
-    // Gives a client a place that came in.
+    // Gives a client a place that came in. One that can't have one is given up before anything was read of it.
     fn admit<L: OpenListener<Stream = S>, W: Watch<L>>(
         &mut self,
         stream: S,
@@ -153,7 +156,8 @@ impl<S: Read + Write + OpenStream + Drop> Server<S> {
         now: Duration,
     )
         requires { AreHeld S.remaining S.contents self.old.queue.items }
-        ensures { Lets S.remaining S.contents (telling_in self.old) (pending_in self.old + 1) self.old.status self.new }
+        ensures lets { Lets S.remaining S.contents (telling_in self.old) (pending_in self.old + 1) 0 self.old.status self.new }
+        ensures does { Does W.does watch.old watch.new 0 }
     {
         self.make_way();
         match self.seat(&stream, watch) {
@@ -172,7 +176,7 @@ impl<S: Read + Write + OpenStream + Drop> Server<S> {
     // Where all places are taken, the client that was idle for the longest gives way.
     fn make_way(&mut self)
         requires { AreHeld S.remaining S.contents self.old.queue.items }
-        ensures lets { Lets S.remaining S.contents (telling_in self.old) (pending_in self.old) self.old.status self.new }
+        ensures lets { Lets S.remaining S.contents (telling_in self.old) (pending_in self.old) 0 self.old.status self.new }
         ensures full { 256 ≤ length self.old.queue.items → GivesWay self.old.queue.items self.new.queue.items }
         ensures other { length self.old.queue.items < 256 → self.new.queue ≡ self.old.queue }
     {
@@ -187,10 +191,11 @@ impl<S: Read + Write + OpenStream + Drop> Server<S> {
         stream: &S,
         watch: &mut W,
     ) -> Option<usize>
-        ensures { Becomes self.old self.new }
+        ensures becomes { Becomes self.old self.new }
+        ensures does { Does W.does watch.old watch.new 0 }
     {
         let place = self.places.take()?;
-        if stream.set_nonblocking(true).is_ok() && watch.watch(stream, place).is_ok() {
+        if watch.watch(stream, place).is_ok() {
             return Some(place);
         }
         self.places.leave(place);
@@ -200,7 +205,7 @@ impl<S: Read + Write + OpenStream + Drop> Server<S> {
     // Has the client give way that was idle for the longest.
     fn turn_out(&mut self)
         requires { AreHeld S.remaining S.contents self.old.queue.items }
-        ensures lets { Lets S.remaining S.contents (telling_in self.old) (pending_in self.old) self.old.status self.new }
+        ensures lets { Lets S.remaining S.contents (telling_in self.old) (pending_in self.old) 0 self.old.status self.new }
         ensures way { GivesWay self.old.queue.items self.new.queue.items }
     {
         let index = longest_idle(&self.queue);
@@ -276,7 +281,7 @@ impl<S: Read + Write + OpenStream + Drop> Server<S> {
     fn go_on(&mut self, client: Client<S>, now: Duration)
         requires held { AreHeld S.remaining S.contents self.old.queue.items }
         requires client { IsHeld S.remaining S.contents client.phase }
-        ensures { Lets S.remaining S.contents (telling client.phase ++ telling_in self.old) (pending_in self.old + 1) self.old.status self.new }
+        ensures { Lets S.remaining S.contents (telling client.phase ++ telling_in self.old) (pending_in self.old + 1) 0 self.old.status self.new }
     {
         let Client {
             place,
@@ -306,7 +311,7 @@ impl<S: Read + Write + OpenStream + Drop> Server<S> {
     fn stay(&mut self, client: Client<S>)
         requires held { AreHeld S.remaining S.contents self.old.queue.items }
         requires client { IsHeld S.remaining S.contents client.phase }
-        ensures { Lets S.remaining S.contents (telling client.phase ++ telling_in self.old) (pending_in self.old + 1) self.old.status self.new }
+        ensures { Lets S.remaining S.contents (telling client.phase ++ telling_in self.old) (pending_in self.old + 1) 0 self.old.status self.new }
     {
         match self.queue.push_back(client) {
             Ok(()) => {}
@@ -320,7 +325,7 @@ impl<S: Read + Write + OpenStream + Drop> Server<S> {
         requires client { IsHeld S.remaining S.contents client.phase }
         ensures queue { self.new.queue ≡ self.old.queue }
         ensures left { self.new.left ≡ self.old.left }
-        ensures lets { Lets S.remaining S.contents (telling client.phase ++ telling_in self.old) (pending_in self.old + 1) self.old.status self.new }
+        ensures lets { Lets S.remaining S.contents (telling client.phase ++ telling_in self.old) (pending_in self.old + 1) 0 self.old.status self.new }
     {
         let failed = gives_up(client.phase);
         self.end(client.place, failed);
@@ -341,7 +346,7 @@ impl<S: Read + Write + OpenStream + Drop> Server<S> {
     /// Gives up the clients that are there, and those that have not come.
     pub(crate) fn finish(&mut self)
         requires { AreHeld S.remaining S.contents self.old.queue.items }
-        ensures lets { Lets S.remaining S.contents (telling_in self.old) (pending_in self.old) self.old.status self.new }
+        ensures lets { Lets S.remaining S.contents (telling_in self.old) (pending_in self.old) self.old.left self.old.status self.new }
         ensures pending { pending_in self.new ≡ 0 }
     {
         self.give_up_all();
@@ -351,7 +356,8 @@ impl<S: Read + Write + OpenStream + Drop> Server<S> {
     // Gives up the clients that are there.
     fn give_up_all(&mut self)
         requires { AreHeld S.remaining S.contents self.old.queue.items }
-        ensures lets { Lets S.remaining S.contents (telling_in self.old) (pending_in self.old) self.old.status self.new }
+        ensures lets { Lets S.remaining S.contents (telling_in self.old) (pending_in self.old) 0 self.old.status self.new }
+        ensures left { self.new.left ≡ self.old.left }
         ensures empty { length self.new.queue.items ≡ 0 }
     {
         for _ in 0..self.queue.len() {
@@ -362,7 +368,8 @@ impl<S: Read + Write + OpenStream + Drop> Server<S> {
     // Gives up the first client, if one is there.
     fn give_up_first(&mut self)
         requires { AreHeld S.remaining S.contents self.old.queue.items }
-        ensures lets { Lets S.remaining S.contents (telling_in self.old) (pending_in self.old) self.old.status self.new }
+        ensures lets { Lets S.remaining S.contents (telling_in self.old) (pending_in self.old) 0 self.old.status self.new }
+        ensures left { self.new.left ≡ self.old.left }
         ensures fewer { length self.new.queue.items ≡ length self.old.queue.items - 1 }
     {
         if let Some(client) = self.queue.pop_front() {
@@ -373,7 +380,7 @@ impl<S: Read + Write + OpenStream + Drop> Server<S> {
     // Counts those that have not come as failed.
     fn leave_out(&mut self)
         requires { AreHeld S.remaining S.contents self.old.queue.items }
-        ensures lets { Lets S.remaining S.contents (telling_in self.old) (pending_in self.old) self.old.status self.new }
+        ensures lets { Lets S.remaining S.contents (telling_in self.old) (pending_in self.old) self.old.left self.old.status self.new }
         ensures pending { pending_in self.new ≡ length self.old.queue.items }
     {
         if self.left > 0 {

@@ -1,8 +1,10 @@
 //! Connections of a listener, many at once.
 
-ghost use Rattle.bor_program.specs.Connections.Serving.{IsServed, IsServedAs};
+ghost use Rattle.bor_program.specs.Connections.Serving.{IsServed, IsServedOver};
 ghost use Rattle.bor_program.specs.Connections.Streams.{IsOf};
-ghost use Rattle.bor_program.specs.Connections.Servers.{Advances, AreHeld};
+ghost use Rattle.std.specs.Prelude.{◌<◌};
+ghost use Rattle.bor_program.specs.Connections.Servers.{AreHeld, Becomes, Runs};
+ghost use Rattle.bor_program.specs.Connections.Watching.{WaitsOnce};
 
 use crate::connections::limits::Limits;
 use crate::connections::server::Server;
@@ -27,7 +29,8 @@ pub fn serve_on<R: Clock + AllocGlobal, K: Keep, L: OpenListener, W: Watch<L>>(
 where
     L::Stream: Read + Write + OpenStream,
     ensures served { IsServed K.shows K.is_clean keep.old keep.new connections result }
-    ensures streams { IsServedAs K.shows K.is_clean (IsOf L.Stream.remaining L.Stream.contents) keep.old keep.new connections result }
+    ensures streams { IsServedOver K.shows K.is_clean (IsOf L.Stream.remaining L.Stream.contents) W.does
+        keep.old keep.new watch.old watch.new connections result }
 {
     serve_within(
         rt,
@@ -40,7 +43,7 @@ where
 }
 
 /// Serves this many connections of a listener, up to 256 at once, and gives 0, or 3 where one failed: it
-/// couldn't be accepted, its request didn't come in time, its reply wasn't taken in time, or the reply
+/// couldn't be let in, its request didn't come in time, its reply wasn't taken in time, or the reply
 /// was 503. A connection that fails is one of them. Where a client comes in and all places are taken, the
 /// one that was idle for the longest gives way.
 ///
@@ -58,7 +61,8 @@ pub fn serve_within<R: Clock + AllocGlobal, K: Keep, L: OpenListener, W: Watch<L
 where
     L::Stream: Read + Write + OpenStream,
     ensures served { IsServed K.shows K.is_clean keep.old keep.new connections result }
-    ensures streams { IsServedAs K.shows K.is_clean (IsOf L.Stream.remaining L.Stream.contents) keep.old keep.new connections result }
+    ensures streams { IsServedOver K.shows K.is_clean (IsOf L.Stream.remaining L.Stream.contents) W.does
+        keep.old keep.new watch.old watch.new connections result }
 {
     let mut server = Server::new(rt.alloc(), limits, connections, watch.is_noting());
     run(rt, keep, listener, watch, &mut server);
@@ -78,26 +82,45 @@ fn run<R: Clock, K: Keep, L: OpenListener, W: Watch<L>>(
 where
     L::Stream: Read + Write + OpenStream,
     requires { AreHeld L.Stream.remaining L.Stream.contents server.old.queue.items }
-    ensures held { AreHeld L.Stream.remaining L.Stream.contents server.new.queue.items }
-    ensures advances { Advances K.shows K.is_clean L.Stream.remaining L.Stream.contents keep.old keep.new server.old server.new }
+    ensures { Runs K.shows K.is_clean W.does L.Stream.remaining L.Stream.contents keep.old keep.new watch.old watch.new server.old server.new }
 {
     if watch.watch_listener(listener).is_err() {
         return;
     }
     let mut faults = 0;
     for _ in 0..u64::MAX {
-        if server.is_done() || faults >= FAULT_LIMIT {
+        if server.is_done() {
             return;
         }
-        match server.wait(watch) {
-            Ok(()) => faults = 0,
-            Err(_) => {
-                faults += 1;
-                rt.sleep(Duration::from_millis(1));
-            }
+        if faults >= FAULT_LIMIT {
+            return;
         }
+        faults = wait(rt, watch, server, faults);
         let now = rt.monotonic().ok();
         server.let_in(listener, watch, now.unwrap_or(Duration::ZERO));
         server.serve_all(keep, now);
+    }
+}
+
+// Waits, and tells how many waits have failed now, one after the other, where so many had before. After one
+// that failed it sleeps for a little.
+fn wait<R: Clock, L: OpenListener, W: Watch<L>>(
+    rt: &R,
+    watch: &mut W,
+    server: &mut Server<L::Stream>,
+    faults: u32,
+) -> u32
+where
+    L::Stream: Read + Write + OpenStream,
+    requires { faults < 1000 }
+    ensures becomes { Becomes server.old server.new }
+    ensures waits { WaitsOnce W.does watch.old watch.new faults result }
+{
+    match server.wait(watch) {
+        Ok(()) => 0,
+        Err(_) => {
+            rt.sleep(Duration::from_millis(1));
+            faults + 1
+        }
     }
 }

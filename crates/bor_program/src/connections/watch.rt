@@ -1,8 +1,12 @@
 //! Which clients may be read or written on, and waiting until one may.
 
+ghost use Rattle.std.specs.Result.{is_err};
+ghost use Rattle.bor_program.specs.Connections.Watching.{Act, Accepts, Listens, Notes, Waits, Watches};
+
+use crate::connections::reading::is_blocked;
 use crate::log::Note;
 use std::io;
-use std::net::OpenListener;
+use std::net::{OpenListener, OpenStream};
 use std::time::Duration;
 
 /// How many clients are served at once.
@@ -88,19 +92,32 @@ impl Places {
 /// It tells of a change: a client that was read or written on until nothing more could be is told of again
 /// once something can. It may tell of more than there is.
 pub trait Watch<L: OpenListener> {
+    /// This call leads from one state of it to another.
+    ghost does: { Self → Act → Self → Type 0 };
+
     /// Watches for clients that come in.
     ///
     /// # Errors
     ///
     /// It can't be watched for them.
-    fn watch_listener(&mut self, listener: &L) -> io::Result<()>;
+    fn watch_listener(&mut self, listener: &L) -> io::Result<()>
+        ensures { does self.old (Listens (is_err result)) self.new };
+
+    /// Lets a client in that waits for it, if there is one ([`accepted`]).
+    ///
+    /// # Errors
+    ///
+    /// A client can't be let in, and is lost.
+    fn accept(&mut self, listener: &L) -> io::Result<Option<L::Stream>>
+        ensures { does self.old (Accepts (is_err result)) self.new };
 
     /// Watches a client at this place, until its stream is dropped.
     ///
     /// # Errors
     ///
     /// It can't be watched.
-    fn watch(&mut self, stream: &L::Stream, place: usize) -> io::Result<()>;
+    fn watch(&mut self, stream: &L::Stream, place: usize) -> io::Result<()>
+        ensures { does self.old (Watches (is_err result)) self.new };
 
     /// Waits until something may be read or written, or a client may be waiting, or the time is up, and marks
     /// where. Without a limit it waits for ever.
@@ -108,7 +125,8 @@ pub trait Watch<L: OpenListener> {
     /// # Errors
     ///
     /// It can't be waited.
-    fn wait(&mut self, limit: Option<Duration>, places: &mut Places) -> io::Result<()>;
+    fn wait(&mut self, limit: Option<Duration>, places: &mut Places) -> io::Result<()>
+        ensures { does self.old (Waits (is_err result)) self.new };
 
     /// Whether requests that were answered are to be noted.
     fn is_noting(&self) -> bool {
@@ -116,5 +134,25 @@ pub trait Watch<L: OpenListener> {
     }
 
     /// Notes a request that was answered since the last wait.
-    fn note(&mut self, _note: Note) {}
+    fn note(&mut self, note: Note)
+        ensures { does self.old (Notes note) self.new };
+}
+
+/// A client that waits to come in at a listener that doesn't block, if there is one. Its stream doesn't either.
+///
+/// # Errors
+///
+/// It can't be accepted so.
+pub fn accepted<L: OpenListener>(listener: &L) -> io::Result<Option<L::Stream>>
+where
+    L::Stream: OpenStream,
+{
+    match listener.accept() {
+        Ok((stream, _)) => {
+            stream.set_nonblocking(true)?;
+            Ok(Some(stream))
+        }
+        Err(error) if is_blocked(&error) => Ok(None),
+        Err(error) => Err(error),
+    }
 }

@@ -1,5 +1,4 @@
-use Rattle.std.proofs.Common.{◌≡◌, ◌<◌, length, get_or, arith, ◌∙◌}
-use Rattle.std.specs.Duration.{as_nanos}
+use Rattle.std.proofs.Common.{◌<◌, length, arith}
 use Rattle.bor_program.specs.Connections.Servers.{idle_times}
 use Rattle.bor_program.proofs.OnConnections.Servers.{as_idle, idle_at, longer_idle}
 use Rattle.bor_program.proofs.connections.server.longest_idle.Goals as goal

@@ -1,4 +1,4 @@
-use Rattle.std.proofs.Common.{◌≡◌, ◌≤◌, ◌<◌, ℕ, get_or}
+use Rattle.std.proofs.Common.{◌≤◌, ◌<◌, ℕ, get_or}
 use Rattle.bor_program.specs.Connections.Servers.{idle_times}
 use Rattle.bor_program.proofs.connections.server.longest_idle.Given as goal
 

@@ -8,18 +8,18 @@ pub returns-in-Reading : goal.returns-in-Reading
 returns-in-Reading g c =
     let r = c.in-Reading.field-0 in
     let held = rw c.in-Reading.is at c.requires in
-    (Unanswered r.received.items, (r.stream, held.came, held.fits), rw c.in-Reading.is refl, refl)
+    (Unanswered r.received.items, (r.stream, held.came, held.fits), rw c.in-Reading.is refl, refl, refl)
 
 pub returns-in-Writing : goal.returns-in-Writing
 returns-in-Writing g c =
     let w = c.in-Writing.writing in
     let held = rw c.in-Writing.is at c.requires in
     let answer = answer_of w.request.items w.reply in
-    (Told answer w.sent, told_writing g.S.Read.remaining g.S.Write.contents w.stream answer w.sent held, rw c.in-Writing.is refl, c.has_failed.ensures)
+    (Told answer w.sent, told_writing g.S.Read.remaining g.S.Write.contents w.stream answer w.sent held, rw c.in-Writing.is refl, c.has_failed.ensures, refl)
 
 pub returns : goal.returns
 returns g c =
     let d = c.in-Draining.draining in
     let held = rw c.in-Draining.is at c.requires in
     let answer = answer_of d.request.items d.reply in
-    (Told answer (length (bytes_out d.reply)), told_draining g.S.Read.remaining g.S.Write.contents d.stream answer d.left held, rw c.in-Draining.is refl, c.has_failed-in-Draining.ensures)
+    (Told answer (length (bytes_out d.reply)), told_draining g.S.Read.remaining g.S.Write.contents d.stream answer d.left held, rw c.in-Draining.is refl, c.has_failed-in-Draining.ensures, refl)

@@ -1,4 +1,4 @@
-use Rattle.std.proofs.Common.{arith, ap, length, []}
+use Rattle.std.proofs.Common.{arith, []}
 use Rattle.bor_program.proofs.OnConnections.Streams.{came_new}
 use Rattle.bor_program.proofs.connections.reading.Reading.new.Goals as goal
 

@@ -1,18 +1,21 @@
-use Rattle.std.proofs.Common.{◌+◌, refl}
+use Rattle.std.proofs.Common.{◌+◌, [], true, arith, refl}
+use Rattle.bor_program.specs.Connections.Serving.{Unanswered}
 use Rattle.bor_program.specs.Connections.Servers.{telling_in, pending_in}
-use Rattle.bor_program.proofs.OnConnections.Servers.{lets_absent, lets_as, lets_then_more}
+use Rattle.bor_program.proofs.OnConnections.Servers.{lets_as, lets_one, lets_then_more}
+use Rattle.bor_program.proofs.OnConnections.Streams.{came_new}
 use Rattle.bor_program.proofs.connections.server.Server.admit.Goals as goal
 
-pub returns-in-Some : goal.returns-in-Some
-returns-in-Some g c =
+pub returns-in-Some-clause-lets : goal.returns-in-Some-clause-lets
+returns-in-Some-clause-lets g c =
     let old = c.args.self.now in
-    let seated = lets_as g.S.Read.remaining g.S.Write.contents (telling_in old) (pending_in old) old.status c.make_way.new.self c.seat.new.self c.make_way.ensures.lets c.seat.ensures in
-    lets_then_more g.S.Read.remaining g.S.Write.contents (telling_in old) (pending_in old) 1 old.status c.seat.new.self c.stay.new.self seated c.stay.ensures
+    let seated = lets_as g.S.Read.remaining g.S.Write.contents (telling_in old) (pending_in old) 0 old.status c.make_way.new.self c.seat.new.self c.make_way.ensures.lets c.seat.ensures.becomes in
+    lets_then_more g.S.Read.remaining g.S.Write.contents (telling_in old) (pending_in old) 1 0 0 old.status c.seat.new.self c.stay.new.self seated c.stay.ensures
 
-pub returns-in-None : goal.returns-in-None
-returns-in-None g c =
+pub returns-in-None-clause-lets : goal.returns-in-None-clause-lets
+returns-in-None-clause-lets g c =
     let old = c.args.self.now in
     let mid = c.seat.new.self in
-    let seated = lets_as g.S.Read.remaining g.S.Write.contents (telling_in old) (pending_in old) old.status c.make_way.new.self mid c.make_way.ensures.lets c.seat.ensures in
-    lets_then_more g.S.Read.remaining g.S.Write.contents (telling_in old) (pending_in old) 1 old.status mid _ seated
-    (lets_absent g.S.Read.remaining g.S.Write.contents (telling_in mid) (pending_in mid + 1) mid.status _ seated.held refl refl refl)
+    let seated = lets_as g.S.Read.remaining g.S.Write.contents (telling_in old) (pending_in old) 0 old.status c.make_way.new.self mid c.make_way.ensures.lets c.seat.ensures.becomes in
+    lets_then_more g.S.Read.remaining g.S.Write.contents (telling_in old) (pending_in old) 1 0 0 old.status mid _ seated
+    (lets_one g.S.Read.remaining g.S.Write.contents [] (telling_in mid) (pending_in mid + 1) mid.status true _ seated.held
+    (Unanswered [], (c.args.stream, came_new g.S.Read.remaining c.args.stream, omega arith), refl, refl, refl) refl refl refl)

@@ -4,6 +4,7 @@ use Rattle.bor_program.proofs.connections.server.Server.give_up_all.Given as goa
 
 abbrev pub invariant-loop : goal.invariant-loop
 invariant-loop g l = record {
-  lets : Lets g.S.Read.remaining g.S.Write.contents (telling_in l.fn.self) (pending_in l.fn.self) l.fn.self.status l.self;
+  lets : Lets g.S.Read.remaining g.S.Write.contents (telling_in l.fn.self) (pending_in l.fn.self) 0 l.fn.self.status l.self;
+  left : l.self.left ≡ l.fn.self.left;
   count : length l.self.queue.items ≡ length l.fn.self.queue.items - l.counter;
 }
