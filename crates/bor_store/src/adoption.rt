@@ -189,6 +189,7 @@ impl<S: Alter + Drop> SqlKeep<S> {
             → (r : Register) → ShowsFirst r (state S.Store conn) → RefusesFirst result }
         ensures began { IfOk result (λ k. IsClean (state S.Store k.conn) → IsClean (state S.Store conn)) }
         ensures shows { IfOk result (λ k. IsClean (state S.Store k.conn) → (r : Register) → ShowsIn r (state S.Store conn) ↔ ShowsIn r (state S.Store k.conn)) }
+        ensures one { IfOk result (λ k. (r q : Register) → ShowsIn r (state S.Store k.conn) → ShowsIn q (state S.Store k.conn) → r ≡ q) }
         ensures unfaulted { IfOk result (λ k. k.faults ≡ 0) }
     {
         let mut conn = conn;

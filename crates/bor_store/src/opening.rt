@@ -42,6 +42,7 @@ impl<S: Start> SqlKeep<FileStore<FileFrom<S>>> {
     ) -> Result<SqlKeep<FileStore<FileFrom<S>>>, OpenFault>
         ensures found { IfOk result (λ k. IsClean (file_state k.conn)
             → (r : Register) → HoldsRegister (image_at S.Start) r → ShowsIn r (file_state k.conn)) }
+        ensures one { IfOk result (λ k. (r q : Register) → ShowsIn r (file_state k.conn) → ShowsIn q (file_state k.conn) → r ≡ q) }
         ensures unfaulted { IfOk result (λ k. k.faults ≡ 0) }
     {
         let conn = connect(rt, path, start)?;

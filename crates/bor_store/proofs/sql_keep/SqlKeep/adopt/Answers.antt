@@ -1,5 +1,6 @@
 use Rattle.std.proofs.lemmas.Result.{err_from_is_err_and}
 use Rattle.sqlite.specs.Held.{state}
+use Rattle.bor_store_sql.proofs.OneRegister.{one_shown}
 use Rattle.bor_store.proofs.Judging.{judged_told}
 use Rattle.bor_store.proofs.sql_keep.SqlKeep.adopt.Goals as goal
 
@@ -7,3 +8,6 @@ pub returns-in_err-examine-clause-refused : goal.returns-in_err-examine-clause-r
 returns-in_err-examine-clause-refused g c faithful =
     let p = err_from_is_err_and c.from_residual.result c.from_residual.ensures.1 in
     rw (p.1, p.2) (judged_told _ _ (state g.S.Store c.args.conn) c.in_err-examine.field-0.0 (c.in_err-examine.ensures.judged (faithful c.examine.new.conn)))
+
+pub returns-clause-one : goal.returns-clause-one
+returns-clause-one g c r q shows too = one_shown r q _ shows too
