@@ -7,7 +7,7 @@ use Rattle.bor_wire.specs.declared.outcome.Outcome.TheVariants.{Replied}
 use Rattle.bor_wire.specs.declared.outgoing.Outgoing.{Outgoing}
 use Rattle.bor_wire.specs.declared.replies.Reply.{Reply}
 use Rattle.bor_wire.specs.Exchanges.{IsExchanged, IsResponse, bytes_out, status_out}
-use Rattle.bor_wire.specs.Sequences.{AreExchanged, Exchanged, keep_left}
+use Rattle.bor_wire.specs.Sequences.{AreExchanged, Exchanged, IsNext, keep_left}
 use Rattle.bor_wire.specs.Turns.{AreTurns, FrontsAreRuns, HasStatusOf, InTurn, IsTurn, TakesTurn, sent_as}
 use Rattle.bor_wire.proofs.SequenceLaws.{a_run}
 
@@ -25,10 +25,9 @@ turns_more (a ∷ inputs) (b ∷ replies) [] input reply e h one = elim h [ ]
 turns_more (a ∷ inputs) (b ∷ replies) (x ∷ es) input reply e h one = (h.0, turns_more inputs replies es input reply e h.1 one)
 
 exchanged_more : {K : Type 0} (shows : K → Register → Type 0) (is_clean : K → Type 0) (keep : K) (es : List (Exchanged K)) (e : Exchanged K)
-    → AreExchanged shows is_clean keep es → (is_clean e.keep → is_clean (keep_left keep es))
-    → Promised shows is_clean (keep_left keep es) e.keep (λ r. IsLegal r → IsExchanged e.outcome (shows e.keep) r e.known e.held e.holds) → AreExchanged shows is_clean keep (es ++ e ∷ [])
-exchanged_more shows is_clean keep [] e h began one = (began, one, tt)
-exchanged_more shows is_clean keep (x ∷ es) e h began one = (h.0, h.1, exchanged_more shows is_clean x.keep es e h.2 began one)
+    → AreExchanged shows is_clean keep es → IsNext shows is_clean (keep_left keep es) e → AreExchanged shows is_clean keep (es ++ e ∷ [])
+exchanged_more shows is_clean keep [] e h next = (next, tt)
+exchanged_more shows is_clean keep (x ∷ es) e h next = (h.0, exchanged_more shows is_clean x.keep es e h.1 next)
 
 left_more : {K : Type 0} (keep : K) (es : List (Exchanged K)) (e : Exchanged K) → keep_left keep (es ++ e ∷ []) ≡ e.keep
 left_more keep [] e = refl
@@ -42,8 +41,7 @@ in_turn_more {K} shows is_clean old mid new inputs replies input reply h began o
     record {
       exchanges = h.exchanges ++ e ∷ [];
       turns = turns_more inputs replies h.exchanges input reply e h.turns (record { status = one.status; status_is = one.status_is; outcome = refl; known = refl; held = refl; holds = refl });
-      each = exchanged_more shows is_clean old h.exchanges e h.each (subst (λ k. is_clean new → is_clean k) (sym h.left) began)
-          (subst (λ k. Promised shows is_clean k new (λ r. IsLegal r → IsExchanged (Replied one.status) (shows new) r (Some input) (Some []) (Some (sent_as reply)))) (sym h.left) one.exchanged);
+      each = exchanged_more shows is_clean old h.exchanges e h.each (subst (λ k. IsNext shows is_clean k e) (sym h.left) (record { began = began; exchanged = one.exchanged }));
       left = left_more old h.exchanges e;
     }
 
@@ -64,7 +62,7 @@ takes_turn shows is_clean old new input out reply status bytes h = record {
 front_exchanged : {K : Type 0} (shows : K → Register → Type 0) (is_clean : K → Type 0) (keep : K) (front rest : List (Exchanged K)) → AreExchanged shows is_clean keep (front ++ rest)
     → AreExchanged shows is_clean keep front
 front_exchanged shows is_clean keep [] rest h = tt
-front_exchanged shows is_clean keep (e ∷ front) rest h = (h.0, h.1, front_exchanged shows is_clean e.keep front rest h.2)
+front_exchanged shows is_clean keep (e ∷ front) rest h = (h.0, front_exchanged shows is_clean e.keep front rest h.1)
 
 pub fronts : {K : Type 0} (shows : K → Register → Type 0) (is_clean : K → Type 0) → FrontsAreRuns shows is_clean
 fronts shows is_clean keep front rest h = a_run shows is_clean keep front (front_exchanged shows is_clean keep front rest h)

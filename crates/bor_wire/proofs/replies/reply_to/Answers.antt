@@ -8,8 +8,9 @@ pub returns-in-Some-Full-clause-turn : goal.returns-in-Some-Full-clause-turn
 returns-in-Some-Full-clause-turn g c =
     let keep = g.K.Keep in
     let went = c.in-Some-Full in
+    let read = c.read_reply-outgoing in
     let out = outgoing.Full went.field-0-0 went.bytes in
-    let status = rw went.field-0-is at went.ensures.status in
-    let told = rw went.field-0-is at (rw c.new-reader.ensures.inner at went.ensures.reply) in
-    takes_turn keep.shows keep.is_clean c.args.keep.now c.read_reply.new.keep c.args.input.now out (Full c.new.result) status c.new.ensures
-    (responded keep.shows keep.is_clean c.args.keep.now c.read_reply.new.keep c.args.input.now out told status)
+    let status = rw went.field-0-is at (rw went.is at read.ensures.status) in
+    let told = rw went.field-0-is at (rw c.new-reader.ensures.inner at (rw went.is at read.ensures.reply)) in
+    takes_turn keep.shows keep.is_clean c.args.keep.now read.new.keep c.args.input.now out (Full c.new.result) status c.new.ensures
+    (responded keep.shows keep.is_clean c.args.keep.now read.new.keep c.args.input.now out told status)
