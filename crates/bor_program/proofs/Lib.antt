@@ -3,6 +3,7 @@ pub mod KnownBytes
 pub mod Ends
 pub mod MetFailures
 pub mod Unread
+pub mod FilesRead
 pub mod Replies
 pub mod Performed
 pub mod Logged

@@ -1,13 +1,16 @@
 -- What is written part by part, and how replies end.
 use Rattle.std.proofs.Common.{◌≡◌, ◌∙◌, ◌≤◌, ◌⊎◌, ℕ, List, [], ◌∷◌, ◌++◌, Option, Some, None, Result, Ok, Err, ap, arith, inl, inr, refl, sym, subst, true, false, Bool, max, IfSome, length, option_map, take, append-nil, append_assoc, lit≤}
+use Rattle.std.specs.Borrow.{Bor}
 use Rattle.std.specs.Io.KnownBytes.{Appends, Keeps}
 use Rattle.std.proofs.KnownBytes.{Appends-trans}
+use Rattle.clap.specs.Words.{Text as Words}
 use Rattle.bor_wire.specs.declared.replies.Reply.{Reply}
 use Rattle.bor_wire.specs.declared.replies.Reply.TheVariants.{Full, Unavailable}
 use Rattle.bor_desk.specs.declared.text.Text.{Text}
 use Rattle.bor_program.specs.declared.status.Status.{Status}
 use Rattle.bor_program.specs.declared.status.Status.TheVariants.{Done, Refused, Usage, Failed}
 use Rattle.std.specs.Result.{is_err}
+use Rattle.bor_program.specs.Inputs.{AreReadOf}
 use Rattle.bor_program.specs.Reporting.{EndsTelling}
 use Rattle.bor_program.specs.Program.{exit_code, report_status}
 use Rattle.bor_program.specs.Replying.{AreAnswers, IsSentOrCutOff, EndsFiles, EndsSending, is_refusal, replies_status, reply_status, sent}
@@ -20,6 +23,7 @@ use Rattle.bor_wire.specs.Histories.{IsAlone}
 use Rattle.bor_wire.specs.Reports.{AreReports}
 use Rattle.bor_wire.specs.Runs.{AreReplies, AreSpelled, full, register_left, served}
 use Rattle.bor_program.proofs.Ends.{part_none}
+use Rattle.bor_program.proofs.FilesRead.{none_read}
 use Rattle.bor_program.proofs.KnownBytes.{IsWritten}
 
 -- a part was written whole, and the rest is left
@@ -79,34 +83,35 @@ worse_done status read code e low (inr h) =
     let three : exit_code read ≡ 3 = ap exit_code h in
     absurd (omega (arith, e, low, three))
 
-pub ends_read : (P : List (List ℕ) → List Reply → Type 0) (inputs : List (List ℕ)) (count : ℕ) (before after : Option (List ℕ)) (status read : Status) (code : ℕ)
-    → code ≡ max (exit_code status) (exit_code read) → (read ≡ Done) ⊎ (read ≡ Failed) → (code ≤ 1 → length inputs ≡ count)
-    → ((replies : List Reply) × P inputs replies × Appends before after (sent replies) × (exit_code status ≡ replies_status replies)) → EndsFiles P count before after code
-ends_read P inputs count before after status read code e (inl h) counted s =
+pub ends_read : (P : List (List ℕ) → List Reply → Type 0) (Reads : Bor Words → List ℕ → Type 0) (inputs : List (List ℕ)) (names : List (Bor Words)) (before after : Option (List ℕ)) (status read : Status) (code : ℕ)
+    → code ≡ max (exit_code status) (exit_code read) → (read ≡ Done) ⊎ (read ≡ Failed) → AreReadOf Reads names inputs → (code ≤ 1 → length inputs ≡ length names)
+    → ((replies : List Reply) × P inputs replies × Appends before after (sent replies) × (exit_code status ≡ replies_status replies)) → EndsFiles P Reads names before after code
+ends_read P Reads inputs names before after status read code e (inl h) are counted s =
     let none : exit_code read ≡ 0 = ap exit_code h in
     let same : code ≡ exit_code status = omega (arith, e, none) in
-    (inputs, counted, (s.0, s.1, inl (s.2, same ∙ s.3)))
-ends_read P inputs count before after status read code e (inr h) counted s =
+    (inputs, are, counted, (s.0, s.1, inl (s.2, same ∙ s.3)))
+ends_read P Reads inputs names before after status read code e (inr h) are counted s =
     let three : exit_code read ≡ 3 = ap exit_code h in
     let most : exit_code status ≤ 3 = code_most status in
     let same : code ≡ 3 = omega (arith, e, three, most) in
-    (inputs, counted, (s.0, s.1, inr (part_of_all before after (sent s.0) s.2, same)))
+    (inputs, are, counted, (s.0, s.1, inr (part_of_all before after (sent s.0) s.2, same)))
 
-pub ends_failed : (P : List (List ℕ) → List Reply → Type 0) (inputs : List (List ℕ)) (count : ℕ) (before after : Option (List ℕ)) (code : ℕ) → code ≡ 3
-    → ((replies : List Reply) × P inputs replies × AppendsPart before after (sent replies)) ⊎ (P [] [] × Keeps before after) → EndsFiles P count before after code
-ends_failed P inputs count before after code three (inl h) = (inputs, (λ low. absurd (omega (arith, low, three))), (h.0, h.1, inr (h.2, three)))
-ends_failed P inputs count before after code three (inr h) =
-    ([], (λ low. absurd (omega (arith, low, three))), ([], h.0, inr (part_none before after [] h.1, three)))
+pub ends_failed : (P : List (List ℕ) → List Reply → Type 0) (Reads : Bor Words → List ℕ → Type 0) (inputs : List (List ℕ)) (names : List (Bor Words)) (before after : Option (List ℕ)) (code : ℕ) → code ≡ 3
+    → AreReadOf Reads names inputs → ((replies : List Reply) × P inputs replies × AppendsPart before after (sent replies)) ⊎ (P [] [] × Keeps before after) → EndsFiles P Reads names before after code
+ends_failed P Reads inputs names before after code three are (inl h) = (inputs, are, (λ low. absurd (omega (arith, low, three))), (h.0, h.1, inr (h.2, three)))
+ends_failed P Reads inputs names before after code three are (inr h) =
+    ([], none_read Reads names, (λ low. absurd (omega (arith, low, three))), ([], h.0, inr (part_none before after [] h.1, three)))
 
 -- what was sent, whichever replies they are
-pub sent_some : (P : List (List ℕ) → List Reply → Type 0) (count : ℕ) (before after : Option (List ℕ)) (code : ℕ) → EndsFiles P count before after code
+pub sent_some : (P : List (List ℕ) → List Reply → Type 0) (Reads : Bor Words → List ℕ → Type 0) (names : List (Bor Words)) (before after : Option (List ℕ)) (code : ℕ) → EndsFiles P Reads names before after code
     → (replies : List Reply) × IsSentOrCutOff replies before after code
-sent_some P count before after code h = (h.2.0, h.2.2)
+sent_some P Reads names before after code h = (h.3.0, h.3.2)
 
--- the same of replies of a wider kind
-pub sent_as : (P Q : List (List ℕ) → List Reply → Type 0) (count last : ℕ) (before after : Option (List ℕ)) (code : ℕ) → count ≡ last
-    → ((inputs : List (List ℕ)) (replies : List Reply) → P inputs replies → Q inputs replies) → EndsFiles P count before after code → EndsFiles Q last before after code
-sent_as P Q count last before after code e wider h = (h.0, (λ low. h.1 low ∙ e), (h.2.0, wider h.0 h.2.0 h.2.1, h.2.2))
+-- the same of replies of a wider kind, and of names that are the same
+pub sent_as : (P Q : List (List ℕ) → List Reply → Type 0) (Reads : Bor Words → List ℕ → Type 0) (names last : List (Bor Words)) (before after : Option (List ℕ)) (code : ℕ) → names ≡ last
+    → ((inputs : List (List ℕ)) (replies : List Reply) → P inputs replies → Q inputs replies) → EndsFiles P Reads names before after code → EndsFiles Q Reads last before after code
+sent_as P Q Reads names last before after code e wider h =
+    (h.0, subst (λ (l : List (Bor Words)). AreReadOf Reads l h.0) e h.1, (λ low. h.2 low ∙ ap length e), (h.3.0, wider h.0 h.3.0 h.3.1, h.3.2))
 
 -- ---- what is answered of a register
 

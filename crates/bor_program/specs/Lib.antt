@@ -2,6 +2,7 @@ pub mod Words
 pub mod Streams
 pub mod Program
 pub mod Failures
+pub mod Inputs
 pub mod Replying
 pub mod Reporting
 pub mod Deeds

@@ -1,5 +1,5 @@
 -- What each command leaves on the streams, and which exit status it gives.
-use Rattle.std.specs.Prelude.{◌≡◌, ◌≤◌, ◌⊎◌, ◌++◌, ◌∷◌, ℕ, List, [], Option, None, IfSome, IsSome, IsTrue, codes, decimal, length}
+use Rattle.std.specs.Prelude.{◌≡◌, ◌≤◌, ◌⊎◌, ◌++◌, ◌∷◌, ℕ, List, [], Option, None, IfSome, IsSome, IsTrue, codes, decimal}
 use Rattle.std.specs.Io.KnownBytes.{Appends, Keeps}
 use Rattle.std.specs.Borrow.{Bor}
 use Rattle.bor_records.specs.Promises.{Kept}
@@ -55,21 +55,21 @@ pub record FailsToOpen {M K : Type 0} (does : M → Deed K → M → Type 0) (be
   pub cause : IsOpeningOf path failure
   pub line : AppendsPart errors told (failure_line failure)
 
--- Replies are printed, from the register that was opened on. Where the run doesn't fail, they are those to one input a file. Nothing is told but of files that can't be read, and of want of memory.
-pub record ExchangesFrom {K : Type 0} (shows : K → Register → Type 0) (is_clean : K → Type 0) (opened left : K) (asked : Exchanging) (output printed errors told : Known) (status : ℕ) : Type 0 where
-  pub answered : EndsFiles (AreAnswers shows is_clean opened left) (length asked.files.items) output printed status
+-- Replies are printed, from the register that was opened on, to what is read of the files. Where the run doesn't fail, they are those to one input a file. Nothing is told but of files that can't be read, and of want of memory.
+pub record ExchangesFrom {K : Type 0} (Reads : Bor Words → List ℕ → Type 0) (shows : K → Register → Type 0) (is_clean : K → Type 0) (opened left : K) (asked : Exchanging) (output printed errors told : Known) (status : ℕ) : Type 0 where
+  pub answered : EndsFiles (AreAnswers shows is_clean opened left) Reads asked.files.items output printed status
   pub unread : TellsFiles asked.files.items output printed errors told
 
 -- The same from the new register on, with no file; or from the one that was opened in the file, or set up, and what is left of it is closed there.
-pub record Exchanges {M K : Type 0} (shows : K → Register → Type 0) (is_clean : K → Type 0) (does : M → Deed K → M → Type 0) (begun ended : M) (asked : Exchanging) (output printed errors told : Known) (status : ℕ) : Type 0 where
+pub record Exchanges {M K : Type 0} (Reads : Bor Words → List ℕ → Type 0) (shows : K → Register → Type 0) (is_clean : K → Type 0) (does : M → Deed K → M → Type 0) (begun ended : M) (asked : Exchanging) (output printed errors told : Known) (status : ℕ) : Type 0 where
   pub sent : (replies : List Reply) × IsSentOrCutOff replies output printed status
   pub answered : asked.db ≡ None
-      → (ended ≡ begun) × EndsFiles (AreRepliesTo (empty_register asked.registrar asked.day)) (length asked.files.items) output printed status
+      → (ended ≡ begun) × EndsFiles (AreRepliesTo (empty_register asked.registrar asked.day)) Reads asked.files.items output printed status
       × TellsFiles asked.files.items output printed errors told
   pub opened : IfSome asked.db (λ path. FailsToOpen does begun ended path output printed errors told status
       ⊎ ((opened : K) × (origin : Origin) × (left : K)
       × Visits does begun ended path (ComesToBe shows is_clean path asked.registrar asked.day opened origin) left
-      × ExchangesFrom shows is_clean opened left asked output printed errors told status))
+      × ExchangesFrom Reads shows is_clean opened left asked output printed errors told status))
   pub silent : status ≤ 1 → Keeps errors told
 
 -- the registrar's token isn't told: nothing is answered, no register is opened, and the line of that is told
@@ -87,10 +87,10 @@ pub record IsOnceTold (asked : Exchange) (told : Exchanging) : Type 0 where
   pub files : told.files ≡ asked.files
 
 -- the registrar's token isn't told, or with it the requests are answered
-abbrev pub ExchangesOnceTold : {M K : Type 0} → (K → Register → Type 0) → (K → Type 0) → (M → Deed K → M → Type 0) → M → M → Exchange → Known → Known → Known → Known → ℕ → Type 0
-ExchangesOnceTold shows is_clean does begun ended asked output printed errors told status =
+abbrev pub ExchangesOnceTold : {M K : Type 0} → (Bor Words → List ℕ → Type 0) → (K → Register → Type 0) → (K → Type 0) → (M → Deed K → M → Type 0) → M → M → Exchange → Known → Known → Known → Known → ℕ → Type 0
+ExchangesOnceTold Reads shows is_clean does begun ended asked output printed errors told status =
     LacksToken begun ended asked.registrar output printed errors told status
-    ⊎ ((once_told : Exchanging) × IsOnceTold asked once_told × Exchanges shows is_clean does begun ended once_told output printed errors told status)
+    ⊎ ((once_told : Exchanging) × IsOnceTold asked once_told × Exchanges Reads shows is_clean does begun ended once_told output printed errors told status)
 
 -- the line that tells that the server listens
 abbrev pub listening : ℕ → List ℕ
@@ -143,17 +143,17 @@ pub record Migrates {M K : Type 0} (does : M → Deed K → M → Type 0) (begun
   pub silent : status ≤ 1 → Keeps errors told
   pub line : status ≡ 3 → IsTold (IsMetIn asked.db output printed) errors told
 
--- What the command does, over whatever registers are opened, and what is done to files; but for a check it leaves standard input alone, and a check leaves the registers in files alone.
-abbrev pub Performs : {M K : Type 0} → (K → Register → Type 0) → (K → Type 0) → (K → StoreFault → K → Type 0) → (M → Deed K → M → Type 0) → M → M → Command → Known → Known → Known → Known → Known → Known → ℕ → Type 0
-Performs shows is_clean tells does begun ended (command.Check source) input rest output printed errors told status =
+-- What the command does, over whatever registers are opened and files are read, and what is done to files; but for a check it leaves standard input alone, and a check leaves the registers in files alone.
+abbrev pub Performs : {M K : Type 0} → (Bor Words → List ℕ → Type 0) → (K → Register → Type 0) → (K → Type 0) → (K → StoreFault → K → Type 0) → (M → Deed K → M → Type 0) → M → M → Command → Known → Known → Known → Known → Known → Known → ℕ → Type 0
+Performs Reads shows is_clean tells does begun ended (command.Check source) input rest output printed errors told status =
     (ended ≡ begun) × Checks source input rest output printed errors told status
-Performs shows is_clean tells does begun ended (command.Exchange asked) input rest output printed errors told status =
-    Keeps input rest × ExchangesOnceTold shows is_clean does begun ended asked output printed errors told status
-Performs shows is_clean tells does begun ended (command.Serve asked) input rest output printed errors told status =
+Performs Reads shows is_clean tells does begun ended (command.Exchange asked) input rest output printed errors told status =
+    Keeps input rest × ExchangesOnceTold Reads shows is_clean does begun ended asked output printed errors told status
+Performs Reads shows is_clean tells does begun ended (command.Serve asked) input rest output printed errors told status =
     Keeps input rest × Serves shows is_clean does begun ended asked output printed errors told status
-Performs shows is_clean tells does begun ended (command.Report asked) input rest output printed errors told status =
+Performs Reads shows is_clean tells does begun ended (command.Report asked) input rest output printed errors told status =
     Keeps input rest × Reports shows is_clean tells does begun ended asked output printed errors told status
-Performs shows is_clean tells does begun ended (command.Migrate asked) input rest output printed errors told status =
+Performs Reads shows is_clean tells does begun ended (command.Migrate asked) input rest output printed errors told status =
     Keeps input rest × Migrates does begun ended asked output printed errors told status
 
 -- ---- what status 1 stands for

@@ -1,6 +1,7 @@
 -- Which replies `bor exchange` prints, and how it ends.
 use Rattle.std.specs.Prelude.{◌≡◌, ◌≤◌, ◌⊎◌, ℕ, List, [], ◌∷◌, ◌++◌, Bool, Option, Result, MatchResult, if◌then◌else◌, false, length, max, nat_le, slice_get}
 use Rattle.std.specs.Option.{option_map_or}
+use Rattle.std.specs.Borrow.{Bor}
 use Rattle.std.specs.Io.KnownBytes.{Appends, Keeps}
 use Rattle.bor_records.specs.Promises.{Promised}
 use Rattle.bor_register.specs.Register.{Register}
@@ -12,6 +13,8 @@ use Rattle.bor_wire.specs.declared.replies.Reply.TheVariants.{Full, Unavailable}
 use Rattle.bor_wire.specs.Runs.{AreReplies, AreSpelled, full, register_left, served}
 use Rattle.bor_wire.specs.Histories.{IsAlone}
 use Rattle.bor_wire.specs.Reports.{AreReports}
+use Rattle.clap.specs.Words.{Text}
+use Rattle.bor_program.specs.Inputs.{AreReadOf}
 use Rattle.bor_program.specs.Program.{exit_code}
 use Rattle.bor_program.specs.Streams.{AppendsPart}
 use Rattle.bor_program.specs.declared.status.Status.{Status}
@@ -77,8 +80,8 @@ EndsSending Suit inputs before after end = MatchResult end
     (λ status. (replies : List Reply) × Suit inputs replies × Appends before after (sent replies) × (exit_code status ≡ replies_status replies))
     (λ _. ((replies : List Reply) × Suit inputs replies × AppendsPart before after (sent replies)) ⊎ (Suit [] [] × Keeps before after))
 
--- such replies to some inputs were sent, and to so many where the run doesn't fail; or it failed, and a front of such was written
-abbrev pub EndsFiles : (List (List ℕ) → List Reply → Type 0) → ℕ → Option (List ℕ) → Option (List ℕ) → ℕ → Type 0
-EndsFiles Suit count before after status =
-    (inputs : List (List ℕ)) × (status ≤ 1 → length inputs ≡ count)
+-- such replies to what was read of files of these names were sent, and of each of them where the run doesn't fail; or it failed, and a front of such was written
+abbrev pub EndsFiles : (List (List ℕ) → List Reply → Type 0) → (Bor Text → List ℕ → Type 0) → List (Bor Text) → Option (List ℕ) → Option (List ℕ) → ℕ → Type 0
+EndsFiles Suit Reads names before after status =
+    (inputs : List (List ℕ)) × AreReadOf Reads names inputs × (status ≤ 1 → length inputs ≡ length names)
     × ((replies : List Reply) × Suit inputs replies × IsSentOrCutOff replies before after status)

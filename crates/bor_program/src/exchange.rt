@@ -1,15 +1,16 @@
 //! `bor exchange`.
 
-ghost use Rattle.std.specs.Prelude.{◌≡◌, ◌≤◌, IfErr, OnOk, length, map};
+ghost use Rattle.std.specs.Prelude.{◌≡◌, ◌≤◌, IfErr, OnOk, map};
 ghost use Rattle.std.specs.Io.KnownBytes.{Appends, Keeps};
 ghost use Rattle.bor_program.specs.Failures.{IsMetPrinting, TellsFiles};
+ghost use Rattle.bor_program.specs.Inputs.{IsReadOf};
 ghost use Rattle.bor_program.specs.Performing.{Exchanges, ExchangesOnceTold};
 ghost use Rattle.bor_program.specs.Program.{exit_code};
 ghost use Rattle.bor_program.specs.Replying.{AreAnswers, EndsFiles, EndsSending, is_refusal, replies_status, reply_status, sent, sent_of};
 ghost use Rattle.bor_program.specs.Streams.{AppendsPart};
 
 use crate::failure::Failure;
-use crate::host::{OpenRegister, Opened, Registers};
+use crate::host::{NamedFiles, OpenRegister, Opened, Registers};
 use crate::inputs::read_inputs;
 use crate::output::write_part;
 use crate::registrar::{Exchanging, token_told};
@@ -19,18 +20,18 @@ use bor_wire::{Reply, UNAVAILABLE};
 use bor_words::Exchange;
 use std::alloc::Global;
 use std::io::Write;
-use std::rt::Files;
 
 /// Does what `bor exchange` is asked to do, once the registrar's token is known; where it isn't, that is
 /// told.
-pub fn exchange<R: Files + AllocGlobal, H: Registers, O: Write, E: Write>(
+pub fn exchange<R: NamedFiles + AllocGlobal, H: Registers, O: Write, E: Write>(
     rt: &R,
     host: &mut H,
     asked: Exchange<'_>,
     output: &mut O,
     errors: &mut E,
 ) -> Status
-    ensures { ExchangesOnceTold H.Register.shows H.Register.is_clean H.does host.old host.new asked.entry
+    ensures { ExchangesOnceTold (IsReadOf (R.opens rt.now) R.File.remaining)
+        H.Register.shows H.Register.is_clean H.does host.old host.new asked.entry
         (O.contents output.old) (O.contents output.new) (E.contents errors.old) (E.contents errors.new) (exit_code result) }
 {
     let Exchange {
@@ -56,14 +57,15 @@ pub fn exchange<R: Files + AllocGlobal, H: Registers, O: Write, E: Write>(
 // Answers the requests in files in turn, in the register in a file, which is closed then, or in a new
 // one in memory, and prints the replies in order. A file that can't be read is told, and the next one
 // is taken.
-fn exchange_told<R: Files + AllocGlobal, H: Registers, O: Write, E: Write>(
+fn exchange_told<R: NamedFiles + AllocGlobal, H: Registers, O: Write, E: Write>(
     rt: &R,
     host: &mut H,
     asked: Exchanging<'_>,
     output: &mut O,
     errors: &mut E,
 ) -> Status
-    ensures { Exchanges H.Register.shows H.Register.is_clean H.does host.old host.new asked.entry
+    ensures { Exchanges (IsReadOf (R.opens rt.now) R.File.remaining)
+        H.Register.shows H.Register.is_clean H.does host.old host.new asked.entry
         (O.contents output.old) (O.contents output.new) (E.contents errors.old) (E.contents errors.new) (exit_code result) }
 {
     let Exchanging {
@@ -94,15 +96,15 @@ fn exchange_told<R: Files + AllocGlobal, H: Registers, O: Write, E: Write>(
 }
 
 // Answers the requests in these files in the register.
-fn exchange_files<R: Files + AllocGlobal, K: OpenRegister, O: Write, E: Write>(
+fn exchange_files<R: NamedFiles + AllocGlobal, K: OpenRegister, O: Write, E: Write>(
     rt: &R,
     register: &mut K,
     files: &[&str],
     output: &mut O,
     errors: &mut E,
 ) -> Status
-    ensures ends { EndsFiles (AreAnswers K.shows K.is_clean register.old register.new) (length files.now)
-        (O.contents output.old) (O.contents output.new) (exit_code result) }
+    ensures ends { EndsFiles (AreAnswers K.shows K.is_clean register.old register.new)
+        (IsReadOf (R.opens rt.now) R.File.remaining) files.now (O.contents output.old) (O.contents output.new) (exit_code result) }
     ensures silent { exit_code result ≤ 1 → Keeps (E.contents errors.old) (E.contents errors.new) }
     ensures told { TellsFiles files.now (O.contents output.old) (O.contents output.new)
         (E.contents errors.old) (E.contents errors.new) }

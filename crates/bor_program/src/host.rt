@@ -1,6 +1,8 @@
-//! What the program asks of the machine that it runs on, beside files and streams.
+//! What the program asks of the machine that it runs on, beside streams.
 
-ghost use Rattle.std.specs.Prelude.{◌≡◌, ℕ, List, IfErr, IfOk, OnErr, OnOk, length, map};
+ghost use Rattle.std.specs.Prelude.{◌≡◌, ⊤, ℕ, List, IfErr, IfOk, OnErr, OnOk, length, map};
+ghost use Rattle.std.specs.Borrow.{Bor};
+ghost use Rattle.clap.specs.Words.{Text as Words};
 ghost use Rattle.bor_records.specs.Promises.{Kept, Promised};
 ghost use Rattle.bor_register.specs.Register.{Register};
 ghost use Rattle.bor_register.specs.declared.fault.StoreFault.{StoreFault};
@@ -23,6 +25,36 @@ use bor_terms::{Day, Token};
 use bor_wire::{Reply, replay};
 use bor_words::Report;
 use std::alloc::{AllocError, Global};
+use std::fs;
+use std::io::{self, Read};
+use std::rt::Files;
+
+/// What opens files by their names.
+pub trait NamedFiles {
+    /// A file that is open, and read from its beginning.
+    type File: Read + Drop;
+
+    /// This file is opened by this name.
+    ghost opens: { Self → Bor Words → Self.File → Type 0 };
+
+    /// The file of this name.
+    ///
+    /// # Errors
+    ///
+    /// It can't be opened.
+    fn open_named(&self, name: &str) -> io::Result<Self::File>
+        ensures { IfOk result (λ file. opens self.now name.entry file) };
+}
+
+impl<R: Files> NamedFiles for R {
+    type File = R::File;
+
+    ghost opens = { λ _ _ _. ⊤ };
+
+    fn open_named(&self, name: &str) -> io::Result<R::File> {
+        fs::open(self, name)
+    }
+}
 
 /// A register that is open, whatever keeps it. What it shows and when it is clean are as a keep's are.
 pub trait OpenRegister {

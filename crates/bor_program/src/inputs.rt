@@ -1,17 +1,17 @@
 //! The files of `bor exchange`, each with one request.
 
-ghost use Rattle.std.specs.Prelude.{◌≡◌, ◌+◌, ◌⊎◌, IfErr, IfOk, IfSome, OnOk, length, take};
+ghost use Rattle.std.specs.Prelude.{◌≡◌, ◌+◌, ◌⊎◌, ◌++◌, ◌∷◌, [], IfErr, IfOk, IfSome, OnOk, length, map, take};
 ghost use Rattle.std.specs.Io.KnownBytes.{Keeps};
 ghost use Rattle.bor_program.specs.Failures.{TellsUnread};
+ghost use Rattle.bor_program.specs.Inputs.{AreReadOf, IsReadOf};
 ghost use Rattle.bor_http.specs.Incoming.Message.{request_limit};
 
 use crate::failure::Failure;
+use crate::host::NamedFiles;
 use crate::status::Status;
 use bor_words::Source;
 use std::alloc::{AllocError, Global};
-use std::fs;
 use std::io::{self, ErrorKind, Read, Write};
-use std::rt::Files;
 
 // The longest head of a request and the longest body: as much is read of a file.
 const REQUEST_LIMIT: u64 = 1_064_960;
@@ -30,11 +30,13 @@ pub struct Inputs {
 /// # Errors
 ///
 /// `Memory`.
-pub fn read_inputs<R: Files + AllocGlobal, E: Write>(
+pub fn read_inputs<R: NamedFiles + AllocGlobal, E: Write>(
     rt: &R,
     files: &[&str],
     errors: &mut E,
 ) -> Result<Inputs, Failure<'static>>
+    ensures read { IfOk result (λ inputs. AreReadOf (IsReadOf (R.opens rt.now) R.File.remaining) files.now
+        (map (λ v. v.items) inputs.requests.items)) }
     ensures status { IfOk result (λ inputs. (inputs.status ≡ Status.Done) ⊎ (inputs.status ≡ Status.Failed)) }
     ensures count { IfOk result (λ inputs. inputs.status ≡ Status.Done → length inputs.requests.items ≡ length files.now) }
     ensures silent { IfOk result (λ inputs. inputs.status ≡ Status.Done → Keeps (E.contents errors.old) (E.contents errors.new)) }
@@ -54,15 +56,19 @@ pub fn read_inputs<R: Files + AllocGlobal, E: Write>(
 }
 
 fn add(requests: &mut Vec<Vec<u8>>, bytes: Vec<u8>) -> Result<(), AllocError>
-    ensures { OnOk result (length requests.new.items ≡ length requests.old.items + 1) }
+    ensures added { OnOk result (requests.new.items ≡ requests.old.items ++ bytes ∷ []) }
+    ensures count { OnOk result (length requests.new.items ≡ length requests.old.items + 1) }
 {
     requests.push(bytes)?;
     Ok(())
 }
 
 // The request in the file of this name.
-fn read_input<R: Files + AllocGlobal>(rt: &R, name: &str) -> io::Result<Vec<u8>> {
-    read_request(rt.alloc(), fs::open(rt, name)?)
+fn read_input<R: NamedFiles + AllocGlobal>(rt: &R, name: &str) -> io::Result<Vec<u8>>
+    ensures { IfOk result (λ read. IsReadOf (R.opens rt.now) R.File.remaining name.entry read.items) }
+{
+    let file = rt.open_named(name)?;
+    read_request(rt.alloc(), file)
 }
 
 /// The bytes of a request, as far as one may go.

@@ -7,6 +7,7 @@ ghost use Rattle.bor_words.specs.Unread.{kind_of_answer};
 ghost use Rattle.bor_words.specs.Words.{entered_by};
 ghost use Rattle.bor_words.specs.declared.command.Command.{Command as Asked};
 ghost use Rattle.bor_program.specs.Failures.{IsMetBy, IsMetOn, IsMetPrinting, IsTold, IsWantOfMemory};
+ghost use Rattle.bor_program.specs.Inputs.{IsReadOf};
 ghost use Rattle.bor_program.specs.Performing.{Checks, Performs, TellsRefusal};
 ghost use Rattle.bor_program.specs.Program.{EndsReport, IsReportedOrCutOff, exit_code};
 ghost use Rattle.bor_program.specs.Streams.{AppendsPart, TakesAtMostPart, TakesPart, part_read};
@@ -15,7 +16,7 @@ ghost use Rattle.bor_program.specs.Words.{AsksForCheck, ChecksInput, file_of};
 use crate::check::check;
 use crate::exchange::exchange;
 use crate::failure::Failure;
-use crate::host::Ports;
+use crate::host::{NamedFiles, Ports};
 use crate::migrate::migrate;
 use crate::output::write_text;
 use crate::report::report;
@@ -24,9 +25,7 @@ use crate::status::Status;
 use bor_words::{Command, HELP, Source, Unread};
 use clap::error::ErrorKind;
 use std::convert::AsStr;
-use std::fs;
 use std::io::{Read, Write};
-use std::rt::Files;
 
 /// Does what the words after the program's name ask for, and gives the exit status.
 ///
@@ -35,7 +34,7 @@ use std::rt::Files;
 /// Standard output has the text of a command, or the help; with status 3 a front of it. Standard error
 /// has what is wrong with the words, or a line on what failed; that line is missing where it was
 /// standard output that failed, or a reply or a connection.
-pub fn run<R: Files + AllocGlobal, H: Ports, S: AsStr, I: Read, O: Write, E: Write>(
+pub fn run<R: NamedFiles + AllocGlobal, H: Ports, S: AsStr, I: Read, O: Write, E: Write>(
     rt: &R,
     host: &mut H,
     words: &[S],
@@ -50,7 +49,8 @@ pub fn run<R: Files + AllocGlobal, H: Ports, S: AsStr, I: Read, O: Write, E: Wri
     ensures performed { IsCommand (map S.text words.now) → ((result ≡ 3) × (host.new ≡ host.old)
         × Keeps (O.contents output.old) (O.contents output.new) × IsTold IsWantOfMemory (E.contents errors.old) (E.contents errors.new))
         ⊎ ((asked : Asked) × IsAsked (entered_by (map S.text words.now)) asked
-        × Performs H.Register.shows H.Register.is_clean H.Register.tells H.does host.old host.new asked (I.remaining input.old) (I.remaining input.new)
+        × Performs (IsReadOf (R.opens rt.now) R.File.remaining) H.Register.shows H.Register.is_clean H.Register.tells H.does
+        host.old host.new asked (I.remaining input.old) (I.remaining input.new)
         (O.contents output.old) (O.contents output.new) (E.contents errors.old) (E.contents errors.new) result) }
 
     // Words that ask for a check have its text written, or the run fails and wrote a front of it.
@@ -115,7 +115,7 @@ pub fn run<R: Files + AllocGlobal, H: Ports, S: AsStr, I: Read, O: Write, E: Wri
 }
 
 // Does what is asked, and tells on standard error why it could not be done.
-fn perform<R: Files + AllocGlobal, H: Ports, I: Read, O: Write, E: Write>(
+fn perform<R: NamedFiles + AllocGlobal, H: Ports, I: Read, O: Write, E: Write>(
     rt: &R,
     host: &mut H,
     command: Command<'_>,
@@ -123,7 +123,8 @@ fn perform<R: Files + AllocGlobal, H: Ports, I: Read, O: Write, E: Write>(
     output: &mut O,
     errors: &mut E,
 ) -> Status
-    ensures { Performs H.Register.shows H.Register.is_clean H.Register.tells H.does host.old host.new command.entry (I.remaining input.old) (I.remaining input.new)
+    ensures { Performs (IsReadOf (R.opens rt.now) R.File.remaining) H.Register.shows H.Register.is_clean H.Register.tells H.does
+        host.old host.new command.entry (I.remaining input.old) (I.remaining input.new)
         (O.contents output.old) (O.contents output.new) (E.contents errors.old) (E.contents errors.new) (exit_code result) }
 {
     match command {
@@ -136,7 +137,7 @@ fn perform<R: Files + AllocGlobal, H: Ports, I: Read, O: Write, E: Write>(
 }
 
 // Checks what is asked for, and tells on standard error why it could not be done.
-fn check_told<R: Files + AllocGlobal, I: Read, O: Write, E: Write>(
+fn check_told<R: NamedFiles + AllocGlobal, I: Read, O: Write, E: Write>(
     rt: &R,
     source: Source<'_>,
     input: &mut I,
@@ -164,7 +165,7 @@ fn check_told<R: Files + AllocGlobal, I: Read, O: Write, E: Write>(
 }
 
 // Checks standard input, or the file that is named.
-fn check_source<'a, R: Files + AllocGlobal, I: Read, O: Write>(
+fn check_source<'a, R: NamedFiles + AllocGlobal, I: Read, O: Write>(
     rt: &R,
     source: Source<'a>,
     input: &mut I,
@@ -188,7 +189,7 @@ fn check_source<'a, R: Files + AllocGlobal, I: Read, O: Write>(
 }
 
 // Opens the file of this name and checks it.
-fn check_file<'a, R: Files + AllocGlobal, O: Write>(
+fn check_file<'a, R: NamedFiles + AllocGlobal, O: Write>(
     rt: &R,
     name: &'a str,
     output: &mut O,
@@ -199,7 +200,7 @@ fn check_file<'a, R: Files + AllocGlobal, O: Write>(
         (O.contents output.old) (O.contents output.new)) }
 {
     let source = Source::File(name);
-    match fs::open(rt, name) {
+    match rt.open_named(name) {
         Ok(mut file) => check(rt.alloc(), source, &mut file, output),
         Err(error) => Err(Failure::of_reading(source, &error)),
     }

@@ -6,13 +6,12 @@ ghost use Rattle.bor_http.specs.Spelling.Parts.{text_in};
 ghost use Rattle.bor_program.specs.Registrars.{IsToldBy, IsUntold, first_line};
 
 use crate::failure::Failure;
+use crate::host::NamedFiles;
 use crate::split::split_at;
 use bor_terms::{Day, Token};
 use bor_words::{RegistrarSource, Source};
 use std::alloc::{AllocError, Global};
-use std::fs;
 use std::io::{self, Read};
-use std::rt::Files;
 
 // More than the longest token and the end of its line.
 const FRONT: u64 = 128;
@@ -35,7 +34,7 @@ pub struct Exchanging<'a> {
 /// # Errors
 ///
 /// `Unreadable`: the file can't be read. `NoToken`: its first line is no token. `Memory`.
-pub fn token_told<'a, R: Files + AllocGlobal>(
+pub fn token_told<'a, R: NamedFiles + AllocGlobal>(
     rt: &R,
     source: RegistrarSource<'a>,
 ) -> Result<Token, Failure<'a>>
@@ -49,7 +48,10 @@ pub fn token_told<'a, R: Files + AllocGlobal>(
 }
 
 // The token in the file of this name.
-fn token_in_file<'a, R: Files + AllocGlobal>(rt: &R, name: &'a str) -> Result<Token, Failure<'a>>
+fn token_in_file<'a, R: NamedFiles + AllocGlobal>(
+    rt: &R,
+    name: &'a str,
+) -> Result<Token, Failure<'a>>
     ensures { IfErr result (IsUntold (RegistrarSource.File name.entry)) }
 {
     match read_front(rt, name) {
@@ -62,9 +64,9 @@ fn token_in_file<'a, R: Files + AllocGlobal>(rt: &R, name: &'a str) -> Result<To
 }
 
 // The front of the file of this name, which has its first line where that may be a token.
-fn read_front<R: Files + AllocGlobal>(rt: &R, name: &str) -> io::Result<Vec<u8>> {
+fn read_front<R: NamedFiles + AllocGlobal>(rt: &R, name: &str) -> io::Result<Vec<u8>> {
     let mut bytes = Vec::new(rt.alloc());
-    fs::open(rt, name)?.take(FRONT).read_to_end(&mut bytes)?;
+    rt.open_named(name)?.take(FRONT).read_to_end(&mut bytes)?;
     Ok(bytes)
 }
 

@@ -1,7 +1,9 @@
-use Rattle.std.proofs.Common.{◌≡◌, ◌∙◌, [], ap, inr, length, map}
+use Rattle.std.proofs.Common.{◌≡◌, ◌∙◌, [], ap, inr, length, map, subst, sym}
 use Rattle.std.proofs.lemmas.List.{length-map}
+use Rattle.bor_program.specs.Inputs.{AreReadOf, IsReadOf}
 use Rattle.bor_program.specs.Program.{exit_code}
 use Rattle.bor_program.proofs.Ends.{keeps_same}
+use Rattle.bor_program.proofs.FilesRead.{none_read}
 use Rattle.bor_program.proofs.Replies.{ends_failed, ends_read, kept_same, none_answered, worse_done}
 use Rattle.bor_program.proofs.Unread.{told_alone}
 use Rattle.bor_program.proofs.exchange.exchange_files.Goals as goal
@@ -9,7 +11,9 @@ use Rattle.bor_program.proofs.exchange.exchange_files.Goals as goal
 pub returns-in-Ok-exchange_on-clause-ends : goal.returns-in-Ok-exchange_on-clause-ends
 returns-in-Ok-exchange_on-clause-ends g c =
     let inputs = c.as_slice.result.now in
-    ends_read _ (map (λ v. v.items) inputs) _ _ _ c.in-Ok-exchange_on.status c.in-Ok.inputs.status _ c.worse.ensures c.in-Ok.ensures.status
+    let Reads = IsReadOf (g.R.NamedFiles.opens c.args.rt.now) g.R.File.Read.remaining in
+    let are = subst (λ vs. AreReadOf Reads c.args.files.now (map (λ v. v.items) vs)) (sym c.as_slice.ensures.value) c.in-Ok.ensures.read in
+    ends_read _ Reads (map (λ v. v.items) inputs) _ _ _ c.in-Ok-exchange_on.status c.in-Ok.inputs.status _ c.worse.ensures c.in-Ok.ensures.status are
     (λ low. length-map inputs (λ v. v.items) ∙ ap length c.as_slice.ensures.value
     ∙ c.in-Ok.ensures.count (worse_done c.in-Ok-exchange_on.status c.in-Ok.inputs.status _ c.worse.ensures low c.in-Ok.ensures.status))
     c.in-Ok-exchange_on.ensures.sent
@@ -17,12 +21,15 @@ returns-in-Ok-exchange_on-clause-ends g c =
 pub returns-in-Ok-clause-ends : goal.returns-in-Ok-clause-ends
 returns-in-Ok-clause-ends g c =
     let three : exit_code c.tell.result ≡ 3 = ap exit_code c.tell.ensures.status in
-    ends_failed _ (map (λ v. v.items) c.as_slice.result.now) _ _ _ _ three c.in-Err-exchange_on.ensures.sent
+    let Reads = IsReadOf (g.R.NamedFiles.opens c.args.rt.now) g.R.File.Read.remaining in
+    let are = subst (λ vs. AreReadOf Reads c.args.files.now (map (λ v. v.items) vs)) (sym c.as_slice.ensures.value) c.in-Ok.ensures.read in
+    ends_failed _ Reads (map (λ v. v.items) c.as_slice.result.now) _ _ _ _ three are c.in-Err-exchange_on.ensures.sent
 
 pub returns-clause-ends : goal.returns-clause-ends
 returns-clause-ends g c =
     let three : exit_code c.tell-in-Err.result ≡ 3 = ap exit_code c.tell-in-Err.ensures.status in
-    ends_failed _ [] _ _ _ _ three (inr (none_answered g.K.OpenRegister.shows g.K.OpenRegister.is_clean _ _ (kept_same g.K.OpenRegister.shows g.K.OpenRegister.is_clean c.args.register.now), keeps_same _))
+    ends_failed _ _ [] _ _ _ _ three (none_read _ _)
+    (inr (none_answered g.K.OpenRegister.shows g.K.OpenRegister.is_clean _ _ (kept_same g.K.OpenRegister.shows g.K.OpenRegister.is_clean c.args.register.now), keeps_same _))
 
 pub returns-in-Ok-exchange_on-clause-told : goal.returns-in-Ok-exchange_on-clause-told
 returns-in-Ok-exchange_on-clause-told g c = told_alone c.args.files.now _ _ _ _ c.in-Ok.ensures.told

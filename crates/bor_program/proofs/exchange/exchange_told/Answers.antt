@@ -1,4 +1,4 @@
-use Rattle.std.proofs.Common.{◌≡◌, Option, Some, None, IfSome, [], ap, arith, inl, inr, length, refl}
+use Rattle.std.proofs.Common.{◌≡◌, Option, Some, None, IfSome, [], ap, arith, inl, inr, refl}
 use Rattle.bor_register.specs.Register.{empty_register}
 use Rattle.bor_desk.proofs.OnOperations.Legality.{empty-legal}
 use Rattle.bor_program.specs.Program.{exit_code}
@@ -19,10 +19,10 @@ of_none P o e = rw e tt
 
 pub returns-in-Ok : goal.returns-in-Ok
 returns-in-Ok g c =
-    let ends = sent_as _ _ _ _ _ _ _ (ap length c.as_slice.ensures.value) (λ inputs replies h. h) c.exchange_files-status.ensures.ends in
+    let ends = sent_as _ _ _ _ _ _ _ _ c.as_slice.ensures.value (λ inputs replies h. h) c.exchange_files-status.ensures.ends in
     let told = files_as _ _ _ _ _ _ c.as_slice.ensures.value c.exchange_files-status.ensures.told in
     record {
-      sent = sent_some _ _ _ _ _ ends;
+      sent = sent_some _ _ _ _ _ _ ends;
       answered = λ none. absurd (named _ _ c.in-Some.is none);
       opened = of_named _ _ _ c.in-Some.is (inr (
         c.in-Ok.field-0.register,
@@ -46,12 +46,12 @@ returns-in-Some g c =
 
 pub returns : goal.returns
 returns g c =
-    let ends = sent_as _ _ _ _ _ _ _ (ap length c.as_slice-in-None.ensures.value) (λ inputs replies h. h) c.exchange_files.ensures.ends in
+    let ends = sent_as _ _ _ _ _ _ _ _ c.as_slice-in-None.ensures.value (λ inputs replies h. h) c.exchange_files.ensures.ends in
     let told = files_as _ _ _ _ _ _ c.as_slice-in-None.ensures.value c.exchange_files.ensures.told in
     let first = empty_register c.args.asked.registrar c.args.asked.day in
     record {
-      sent = sent_some _ _ _ _ _ ends;
-      answered = λ none. (refl, sent_as _ _ _ _ _ _ _ refl (λ inputs replies h. (h.answers first c.new-register.ensures.shown tt (empty-legal _ _)).replies_to) ends, told);
+      sent = sent_some _ _ _ _ _ _ ends;
+      answered = λ none. (refl, sent_as _ _ _ _ _ _ _ _ refl (λ inputs replies h. (h.answers first c.new-register.ensures.shown tt (empty-legal _ _)).replies_to) ends, told);
       opened = of_none _ _ c.in-None.is;
       silent = c.exchange_files.ensures.silent;
     }
