@@ -23,7 +23,7 @@ not_new came is new = let same : Found ≡ New = sym is ∙ new in cc
 not_beside : (came : Origin) → came ≡ Found → came ≡ Beside → ⊥
 not_beside came is beside = let same : Found ≡ Beside = sym is ∙ beside in cc
 
-shows_still : (r : Register) (old mid : State) → mid.committed ≡ old.committed → ShowsIn r old → ShowsIn r mid
+pub shows_still : (r : Register) (old mid : State) → mid.committed ≡ old.committed → ShowsIn r old → ShowsIn r mid
 shows_still r old mid kept shown = record { has = subst (Has (contents r)) (sym kept) shown.has; stored = shown.stored }
 
 module _ {K E : Type 0} (shows : K → Register → Type 0) (is_clean : K → Type 0) (registrar : List ℕ) (day : ℤ) (old mid : State) (was_clean : IsClean mid → IsClean old) (kept : IsClean mid → mid.committed ≡ old.committed) where

@@ -1,2 +1,3 @@
 pub mod Told
 pub mod Coming
+pub mod Moving

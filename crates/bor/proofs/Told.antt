@@ -6,34 +6,33 @@ use Rattle.sqlite.specs.State.{HasCleanDisk, State}
 use Rattle.sqlite_wal.specs.Recovery.{Image}
 use Rattle.bor_register.specs.Register.{Register}
 use Rattle.bor_store.specs.Opening.{HoldsRegister, IsConnected}
-use Rattle.bor_program.specs.Deeds.{ComesToBe}
+use Rattle.bor_program.specs.Deeds.{ComesToBe, Deed, Opens, SetsUp}
 use Rattle.bor_program.specs.declared.host.Opened.{Opened}
 use Rattle.bor_program.specs.declared.host.Origin.{Origin}
 use Rattle.bor_program.specs.declared.host.Origin.TheVariants.{Found, New, Beside}
-use Rattle.bor.specs.Machine.{ComesOpen, FindsOrSetsUp, IsDone}
+use Rattle.bor.specs.Machine.{ComesOpen, FindsOrSetsUp}
 
 pub told_ok : {A E F : Type 0} (P : A → Type 0) (of : E → F) (opened : Result A E) (told : Result A F) → MatchResult opened (λ x. told ≡ Ok x) (λ e. told ≡ Err (of e))
     → IfOk opened P → IfOk told P
 told_ok P of (Ok x) told e h = subst (λ o. IfOk o P) (sym e) h
 told_ok P of (Err fault) told e h = subst (λ o. IfOk o P) (sym e) tt
 
--- what came to be open did so by a deed
-pub comes : {K : Type 0} (shows : K → Register → Type 0) (is_clean IsLeft : K → Type 0) (Held : Register → Type 0) (path : Bor Text) (registrar : List ℕ) (day : ℤ) (register : K) (came : Origin)
-    → FindsOrSetsUp shows is_clean Held registrar day register came → ComesToBe shows is_clean path registrar day register came (λ deed. IsDone shows is_clean IsLeft Held deed)
-comes shows is_clean IsLeft Held path registrar day register Found h = h.found refl
-comes shows is_clean IsLeft Held path registrar day register New h = (h.none (λ e. cc), h.made refl)
-comes shows is_clean IsLeft Held path registrar day register Beside h = h.none (λ e. cc)
+module _ {K : Type 0} (shows : K → Register → Type 0) (is_clean : K → Type 0) (Held : Register → Type 0) (path : Bor Text) (registrar : List ℕ) (day : ℤ) (Done : Deed K → Type 0)
+    (found : (register : K) → (is_clean register → (r : Register) → Held r → shows register r) → Done (Opens path register))
+    (made : (register : K) → (is_clean register → (r : Register) → ¬ Held r) → Done (SetsUp path register)) where
+  -- what came to be open did so by a deed
+  comes : (register : K) (came : Origin) → FindsOrSetsUp shows is_clean Held registrar day register came → ComesToBe shows is_clean path registrar day register came Done
+  comes register Found h = found register (h.found refl)
+  comes register New h = (made register (h.none (λ e. cc)), h.made refl)
+  comes register Beside h = made register (h.none (λ e. cc))
 
--- the same, once faults are told
-pub told_comes : {K E F : Type 0} (shows : K → Register → Type 0) (is_clean IsLeft : K → Type 0) (Held : Register → Type 0) (path : Bor Text) (registrar : List ℕ) (day : ℤ) (of : E → F)
-    (opened : Result (Opened K) E) (told : Result (Opened K) F) → MatchResult opened (λ x. told ≡ Ok x) (λ e. told ≡ Err (of e))
-    → IfOk opened (λ o. FindsOrSetsUp shows is_clean Held registrar day o.register o.origin)
-    → IfOk told (λ o. ComesToBe shows is_clean path registrar day o.register o.origin (λ deed. IsDone shows is_clean IsLeft Held deed))
-told_comes shows is_clean IsLeft Held path registrar day of (Ok o) told e h =
-    subst (λ t. IfOk t (λ o. ComesToBe shows is_clean path registrar day o.register o.origin (λ deed. IsDone shows is_clean IsLeft Held deed))) (sym e)
-    (comes shows is_clean IsLeft Held path registrar day o.register o.origin h)
-told_comes shows is_clean IsLeft Held path registrar day of (Err fault) told e h =
-    subst (λ t. IfOk t (λ o. ComesToBe shows is_clean path registrar day o.register o.origin (λ deed. IsDone shows is_clean IsLeft Held deed))) (sym e) tt
+  -- the same, once faults are told
+  pub told_comes : {E F : Type 0} (of : E → F) (opened : Result (Opened K) E) (told : Result (Opened K) F) → MatchResult opened (λ x. told ≡ Ok x) (λ e. told ≡ Err (of e))
+      → IfOk opened (λ o. FindsOrSetsUp shows is_clean Held registrar day o.register o.origin)
+      → IfOk told (λ o. ComesToBe shows is_clean path registrar day o.register o.origin Done)
+  told_comes of (Ok o) told e h =
+      subst (λ t. IfOk t (λ o. ComesToBe shows is_clean path registrar day o.register o.origin Done)) (sym e) (comes o.register o.origin h)
+  told_comes of (Err fault) told e h = subst (λ t. IfOk t (λ o. ComesToBe shows is_clean path registrar day o.register o.origin Done)) (sym e) tt
 
 -- what came to be open on a connection that shows what its files hold
 pub found_or_made : {K E : Type 0} (shows : K → Register → Type 0) (is_clean : K → Type 0) (registrar : List ℕ) (day : ℤ) (image : Image) (s : State) → (HasCleanDisk s → IsConnected image s)

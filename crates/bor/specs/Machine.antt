@@ -1,14 +1,17 @@
 -- What is done to registers in files of SQLite.
 use Rattle.std.specs.Prelude.{◌≡◌, ◌≢◌, ⊤, List, ℕ, ℤ, Result}
-use Rattle.sqlite.specs.State.{State}
+use Rattle.sqlite.specs.State.{HasCleanDisk, State}
+use Rattle.sqlite_wal.specs.Recovery.{Image}
 use Rattle.bor_register.specs.Register.{Register, empty_register}
-use Rattle.bor_store_sql.specs.Shown.{IsClean, ShowsIn}
+use Rattle.bor_desk.specs.Operations.Legality.{IsLegal}
+use Rattle.bor_store_sql.specs.Shown.{IsClean, ShowsFirst, ShowsIn}
 use Rattle.bor_store_sql.specs.Texts.Tables.{no_schema}
 use Rattle.bor_program.specs.Deeds.{Deed, Opens, SetsUp, Closes, Moves, Fails}
 use Rattle.bor_program.specs.declared.failure.Failure.{Failure}
 use Rattle.bor_program.specs.declared.failure.Failure.TheVariants.{NoRegister, OtherVersion, Taken, Memory, Store}
 use Rattle.bor_program.specs.declared.host.Origin.{Origin}
 use Rattle.bor_program.specs.declared.host.Origin.TheVariants as origin
+use Rattle.bor_store.specs.Opening.{HoldsRegister, IsConnected}
 use Rattle.bor_store.specs.declared.open_fault.OpenFault.{OpenFault}
 use Rattle.bor_store.specs.declared.open_fault.OpenFault.TheVariants as faults
 use Rattle.clap.specs.Words.{Text}
@@ -37,10 +40,17 @@ pub record FindsOrSetsUp {K : Type 0} (shows : K → Register → Type 0) (is_cl
   pub none : came ≢ origin.Found → is_clean register → (r : Register) → ¬ Held r
   pub made : came ≡ origin.New → is_clean register → shows register (empty_register registrar day)
 
--- What is done to a file that holds these registers as it is opened. What is opened shows them, none is set up over them, and what is closed is left so.
-abbrev pub IsDone : {K : Type 0} → (K → Register → Type 0) → (K → Type 0) → (K → Type 0) → (Register → Type 0) → Deed K → Type 0
-IsDone shows is_clean IsLeft Held (Opens path register) = is_clean register → (r : Register) → Held r → shows register r
-IsDone shows is_clean IsLeft Held (SetsUp path register) = is_clean register → (r : Register) → ¬ Held r
-IsDone shows is_clean IsLeft Held (Closes path register) = IsLeft register
-IsDone shows is_clean IsLeft Held (Moves path) = ⊤
-IsDone shows is_clean IsLeft Held (Fails path failure) = ⊤
+-- What moving the tables of two files comes to, on a connection that was in the one state as it was opened, and is in the other one. What is shown then is each register that the files held, and each legal one that was shown in version 1.
+pub record IsMoved (image : Image) (old new : State) : Type 0 where
+  pub connected : HasCleanDisk old → IsConnected image old
+  pub began : IsClean new → IsClean old
+  pub second : IsClean new → (r : Register) → HoldsRegister image r → ShowsIn r new
+  pub first : IsClean new → (r : Register) → ShowsFirst r old → IsLegal r → ShowsIn r new
+
+-- What is done to a file that holds these registers as it is opened. What is opened shows them, none is set up over them, and what is closed is left so. What is moved is a connection, which is closed. Of what fails no connection is left, and nothing is said.
+abbrev pub IsDone : {K C : Type 0} → (K → Register → Type 0) → (K → Type 0) → (K → C) → (C → Type 0) → (Register → Type 0) → (C → C → Type 0) → Deed K → Type 0
+IsDone shows is_clean conn IsLeft Held Moved (Opens path register) = is_clean register → (r : Register) → Held r → shows register r
+IsDone shows is_clean conn IsLeft Held Moved (SetsUp path register) = is_clean register → (r : Register) → ¬ Held r
+IsDone shows is_clean conn IsLeft Held Moved (Closes path register) = IsLeft (conn register)
+IsDone {K} {C} shows is_clean conn IsLeft Held Moved (Moves path) = (opened : C) × (left : C) × Moved opened left × IsLeft left
+IsDone shows is_clean conn IsLeft Held Moved (Fails path failure) = ⊤

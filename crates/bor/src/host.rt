@@ -1,38 +1,63 @@
 //! The machine that the program runs on: registers in files of SQLite, and ports of 127.0.0.1.
 
-ghost use Rattle.std.specs.Prelude.{◌≡◌, Ok, Err, IfErr, IfOk, MatchResult};
+ghost use Rattle.std.specs.Prelude.{◌≡◌, ⊤, Ok, Err, IfErr, IfOk, MatchResult, OnOk};
 ghost use Rattle.bor_program.specs.Failures.{IsOpeningOf};
 ghost use Rattle.bor_register.specs.Register.{Register};
 ghost use Rattle.bor_store.specs.Opening.{HoldsRegister, IsClosing};
+ghost use Rattle.sqlite.specs.Files.{file_state};
 ghost use Rattle.sqlite_wal.specs.Files.{image_at};
-ghost use Rattle.bor.specs.Machine.{FindsOrSetsUp, IsDone, failure_of};
+ghost use Rattle.bor_program.specs.Deeds.{Moves};
+ghost use Rattle.bor.specs.Machine.{FindsOrSetsUp, IsDone, IsMoved, failure_of};
 
 use crate::setup::find_or_set_up;
-use crate::waiting::Waiting;
+use crate::waiting::{Waiting, time};
 use bor_desk::operations::Keep;
-use bor_program::connections::serve_on;
-use bor_program::{Failure, Opened, Ports, Registers};
-use bor_store::{OpenFault, SqlKeep, connect, migrate};
+use bor_program::connections::{Limits, serve_within};
+use bor_program::{Failure, Opened, Ports, Registers, Stage};
+use bor_store::{OpenFault, SqlKeep, close_files, connect, migrate};
 use bor_terms::{Day, Token};
 use mio::net;
 use sqlite::{FileFrom, FileStore, Start};
+use std::cell::Cell;
 use std::fs::{self, OpenOptions};
-use std::io::{self, ErrorKind};
+use std::io::{self, ErrorKind, IsTerminal, Write};
 use std::net::{SocketAddr, TcpListener};
 use std::os::unix::fs::OpenOptionsExt;
+use std::time::Duration;
+
+// For so many seconds a command is silent on a terminal.
+const SILENCE: u64 = 1;
+
+// A file of so many bytes takes about that long to open.
+const LARGE: u64 = 33_554_432;
 
 /// What opens registers in files of SQLite, and listens on ports of 127.0.0.1. `S` stands for what a
-/// file and its log hold as they are opened.
-#[derive(Clone, Copy)]
+/// file and its log hold as they are opened. Where standard error is a terminal, it tells there where a
+/// command is that takes long.
+#[derive(Drop)]
 pub struct Host<'r, S> {
     rt: &'r HostRuntime,
     start: S,
+    told: Cell<Duration>,
 }
 
 impl<'r, S> Host<'r, S> {
     /// The machine that this process runs on.
     pub fn new(rt: &'r HostRuntime, start: S) -> Self {
-        Host { rt, start }
+        Host {
+            rt,
+            start,
+            told: Cell::new(time(rt)),
+        }
+    }
+
+    // Whether it is time to tell where a command is: a file is opened that takes long, or nothing was told for
+    // a second.
+    fn is_due(&self, stage: Stage<'_>) -> bool {
+        match stage {
+            Stage::Opening(path) => is_large(self.rt, path),
+            _ => time(self.rt).saturating_sub(self.told.get()).as_secs() >= SILENCE,
+        }
     }
 }
 
@@ -40,8 +65,23 @@ impl<S: Start + Copy> Registers for Host<'_, S> {
     type Register = SqlKeep<FileStore<FileFrom<S>>>;
 
     ghost does = { let keep = ⟦<SqlKeep<FileStore<FileFrom<S>>> as Keep>⟧ in λ _ deed _.
-        IsDone keep.shows keep.is_clean (λ k. (closed : _) × IsClosing k.conn closed)
-        (HoldsRegister (image_at S.Start)) deed };
+        IsDone keep.shows keep.is_clean (λ k. k.conn) (λ c. (closed : _) × IsClosing c closed)
+        (HoldsRegister (image_at S.Start))
+        (λ opened left. IsMoved (image_at S.Start) (file_state opened) (file_state left)) deed };
+
+    fn reach(&self, stage: Stage<'_>) {
+        let mut errors = self.rt.stderr();
+        if !self.is_due(stage) || !errors.is_terminal() {
+            return;
+        }
+        self.told.set(time(self.rt));
+        let _ = match stage {
+            Stage::Opening(path) => writeln!(errors, "bor: opening {path}"),
+            Stage::Reading(read, all) => writeln!(errors, "bor: read {read} of {all} files"),
+            Stage::Answering(count) => writeln!(errors, "bor: answering {count} requests"),
+            Stage::Reporting => writeln!(errors, "bor: reporting"),
+        };
+    }
 
     fn open<'a>(&mut self, path: &'a str) -> Result<SqlKeep<FileStore<FileFrom<S>>>, Failure<'a>> {
         find(self.rt, path)?;
@@ -73,6 +113,10 @@ impl<S: Start + Copy> Registers for Host<'_, S> {
 impl<S: Start + Copy> Ports for Host<'_, S> {
     type Listener = TcpListener;
 
+    ghost listens = { λ _ _ _. ⊤ };
+
+    ghost serves = { λ _ _ _ _ _ _ _ _. ⊤ };
+
     fn listen(&self, port: u16) -> Option<TcpListener> {
         let address = SocketAddr::from(([127, 0, 0, 1], port));
         let listener = net::TcpListener::bind(self.rt, address).ok()?;
@@ -83,11 +127,27 @@ impl<S: Start + Copy> Ports for Host<'_, S> {
         &self,
         register: &mut SqlKeep<FileStore<FileFrom<S>>>,
         listener: &TcpListener,
+        limits: Limits,
         connections: u32,
         log: bool,
     ) -> u8 {
         let mut waiting = Waiting::new(self.rt, log);
-        serve_on(self.rt, register, listener, &mut waiting, connections)
+        serve_within(
+            self.rt,
+            register,
+            listener,
+            &mut waiting,
+            connections,
+            limits,
+        )
+    }
+}
+
+// Whether opening the file of this name takes long.
+fn is_large(rt: &HostRuntime, path: &str) -> bool {
+    match fs::metadata(rt, path) {
+        Ok(found) => found.len() >= LARGE,
+        Err(_) => false,
     }
 }
 
@@ -147,10 +207,15 @@ fn make_private(rt: &HostRuntime, path: &str) {
 }
 
 // Moves the register in the file of this name to the tables of this program, and closes the file.
-fn migrate_in<S: Start>(rt: &HostRuntime, path: &str, start: S) -> Result<(), OpenFault> {
+fn migrate_in<S: Start>(rt: &HostRuntime, path: &str, start: S) -> Result<(), OpenFault>
+    ensures { let keep = ⟦<SqlKeep<FileStore<FileFrom<S>>> as Keep>⟧ in OnOk result
+        (IsDone keep.shows keep.is_clean (λ k. k.conn) (λ c. (closed : _) × IsClosing c closed)
+        (HoldsRegister (image_at S.Start))
+        (λ opened left. IsMoved (image_at S.Start) (file_state opened) (file_state left)) (Moves path.entry)) }
+{
     let mut conn = connect(rt, path, start)?;
     let migrated = migrate(&mut conn, rt.alloc());
-    let _ = conn.close();
+    let _ = close_files(conn);
     migrated
 }
 

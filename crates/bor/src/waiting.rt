@@ -49,8 +49,8 @@ impl<'r> Waiting<'r> {
     }
 }
 
-// How long the clock has run; nothing where it can't be read.
-fn time(rt: &HostRuntime) -> Duration {
+/// How long the clock has run; nothing where it can't be read.
+pub(crate) fn time(rt: &HostRuntime) -> Duration {
     rt.monotonic().unwrap_or(Duration::ZERO)
 }
 

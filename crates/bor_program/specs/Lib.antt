@@ -6,6 +6,7 @@ pub mod Inputs
 pub mod Replying
 pub mod Reporting
 pub mod Deeds
+pub mod Hosting
 pub mod Performing
 pub mod Splitting
 pub mod Registrars

@@ -7,12 +7,12 @@ ghost use Rattle.bor_program.specs.Program.{EndsReport, exit_code, report_status
 ghost use Rattle.bor_program.specs.Streams.{TakesAtMostPart, TakesPart, part_read};
 
 use crate::failure::Failure;
-use crate::output::write_text;
+use crate::output::{Output, write_text};
 use crate::status::Status;
 use bor_desk::{FILE_LIMIT, Text, check_text};
 use bor_words::Source;
 use std::alloc::Global;
-use std::io::{self, ErrorKind, Read, Write};
+use std::io::{self, ErrorKind, Read};
 
 // As many bytes are read at once.
 const PART: usize = 8192;
@@ -22,8 +22,8 @@ const PART: usize = 8192;
 /// # Errors
 ///
 /// `Unreadable` of `source`: it can't be read. `Memory`: memory is wanting; nothing is printed then.
-/// `Unwritable`: the text can't be written, or not to its end.
-pub fn check<'a, I: Read, O: Write>(
+/// `Unwritable`: the text can't be written, or not to its end, or not handed on.
+pub fn check<'a, I: Read, O: Output>(
     alloc: Global,
     source: Source<'a>,
     input: &mut I,
@@ -35,6 +35,7 @@ pub fn check<'a, I: Read, O: Write>(
         EndsReport (part_read bytes) (O.contents output.old) (O.contents output.new) result) }
     ensures taken { OnOk result (TakesPart (I.remaining input.old) (I.remaining input.new)) }
     ensures at_most { TakesAtMostPart (I.remaining input.old) (I.remaining input.new) }
+    ensures flushed { OnOk result (O.is_flushed output.new) }
     ensures err { IfErr result (IsMetOn source.entry (O.contents output.old) (O.contents output.new)) }
 {
     let bytes = read_source(alloc, source, input)?;
@@ -92,8 +93,9 @@ fn room_after(count: usize) -> usize
 }
 
 // Prints the report on a file of these bytes.
-fn report<'a, O: Write>(alloc: Global, bytes: &[u8], output: &mut O) -> Result<Status, Failure<'a>>
+fn report<'a, O: Output>(alloc: Global, bytes: &[u8], output: &mut O) -> Result<Status, Failure<'a>>
     ensures report { EndsReport bytes.now (O.contents output.old) (O.contents output.new) result }
+    ensures flushed { OnOk result (O.is_flushed output.new) }
     ensures err { IfErr result (IsMetPrinting (O.contents output.old) (O.contents output.new)) }
 {
     let text = check_text(alloc, bytes)?;

@@ -10,9 +10,9 @@ ghost use Rattle.bor_program.specs.Replying.{AreAnswers, EndsFiles, EndsSending,
 ghost use Rattle.bor_program.specs.Streams.{AppendsPart};
 
 use crate::failure::Failure;
-use crate::host::{NamedFiles, OpenRegister, Opened, Registers};
+use crate::host::{NamedFiles, OpenRegister, Opened, Registers, Stage};
 use crate::inputs::read_inputs;
-use crate::output::write_part;
+use crate::output::{Output, write_part};
 use crate::registrar::{Exchanging, token_told};
 use crate::status::Status;
 use bor_desk::operations::ListKeep;
@@ -23,16 +23,17 @@ use std::io::Write;
 
 /// Does what `bor exchange` is asked to do, once the registrar's token is known; where it isn't, that is
 /// told.
-pub fn exchange<R: NamedFiles + AllocGlobal, H: Registers, O: Write, E: Write>(
+pub fn exchange<R: NamedFiles + AllocGlobal, H: Registers, O: Output, E: Write>(
     rt: &R,
     host: &mut H,
     asked: Exchange<'_>,
     output: &mut O,
     errors: &mut E,
 ) -> Status
-    ensures { ExchangesOnceTold (IsReadOf (R.opens rt.now) R.File.remaining)
+    ensures done { ExchangesOnceTold (IsReadOf (R.opens rt.now) R.File.remaining)
         H.Register.shows H.Register.is_clean H.does host.old host.new asked.entry
         (O.contents output.old) (O.contents output.new) (E.contents errors.old) (E.contents errors.new) (exit_code result) }
+    ensures flushed { exit_code result ≤ 1 → O.is_flushed output.new }
 {
     let Exchange {
         db,
@@ -57,16 +58,17 @@ pub fn exchange<R: NamedFiles + AllocGlobal, H: Registers, O: Write, E: Write>(
 // Answers the requests in files in turn, in the register in a file, which is closed then, or in a new
 // one in memory, and prints the replies in order. A file that can't be read is told, and the next one
 // is taken.
-fn exchange_told<R: NamedFiles + AllocGlobal, H: Registers, O: Write, E: Write>(
+fn exchange_told<R: NamedFiles + AllocGlobal, H: Registers, O: Output, E: Write>(
     rt: &R,
     host: &mut H,
     asked: Exchanging<'_>,
     output: &mut O,
     errors: &mut E,
 ) -> Status
-    ensures { Exchanges (IsReadOf (R.opens rt.now) R.File.remaining)
+    ensures done { Exchanges (IsReadOf (R.opens rt.now) R.File.remaining)
         H.Register.shows H.Register.is_clean H.does host.old host.new asked.entry
         (O.contents output.old) (O.contents output.new) (E.contents errors.old) (E.contents errors.new) (exit_code result) }
+    ensures flushed { exit_code result ≤ 1 → O.is_flushed output.new }
 {
     let Exchanging {
         db,
@@ -75,29 +77,40 @@ fn exchange_told<R: NamedFiles + AllocGlobal, H: Registers, O: Write, E: Write>(
         files,
     } = asked;
     match db {
-        Some(path) => match host.open_or_set_up(path, &registrar, day) {
-            Ok(
-                Opened {
-                    mut register,
-                    origin: _,
-                },
-            ) => {
-                let status = exchange_files(rt, &mut register, files.as_slice(), output, errors);
-                host.close(path, register);
-                status
+        Some(path) => {
+            host.reach(Stage::Opening(path));
+            match host.open_or_set_up(path, &registrar, day) {
+                Ok(
+                    Opened {
+                        mut register,
+                        origin: _,
+                    },
+                ) => {
+                    let status = exchange_files(
+                        rt,
+                        host,
+                        &mut register,
+                        files.as_slice(),
+                        output,
+                        errors,
+                    );
+                    host.close(path, register);
+                    status
+                }
+                Err(failure) => failure.tell(errors),
             }
-            Err(failure) => failure.tell(errors),
-        },
+        }
         None => {
             let mut register = ListKeep::new(rt.alloc(), registrar, day);
-            exchange_files(rt, &mut register, files.as_slice(), output, errors)
+            exchange_files(rt, host, &mut register, files.as_slice(), output, errors)
         }
     }
 }
 
 // Answers the requests in these files in the register.
-fn exchange_files<R: NamedFiles + AllocGlobal, K: OpenRegister, O: Write, E: Write>(
+fn exchange_files<R: NamedFiles + AllocGlobal, H: Registers, K: OpenRegister, O: Output, E: Write>(
     rt: &R,
+    host: &H,
     register: &mut K,
     files: &[&str],
     output: &mut O,
@@ -105,26 +118,30 @@ fn exchange_files<R: NamedFiles + AllocGlobal, K: OpenRegister, O: Write, E: Wri
 ) -> Status
     ensures ends { EndsFiles (AreAnswers K.shows K.is_clean register.old register.new)
         (IsReadOf (R.opens rt.now) R.File.remaining) files.now (O.contents output.old) (O.contents output.new) (exit_code result) }
+    ensures flushed { exit_code result ≤ 1 → O.is_flushed output.new }
     ensures silent { exit_code result ≤ 1 → Keeps (E.contents errors.old) (E.contents errors.new) }
     ensures told { TellsFiles files.now (O.contents output.old) (O.contents output.new)
         (E.contents errors.old) (E.contents errors.new) }
 {
-    match read_inputs(rt, files, errors) {
-        Ok(inputs) => match exchange_on(rt.alloc(), register, inputs.requests.as_slice(), output) {
-            Ok(status) => status.worse(inputs.status),
-            Err(failure) => failure.tell(errors),
-        },
+    match read_inputs(rt, host, files, errors) {
+        Ok(inputs) => {
+            host.reach(Stage::Answering(inputs.requests.len()));
+            match exchange_on(rt.alloc(), register, inputs.requests.as_slice(), output) {
+                Ok(status) => status.worse(inputs.status),
+                Err(failure) => failure.tell(errors),
+            }
+        }
         Err(failure) => failure.tell(errors),
     }
 }
 
-/// Answers inputs in turn, and prints exactly the replies to them, in order.
+/// Answers inputs in turn, and prints exactly the replies to them, in order, which are handed on.
 ///
 /// # Errors
 ///
 /// `Memory`: nothing was answered. `Unwritable`: the inputs are answered, and the replies can't be
-/// written, or not to their end.
-pub fn exchange_on<'a, K: OpenRegister, O: Write>(
+/// written, or not to their end, or not handed on.
+pub fn exchange_on<'a, K: OpenRegister, O: Output>(
     alloc: Global,
     register: &mut K,
     inputs: &[Vec<u8>],
@@ -132,6 +149,7 @@ pub fn exchange_on<'a, K: OpenRegister, O: Write>(
 ) -> Result<Status, Failure<'a>>
     ensures sent { EndsSending (AreAnswers K.shows K.is_clean register.old register.new) (map (λ v. v.items) inputs.now)
         (O.contents output.old) (O.contents output.new) result }
+    ensures flushed { OnOk result (O.is_flushed output.new) }
     ensures err { IfErr result (IsMetPrinting (O.contents output.old) (O.contents output.new)) }
 {
     let replies = register.replay(alloc, inputs)?;
@@ -139,10 +157,11 @@ pub fn exchange_on<'a, K: OpenRegister, O: Write>(
     Ok(status_of(replies.as_slice()))
 }
 
-// Writes the replies in order, as far as they can be written.
-fn send<'a, O: Write>(output: &mut O, replies: &[Reply]) -> Result<(), Failure<'a>>
+// Writes the replies in order, as far as they can be written, and hands them on.
+fn send<'a, O: Output>(output: &mut O, replies: &[Reply]) -> Result<(), Failure<'a>>
     ensures ok { OnOk result (Appends (O.contents output.old) (O.contents output.new) (sent replies.now)) }
     ensures part { AppendsPart (O.contents output.old) (O.contents output.new) (sent replies.now) }
+    ensures flushed { OnOk result (O.is_flushed output.new) }
     ensures err { IfErr result (λ failure. failure ≡ Failure.Unwritable) }
 {
     for reply in replies {
@@ -150,7 +169,7 @@ fn send<'a, O: Write>(output: &mut O, replies: &[Reply]) -> Result<(), Failure<'
             return Err(Failure::Unwritable);
         }
     }
-    match output.flush() {
+    match output.hand_on() {
         Ok(()) => Ok(()),
         Err(_) => Err(Failure::Unwritable),
     }

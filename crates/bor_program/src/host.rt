@@ -1,6 +1,6 @@
 //! What the program asks of the machine that it runs on, beside streams.
 
-ghost use Rattle.std.specs.Prelude.{◌≡◌, ⊤, ℕ, List, IfErr, IfOk, OnErr, OnOk, length, map};
+ghost use Rattle.std.specs.Prelude.{◌≡◌, ⊤, ℕ, List, Bool, IfErr, IfOk, IfSome, OnErr, OnOk, length, map};
 ghost use Rattle.std.specs.Borrow.{Bor};
 ghost use Rattle.clap.specs.Words.{Text as Words};
 ghost use Rattle.bor_records.specs.Promises.{Kept, Promised};
@@ -9,6 +9,7 @@ ghost use Rattle.bor_register.specs.declared.fault.StoreFault.{StoreFault};
 ghost use Rattle.bor_desk.specs.Operations.Legality.{IsLegal};
 ghost use Rattle.bor_desk.specs.Operations.Outcomes.{IsFaultOf};
 ghost use Rattle.bor_program.specs.Connections.Serving.{IsServed};
+ghost use Rattle.bor_program.specs.declared.connections.limits.Limits.{Limits};
 ghost use Rattle.bor_http.specs.Spelling.Spell.{Spelled};
 ghost use Rattle.bor_wire.specs.Histories.{IsAlone};
 ghost use Rattle.bor_wire.specs.Reports.{AreReports};
@@ -17,6 +18,7 @@ ghost use Rattle.bor_program.specs.Deeds.{ComesToBe, Deed, Closes, Fails, Moves,
 ghost use Rattle.bor_program.specs.Failures.{IsOpeningOf};
 ghost use Rattle.bor_program.specs.Reporting.{IsReportOf};
 
+use crate::connections::Limits;
 use crate::failure::Failure;
 use crate::report::report_in;
 use bor_desk::Text;
@@ -131,6 +133,19 @@ pub struct Opened<K> {
     pub origin: Origin,
 }
 
+/// Where a command is that may take long.
+#[derive(Clone, Copy, Debug, PartialEq, Eq)]
+pub enum Stage<'a> {
+    /// The register in the file of this name is opened next.
+    Opening(&'a str),
+    /// Of all files of requests so many were read.
+    Reading(usize, usize),
+    /// So many requests are answered next.
+    Answering(usize),
+    /// A report is made next.
+    Reporting,
+}
+
 /// What opens the registers in files. Its states stand for those of the files: what is done to them leads
 /// from one to another.
 pub trait Registers {
@@ -139,6 +154,10 @@ pub trait Registers {
 
     /// This is done to the registers in files, and leads from one state of them to another.
     ghost does: { Self → Deed Self.Register → Self → Type 0 };
+
+    /// Tells whoever waits for a command where it is, in a line on standard error, or doesn't. Nothing is done
+    /// to the registers in files.
+    fn reach(&self, stage: Stage<'_>);
 
     /// The register in the file of this name. Where there is none, none is made.
     fn open<'a>(&mut self, path: &'a str) -> Result<Self::Register, Failure<'a>>
@@ -177,17 +196,27 @@ pub trait Ports: Registers {
     /// A port that is listened on.
     type Listener: Drop;
 
-    /// Listens on this port, if that can be done.
-    fn listen(&self, port: u16) -> Option<Self::Listener>;
+    /// This port is listened on by this listener.
+    ghost listens: { Self → ℕ → Self.Listener → Type 0 };
 
-    /// Serves so many connections, and gives 0, or 3 where one of them failed. Where it is asked for, each
-    /// request that was answered has a line on standard error.
+    /// Of a listener so many connections were served within these limits, with a log or without. It led from
+    /// one state of a register to another, with this status.
+    ghost serves: { Self → Self.Listener → Limits → ℕ → Bool → Self.Register → Self.Register → ℕ → Type 0 };
+
+    /// Listens on this port, if that can be done.
+    fn listen(&self, port: u16) -> Option<Self::Listener>
+        ensures { IfSome result (λ listener. listens self.now port listener) };
+
+    /// Serves so many connections of a listener, each client within these limits, and gives 0, or 3 where one
+    /// of them failed. Where it is asked for, each request that was answered has a line on standard error.
     fn serve(
         &self,
         register: &mut Self::Register,
         listener: &Self::Listener,
+        limits: Limits,
         connections: u32,
         log: bool,
     ) -> u8
-        ensures { IsServed Self.Register.shows Self.Register.is_clean register.old register.new connections result };
+        ensures hosted { serves self.now listener.now limits connections log register.old register.new result }
+        ensures served { IsServed Self.Register.shows Self.Register.is_clean register.old register.new connections result };
 }

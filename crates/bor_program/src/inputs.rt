@@ -7,7 +7,7 @@ ghost use Rattle.bor_program.specs.Inputs.{AreReadOf, IsReadOf};
 ghost use Rattle.bor_http.specs.Incoming.Message.{request_limit};
 
 use crate::failure::Failure;
-use crate::host::NamedFiles;
+use crate::host::{NamedFiles, Registers, Stage};
 use crate::status::Status;
 use bor_words::Source;
 use std::alloc::{AllocError, Global};
@@ -25,13 +25,14 @@ pub struct Inputs {
     pub status: Status,
 }
 
-/// Reads the files, and tells of each that can't be read.
+/// Reads the files, tells the host how many were read, and tells of each that can't be read.
 ///
 /// # Errors
 ///
 /// `Memory`.
-pub fn read_inputs<R: NamedFiles + AllocGlobal, E: Write>(
+pub fn read_inputs<R: NamedFiles + AllocGlobal, H: Registers, E: Write>(
     rt: &R,
+    host: &H,
     files: &[&str],
     errors: &mut E,
 ) -> Result<Inputs, Failure<'static>>
@@ -46,6 +47,7 @@ pub fn read_inputs<R: NamedFiles + AllocGlobal, E: Write>(
     let mut requests = Vec::new(rt.alloc());
     let mut status = Status::Done;
     for name in files {
+        host.reach(Stage::Reading(requests.len(), files.len()));
         match read_input(rt, name) {
             Ok(bytes) => add(&mut requests, bytes)?,
             Err(error) if error.kind() == ErrorKind::OutOfMemory => return Err(Failure::Memory),

@@ -31,7 +31,8 @@ mod status;
 
 pub use exchange::exchange_on;
 pub use failure::Failure;
-pub use host::{NamedFiles, OpenRegister, Opened, Origin, Ports, Registers};
+pub use host::{NamedFiles, OpenRegister, Opened, Origin, Ports, Registers, Stage};
+pub use output::Output;
 pub use program::run;
 pub use report::report_on;
 pub use status::Status;

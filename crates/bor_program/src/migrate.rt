@@ -8,22 +8,24 @@ ghost use Rattle.bor_program.specs.Program.{IsWrittenOrCutOff, exit_code};
 ghost use Rattle.bor_program.specs.Streams.{AppendsPart};
 
 use crate::failure::Failure;
-use crate::host::Registers;
-use crate::output::write_text;
+use crate::host::{Registers, Stage};
+use crate::output::{Output, write_text};
 use crate::status::Status;
 use bor_words::Migrate;
 use std::io::Write;
 
 /// Moves the register in a file to the tables of this program, and prints their version.
-pub fn migrate<H: Registers, O: Write, E: Write>(
+pub fn migrate<H: Registers, O: Output, E: Write>(
     host: &mut H,
     asked: Migrate<'_>,
     output: &mut O,
     errors: &mut E,
 ) -> Status
-    ensures { Migrates H.does host.old host.new asked.entry (O.contents output.old) (O.contents output.new)
+    ensures done { Migrates H.does host.old host.new asked.entry (O.contents output.old) (O.contents output.new)
         (E.contents errors.old) (E.contents errors.new) (exit_code result) }
+    ensures flushed { exit_code result ≤ 1 → O.is_flushed output.new }
 {
+    host.reach(Stage::Opening(asked.db));
     match host.migrate(asked.db) {
         Ok(()) => print_version(output, errors),
         Err(failure) => failure.tell(errors),
@@ -31,8 +33,9 @@ pub fn migrate<H: Registers, O: Write, E: Write>(
 }
 
 // Prints the version of the program's tables, and tells where that can't be done.
-fn print_version<O: Write, E: Write>(output: &mut O, errors: &mut E) -> Status
+fn print_version<O: Output, E: Write>(output: &mut O, errors: &mut E) -> Status
     ensures text { IsWrittenOrCutOff migrated (O.contents output.old) (O.contents output.new) (exit_code result) }
+    ensures flushed { exit_code result ≤ 1 → O.is_flushed output.new }
     ensures silent { exit_code result ≤ 1 → Keeps (E.contents errors.old) (E.contents errors.new) }
     ensures told { exit_code result ≡ 3 → AppendsPart (E.contents errors.old) (E.contents errors.new) (failure_line Failure.Unwritable) }
 {

@@ -1,26 +1,52 @@
 //! Writing as far as a stream takes it.
 
-ghost use Rattle.std.specs.Prelude.{◌≡◌, ◌≤◌, IfErr, IfSome, IsNone, IsTrue, OnOk, length, take};
+ghost use Rattle.std.specs.Prelude.{◌≡◌, ◌≤◌, ⊤, IfErr, IfSome, IsNone, IsTrue, OnOk, length, take};
 ghost use Rattle.std.specs.Io.KnownBytes.{Appends, Keeps};
 ghost use Rattle.bor_program.specs.Streams.{AppendsPart};
 
 use crate::failure::Failure;
-use std::io::{ErrorKind, Write};
+use std::io::{self, ErrorKind, Write};
 
-/// Writes the whole text on standard output, or a front of it.
+/// What the program writes its text on. It may keep some of it for itself until that is handed on.
+pub trait Output: Write {
+    /// All that was written was handed on.
+    ghost is_flushed: { Self → Type 0 };
+
+    /// Hands on all that was written.
+    ///
+    /// # Errors
+    ///
+    /// Some of it can't be handed on.
+    fn hand_on(&mut self) -> io::Result<()>
+        ensures kept { Keeps (Self.contents self.old) (Self.contents self.new) }
+        ensures flushed { OnOk result (is_flushed self.new) };
+}
+
+impl<W: Write> Output for W {
+    ghost is_flushed = { λ _. ⊤ };
+
+    fn hand_on(&mut self) -> io::Result<()> {
+        self.flush()
+    }
+}
+
+/// Writes the whole text on standard output, and hands it on; or a front of it.
 ///
 /// # Errors
 ///
-/// `Unwritable`: it can't be written, or not to its end.
-pub fn write_text<'a, O: Write>(output: &mut O, text: &[u8]) -> Result<(), Failure<'a>>
+/// `Unwritable`: it can't be written, or not to its end, or not handed on.
+pub fn write_text<'a, O: Output>(output: &mut O, text: &[u8]) -> Result<(), Failure<'a>>
+    ensures flushed { OnOk result (O.is_flushed output.new) }
     ensures ok { OnOk result (Appends (O.contents output.old) (O.contents output.new) text.now) }
     ensures part { AppendsPart (O.contents output.old) (O.contents output.new) text.now }
     ensures err { IfErr result (λ failure. failure ≡ Failure.Unwritable) }
 {
-    if write_part(output, text) && output.flush().is_ok() {
-        Ok(())
-    } else {
-        Err(Failure::Unwritable)
+    if !write_part(output, text) {
+        return Err(Failure::Unwritable);
+    }
+    match output.hand_on() {
+        Ok(()) => Ok(()),
+        Err(_) => Err(Failure::Unwritable),
     }
 }
 

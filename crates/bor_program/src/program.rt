@@ -7,6 +7,7 @@ ghost use Rattle.bor_words.specs.Unread.{kind_of_answer};
 ghost use Rattle.bor_words.specs.Words.{entered_by};
 ghost use Rattle.bor_words.specs.declared.command.Command.{Command as Asked};
 ghost use Rattle.bor_program.specs.Failures.{IsMetBy, IsMetOn, IsMetPrinting, IsTold, IsWantOfMemory};
+ghost use Rattle.bor_program.specs.Hosting.{IsHosted};
 ghost use Rattle.bor_program.specs.Inputs.{IsReadOf};
 ghost use Rattle.bor_program.specs.Performing.{Checks, Performs, TellsRefusal};
 ghost use Rattle.bor_program.specs.Program.{EndsReport, IsReportedOrCutOff, exit_code};
@@ -18,7 +19,7 @@ use crate::exchange::exchange;
 use crate::failure::Failure;
 use crate::host::{NamedFiles, Ports};
 use crate::migrate::migrate;
-use crate::output::write_text;
+use crate::output::{Output, write_text};
 use crate::report::report;
 use crate::serve::serve;
 use crate::status::Status;
@@ -34,7 +35,7 @@ use std::io::{Read, Write};
 /// Standard output has the text of a command, or the help; with status 3 a front of it. Standard error
 /// has what is wrong with the words, or a line on what failed; that line is missing where it was
 /// standard output that failed, or a reply or a connection.
-pub fn run<R: NamedFiles + AllocGlobal, H: Ports, S: AsStr, I: Read, O: Write, E: Write>(
+pub fn run<R: NamedFiles + AllocGlobal, H: Ports, S: AsStr, I: Read, O: Output, E: Write>(
     rt: &R,
     host: &mut H,
     words: &[S],
@@ -49,8 +50,8 @@ pub fn run<R: NamedFiles + AllocGlobal, H: Ports, S: AsStr, I: Read, O: Write, E
     ensures performed { IsCommand (map S.text words.now) → ((result ≡ 3) × (host.new ≡ host.old)
         × Keeps (O.contents output.old) (O.contents output.new) × IsTold IsWantOfMemory (E.contents errors.old) (E.contents errors.new))
         ⊎ ((asked : Asked) × IsAsked (entered_by (map S.text words.now)) asked
-        × Performs (IsReadOf (R.opens rt.now) R.File.remaining) H.Register.shows H.Register.is_clean H.Register.tells H.does
-        host.old host.new asked (I.remaining input.old) (I.remaining input.new)
+        × Performs (IsReadOf (R.opens rt.now) R.File.remaining) (IsHosted H.listens H.serves)
+        H.Register.shows H.Register.is_clean H.Register.tells H.does host.old host.new asked (I.remaining input.old) (I.remaining input.new)
         (O.contents output.old) (O.contents output.new) (E.contents errors.old) (E.contents errors.new) result) }
 
     // Words that ask for a check have its text written, or the run fails and wrote a front of it.
@@ -98,7 +99,10 @@ pub fn run<R: NamedFiles + AllocGlobal, H: Ports, S: AsStr, I: Read, O: Write, E
     ensures wrong { ¬ IsCommand (map S.text words.now) → ¬ MayAskForHelp (map S.text words.now)
         → (result ≡ 2) ⊎ (result ≡ 3) }
 
-    // With status 0 or 1 nothing is added to known bytes on standard error,
+    // With status 0 or 1 all that was written on standard output was handed on,
+    ensures flushed { result ≤ 1 → O.is_flushed output.new }
+
+    // and nothing is added to known bytes on standard error,
     ensures silent { result ≤ 1 → Keeps (E.contents errors.old) (E.contents errors.new) }
 
     // and with status 3, of a check or where no command is asked for, the front of the line of the failure
@@ -115,7 +119,7 @@ pub fn run<R: NamedFiles + AllocGlobal, H: Ports, S: AsStr, I: Read, O: Write, E
 }
 
 // Does what is asked, and tells on standard error why it could not be done.
-fn perform<R: NamedFiles + AllocGlobal, H: Ports, I: Read, O: Write, E: Write>(
+fn perform<R: NamedFiles + AllocGlobal, H: Ports, I: Read, O: Output, E: Write>(
     rt: &R,
     host: &mut H,
     command: Command<'_>,
@@ -123,9 +127,10 @@ fn perform<R: NamedFiles + AllocGlobal, H: Ports, I: Read, O: Write, E: Write>(
     output: &mut O,
     errors: &mut E,
 ) -> Status
-    ensures { Performs (IsReadOf (R.opens rt.now) R.File.remaining) H.Register.shows H.Register.is_clean H.Register.tells H.does
-        host.old host.new command.entry (I.remaining input.old) (I.remaining input.new)
+    ensures done { Performs (IsReadOf (R.opens rt.now) R.File.remaining) (IsHosted H.listens H.serves)
+        H.Register.shows H.Register.is_clean H.Register.tells H.does host.old host.new command.entry (I.remaining input.old) (I.remaining input.new)
         (O.contents output.old) (O.contents output.new) (E.contents errors.old) (E.contents errors.new) (exit_code result) }
+    ensures flushed { exit_code result ≤ 1 → O.is_flushed output.new }
 {
     match command {
         Command::Check(source) => check_told(rt, source, input, output, errors),
@@ -137,7 +142,7 @@ fn perform<R: NamedFiles + AllocGlobal, H: Ports, I: Read, O: Write, E: Write>(
 }
 
 // Checks what is asked for, and tells on standard error why it could not be done.
-fn check_told<R: NamedFiles + AllocGlobal, I: Read, O: Write, E: Write>(
+fn check_told<R: NamedFiles + AllocGlobal, I: Read, O: Output, E: Write>(
     rt: &R,
     source: Source<'_>,
     input: &mut I,
@@ -153,6 +158,7 @@ fn check_told<R: NamedFiles + AllocGlobal, I: Read, O: Write, E: Write>(
     ensures at_most { TakesAtMostPart (I.remaining input.old) (I.remaining input.new) }
     ensures unread { IsSome (name_of source.entry)
         → Keeps (I.remaining input.old) (I.remaining input.new) }
+    ensures flushed { exit_code result ≤ 1 → O.is_flushed output.new }
     ensures silent { exit_code result ≤ 1 → Keeps (E.contents errors.old) (E.contents errors.new) }
     ensures told { exit_code result ≡ 3
         → IsTold (IsMetOn source.entry (O.contents output.old) (O.contents output.new))
@@ -165,7 +171,7 @@ fn check_told<R: NamedFiles + AllocGlobal, I: Read, O: Write, E: Write>(
 }
 
 // Checks standard input, or the file that is named.
-fn check_source<'a, R: NamedFiles + AllocGlobal, I: Read, O: Write>(
+fn check_source<'a, R: NamedFiles + AllocGlobal, I: Read, O: Output>(
     rt: &R,
     source: Source<'a>,
     input: &mut I,
@@ -180,6 +186,7 @@ fn check_source<'a, R: NamedFiles + AllocGlobal, I: Read, O: Write>(
     ensures at_most { TakesAtMostPart (I.remaining input.old) (I.remaining input.new) }
     ensures unread { IsSome (name_of source.entry)
         → Keeps (I.remaining input.old) (I.remaining input.new) }
+    ensures flushed { OnOk result (O.is_flushed output.new) }
     ensures err { IfErr result (IsMetOn source.entry (O.contents output.old) (O.contents output.new)) }
 {
     match source {
@@ -189,13 +196,14 @@ fn check_source<'a, R: NamedFiles + AllocGlobal, I: Read, O: Write>(
 }
 
 // Opens the file of this name and checks it.
-fn check_file<'a, R: NamedFiles + AllocGlobal, O: Write>(
+fn check_file<'a, R: NamedFiles + AllocGlobal, O: Output>(
     rt: &R,
     name: &'a str,
     output: &mut O,
 ) -> Result<Status, Failure<'a>>
     ensures report { (bytes : List ℕ)
         × EndsReport bytes (O.contents output.old) (O.contents output.new) result }
+    ensures flushed { OnOk result (O.is_flushed output.new) }
     ensures err { IfErr result (IsMetOn (Source.File name.entry)
         (O.contents output.old) (O.contents output.new)) }
 {
@@ -208,12 +216,13 @@ fn check_file<'a, R: NamedFiles + AllocGlobal, O: Write>(
 
 // Answers words that ask for no command: the help on standard output, or what is wrong with them on
 // standard error.
-fn answer<O: Write, E: Write>(unread: Unread<'_>, output: &mut O, errors: &mut E) -> Status
+fn answer<O: Output, E: Write>(unread: Unread<'_>, output: &mut O, errors: &mut E) -> Status
     ensures memory { kind_of_answer unread.entry ≡ ErrorKind.OutOfMemory → (result ≡ Status.Failed)
         × IsTold IsWantOfMemory (E.contents errors.old) (E.contents errors.new) }
     ensures never { result ≢ Status.Refused }
     ensures done { result ≡ Status.Done → (kind_of_answer unread.entry ≡ ErrorKind.DisplayHelp)
         × Appends (O.contents output.old) (O.contents output.new) HELP.now }
+    ensures flushed { exit_code result ≤ 1 → O.is_flushed output.new }
     ensures help { AppendsPart (O.contents output.old) (O.contents output.new) HELP.now }
     ensures kept { kind_of_answer unread.entry ≢ ErrorKind.DisplayHelp
         → Keeps (O.contents output.old) (O.contents output.new) }

@@ -1,6 +1,6 @@
 //! `bor report`.
 
-ghost use Rattle.std.specs.Prelude.{◌≡◌, IfOk, IfErr, Some};
+ghost use Rattle.std.specs.Prelude.{◌≡◌, ◌≤◌, IfOk, IfErr, OnOk, Some};
 ghost use Rattle.bor_records.specs.Promises.{Kept, Promised};
 ghost use Rattle.bor_desk.specs.Operations.Outcomes.{IsAccounted};
 ghost use Rattle.bor_program.specs.Failures.{IsMetOnKeep};
@@ -10,8 +10,8 @@ ghost use Rattle.bor_program.specs.Reporting.{EndsTelling, IsReportOf, IsToldOf,
 
 use crate::check::end_of;
 use crate::failure::Failure;
-use crate::host::{OpenRegister, Registers};
-use crate::output::write_text;
+use crate::host::{OpenRegister, Registers, Stage};
+use crate::output::{Output, write_text};
 use crate::status::Status;
 use bor_desk::operations::{Keep, StoreFault};
 use bor_desk::{Text, report_text};
@@ -21,18 +21,21 @@ use std::alloc::Global;
 use std::io::Write;
 
 /// Prints who stands behind an entity, by the register in a file, which is closed then.
-pub fn report<H: Registers, O: Write, E: Write>(
+pub fn report<H: Registers, O: Output, E: Write>(
     alloc: Global,
     host: &mut H,
     asked: &Report<'_>,
     output: &mut O,
     errors: &mut E,
 ) -> Status
-    ensures { Reports H.Register.shows H.Register.is_clean H.Register.tells H.does host.old host.new asked.now
+    ensures done { Reports H.Register.shows H.Register.is_clean H.Register.tells H.does host.old host.new asked.now
         (O.contents output.old) (O.contents output.new) (E.contents errors.old) (E.contents errors.new) (exit_code result) }
+    ensures flushed { exit_code result ≤ 1 → O.is_flushed output.new }
 {
+    host.reach(Stage::Opening(asked.db));
     match host.open(asked.db) {
         Ok(mut register) => {
+            host.reach(Stage::Reporting);
             let told = report_on(alloc, &mut register, asked, output);
             host.close(asked.db, register);
             match told {
@@ -48,8 +51,9 @@ pub fn report<H: Registers, O: Write, E: Write>(
 ///
 /// # Errors
 ///
-/// `Store`, `Memory`: nothing is printed. `Unwritable`: the text can't be written, or not to its end.
-pub fn report_on<'a, K: OpenRegister, O: Write>(
+/// `Store`, `Memory`: nothing is printed. `Unwritable`: the text can't be written, or not to its end, or not
+/// handed on.
+pub fn report_on<'a, K: OpenRegister, O: Output>(
     alloc: Global,
     register: &mut K,
     asked: &Report<'_>,
@@ -58,6 +62,7 @@ pub fn report_on<'a, K: OpenRegister, O: Write>(
     ensures kept { Kept K.shows K.is_clean register.old register.new }
     ensures told { EndsTelling (IsToldOf K.shows K.is_clean register.old register.new asked.now)
         (O.contents output.old) (O.contents output.new) result }
+    ensures flushed { OnOk result (O.is_flushed output.new) }
     ensures err { IfErr result (IsMetOnKeep (λ fault. K.tells register.old fault register.new)
         (O.contents output.old) (O.contents output.new)) }
 {

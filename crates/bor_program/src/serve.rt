@@ -1,16 +1,18 @@
 //! `bor serve`.
 
-ghost use Rattle.std.specs.Prelude.{◌≡◌, ◌⊎◌, IfErr, IfOk, OnErr, OnOk};
+ghost use Rattle.std.specs.Prelude.{◌≡◌, ◌≤◌, ◌⊎◌, IfErr, IfOk, OnErr, OnOk};
 ghost use Rattle.std.specs.Io.KnownBytes.{Appends};
 ghost use Rattle.bor_program.specs.Connections.Serving.{IsServed};
 ghost use Rattle.bor_program.specs.Failures.{IsMetListening};
+ghost use Rattle.bor_program.specs.Hosting.{IsHosted};
 ghost use Rattle.bor_program.specs.Performing.{Serves, listening};
 ghost use Rattle.bor_program.specs.Program.{exit_code};
 ghost use Rattle.bor_program.specs.Streams.{AppendsPart};
 
+use crate::connections::Limits;
 use crate::failure::Failure;
-use crate::host::Ports;
-use crate::output::write_text;
+use crate::host::{Ports, Stage};
+use crate::output::{Output, write_text};
 use crate::status::Status;
 use bor_words::Serve;
 use std::alloc::Global;
@@ -19,16 +21,18 @@ use std::io::Write;
 /// Answers requests over HTTP in the register in a file, of many clients at once, on a port of 127.0.0.1.
 /// Once it listens, it prints that; at the end the register is closed. What the log has is the host's to
 /// write.
-pub fn serve<H: Ports, O: Write, E: Write>(
+pub fn serve<H: Ports, O: Output, E: Write>(
     alloc: Global,
     host: &mut H,
     asked: Serve<'_>,
     output: &mut O,
     errors: &mut E,
 ) -> Status
-    ensures { Serves H.Register.shows H.Register.is_clean H.does host.old host.new asked.entry
+    ensures done { Serves (IsHosted H.listens H.serves) H.Register.shows H.Register.is_clean H.does host.old host.new asked.entry
         (O.contents output.old) (O.contents output.new) (E.contents errors.old) (E.contents errors.new) (exit_code result) }
+    ensures flushed { exit_code result ≤ 1 → O.is_flushed output.new }
 {
+    host.reach(Stage::Opening(asked.db));
     match host.open(asked.db) {
         Ok(mut register) => {
             let served = listen(alloc, host, &mut register, asked, output);
@@ -42,17 +46,19 @@ pub fn serve<H: Ports, O: Write, E: Write>(
     }
 }
 
-// Opens the port, prints that it listens, and serves.
-fn listen<'a, H: Ports, O: Write>(
+// Listens on the port, prints that, and serves.
+fn listen<'a, H: Ports, O: Output>(
     alloc: Global,
     host: &H,
     register: &mut H::Register,
     asked: Serve<'_>,
     output: &mut O,
 ) -> Result<Status, Failure<'a>>
+    ensures hosted { IfOk result (λ status. IsHosted H.listens H.serves asked.entry register.old register.new (exit_code status)) }
     ensures ok { IfOk result (λ status. IsServed H.Register.shows H.Register.is_clean register.old register.new asked.entry.connections (exit_code status)
         × Appends (O.contents output.old) (O.contents output.new) (listening asked.entry.port)) }
     ensures part { AppendsPart (O.contents output.old) (O.contents output.new) (listening asked.entry.port) }
+    ensures flushed { OnOk result (O.is_flushed output.new) }
     ensures err { IfErr result (IsMetListening (O.contents output.old) (O.contents output.new)) }
     ensures unserved { OnErr result (register.new ≡ register.old) }
 {
@@ -60,14 +66,16 @@ fn listen<'a, H: Ports, O: Write>(
         return Err(Failure::Unlistening);
     };
     announce(alloc, asked.port, output)?;
-    let served = host.serve(register, &listener, asked.connections, asked.log);
+    let limits = Limits::of_a_server();
+    let served = host.serve(register, &listener, limits, asked.connections, asked.log);
     Ok(end_of(served))
 }
 
 // Prints that the port is listened on.
-fn announce<'a, O: Write>(alloc: Global, port: u16, output: &mut O) -> Result<(), Failure<'a>>
+fn announce<'a, O: Output>(alloc: Global, port: u16, output: &mut O) -> Result<(), Failure<'a>>
     ensures ok { OnOk result (Appends (O.contents output.old) (O.contents output.new) (listening port)) }
     ensures part { AppendsPart (O.contents output.old) (O.contents output.new) (listening port) }
+    ensures flushed { OnOk result (O.is_flushed output.new) }
     ensures err { IfErr result (IsMetListening (O.contents output.old) (O.contents output.new)) }
 {
     let line = format!(in alloc; "listening 127.0.0.1:{port}\n")?;

@@ -20,6 +20,6 @@ mod sql_keep;
 pub use adoption::examine;
 pub use migration::migrate;
 pub use open_fault::OpenFault;
-pub use opening::connect;
+pub use opening::{close_files, connect};
 pub use setup::set_up;
 pub use sql_keep::SqlKeep;

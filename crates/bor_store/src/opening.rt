@@ -60,8 +60,9 @@ impl<D: Disk + Drop> SqlKeep<FileStore<D>> {
     }
 }
 
-// Closes a connection, and gives its files.
-fn close_files<D: Disk + Drop>(conn: Connection<FileStore<D>>) -> Result<Files<D>, Error>
+/// Closes a connection: the database file has all that it showed, without the log. Gives the files, as
+/// [`SqlKeep::close`] does.
+pub fn close_files<D: Disk + Drop>(conn: Connection<FileStore<D>>) -> Result<Files<D>, Error>
     ensures { IsClosing conn result }
 {
     let _live = conn.schema();

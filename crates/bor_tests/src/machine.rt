@@ -1,14 +1,14 @@
 //! A machine of registers in memory, and a register that has no memory for replies.
 
-ghost use Rattle.std.specs.Prelude.{◌≡◌, IfErr};
+ghost use Rattle.std.specs.Prelude.{◌≡◌, ⊤, IfErr};
 ghost use Rattle.bor_program.specs.Failures.{IsOpeningOf};
 ghost use Rattle.bor_register.specs.declared.fault.StoreFault.TheVariants as faults;
 
 use crate::clients::{Queue, Ticking, Waits};
 use bor_desk::Text;
 use bor_desk::operations::{Keep, ListKeep, StoreFault};
-use bor_program::connections::serve_on;
-use bor_program::{Failure, OpenRegister, Opened, Origin, Ports, Registers};
+use bor_program::connections::{Limits, serve_within};
+use bor_program::{Failure, OpenRegister, Opened, Origin, Ports, Registers, Stage};
 use bor_terms::{Day, Token};
 use bor_wire::Reply;
 use bor_words::Report;
@@ -39,6 +39,8 @@ impl Registers for Machine {
     type Register = ListKeep;
 
     ghost does = { λ before _ after. after ≡ before };
+
+    fn reach(&self, _stage: Stage<'_>) {}
 
     fn open<'a>(&mut self, path: &'a str) -> Result<ListKeep, Failure<'a>> {
         if self.is_starved {
@@ -75,6 +77,10 @@ impl Registers for Machine {
 impl Ports for Machine {
     type Listener = Queue<'static>;
 
+    ghost listens = { λ _ _ _. ⊤ };
+
+    ghost serves = { λ _ _ _ _ _ _ _ _. ⊤ };
+
     fn listen(&self, _port: u16) -> Option<Queue<'static>> {
         Some(Queue::new(&[]))
     }
@@ -83,17 +89,19 @@ impl Ports for Machine {
         &self,
         register: &mut ListKeep,
         listener: &Queue<'static>,
+        limits: Limits,
         connections: u32,
         _log: bool,
     ) -> u8 {
         let clock = Ticking::new(Some(1));
         let mut waits = Waits::new(self.alloc, &[]);
-        serve_on(
+        serve_within(
             &(clock, self.alloc),
             register,
             listener,
             &mut waits,
             connections,
+            limits,
         )
     }
 }

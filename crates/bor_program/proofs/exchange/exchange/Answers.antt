@@ -1,8 +1,8 @@
 use Rattle.std.proofs.Common.{inr, refl}
 use Rattle.bor_program.proofs.exchange.exchange.Goals as goal
 
-pub returns-in-Ok : goal.returns-in-Ok
-returns-in-Ok g c =
+pub returns-in-Ok-clause-done : goal.returns-in-Ok-clause-done
+returns-in-Ok-clause-done g c =
     inr (
       record {
         db = c.args.asked.db;
@@ -16,5 +16,5 @@ returns-in-Ok g c =
         day = refl;
         files = refl;
       },
-      c.exchange_told.ensures,
+      c.exchange_told.ensures.done,
     )

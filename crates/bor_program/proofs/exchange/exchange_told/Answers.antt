@@ -17,8 +17,8 @@ of_named P o x e h = rw e h
 of_none : {A : Type 0} (P : A → Type 0) (o : Option A) → o ≡ None → IfSome o P
 of_none P o e = rw e tt
 
-pub returns-in-Ok : goal.returns-in-Ok
-returns-in-Ok g c =
+pub returns-in-Ok-clause-done : goal.returns-in-Ok-clause-done
+returns-in-Ok-clause-done g c =
     let ends = sent_as _ _ _ _ _ _ _ _ c.as_slice.ensures.value (λ inputs replies h. h) c.exchange_files-status.ensures.ends in
     let told = files_as _ _ _ _ _ _ c.as_slice.ensures.value c.exchange_files-status.ensures.told in
     record {
@@ -34,8 +34,8 @@ returns-in-Ok g c =
       silent = c.exchange_files-status.ensures.silent;
     }
 
-pub returns-in-Some : goal.returns-in-Some
-returns-in-Some g c =
+pub returns-in-Some-clause-done : goal.returns-in-Some-clause-done
+returns-in-Some-clause-done g c =
     let three : exit_code c.tell.result ≡ 3 = ap exit_code c.tell.ensures.status in
     record {
       sent = ([], inr (part_none _ _ [] (keeps_same _), three));
@@ -44,8 +44,8 @@ returns-in-Some g c =
       silent = λ low. absurd (omega (arith, low, three));
     }
 
-pub returns : goal.returns
-returns g c =
+pub returns-clause-done : goal.returns-clause-done
+returns-clause-done g c =
     let ends = sent_as _ _ _ _ _ _ _ _ c.as_slice-in-None.ensures.value (λ inputs replies h. h) c.exchange_files.ensures.ends in
     let told = files_as _ _ _ _ _ _ c.as_slice-in-None.ensures.value c.exchange_files.ensures.told in
     let first = empty_register c.args.asked.registrar c.args.asked.day in

@@ -6,16 +6,16 @@ use Rattle.bor_program.proofs.Ends.{keeps_same, part_none}
 use Rattle.bor_program.proofs.MetFailures.{fails_to_open, met_opening}
 use Rattle.bor_program.proofs.migrate.migrate.Goals as goal
 
-pub returns-in-Ok : goal.returns-in-Ok
-returns-in-Ok g c = record {
+pub returns-in-Ok-clause-done : goal.returns-in-Ok-clause-done
+returns-in-Ok-clause-done g c = record {
   moved = inr c.in-Ok.ensures.ok;
   text = c.print_version.ensures.text;
   silent = c.print_version.ensures.silent;
   line = λ three. (Unwritable, record { cause = inr refl; output = tt }, c.print_version.ensures.told three);
 }
 
-pub returns-in-Err : goal.returns-in-Err
-returns-in-Err g c =
+pub returns-in-Err-clause-done : goal.returns-in-Err-clause-done
+returns-in-Err-clause-done g c =
     let three : exit_code c.tell.result ≡ 3 = ap exit_code c.tell.ensures.status in
     record {
       moved = inl (fails_to_open _ _ _ _ _ _ _ _ _ three c.in-Err.ensures.err c.in-Err.ensures.cause c.tell.ensures.line);

@@ -17,6 +17,7 @@ returns g c = record {
   memory = search rules;
   never = search rules;
   done = search rules;
+  flushed = search rules;
   help = part_none _ _ _ (keeps_same _);
   kept = λ other. keeps_same _;
   silent = search rules;

@@ -2,8 +2,8 @@ use Rattle.std.proofs.Common.{refl}
 use Rattle.bor_program.proofs.Ends.{keeps_same}
 use Rattle.bor_program.proofs.program.perform.Goals as goal
 
-pub returns-in-Check : goal.returns-in-Check
-returns-in-Check g c = rw c.in-Check.is (
+pub returns-in-Check-clause-done : goal.returns-in-Check-clause-done
+returns-in-Check-clause-done g c = rw c.in-Check.is (
   refl,
   record {
     report = c.check_told.ensures.report;
@@ -16,11 +16,11 @@ returns-in-Check g c = rw c.in-Check.is (
   },
 )
 
-pub returns-in-Exchange : goal.returns-in-Exchange
-returns-in-Exchange g c = rw c.in-Exchange.is (keeps_same _, c.exchange.ensures)
+pub returns-in-Exchange-clause-done : goal.returns-in-Exchange-clause-done
+returns-in-Exchange-clause-done g c = rw c.in-Exchange.is (keeps_same _, c.exchange.ensures.done)
 
-pub returns-in-Serve : goal.returns-in-Serve
-returns-in-Serve g c = rw c.in-Serve.is (keeps_same _, c.serve.ensures)
+pub returns-in-Serve-clause-done : goal.returns-in-Serve-clause-done
+returns-in-Serve-clause-done g c = rw c.in-Serve.is (keeps_same _, c.serve.ensures.done)
 
-pub returns-in-Migrate : goal.returns-in-Migrate
-returns-in-Migrate g c = rw c.in-Migrate.is (keeps_same _, c.migrate.ensures)
+pub returns-in-Migrate-clause-done : goal.returns-in-Migrate-clause-done
+returns-in-Migrate-clause-done g c = rw c.in-Migrate.is (keeps_same _, c.migrate.ensures.done)

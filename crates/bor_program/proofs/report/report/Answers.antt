@@ -4,8 +4,8 @@ use Rattle.bor_program.proofs.Ends.{keeps_same}
 use Rattle.bor_program.proofs.MetFailures.{cut_text, fails_to_open, met_opened, met_opening, no_failure, no_text, tells_cut}
 use Rattle.bor_program.proofs.report.report.Goals as goal
 
-pub returns-in-Ok-told : goal.returns-in-Ok-told
-returns-in-Ok-told g c =
+pub returns-in-Ok-told-clause-done : goal.returns-in-Ok-told-clause-done
+returns-in-Ok-told-clause-done g c =
     let told = c.in-Ok-told.ensures.told in
     record {
       text = (told.0, inl told.2);
@@ -23,8 +23,8 @@ returns-in-Ok-told g c =
       line = λ three. absurd (no_failure told.0.refused (sym three ∙ told.2.told));
     }
 
-pub returns-in-Err-told : goal.returns-in-Err-told
-returns-in-Err-told g c =
+pub returns-in-Err-told-clause-done : goal.returns-in-Err-told-clause-done
+returns-in-Err-told-clause-done g c =
     let three : exit_code c.tell.result ≡ 3 = ap exit_code c.tell.ensures.status in
     record {
       text = cut_text _ _ _ three c.in-Err-told.ensures.told;
@@ -42,8 +42,8 @@ returns-in-Err-told g c =
       line = λ _. (c.in-Err-told.failure, met_opened c.args.asked.now.db _ _ _ _ c.in-Err-told.ensures.err, c.tell.ensures.line);
     }
 
-pub returns-in-Err : goal.returns-in-Err
-returns-in-Err g c =
+pub returns-in-Err-clause-done : goal.returns-in-Err-clause-done
+returns-in-Err-clause-done g c =
     let three : exit_code c.tell-in-Err.result ≡ 3 = ap exit_code c.tell-in-Err.ensures.status in
     record {
       text = no_text _ _ _ three (keeps_same _);

@@ -4,18 +4,18 @@ use Rattle.bor_program.proofs.Ends.{keeps_same}
 use Rattle.bor_program.proofs.MetFailures.{fails_to_open}
 use Rattle.bor_program.proofs.serve.serve.Goals as goal
 
-pub returns-in-Ok-served : goal.returns-in-Ok-served
-returns-in-Ok-served g c =
+pub returns-in-Ok-served-clause-done : goal.returns-in-Ok-served-clause-done
+returns-in-Ok-served-clause-done g c =
     let served = c.in-Ok-served.ensures in
     inr (
       c.in-Ok.register,
       c.listen-served.new.register,
       record { between = c.open.new.self; comes = c.in-Ok.ensures.ok; closes = c.close.ensures },
-      inr (record { served = served.ok.0; line = served.ok.1; silent = keeps_same _ }),
+      inr (record { hosted = served.hosted; served = served.ok.0; line = served.ok.1; silent = keeps_same _ }),
     )
 
-pub returns-in-Err-served : goal.returns-in-Err-served
-returns-in-Err-served g c = inr (
+pub returns-in-Err-served-clause-done : goal.returns-in-Err-served-clause-done
+returns-in-Err-served-clause-done g c = inr (
   c.in-Ok.register,
   c.listen-served.new.register,
   record { between = c.open.new.self; comes = c.in-Ok.ensures.ok; closes = c.close.ensures },
@@ -29,7 +29,7 @@ returns-in-Err-served g c = inr (
   ),
 )
 
-pub returns-in-Err : goal.returns-in-Err
-returns-in-Err g c =
+pub returns-in-Err-clause-done : goal.returns-in-Err-clause-done
+returns-in-Err-clause-done g c =
     let three : exit_code c.tell-in-Err.result ≡ 3 = ap exit_code c.tell-in-Err.ensures.status in
     inl (fails_to_open _ _ _ _ _ _ _ _ _ three c.in-Err.ensures.err c.in-Err.ensures.cause c.tell-in-Err.ensures.line)

@@ -1,0 +1,5 @@
+use Rattle.bor.proofs.Told.{told_ok}
+use Rattle.bor.proofs.host.HostRegisters.migrate.Goals as goal
+
+pub returns-clause-ok : goal.returns-clause-ok
+returns-clause-ok g c = told_ok _ _ c.migrate_in.result _ c.told_of.ensures.told c.migrate_in.ensures
