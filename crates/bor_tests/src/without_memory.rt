@@ -29,7 +29,9 @@ use bor_register::{
 };
 use bor_terms::{AgentName, Day, Ident, Listed, LodgeKey, Span, Token};
 use bor_wire::Outgoing;
-use bor_wire::rendering::{RESERVED, is_long, render_refusal, render_short};
+use bor_wire::rendering::{
+    RESERVED, desk_status, is_long, refusal_status, render_refusal, render_short,
+};
 use bor_words::Source;
 use std::alloc::Global;
 use std::fs;
@@ -371,7 +373,8 @@ fn replies(rt: HostRuntime) -> Result<(), Fail> {
     let mut sent = Vec::with_capacity(alloc, RESERVED)?;
     let mut marks = fs::open(&rt, MARKS).expect(&rt, "no marks");
     mark(&rt, &mut marks);
-    assert!(rt; !is_long(&reply));
+    assert!(rt; !is_long(&reply) && desk_status(&reply).as_u16() == 200);
+    assert!(rt; refusal_status(incoming::Refusal::NoToken).as_u16() == 401);
     render_short(&mut short, &reply);
     assert!(rt; short.as_slice() == MOVED);
     render_refusal(&mut refused, incoming::Refusal::NoToken);
