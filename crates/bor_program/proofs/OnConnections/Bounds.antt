@@ -9,9 +9,11 @@ use Rattle.bor_http.specs.declared.incoming.fault.Refusal.{Refusal}
 use Rattle.bor_http.specs.declared.incoming.fault.Refusal.TheVariants.{HeadTooLarge, CutShort, BadHead, BadLength, BodyTooLarge}
 use Rattle.bor_http.specs.declared.incoming.progress.Progress.{Progress}
 use Rattle.bor_http.specs.declared.incoming.progress.Progress.TheVariants.{Searched, Needs}
-use Rattle.bor_http.specs.Incoming.Head.{head_at, head_len, head_limit, line_feeds, line_limit, with_few_lines, without_head}
-use Rattle.bor_http.specs.Incoming.Message.{FieldText, HasParts, IsAt, Message, Parts, and_then, body_len, body_limit, body_of, first_value, how_many, is_numeral, length_of, request_limit, with_body}
+use Rattle.bor_http.specs.Incoming.Head.{head_len, head_limit, line_feeds, line_limit}
+use Rattle.bor_http.specs.Incoming.Message.{FieldText, Message, Parts, body_limit, first_value, how_many, is_numeral, request_limit}
+use Rattle.bor_http.specs.Incoming.Steps.{HasParts, IsAt, and_then, body_len, body_of, head_at, length_of, with_body, with_few_lines, without_head}
 use Rattle.bor_http.specs.Incoming.Progress.{IsProgress, IsWhole, needs}
+use Rattle.bor_http.proofs.OnIncoming.ByTable.{to_steps}
 use Rattle.bor_http.proofs.OnIncoming.HeadLemmas.{head_len-le}
 use Rattle.bor_http.proofs.OnIncoming.MessageLemmas.{body_len-le}
 
@@ -87,7 +89,7 @@ body_not_short parts rest long e = go (body_len parts.fields) refl e
 -- ---- a request
 
 pub long_is_whole : (bytes : List ℕ) → request_limit ≤ length bytes → IsWhole bytes
-long_is_whole bytes long short = go (head_at bytes) refl short
+long_is_whole bytes long short = go (head_at bytes) refl (to_steps bytes (Err CutShort) short)
   where
     behind : (n : ℕ) (parts : Result Parts Refusal) → n ≤ head_limit → HasParts (take n bytes) parts → Err CutShort ≡ and_then (with_body (drop n bytes)) parts → ⊥
     behind n (Err r) le has e = let bad : r ≡ BadHead = has.0 in let cut : r ≡ CutShort = same_refusal r (Err r) e refl in cc
