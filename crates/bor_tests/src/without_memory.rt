@@ -24,8 +24,8 @@ use bor_program::log::{Asked, Moment, Note, asked_by};
 use bor_records::links::{Class, holding_of, stake_of};
 use bor_records::{Last, RecordFault, admit, latest};
 use bor_register::{
-    Member, any_has_id, any_live_has_id, enrol_member, is_enrolled, is_filed, is_succeeded,
-    last_in, last_live, own_filings, withdraw_of,
+    Member, any_live_has_id, enrol_member, is_enrolled, is_filed, is_succeeded, last_live, own_filings,
+    withdraw_of,
 };
 use bor_terms::{AgentName, Day, Ident, Listed, LodgeKey, Span, Token};
 use bor_wire::Outgoing;
@@ -233,10 +233,6 @@ fn live_statements(rt: HostRuntime) {
     let s1 = read(&rt, alloc, "s1");
     let members = members_of_alder(&rt, alloc, due);
     let own = own_filings(&members, &read(&rt, alloc, "alder"));
-    let [filing] = own else {
-        panic!(rt; "not one filing");
-    };
-    let statements = filing.statements.as_slice();
     let mut marks = fs::open(&rt, MARKS).expect(&rt, "no marks");
     mark(&rt, &mut marks);
     let last = Last {
@@ -246,9 +242,7 @@ fn live_statements(rt: HostRuntime) {
         due,
     };
     assert!(rt; any_live_has_id(own, &s1) && !any_live_has_id(own, &e1));
-    assert!(rt; any_has_id(statements, &s1));
     assert_eq!(rt; last_live(own, &c1, &e1), Some(last));
-    assert_eq!(rt; last_in(statements, due, &c1, &s1), None);
     mark(&rt, &mut marks);
 }
 
@@ -350,7 +344,7 @@ fn requests_and_routes(rt: HostRuntime) -> Result<(), Fail> {
     assert!(rt; route_at(Path::File, b"GET") == Some(Route::File));
     assert!(rt; route_at(Path::Day, b"GET").is_none());
     assert!(rt; asked_by(&paths, &input) == Asked::Route(Route::File));
-    let note = Note::of(&paths, b"GET /day HTTP/1.1\r\n", &Outgoing::Unavailable);
+    let note = Note::of(&paths, b"GET /day HTTP/1.1\r\n", None, &Outgoing::Unavailable);
     assert!(rt; note.asked == Asked::Path(Path::Day) && note.status == 503);
     let mut reader = Counted::new(input.as_slice());
     assert!(rt; reader.read(&mut buf)? == 3 && buf == *b"GET" && reader.faults() == 0);
