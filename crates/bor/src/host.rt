@@ -28,6 +28,9 @@ use std::time::Duration;
 // For so many seconds a command is silent on a terminal.
 const SILENCE: u64 = 1;
 
+// Of requests that are answered next: over a file each may wait for the disk.
+const MANY: usize = 20;
+
 // A file of so many bytes takes about that long to open.
 const LARGE: u64 = 33_554_432;
 
@@ -51,11 +54,12 @@ impl<'r, S> Host<'r, S> {
         }
     }
 
-    // Whether it is time to tell where a command is: a file is opened that takes long, or nothing was told for
-    // a second.
+    // Whether it is time to tell where a command is: a file is opened that takes long, many requests are
+    // answered next, or nothing was told for a second.
     fn is_due(&self, stage: Stage<'_>) -> bool {
         match stage {
             Stage::Opening(path) => is_large(self.rt, path),
+            Stage::Answering(count) if count >= MANY => true,
             _ => time(self.rt).saturating_sub(self.told.get()).as_secs() >= SILENCE,
         }
     }
