@@ -24,8 +24,8 @@ use bor_program::log::{Asked, Moment, Note, asked_by};
 use bor_records::links::{Class, holding_of, stake_of};
 use bor_records::{Last, RecordFault, admit, latest};
 use bor_register::{
-    Member, any_live_has_id, enrol_member, is_enrolled, is_filed, is_succeeded, last_live, own_filings,
-    withdraw_of,
+    Member, any_live_has_id, enrol_member, is_enrolled, is_filed, is_succeeded, last_live,
+    own_filings, withdraw_of,
 };
 use bor_terms::{AgentName, Day, Ident, Listed, LodgeKey, Span, Token};
 use bor_wire::Outgoing;
@@ -344,7 +344,12 @@ fn requests_and_routes(rt: HostRuntime) -> Result<(), Fail> {
     assert!(rt; route_at(Path::File, b"GET") == Some(Route::File));
     assert!(rt; route_at(Path::Day, b"GET").is_none());
     assert!(rt; asked_by(&paths, &input) == Asked::Route(Route::File));
-    let note = Note::of(&paths, b"GET /day HTTP/1.1\r\n", None, &Outgoing::Unavailable);
+    let note = Note::of(
+        &paths,
+        b"GET /day HTTP/1.1\r\n",
+        None,
+        &Outgoing::Unavailable,
+    );
     assert!(rt; note.asked == Asked::Path(Path::Day) && note.status == 503);
     let mut reader = Counted::new(input.as_slice());
     assert!(rt; reader.read(&mut buf)? == 3 && buf == *b"GET" && reader.faults() == 0);
