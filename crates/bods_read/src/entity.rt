@@ -42,7 +42,8 @@ fn kind(details: &Value) -> EntityKind
 
 #[tactic(auto, using(crate::proofs::Tables::table_rules), unfolding(crate::specs::Details::entity_lines, crate::specs::Details::entity_of, crate::specs::Details::identifiers_of))]
 pub(crate) fn entity(alloc: Global, details: &Value) -> Result<Details, Trouble>
-    ensures { Gives (λ d. d) result (outcome (entity_lines (view details.now)) (entity_of (view details.now))) }
+    ensures { Gives (λ d. d) result
+        (outcome (entity_lines (view details.now)) (entity_of (view details.now))) }
 {
     let kind = kind(details);
     let items = array(details, Field::Identifiers)?;

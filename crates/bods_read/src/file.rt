@@ -19,7 +19,8 @@ use std::alloc::Global;
 pub const STATEMENTS_LIMIT: usize = 1_000;
 
 fn statement_at(alloc: Global, value: &Value, place: u32) -> Result<Statement, ReadFault>
-    ensures { IsReadingBy (λ s. s) result (outcome (lines_at place (view value.now)) (statement_of (view value.now))) }
+    ensures { IsReadingBy (λ s. s) result
+        (outcome (lines_at place (view value.now)) (statement_of (view value.now))) }
 {
     match reading::statement(alloc, value) {
         Ok(statement) => Ok(statement),
@@ -29,7 +30,9 @@ fn statement_at(alloc: Global, value: &Value, place: u32) -> Result<Statement, R
 
 fn each(alloc: Global, values: &[Value]) -> Result<Vec<Statement>, ReadFault>
     requires { length values.now ≤ statements_limit }
-    ensures read { IsReadingBy (λ v. v.items) result (outcome (lines_from lines_at 1 (map view values.now)) (map statement_of (map view values.now))) }
+    ensures read { IsReadingBy (λ v. v.items) result
+        (outcome (lines_from lines_at 1 (map view values.now))
+        (map statement_of (map view values.now))) }
     ensures few { IfOk result (λ v. length v.items ≤ statements_limit) }
 {
     let mut statements = Vec::new(alloc);
@@ -70,13 +73,14 @@ fn fault_of(error: &Error) -> ReadFault
 
 /// The statements of a file, or the first of its faults.
 ///
-/// A file is a JSON array of 1 to 1,000 statements ([`STATEMENTS_LIMIT`]) of BODS 0.4, in this register's profile. A member
-/// that is null counts as absent, and an unknown member is passed over.
+/// A file is a JSON array of 1 to 1,000 statements ([`STATEMENTS_LIMIT`]) of BODS 0.4, in this
+/// register's profile. A member that is null counts as absent, and an unknown member is passed
+/// over.
 ///
 /// # Errors
 ///
-/// [`FileFault`] says when each comes; the first in its order is the answer. Where memory is wanting,
-/// [`ReadFault::Memory`] stands in place of whatever would follow.
+/// [`FileFault`] says when each comes; the first in its order is the answer. Where memory is
+/// wanting, [`ReadFault::Memory`] stands in place of whatever would follow.
 #[tactic(auto, unfolding(crate::specs::File::reading))]
 pub fn read_file(alloc: Global, bytes: &[u8]) -> Result<Vec<Statement>, ReadFault>
     ensures read { IsReadingBy (λ statements. statements.items) result (reading bytes.now) }

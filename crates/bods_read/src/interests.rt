@@ -48,7 +48,8 @@ fn is_named(kind: InterestKind) -> bool
 // The share of an interest of the kind, where it has one that is read.
 #[tactic(auto, unfolding(crate::specs::Interests::share_lines, crate::specs::Interests::share_of, crate::specs::Member::object_in))]
 fn share(kind: InterestKind, interest: &Value) -> Result<Option<Span>, Trouble>
-    ensures { Gives (λ o. o) result (outcome (share_lines kind (view interest.now)) (share_of kind (view interest.now))) }
+    ensures { Gives (λ o. o) result
+        (outcome (share_lines kind (view interest.now)) (share_of kind (view interest.now))) }
 {
     if !is_named(kind) {
         return Ok(None);
@@ -80,7 +81,8 @@ fn ends(interest: &Value) -> Option<Day>
 
 #[tactic(auto, using(crate::proofs::InterestRead::interest_rules))]
 fn of_object(value: &Value) -> Result<Interest, Trouble>
-    ensures { Gives (λ i. i) result (outcome (interest_object_lines (view value.now)) (interest_of (view value.now))) }
+    ensures { Gives (λ i. i) result
+        (outcome (interest_object_lines (view value.now)) (interest_of (view value.now))) }
 {
     let kind = kind_worded(text_at(value, "type"));
     let directness = directness_worded(text_at(value, "directOrIndirect"));
@@ -98,7 +100,8 @@ fn of_object(value: &Value) -> Result<Interest, Trouble>
 
 #[tactic(auto, unfolding(crate::specs::Interests::interest_lines, crate::specs::Member::object_in))]
 fn interest(value: &Value) -> Result<Interest, Trouble>
-    ensures { Gives (λ i. i) result (outcome (interest_lines (view value.now)) (interest_of (view value.now))) }
+    ensures { Gives (λ i. i) result
+        (outcome (interest_lines (view value.now)) (interest_of (view value.now))) }
 {
     if !value.is_object() {
         return Err(Trouble::Fault(Fault::Bad(Field::Interests)));
@@ -133,7 +136,8 @@ fn each(alloc: Global, values: &[Value]) -> Result<Vec<Interest>, Trouble>
 // The interests of a relationship, in order.
 #[tactic(auto, using(crate::proofs::Tables::table_rules), unfolding(crate::specs::Interests::interests_lines, crate::specs::Interests::interests_of))]
 pub(crate) fn interests(alloc: Global, details: &Value) -> Result<Listed<Interest>, Trouble>
-    ensures { Gives (λ i. i) result (outcome (interests_lines (view details.now)) (interests_of (view details.now))) }
+    ensures { Gives (λ i. i) result
+        (outcome (interests_lines (view details.now)) (interests_of (view details.now))) }
 {
     let values = array(details, Field::Interests)?;
     let interests = each(alloc, values)?;

@@ -78,7 +78,8 @@ fn exclusive_at(share: &Value, field: Field) -> Result<Exclusive, Trouble>
 // The members of the object that a share is.
 #[tactic(auto, using(crate::proofs::Tables::table_rules), unfolding(crate::specs::Share::member_lines, crate::specs::Share::members_of))]
 pub(crate) fn members(share: &Value) -> Result<Share, Trouble>
-    ensures value { Gives (λ s. s) result (outcome (member_lines (view share.now)) (members_of (view share.now))) }
+    ensures value { Gives (λ s. s) result
+        (outcome (member_lines (view share.now)) (members_of (view share.now))) }
     ensures small { IfOk result IsSmallShare }
 {
     let exact = percent_at(share, Field::Exact)?;

@@ -18,7 +18,8 @@ use serde_json::Value;
 use std::alloc::Global;
 
 fn details(alloc: Global, kind: RecordType, value: &Value) -> Result<Details, Trouble>
-    ensures { Gives (λ d. d) result (outcome (details_lines kind (view value.now)) (details_of kind (view value.now))) }
+    ensures { Gives (λ d. d) result
+        (outcome (details_lines kind (view value.now)) (details_of kind (view value.now))) }
 {
     match kind {
         RecordType::Entity => entity(alloc, value),
@@ -29,7 +30,8 @@ fn details(alloc: Global, kind: RecordType, value: &Value) -> Result<Details, Tr
 
 #[tactic(auto, using(crate::proofs::Tables::table_rules), unfolding(crate::specs::Statement::statement_object_lines, crate::specs::Statement::statement_of))]
 fn of_object(alloc: Global, value: &Value) -> Result<Statement, Trouble>
-    ensures { Gives (λ s. s) result (outcome (statement_object_lines (view value.now)) (statement_of (view value.now))) }
+    ensures { Gives (λ s. s) result
+        (outcome (statement_object_lines (view value.now)) (statement_of (view value.now))) }
 {
     let id = ident(alloc, value, Field::StatementId)?;
     let day = day(value, Field::StatementDate)?;
@@ -52,7 +54,8 @@ fn of_object(alloc: Global, value: &Value) -> Result<Statement, Trouble>
 // The statement that a value is, or the first of its faults.
 #[tactic(auto, unfolding(crate::specs::Statement::statement_lines, crate::specs::Member::object_in))]
 pub(crate) fn statement(alloc: Global, value: &Value) -> Result<Statement, Trouble>
-    ensures { Gives (λ s. s) result (outcome (statement_lines (view value.now)) (statement_of (view value.now))) }
+    ensures { Gives (λ s. s) result
+        (outcome (statement_lines (view value.now)) (statement_of (view value.now))) }
 {
     if !value.is_object() {
         return Err(Trouble::Fault(Fault::Bad(Field::Statement)));

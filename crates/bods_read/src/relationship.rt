@@ -15,7 +15,8 @@ use std::alloc::Global;
 
 #[tactic(auto, using(crate::proofs::Tables::table_rules), unfolding(crate::specs::Details::relationship_lines, crate::specs::Details::relationship_of))]
 pub(crate) fn relationship(alloc: Global, details: &Value) -> Result<Details, Trouble>
-    ensures { Gives (λ d. d) result (outcome (relationship_lines (view details.now)) (relationship_of (view details.now))) }
+    ensures { Gives (λ d. d) result
+        (outcome (relationship_lines (view details.now)) (relationship_of (view details.now))) }
 {
     let subject = end(alloc, details, Field::Subject)?;
     let party = end(alloc, details, Field::InterestedParty)?;

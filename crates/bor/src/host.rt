@@ -34,9 +34,9 @@ const MANY: usize = 20;
 // A file of so many bytes takes about that long to open.
 const LARGE: u64 = 33_554_432;
 
-/// What opens registers in files of SQLite, and listens on ports of 127.0.0.1. `S` stands for what a
-/// file and its log hold as they are opened. Where standard error is a terminal, it tells there where a
-/// command is that takes long.
+/// What opens registers in files of SQLite, and listens on ports of 127.0.0.1. `S` stands for what
+/// a file and its log hold as they are opened. Where standard error is a terminal, it tells there
+/// where a command is that takes long.
 #[derive(Drop)]
 pub struct Host<'r, S> {
     rt: &'r HostRuntime,
@@ -54,8 +54,8 @@ impl<'r, S> Host<'r, S> {
         }
     }
 
-    // Whether it is time to tell where a command is: a file is opened that takes long, many requests are
-    // answered next, or nothing was told for a second.
+    // Whether it is time to tell where a command is: a file is opened that takes long, many
+    // requests are answered next, or nothing was told for a second.
     fn is_due(&self, stage: Stage<'_>) -> bool {
         match stage {
             Stage::Opening(path) => is_large(self.rt, path),
@@ -167,8 +167,8 @@ fn find<'a>(rt: &HostRuntime, path: &'a str) -> Result<(), Failure<'a>>
     }
 }
 
-// Whether there is no file of this name, or one of at most a byte with no log beside it, of which SQLite
-// would make a database.
+// Whether there is no file of this name, or one of at most a byte with no log beside it, of which
+// SQLite would make a database.
 fn is_vacant(rt: &HostRuntime, path: &str) -> io::Result<bool> {
     match fs::metadata(rt, path) {
         Ok(found) => {
@@ -197,8 +197,9 @@ fn found_or_set_up<S: Start>(
     find_or_set_up(rt.alloc(), conn, registrar, day)
 }
 
-// Makes the file of this name for its owner alone, where there is none: a register has tokens and drafts. Its
-// log is made as it is. Where it can't be made, opening it tells why; the name `:memory:` stands for no file.
+// Makes the file of this name for its owner alone, where there is none: a register has tokens and
+// drafts. Its log is made as it is. Where it can't be made, opening it tells why; the name
+// `:memory:` stands for no file.
 fn make_private(rt: &HostRuntime, path: &str) {
     if path == ":memory:" {
         return;
@@ -215,7 +216,8 @@ fn migrate_in<S: Start>(rt: &HostRuntime, path: &str, start: S) -> Result<(), Op
     ensures { let keep = ⟦<SqlKeep<FileStore<FileFrom<S>>> as Keep>⟧ in OnOk result
         (IsDone keep.shows keep.is_clean (λ k. k.conn) (λ c. (closed : _) × IsClosing c closed)
         (HoldsRegister (image_at S.Start))
-        (λ opened left. IsMoved (image_at S.Start) (file_state opened) (file_state left)) (Moves path.entry)) }
+        (λ opened left. IsMoved (image_at S.Start) (file_state opened) (file_state left))
+        (Moves path.entry)) }
 {
     let mut conn = connect(rt, path, start)?;
     let migrated = migrate(&mut conn, rt.alloc());

@@ -45,7 +45,8 @@ fn adopt<S: Alter + Drop>(
     ensures began { let keep = ⟦<SqlKeep<S> as Keep>⟧ in IfOk result (λ opened.
         keep.is_clean opened.register → IsClean (state S.Store conn)) }
     ensures shows { let keep = ⟦<SqlKeep<S> as Keep>⟧ in IfOk result (λ opened.
-        keep.is_clean opened.register → (r : Register) → ShowsIn r (state S.Store conn) → keep.shows opened.register r) }
+        keep.is_clean opened.register → (r : Register) → ShowsIn r (state S.Store conn)
+        → keep.shows opened.register r) }
 {
     let register = SqlKeep::adopt(alloc, conn)?;
     Ok(Opened {

@@ -4,8 +4,8 @@ ghost use Rattle.std.specs.Prelude.{true, []};
 
 use sqlite::Start;
 
-/// Whatever a file and its log hold. No code can look at what is supposed here: what is said of files is
-/// proved for each [`Start`], and `main` alone names this one.
+/// Whatever a file and its log hold. No code can look at what is supposed here: what is said of
+/// files is proved for each [`Start`], and `main` alone names this one.
 #[derive(Clone, Copy)]
 pub struct Anything;
 

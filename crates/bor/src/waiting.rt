@@ -12,8 +12,8 @@ use std::net::{TcpListener, TcpStream};
 use std::os::fd::{AsRawFd, RawFd};
 use std::time::{Clock, Duration};
 
-/// Waits for the sockets of a listener and its clients, and logs on standard error what was answered, where
-/// that is asked for. What it needs is made when it is first asked for.
+/// Waits for the sockets of a listener and its clients, and logs on standard error what was
+/// answered, where that is asked for. What it needs is made when it is first asked for.
 #[derive(Drop)]
 pub(crate) struct Waiting<'r> {
     rt: &'r HostRuntime,

@@ -1,5 +1,5 @@
-//! All open entities that stand for one with an entity. Each sign is looked up once, so what a class
-//! of entities costs goes with its size.
+//! All open entities that stand for one with an entity. Each sign is looked up once, so what a
+//! class of entities costs goes with its size.
 
 ghost use Rattle.std.specs.Prelude.{◌≡◌, ◌++◌, ◌∷◌, [], IfOk, OnOk, Some, ◌<◌, slice_index_or, length, map, option_map};
 ghost use Rattle.std.specs.List.{slice_get, filter, filter_map, IsDistinct};
@@ -47,7 +47,8 @@ fn add_like(
     one: &OpenNode,
     places: &[usize],
 ) -> Result<(), AllocError>
-    ensures { OnOk result (found.new.items ≡ found.old.items ++ filter (λ i. is_like one.now (slice_get nodes.now i)) places.now) }
+    ensures { OnOk result (found.new.items
+        ≡ found.old.items ++ filter (λ i. is_like one.now (slice_get nodes.now i)) places.now) }
 {
     for place in places {
         if is_like_at(nodes, one, *place) {
@@ -65,7 +66,10 @@ fn add_under(
     one: &OpenNode,
     key: &Sign,
 ) -> Result<(), AllocError>
-    ensures { OnOk result (found.new.items ≡ found.old.items ++ filter (λ i. is_like one.now (slice_get nodes.now i)) (items_of (λ v. v.items) (get sign_cmp places.now key.now))) }
+    ensures { OnOk result
+        (found.new.items
+        ≡ found.old.items ++ filter (λ i. is_like one.now (slice_get nodes.now i))
+        (items_of (λ v. v.items) (get sign_cmp places.now key.now))) }
 {
     match places.get(key) {
         Some(under) => {
@@ -85,8 +89,11 @@ fn add_sign(
     one: &OpenNode,
     key: Sign,
 ) -> Result<(), AllocError>
-    ensures { OnOk result (Expands nodes.now (λ k. items_of (λ v. v.items) (get sign_cmp places.now k)) one.now (key ∷ [])
-        found.old.items found.new.items (λ k. contains sign_cmp seen.old k) (λ k. contains sign_cmp seen.new k)) }
+    ensures { OnOk result
+        (Expands nodes.now
+        (λ k. items_of (λ v. v.items) (get sign_cmp places.now k)) one.now (key ∷ [])
+        found.old.items found.new.items (λ k. contains sign_cmp seen.old k) (λ k.
+        contains sign_cmp seen.new k)) }
 {
     if seen.contains(&key) {
         return Ok(());
@@ -106,8 +113,11 @@ fn add_identifiers(
     one: &OpenNode,
     identifiers: &[Identifier],
 ) -> Result<(), AllocError>
-    ensures { OnOk result (Expands nodes.now (λ k. items_of (λ v. v.items) (get sign_cmp places.now k)) one.now (map by_identifier identifiers.now)
-        found.old.items found.new.items (λ k. contains sign_cmp seen.old k) (λ k. contains sign_cmp seen.new k)) }
+    ensures { OnOk result
+        (Expands nodes.now (λ k. items_of (λ v. v.items) (get sign_cmp places.now k)) one.now
+        (map by_identifier identifiers.now)
+        found.old.items found.new.items (λ k. contains sign_cmp seen.old k) (λ k.
+        contains sign_cmp seen.new k)) }
 {
     for identifier in identifiers {
         let key = Sign::of_identifier(alloc, identifier)?;
@@ -125,8 +135,11 @@ fn add_signs(
     places: &BTreeMap<Sign, Vec<usize>>,
     one: &OpenNode,
 ) -> Result<(), AllocError>
-    ensures { OnOk result (Expands nodes.now (λ k. items_of (λ v. v.items) (get sign_cmp places.now k)) one.now (signs one.now)
-        found.old.items found.new.items (λ k. contains sign_cmp seen.old k) (λ k. contains sign_cmp seen.new k)) }
+    ensures { OnOk result
+        (Expands nodes.now (λ k. items_of (λ v. v.items) (get sign_cmp places.now k)) one.now
+        (signs one.now)
+        found.old.items found.new.items (λ k. contains sign_cmp seen.old k) (λ k.
+        contains sign_cmp seen.new k)) }
 {
     let key = Sign::of_node(alloc, &one.node)?;
     add_sign(found, seen, nodes, places, one, key)?;
@@ -142,8 +155,8 @@ fn add_signs(
     Ok(())
 }
 
-// The places that have been found, some maybe more than once, the signs that have been looked up, and
-// the places whose signs have been.
+// The places that have been found, some maybe more than once, the signs that have been looked up,
+// and the places whose signs have been.
 #[derive(Drop)]
 struct Class {
     found: Vec<usize>,
@@ -160,8 +173,10 @@ impl Class {
         places: &BTreeMap<Sign, Vec<usize>>,
         place: usize,
     ) -> Result<(), AllocError>
-        ensures { OnOk result ((s : Shown) (first : Node) → s.nodes ≡ nodes.now → IsDistinct same_node (map (λ x. x.node) s.nodes)
-            → AreUnder (length nodes.now) nodes.now (λ k. items_of (λ v. v.items) (get sign_cmp places.now k))
+        ensures { OnOk result ((s : Shown) (first : Node) → s.nodes ≡ nodes.now
+            → IsDistinct same_node (map (λ x. x.node) s.nodes)
+            → AreUnder (length nodes.now) nodes.now (λ k.
+            items_of (λ v. v.items) (get sign_cmp places.now k))
             → Visits s first place self.old.found.items self.new.found.items
             (λ k. contains sign_cmp self.old.seen k) (λ k. contains sign_cmp self.new.seen k)
             (λ i. contains nat_cmp self.old.done i) (λ i. contains nat_cmp self.new.done i)) }
@@ -192,8 +207,11 @@ fn all_same(
     places: &BTreeMap<Sign, Vec<usize>>,
     first: usize,
 ) -> Result<Vec<usize>, AllocError>
-    ensures { IfOk result (λ found. (s : Shown) (x : OpenNode) → s.nodes ≡ nodes.now → IsDistinct same_node (map (λ y. y.node) s.nodes)
-        → AreUnder (length nodes.now) nodes.now (λ k. items_of (λ v. v.items) (get sign_cmp places.now k))
+    ensures { IfOk result (λ found.
+        (s : Shown) (x : OpenNode) → s.nodes ≡ nodes.now
+        → IsDistinct same_node (map (λ y. y.node) s.nodes)
+        → AreUnder (length nodes.now) nodes.now (λ k.
+        items_of (λ v. v.items) (get sign_cmp places.now k))
         → slice_get nodes.now first ≡ Some x → AreAllSame s x.node found.items) }
 {
     let mut found = Vec::new(alloc);
@@ -222,7 +240,8 @@ fn copy_at(alloc: Global, nodes: &[OpenNode], place: usize) -> Result<Option<Nod
 
 // The nodes at these places.
 fn nodes_at(alloc: Global, nodes: &[OpenNode], places: &[usize]) -> Result<Vec<Node>, AllocError>
-    ensures { IfOk result (λ out. out.items ≡ filter_map (λ i. node_at (slice_get nodes.now i)) places.now) }
+    ensures { IfOk result (λ out.
+        out.items ≡ filter_map (λ i. node_at (slice_get nodes.now i)) places.now) }
 {
     let mut out = Vec::new(alloc);
     for place in places {
@@ -257,8 +276,11 @@ pub(crate) fn same_listed(
     places: &BTreeMap<Sign, Vec<usize>>,
     first: usize,
 ) -> Result<Vec<Node>, AllocError>
-    ensures { IfOk result (λ out. (s : Shown) (x : OpenNode) → s.nodes ≡ nodes.now → IsDistinct same_node (map (λ y. y.node) s.nodes)
-        → AreUnder (length nodes.now) nodes.now (λ k. items_of (λ v. v.items) (get sign_cmp places.now k))
+    ensures { IfOk result (λ out.
+        (s : Shown) (x : OpenNode) → s.nodes ≡ nodes.now
+        → IsDistinct same_node (map (λ y. y.node) s.nodes)
+        → AreUnder (length nodes.now) nodes.now (λ k.
+        items_of (λ v. v.items) (get sign_cmp places.now k))
         → slice_get nodes.now first ≡ Some x → AreSame s x.node out.items) }
 {
     let found = all_same(alloc, nodes, places, first)?;

@@ -44,7 +44,8 @@ fn empty_lists(alloc: Global, count: usize) -> Result<Vec<Vec<usize>>, AllocErro
 fn put(lists: &mut Vec<Vec<usize>>, place: Option<&usize>, link: usize) -> Result<(), AllocError>
     ensures len { length lists.new.items ≡ length lists.old.items }
     ensures stays { OnOk result (StayAt (λ v. v.items) lists.old.items lists.new.items) }
-    ensures there { OnOk result ((i : ℕ) → option_map (λ x. x.now) place.entry ≡ Some i → i < length lists.old.items →
+    ensures there { OnOk result ((i : ℕ) → option_map (λ x. x.now) place.entry ≡ Some i
+        → i < length lists.old.items →
         Contains (items_at (λ v. v.items) lists.new.items (Some i)) link) }
 {
     match place {
@@ -63,8 +64,11 @@ pub(crate) fn by_subject(
     count: usize,
     links: &[Link],
 ) -> Result<Vec<Vec<usize>>, AllocError>
-    requires { (l : Link) → Contains links.now l → IsBelow count (get node_cmp places.now l.subject) }
-    ensures { IfOk result (λ into. AreInto (length links.now) links.now (λ n. items_at (λ v. v.items) into.items (get node_cmp places.now n))) }
+    requires { (l : Link) → Contains links.now l
+        → IsBelow count (get node_cmp places.now l.subject) }
+    ensures { IfOk result (λ into.
+        AreInto (length links.now) links.now (λ n.
+        items_at (λ v. v.items) into.items (get node_cmp places.now n))) }
 {
     let mut into = empty_lists(alloc, count)?;
     for (place, link) in links.iter().enumerate() {
@@ -79,7 +83,8 @@ pub(crate) fn list_at<'a>(
     places: &BTreeMap<Node, usize>,
     node: &Node,
 ) -> Option<&'a Vec<usize>>
-    ensures { items_of (λ v. v.now.items) result ≡ items_at (λ v. v.items) lists.now (get node_cmp places.now node.now) }
+    ensures { items_of (λ v. v.now.items) result
+        ≡ items_at (λ v. v.items) lists.now (get node_cmp places.now node.now) }
 {
     match places.get(node) {
         Some(place) => lists.get(*place),

@@ -74,7 +74,8 @@ fn check_keep(alloc: Global) -> Result<ListKeep, StoreFault>
 }
 
 fn accepted(alloc: Global, lodged: &Lodged, outwards: &[Outward]) -> Result<Text, AllocError>
-    ensures { IfOk result (λ text. text ≡ answering (accepted_line lodged.now ++ outward_lines outwards.now)) }
+    ensures { IfOk result (λ text.
+        text ≡ answering (accepted_line lodged.now ++ outward_lines outwards.now)) }
 {
     let mut text = String::new(alloc);
     add_accepted(&mut text, lodged)?;

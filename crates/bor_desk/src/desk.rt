@@ -49,9 +49,11 @@ fn date_or_day<K: Keep>(keep: &mut K, date: Option<Day>) -> Result<Day, StoreFau
 #[tactic(auto, using(crate::proofs::Steps::file_told, crate::proofs::Steps::file_missing))]
 fn file_for<K: Keep>(keep: &mut K, name: &AgentName, key: &LodgeKey) -> Result<DeskReply, DeskFault>
     ensures kept { Kept K.shows K.is_clean keep.old keep.new }
-    ensures accounted { IsReplyAccounted K.may_tell (reply_of result) (K.fault_count keep.old) (K.fault_count keep.new) }
+    ensures accounted { IsReplyAccounted K.may_tell (reply_of result) (K.fault_count keep.old)
+        (K.fault_count keep.new) }
     ensures answer { Promised K.shows K.is_clean keep.old keep.new (λ r.
-        IsAnswered (reply_of result) (file_answer (filing_keyed key.now (filings_of name.now r.members)))) }
+        IsAnswered (reply_of result)
+        (file_answer (filing_keyed key.now (filings_of name.now r.members)))) }
 {
     match keep.filing(name, key)? {
         Some(filing) => Ok(DeskReply::File(filing.bytes)),
@@ -69,7 +71,8 @@ fn snapshot_for<K: Keep>(
     date: Option<Day>,
 ) -> Result<DeskReply, DeskFault>
     ensures kept { Kept K.shows K.is_clean keep.old keep.new }
-    ensures accounted { IsReplyAccounted K.may_tell (reply_of result) (K.fault_count keep.old) (K.fault_count keep.new) }
+    ensures accounted { IsReplyAccounted K.may_tell (reply_of result) (K.fault_count keep.old)
+        (K.fault_count keep.new) }
     ensures answer { Promised K.shows K.is_clean keep.old keep.new (λ r.
         IsOrdered r.members → IsAnswered (reply_of result)
         (snapshot_answer (seen_by viewer.now r) agent.now declaration.now (unwrap_or date r.day))) }
@@ -91,9 +94,11 @@ fn chains_for<K: Keep>(
     date: Option<Day>,
 ) -> Result<DeskReply, DeskFault>
     ensures kept { Kept K.shows K.is_clean keep.old keep.new }
-    ensures accounted { IsReplyAccounted K.may_tell (reply_of result) (K.fault_count keep.old) (K.fault_count keep.new) }
+    ensures accounted { IsReplyAccounted K.may_tell (reply_of result) (K.fault_count keep.old)
+        (K.fault_count keep.new) }
     ensures answer { Promised K.shows K.is_clean keep.old keep.new (λ r.
-        IsAnswered (reply_of result) (chains_answer (seen_by viewer.now r) entity.now (unwrap_or date r.day))) }
+        IsAnswered (reply_of result)
+        (chains_answer (seen_by viewer.now r) entity.now (unwrap_or date r.day))) }
 {
     let date = date_or_day(keep, date)?;
     let persons = persons_seen(alloc, keep, viewer, entity, date)?;
@@ -114,9 +119,11 @@ fn tell_agent<K: Keep>(
 ) -> Result<DeskReply, DeskFault>
     requires { may_change_own request.now ≡ false }
     ensures kept { Kept K.shows K.is_clean keep.old keep.new }
-    ensures accounted { IsReplyAccounted K.may_tell (reply_of result) (K.fault_count keep.old) (K.fault_count keep.new) }
+    ensures accounted { IsReplyAccounted K.may_tell (reply_of result) (K.fault_count keep.old)
+        (K.fault_count keep.new) }
     ensures answer { Promised K.shows K.is_clean keep.old keep.new (λ r.
-        IsOrderedFor request.now r → IsAnswered (reply_of result) (agent_answer (sight_of name.now r) request.now)) }
+        IsOrderedFor request.now r
+        → IsAnswered (reply_of result) (agent_answer (sight_of name.now r) request.now)) }
 {
     match request {
         Request::Filings => Ok(DeskReply::Filings(Listed::new(keep.filings(name)?))),
@@ -141,13 +148,17 @@ fn answer_agent<K: Keep>(
     name: &AgentName,
     request: &Request,
 ) -> Result<DeskReply, DeskFault>
-    requires enrolled { Sure K.shows K.is_clean keep.old (λ r. is_enrolled name.now r.members ≡ true) }
+    requires enrolled { Sure K.shows K.is_clean keep.old (λ r.
+        is_enrolled name.now r.members ≡ true) }
     ensures began { K.is_clean keep.new → K.is_clean keep.old }
     ensures step { Promised K.shows K.is_clean keep.old keep.new (λ r.
-        IsOrderedFor request.now r → IsAnswered (reply_of result) (agent_step r name.now request.now).answer) }
+        IsOrderedFor request.now r
+        → IsAnswered (reply_of result) (agent_step r name.now request.now).answer) }
     ensures left { Promised K.shows K.is_clean keep.old keep.new (λ r.
-        IsLeft (reply_of result) (K.shows keep.new) r (agent_step r name.now request.now).register) }
-    ensures accounted { IsReplyAccounted K.may_tell (reply_of result) (K.fault_count keep.old) (K.fault_count keep.new) }
+        IsLeft (reply_of result) (K.shows keep.new) r
+        (agent_step r name.now request.now).register) }
+    ensures accounted { IsReplyAccounted K.may_tell (reply_of result) (K.fault_count keep.old)
+        (K.fault_count keep.new) }
 {
     match request {
         Request::Lodge { key, due, file } => Ok(DeskReply::Lodged(lodge(
@@ -173,7 +184,8 @@ fn answer_registrar<K: Keep>(
         IsAnswered (reply_of result) (registrar_step r request.now).answer) }
     ensures left { Promised K.shows K.is_clean keep.old keep.new (λ r.
         IsLeft (reply_of result) (K.shows keep.new) r (registrar_step r request.now).register) }
-    ensures accounted { IsReplyAccounted K.may_tell (reply_of result) (K.fault_count keep.old) (K.fault_count keep.new) }
+    ensures accounted { IsReplyAccounted K.may_tell (reply_of result) (K.fault_count keep.old)
+        (K.fault_count keep.new) }
 {
     match request {
         Request::Day { date } => Ok(DeskReply::Day(advance(keep, *date)?)),
@@ -206,7 +218,8 @@ fn named(agent: Option<AgentName>, made: Result<DeskReply, DeskFault>) -> Answer
     }
 }
 
-/// Answers the request of whoever has the token, as [`answer`] does, and names the agent that has it.
+/// Answers the request of whoever has the token, as [`answer`] does, and names the agent that has
+/// it.
 ///
 /// The name is the one that the keep told for the answer: it isn't asked once more.
 pub fn answer_naming<K: Keep>(
@@ -219,10 +232,12 @@ pub fn answer_naming<K: Keep>(
     ensures step { Promised K.shows K.is_clean keep.old keep.new (λ r. IsOrderedFor request.now r
         → IsAnswered result.reply (step r (caller_of token.now r) request.now).answer) }
     ensures left { Promised K.shows K.is_clean keep.old keep.new (λ r.
-        IsLeft result.reply (K.shows keep.new) r (step r (caller_of token.now r) request.now).register) }
+        IsLeft result.reply (K.shows keep.new) r
+        (step r (caller_of token.now r) request.now).register) }
     ensures agent { Promised K.shows K.is_clean keep.old keep.new (λ r.
         IsNamed result.reply result.agent (agent_of (caller_of token.now r))) }
-    ensures accounted { IsReplyAccounted K.may_tell result.reply (K.fault_count keep.old) (K.fault_count keep.new) }
+    ensures accounted { IsReplyAccounted K.may_tell result.reply (K.fault_count keep.old)
+        (K.fault_count keep.new) }
 {
     match keep.who(token) {
         Err(fault) => named(None, Err(DeskFault::Failed(fault))),
@@ -238,8 +253,8 @@ pub fn answer_naming<K: Keep>(
 /// Answers the request of whoever has the token.
 ///
 /// The refusals are, in their order: `NoAgent` where nobody has the token; `NotRegistrar` where an
-/// agent asks for the registrar's doing; `NotAgent` where the registrar asks for anything else; then
-/// the operation's own. A refusal leaves the register as it was, and so does `Failed`. No call
+/// agent asks for the registrar's doing; `NotAgent` where the registrar asks for anything else;
+/// then the operation's own. A refusal leaves the register as it was, and so does `Failed`. No call
 /// of the keep is made that the request doesn't need.
 ///
 /// What is left is said of every register, and so is what is told; but of a snapshot, of each whose
@@ -247,12 +262,14 @@ pub fn answer_naming<K: Keep>(
 pub fn answer<K: Keep>(alloc: Global, keep: &mut K, token: &Token, request: &Request) -> DeskReply
     ensures began { K.is_clean keep.new → K.is_clean keep.old }
     ensures step { Promised K.shows K.is_clean keep.old keep.new (λ r.
-        IsOrderedFor request.now r → IsAnswered result (step r (caller_of token.now r) request.now).answer) }
+        IsOrderedFor request.now r
+        → IsAnswered result (step r (caller_of token.now r) request.now).answer) }
     ensures left { Promised K.shows K.is_clean keep.old keep.new (λ r.
         IsLeft result (K.shows keep.new) r (step r (caller_of token.now r) request.now).register) }
     ensures alone { Promised K.shows K.is_clean keep.old keep.new (λ r.
         IsLegal r → IsToldAlone result (caller_of token.now r) r request.now) }
-    ensures accounted { IsReplyAccounted K.may_tell result (K.fault_count keep.old) (K.fault_count keep.new) }
+    ensures accounted { IsReplyAccounted K.may_tell result (K.fault_count keep.old)
+        (K.fault_count keep.new) }
     ensures legal { Promised K.shows K.is_clean keep.old keep.new (λ r.
         IsLegal r → (left : Register) × K.shows keep.new left × IsLegal left) }
 {

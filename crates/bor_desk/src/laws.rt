@@ -10,8 +10,8 @@ pub fn answer_is_determined()
 
 /// After an exchange the filings of all agents but the one that asks are as they were. An agent
 /// changes neither the day nor who has which token. The registrar changes at most the day and who
-/// is enrolled: its token stays, and each agent that was there, with its name, token and filings. An
-/// unknown token changes nothing. This holds of every register.
+/// is enrolled: its token stays, and each agent that was there, with its name, token and filings.
+/// An unknown token changes nothing. This holds of every register.
 pub fn own_filings_untouched()
     ensures { OwnFilingsUntouched }
 {}
@@ -39,8 +39,9 @@ pub fn one_exchange_alone()
     ensures { OneExchangeAlone }
 {}
 
-/// A run leaves a legal register legal. In every run from a legal register the answers to an agent follow from its own filings at the
-/// start, its own requests, the day at each of them, and what the others had published then.
+/// A run leaves a legal register legal. In every run from a legal register the answers to an agent
+/// follow from its own filings at the start, its own requests, the day at each of them, and what
+/// the others had published then.
 pub fn histories_are_isolated()
     ensures { IsolationOfHistories }
 {}

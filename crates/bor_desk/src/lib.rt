@@ -13,11 +13,11 @@
 //! assert!(rt; matches!(&reply, DeskReply::Published(outwards) if outwards.as_slice().is_empty()));
 //! ```
 //!
-//! [`check_text`] and [`report_text`] give what the program prints. What is done to a register on the way
-//! stands in [`operations`].
+//! [`check_text`] and [`report_text`] give what the program prints. What is done to a register on
+//! the way stands in [`operations`].
 //!
-//! Nothing is read or printed here, and no HTTP is known of: requests come in as values, and replies
-//! go out as values or as bytes of a text.
+//! Nothing is read or printed here, and no HTTP is known of: requests come in as values, and
+//! replies go out as values or as bytes of a text.
 #![tactic(auto)]
 
 mod check;

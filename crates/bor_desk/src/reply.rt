@@ -44,8 +44,8 @@ pub enum DeskReply {
 /// An answer, and the agent that was answered.
 #[derive(Debug, Drop)]
 pub struct Answered {
-    /// The agent that has the token; `None` where the registrar or nobody has it, or where the keep failed
-    /// before that was known.
+    /// The agent that has the token; `None` where the registrar or nobody has it, or where the keep
+    /// failed before that was known.
     pub agent: Option<AgentName>,
     /// The answer.
     pub reply: DeskReply,

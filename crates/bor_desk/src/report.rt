@@ -32,8 +32,10 @@ pub(crate) fn persons_seen<K: Keep>(
 ) -> Result<Vec<PersonLine>, DeskFault>
     ensures kept { Kept K.shows K.is_clean keep.old keep.new }
     ensures answer { Promised K.shows K.is_clean keep.old keep.new (λ r.
-        AreFound (λ persons. persons.items) result (shown_of day (seen_by viewer.now r)) entity.now day) }
-    ensures accounted { IsAccounted failed K.may_tell result (K.fault_count keep.old) (K.fault_count keep.new) }
+        AreFound (λ persons. persons.items) result
+        (shown_of day (seen_by viewer.now r)) entity.now day) }
+    ensures accounted { IsAccounted failed K.may_tell result (K.fault_count keep.old)
+        (K.fault_count keep.new) }
 {
     let mut source = KeepSource::new(keep, viewer, day);
     Ok(persons_of(alloc, &mut source, entity)?)
@@ -52,7 +54,8 @@ fn name_text(alloc: Global, name: &Option<FreeText>) -> Result<String, AllocErro
 
 // Adds the line of a person.
 fn add_person(alloc: Global, text: &mut String, person: &PersonLine) -> Result<(), AllocError>
-    ensures { OnOk result (string_bytes text.new ≡ string_bytes text.old ++ person_line person.now) }
+    ensures { OnOk result
+        (string_bytes text.new ≡ string_bytes text.old ++ person_line person.now) }
 {
     let agent = person.node.agent.as_str();
     let declaration = person.node.declaration.as_str();
@@ -66,7 +69,8 @@ fn add_person(alloc: Global, text: &mut String, person: &PersonLine) -> Result<(
 }
 
 fn add_persons(alloc: Global, text: &mut String, persons: &[PersonLine]) -> Result<(), AllocError>
-    ensures { OnOk result (string_bytes text.new ≡ string_bytes text.old ++ person_lines persons.now) }
+    ensures { OnOk result
+        (string_bytes text.new ≡ string_bytes text.old ++ person_lines persons.now) }
 {
     for person in persons {
         add_person(alloc, text, person)?;
@@ -123,7 +127,8 @@ pub fn report_text<K: Keep>(
     ensures kept { Kept K.shows K.is_clean keep.old keep.new }
     ensures text { Promised K.shows K.is_clean keep.old keep.new (λ r.
         IfOk result (λ text. IsTextOf (chains_answer (seen_by viewer.now r) entity.now day) text)) }
-    ensures accounted { IsAccounted Some K.may_tell result (K.fault_count keep.old) (K.fault_count keep.new) }
+    ensures accounted { IsAccounted Some K.may_tell result (K.fault_count keep.old)
+        (K.fault_count keep.new) }
 {
     match persons_seen(alloc, keep, viewer, entity, day) {
         Ok(persons) => Ok(persons_text(alloc, entity, day, &persons)?),

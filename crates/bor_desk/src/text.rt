@@ -61,7 +61,8 @@ fn settled_word(status: Option<Status>) -> &'static str
 
 // Adds the line of a statement.
 fn add_statement(text: &mut String, place: usize, statement: &Statement) -> Result<(), AllocError>
-    ensures { OnOk result (string_bytes text.new ≡ string_bytes text.old ++ statement_line place statement.now) }
+    ensures { OnOk result
+        (string_bytes text.new ≡ string_bytes text.old ++ statement_line place statement.now) }
 {
     let record_type = statement.record_type().as_str();
     let status = settled_word(statement.status);
@@ -74,7 +75,8 @@ fn add_statement(text: &mut String, place: usize, statement: &Statement) -> Resu
 }
 
 fn add_statements(text: &mut String, statements: &[Statement]) -> Result<(), AllocError>
-    ensures { OnOk result (string_bytes text.new ≡ string_bytes text.old ++ statement_lines 1 statements.now) }
+    ensures { OnOk result
+        (string_bytes text.new ≡ string_bytes text.old ++ statement_lines 1 statements.now) }
 {
     for (i, statement) in statements.iter().enumerate() {
         add_statement(text, i + 1, statement)?;
@@ -84,7 +86,8 @@ fn add_statements(text: &mut String, statements: &[Statement]) -> Result<(), All
 
 /// Adds the lines of the statements of published filings, counted from 1 in each.
 pub(crate) fn add_outwards(text: &mut String, outwards: &[Outward]) -> Result<(), AllocError>
-    ensures { OnOk result (string_bytes text.new ≡ string_bytes text.old ++ outward_lines outwards.now) }
+    ensures { OnOk result
+        (string_bytes text.new ≡ string_bytes text.old ++ outward_lines outwards.now) }
 {
     for outward in outwards {
         add_statements(text, outward.statements.as_slice())?;
@@ -94,7 +97,8 @@ pub(crate) fn add_outwards(text: &mut String, outwards: &[Outward]) -> Result<()
 
 /// Adds the line of a filing that was accepted.
 pub(crate) fn add_accepted(text: &mut String, lodged: &Lodged) -> Result<(), AllocError>
-    ensures { OnOk result (string_bytes text.new ≡ string_bytes text.old ++ accepted_line lodged.now) }
+    ensures { OnOk result
+        (string_bytes text.new ≡ string_bytes text.old ++ accepted_line lodged.now) }
 {
     let number = lodged.number;
     let state = lodged.state.as_str();
@@ -129,7 +133,8 @@ fn add_refusal(
     place: Option<u32>,
     field: Option<Field>,
 ) -> Result<(), AllocError>
-    ensures { OnOk result (string_bytes text.new ≡ string_bytes text.old ++ refusal_line name.now place field) }
+    ensures { OnOk result
+        (string_bytes text.new ≡ string_bytes text.old ++ refusal_line name.now place field) }
 {
     write!(text, "refused {name}")?;
     add_place(text, place)?;

@@ -21,8 +21,8 @@ const PART: usize = 8192;
 ///
 /// # Errors
 ///
-/// `Unreadable` of `source`: it can't be read. `Memory`: memory is wanting; nothing is printed then.
-/// `Unwritable`: the text can't be written, or not to its end, or not handed on.
+/// `Unreadable` of `source`: it can't be read. `Memory`: memory is wanting; nothing is printed
+/// then. `Unwritable`: the text can't be written, or not to its end, or not handed on.
 pub fn check<'a, I: Read, O: Output>(
     alloc: Global,
     source: Source<'a>,
@@ -36,7 +36,8 @@ pub fn check<'a, I: Read, O: Output>(
     ensures taken { OnOk result (TakesPart (I.remaining input.old) (I.remaining input.new)) }
     ensures at_most { TakesAtMostPart (I.remaining input.old) (I.remaining input.new) }
     ensures flushed { OnOk result (O.is_flushed output.new) }
-    ensures err { IfErr result (IsMetOn source.entry (O.contents output.old) (O.contents output.new)) }
+    ensures err { IfErr result
+        (IsMetOn source.entry (O.contents output.old) (O.contents output.new)) }
 {
     let bytes = read_source(alloc, source, input)?;
     report(alloc, bytes.as_slice(), output)

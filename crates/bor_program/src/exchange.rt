@@ -21,8 +21,8 @@ use bor_words::Exchange;
 use std::alloc::Global;
 use std::io::Write;
 
-/// Does what `bor exchange` is asked to do, once the registrar's token is known; where it isn't, that is
-/// told.
+/// Does what `bor exchange` is asked to do, once the registrar's token is known; where it isn't,
+/// that is told.
 pub fn exchange<R: NamedFiles + AllocGlobal, H: Registers, O: Output, E: Write>(
     rt: &R,
     host: &mut H,
@@ -32,7 +32,8 @@ pub fn exchange<R: NamedFiles + AllocGlobal, H: Registers, O: Output, E: Write>(
 ) -> Status
     ensures done { ExchangesOnceTold (IsReadOf (R.opens rt.now) R.File.remaining)
         H.Register.shows H.Register.is_clean H.does host.old host.new asked.entry
-        (O.contents output.old) (O.contents output.new) (E.contents errors.old) (E.contents errors.new) (exit_code result) }
+        (O.contents output.old) (O.contents output.new) (E.contents errors.old)
+        (E.contents errors.new) (exit_code result) }
     ensures flushed { exit_code result ≤ 1 → O.is_flushed output.new }
 {
     let Exchange {
@@ -55,9 +56,9 @@ pub fn exchange<R: NamedFiles + AllocGlobal, H: Registers, O: Output, E: Write>(
     }
 }
 
-// Answers the requests in files in turn, in the register in a file, which is closed then, or in a new
-// one in memory, and prints the replies in order. A file that can't be read is told, and the next one
-// is taken.
+// Answers the requests in files in turn, in the register in a file, which is closed then, or in a
+// new one in memory, and prints the replies in order. A file that can't be read is told, and the
+// next one is taken.
 fn exchange_told<R: NamedFiles + AllocGlobal, H: Registers, O: Output, E: Write>(
     rt: &R,
     host: &mut H,
@@ -67,7 +68,8 @@ fn exchange_told<R: NamedFiles + AllocGlobal, H: Registers, O: Output, E: Write>
 ) -> Status
     ensures done { Exchanges (IsReadOf (R.opens rt.now) R.File.remaining)
         H.Register.shows H.Register.is_clean H.does host.old host.new asked.entry
-        (O.contents output.old) (O.contents output.new) (E.contents errors.old) (E.contents errors.new) (exit_code result) }
+        (O.contents output.old) (O.contents output.new) (E.contents errors.old)
+        (E.contents errors.new) (exit_code result) }
     ensures flushed { exit_code result ≤ 1 → O.is_flushed output.new }
 {
     let Exchanging {
@@ -117,7 +119,8 @@ fn exchange_files<R: NamedFiles + AllocGlobal, H: Registers, K: OpenRegister, O:
     errors: &mut E,
 ) -> Status
     ensures ends { EndsFiles (AreAnswers K.shows K.is_clean register.old register.new)
-        (IsReadOf (R.opens rt.now) R.File.remaining) files.now (O.contents output.old) (O.contents output.new) (exit_code result) }
+        (IsReadOf (R.opens rt.now) R.File.remaining) files.now (O.contents output.old)
+        (O.contents output.new) (exit_code result) }
     ensures flushed { exit_code result ≤ 1 → O.is_flushed output.new }
     ensures silent { exit_code result ≤ 1 → Keeps (E.contents errors.old) (E.contents errors.new) }
     ensures told { TellsFiles files.now (O.contents output.old) (O.contents output.new)
@@ -147,7 +150,8 @@ pub fn exchange_on<'a, K: OpenRegister, O: Output>(
     inputs: &[Vec<u8>],
     output: &mut O,
 ) -> Result<Status, Failure<'a>>
-    ensures sent { EndsSending (AreAnswers K.shows K.is_clean register.old register.new) (map (λ v. v.items) inputs.now)
+    ensures sent { EndsSending (AreAnswers K.shows K.is_clean register.old register.new)
+        (map (λ v. v.items) inputs.now)
         (O.contents output.old) (O.contents output.new) result }
     ensures flushed { OnOk result (O.is_flushed output.new) }
     ensures err { IfErr result (IsMetPrinting (O.contents output.old) (O.contents output.new)) }
@@ -159,7 +163,8 @@ pub fn exchange_on<'a, K: OpenRegister, O: Output>(
 
 // Writes the replies in order, as far as they can be written, and hands them on.
 fn send<'a, O: Output>(output: &mut O, replies: &[Reply]) -> Result<(), Failure<'a>>
-    ensures ok { OnOk result (Appends (O.contents output.old) (O.contents output.new) (sent replies.now)) }
+    ensures ok { OnOk result
+        (Appends (O.contents output.old) (O.contents output.new) (sent replies.now)) }
     ensures part { AppendsPart (O.contents output.old) (O.contents output.new) (sent replies.now) }
     ensures flushed { OnOk result (O.is_flushed output.new) }
     ensures err { IfErr result (λ failure. failure ≡ Failure.Unwritable) }

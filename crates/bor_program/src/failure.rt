@@ -21,7 +21,8 @@ pub enum Failure<'a> {
     Unreadable(Source<'a>),
     /// There is no register in the file of this name.
     NoRegister(&'a str),
-    /// The register in the file of this name is of this version, which isn't that of the program's tables.
+    /// The register in the file of this name is of this version, which isn't that of the program's
+    /// tables.
     OtherVersion(&'a str, i64),
     /// The file of this name has tables of another program, with names of a register's.
     Taken(&'a str),
@@ -40,8 +41,10 @@ pub enum Failure<'a> {
 impl<'a> Failure<'a> {
     /// The failure of opening or reading `source` with this error.
     pub fn of_reading(source: Source<'a>, error: &Error) -> Self
-        ensures memory { (result ≡ Failure.Memory) ↔ (error_kind error.now ≡ ErrorKind.OutOfMemory) }
-        ensures unreadable { error_kind error.now ≢ ErrorKind.OutOfMemory → result ≡ Failure.Unreadable source.entry }
+        ensures memory { (result ≡ Failure.Memory)
+            ↔ (error_kind error.now ≡ ErrorKind.OutOfMemory) }
+        ensures unreadable { error_kind error.now ≢ ErrorKind.OutOfMemory
+            → result ≡ Failure.Unreadable source.entry }
         ensures source { IsReadingOf source.entry result }
     {
         match error.kind() {
@@ -54,7 +57,8 @@ impl<'a> Failure<'a> {
     /// where it is standard output that can't be.
     pub fn tell<E: Write>(self, errors: &mut E) -> Status
         ensures status { result ≡ Status.Failed }
-        ensures line { AppendsPart (E.contents errors.old) (E.contents errors.new) (failure_line self.entry) }
+        ensures line { AppendsPart (E.contents errors.old) (E.contents errors.new)
+            (failure_line self.entry) }
     {
         let mut digits = Buffer::new();
         let _ = match self {
@@ -87,8 +91,11 @@ impl<'a> Failure<'a> {
 
 // Writes the texts as far as they can be written, and tells whether all were.
 fn write_texts<E: Write>(errors: &mut E, texts: &[&str]) -> bool
-    ensures part { AppendsPart (E.contents errors.old) (E.contents errors.new) (joined (map (λ text. text.now) texts.now)) }
-    ensures whole { IsTrue result → Appends (E.contents errors.old) (E.contents errors.new) (joined (map (λ text. text.now) texts.now)) }
+    ensures part { AppendsPart (E.contents errors.old) (E.contents errors.new)
+        (joined (map (λ text. text.now) texts.now)) }
+    ensures whole { IsTrue result
+        → Appends (E.contents errors.old) (E.contents errors.new)
+        (joined (map (λ text. text.now) texts.now)) }
 {
     for text in texts {
         if !write_part(errors, text.as_bytes()) {

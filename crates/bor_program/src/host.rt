@@ -58,7 +58,8 @@ impl<R: Files> NamedFiles for R {
     }
 }
 
-/// A register that is open, whatever keeps it. What it shows and when it is clean are as a keep's are.
+/// A register that is open, whatever keeps it. What it shows and when it is clean are as a keep's
+/// are.
 pub trait OpenRegister {
     /// The state shows this register.
     ghost shows: { Self → Register → Type 0 };
@@ -69,32 +70,41 @@ pub trait OpenRegister {
     /// A call that led from one state to another told this fault.
     ghost tells: { Self → StoreFault → Self → Type 0 };
 
-    /// The replies to inputs, each answered from the register that the one before it left. What each
-    /// agent receives follows from its own exchanges alone, and a report on chains with status 200
-    /// names exactly the persons joined to the entity.
+    /// The replies to inputs, each answered from the register that the one before it left. What
+    /// each agent receives follows from its own exchanges alone, and a report on chains with status
+    /// 200 names exactly the persons joined to the entity.
     fn replay(&mut self, alloc: Global, inputs: &[Vec<u8>]) -> Result<Vec<Reply>, AllocError>
         ensures began { is_clean self.new → is_clean self.old }
         ensures count { IfOk result (λ replies. length replies.items ≡ length inputs.now) }
         ensures spelled { IfOk result (λ replies. (spelled : List Spelled)
             × AreSpelled (served (map (λ v. v.items) inputs.now) replies.items) spelled) }
-        ensures replies { Promised shows is_clean self.old self.new (λ r. IsLegal r → IfOk result (λ replies.
-            (spelled : List Spelled) → AreSpelled (served (map (λ v. v.items) inputs.now) replies.items) spelled →
+        ensures replies { Promised shows is_clean self.old self.new (λ r.
+            IsLegal r → IfOk result (λ replies.
+            (spelled : List Spelled)
+            → AreSpelled (served (map (λ v. v.items) inputs.now) replies.items) spelled →
             AreReplies r spelled (full replies.items))) }
-        ensures left { Promised shows is_clean self.old self.new (λ r. IsLegal r → IfOk result (λ replies.
-            (spelled : List Spelled) → AreSpelled (served (map (λ v. v.items) inputs.now) replies.items) spelled →
+        ensures left { Promised shows is_clean self.old self.new (λ r.
+            IsLegal r → IfOk result (λ replies.
+            (spelled : List Spelled)
+            → AreSpelled (served (map (λ v. v.items) inputs.now) replies.items) spelled →
             shows self.new (register_left r spelled))) }
-        ensures alone { Promised shows is_clean self.old self.new (λ r. IsLegal r → IfOk result (λ replies.
-            (spelled : List Spelled) → AreSpelled (served (map (λ v. v.items) inputs.now) replies.items) spelled →
+        ensures alone { Promised shows is_clean self.old self.new (λ r.
+            IsLegal r → IfOk result (λ replies.
+            (spelled : List Spelled)
+            → AreSpelled (served (map (λ v. v.items) inputs.now) replies.items) spelled →
             (name : List ℕ) → IsAlone name r spelled (full replies.items))) }
-        ensures reports { Promised shows is_clean self.old self.new (λ r. IsLegal r → IfOk result (λ replies.
-            (spelled : List Spelled) → AreSpelled (served (map (λ v. v.items) inputs.now) replies.items) spelled →
+        ensures reports { Promised shows is_clean self.old self.new (λ r.
+            IsLegal r → IfOk result (λ replies.
+            (spelled : List Spelled)
+            → AreSpelled (served (map (λ v. v.items) inputs.now) replies.items) spelled →
             AreReports r spelled (full replies.items))) }
         ensures err { OnErr result (Kept shows is_clean self.old self.new) };
 
     /// The text that tells who stands behind an entity.
     fn report(&mut self, alloc: Global, asked: &Report<'_>) -> Result<Text, StoreFault>
         ensures kept { Kept shows is_clean self.old self.new }
-        ensures text { Promised shows is_clean self.old self.new (λ r. IfOk result (IsReportOf asked.now r)) }
+        ensures text { Promised shows is_clean self.old self.new (λ r.
+            IfOk result (IsReportOf asked.now r)) }
         ensures err { IfErr result (λ fault. tells self.old fault self.new) };
 }
 
@@ -103,7 +113,8 @@ impl<K: Keep> OpenRegister for K {
 
     ghost is_clean = { K.is_clean };
 
-    ghost tells = { λ old fault new. IsFaultOf K.may_tell (K.fault_count old) (K.fault_count new) fault };
+    ghost tells = { λ old fault new. IsFaultOf K.may_tell (K.fault_count old)
+        (K.fault_count new) fault };
 
     fn replay(&mut self, alloc: Global, inputs: &[Vec<u8>]) -> Result<Vec<Reply>, AllocError> {
         replay(alloc, self, inputs)
@@ -146,8 +157,8 @@ pub enum Stage<'a> {
     Reporting,
 }
 
-/// What opens the registers in files. Its states stand for those of the files: what is done to them leads
-/// from one to another.
+/// What opens the registers in files. Its states stand for those of the files: what is done to them
+/// leads from one to another.
 pub trait Registers {
     /// A register in a file.
     type Register: OpenRegister + Drop;
@@ -155,8 +166,8 @@ pub trait Registers {
     /// This is done to the registers in files, and leads from one state of them to another.
     ghost does: { Self → Deed Self.Register → Self → Type 0 };
 
-    /// Tells whoever waits for a command where it is, in a line on standard error, or doesn't. Nothing is done
-    /// to the registers in files.
+    /// Tells whoever waits for a command where it is, in a line on standard error, or doesn't.
+    /// Nothing is done to the registers in files.
     fn reach(&self, stage: Stage<'_>);
 
     /// The register in the file of this name. Where there is none, none is made.
@@ -165,28 +176,30 @@ pub trait Registers {
         ensures err { IfErr result (λ failure. does self.old (Fails path.entry failure) self.new) }
         ensures cause { IfErr result (IsOpeningOf path.entry) };
 
-    /// The register in the file of this name; where it has none, one of this day and registrar is set
-    /// up.
+    /// The register in the file of this name; where it has none, one of this day and registrar is
+    /// set up.
     fn open_or_set_up<'a>(
         &mut self,
         path: &'a str,
         registrar: &Token,
         day: Day,
     ) -> Result<Opened<Self::Register>, Failure<'a>>
-        ensures ok { IfOk result (λ opened. ComesToBe Self.Register.shows Self.Register.is_clean path.entry registrar.now day
+        ensures ok { IfOk result (λ opened.
+            ComesToBe Self.Register.shows Self.Register.is_clean path.entry registrar.now day
             opened.register opened.origin (λ deed. does self.old deed self.new)) }
         ensures err { IfErr result (λ failure. does self.old (Fails path.entry failure) self.new) }
         ensures cause { IfErr result (IsOpeningOf path.entry) };
 
-    /// Moves the register in the file of this name to the tables of this program; one that has them stays
-    /// as it is. Where there is no register, none is made.
+    /// Moves the register in the file of this name to the tables of this program; one that has them
+    /// stays as it is. Where there is no register, none is made.
     fn migrate<'a>(&mut self, path: &'a str) -> Result<(), Failure<'a>>
         ensures ok { OnOk result (does self.old (Moves path.entry) self.new) }
         ensures err { IfErr result (λ failure. does self.old (Fails path.entry failure) self.new) }
         ensures cause { IfErr result (IsOpeningOf path.entry) };
 
-    /// Closes the register that is left in the file of this name, so that the file has all of it without
-    /// the log beside it, as far as that can be done. Nothing that was answered is lost where it can't.
+    /// Closes the register that is left in the file of this name, so that the file has all of it
+    /// without the log beside it, as far as that can be done. Nothing that was answered is lost
+    /// where it can't.
     fn close(&mut self, path: &str, register: Self::Register)
         ensures { does self.old (Closes path.entry register) self.new };
 }
@@ -199,16 +212,18 @@ pub trait Ports: Registers {
     /// This port is listened on by this listener.
     ghost listens: { Self → ℕ → Self.Listener → Type 0 };
 
-    /// Of a listener so many connections were served within these limits, with a log or without. It led from
-    /// one state of a register to another, with this status.
-    ghost serves: { Self → Self.Listener → Limits → ℕ → Bool → Self.Register → Self.Register → ℕ → Type 0 };
+    /// Of a listener so many connections were served within these limits, with a log or without. It
+    /// led from one state of a register to another, with this status.
+    ghost serves: { Self → Self.Listener → Limits → ℕ → Bool → Self.Register → Self.Register
+        → ℕ → Type 0 };
 
     /// Listens on this port, if that can be done.
     fn listen(&self, port: u16) -> Option<Self::Listener>
         ensures { IfSome result (λ listener. listens self.now port listener) };
 
-    /// Serves so many connections of a listener, each client within these limits, and gives 0, or 3 where one
-    /// of them failed. Where it is asked for, each request that was answered has a line on standard error.
+    /// Serves so many connections of a listener, each client within these limits, and gives 0, or 3
+    /// where one of them failed. Where it is asked for, each request that was answered has a line
+    /// on standard error.
     fn serve(
         &self,
         register: &mut Self::Register,
@@ -217,6 +232,8 @@ pub trait Ports: Registers {
         connections: u32,
         log: bool,
     ) -> u8
-        ensures hosted { serves self.now listener.now limits connections log register.old register.new result }
-        ensures served { IsServed Self.Register.shows Self.Register.is_clean register.old register.new connections result };
+        ensures hosted { serves self.now listener.now limits connections log register.old
+            register.new result }
+        ensures served { IsServed Self.Register.shows Self.Register.is_clean register.old
+            register.new connections result };
 }

@@ -36,11 +36,15 @@ pub fn read_inputs<R: NamedFiles + AllocGlobal, H: Registers, E: Write>(
     files: &[&str],
     errors: &mut E,
 ) -> Result<Inputs, Failure<'static>>
-    ensures read { IfOk result (λ inputs. AreReadOf (IsReadOf (R.opens rt.now) R.File.remaining) files.now
+    ensures read { IfOk result (λ inputs.
+        AreReadOf (IsReadOf (R.opens rt.now) R.File.remaining) files.now
         (map (λ v. v.items) inputs.requests.items)) }
-    ensures status { IfOk result (λ inputs. (inputs.status ≡ Status.Done) ⊎ (inputs.status ≡ Status.Failed)) }
-    ensures count { IfOk result (λ inputs. inputs.status ≡ Status.Done → length inputs.requests.items ≡ length files.now) }
-    ensures silent { IfOk result (λ inputs. inputs.status ≡ Status.Done → Keeps (E.contents errors.old) (E.contents errors.new)) }
+    ensures status { IfOk result (λ inputs.
+        (inputs.status ≡ Status.Done) ⊎ (inputs.status ≡ Status.Failed)) }
+    ensures count { IfOk result (λ inputs.
+        inputs.status ≡ Status.Done → length inputs.requests.items ≡ length files.now) }
+    ensures silent { IfOk result (λ inputs.
+        inputs.status ≡ Status.Done → Keeps (E.contents errors.old) (E.contents errors.new)) }
     ensures told { TellsUnread files.now (E.contents errors.old) (E.contents errors.new) }
     ensures err { IfErr result (λ failure. failure ≡ Failure.Memory) }
 {
@@ -67,7 +71,8 @@ fn add(requests: &mut Vec<Vec<u8>>, bytes: Vec<u8>) -> Result<(), AllocError>
 
 // The request in the file of this name.
 fn read_input<R: NamedFiles + AllocGlobal>(rt: &R, name: &str) -> io::Result<Vec<u8>>
-    ensures { IfOk result (λ read. IsReadOf (R.opens rt.now) R.File.remaining name.entry read.items) }
+    ensures { IfOk result (λ read.
+        IsReadOf (R.opens rt.now) R.File.remaining name.entry read.items) }
 {
     let file = rt.open_named(name)?;
     read_request(rt.alloc(), file)
@@ -79,7 +84,8 @@ fn read_input<R: NamedFiles + AllocGlobal>(rt: &R, name: &str) -> io::Result<Vec
 ///
 /// The input's own: it can't be read, or not to its end. `OutOfMemory`: memory is wanting.
 pub fn read_request<I: Read + Drop>(alloc: Global, input: I) -> io::Result<Vec<u8>>
-    ensures { IfSome (I.remaining input) (λ bytes. IfOk result (λ read. read.items ≡ take request_limit bytes)) }
+    ensures { IfSome (I.remaining input) (λ bytes.
+        IfOk result (λ read. read.items ≡ take request_limit bytes)) }
 {
     let mut bytes = Vec::new(alloc);
     input.take(REQUEST_LIMIT).read_to_end(&mut bytes)?;

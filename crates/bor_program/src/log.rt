@@ -64,8 +64,8 @@ pub struct Note {
 }
 
 impl Note {
-    /// What is noted of the request in these bytes, which had this reply and this agent's token. No memory is
-    /// taken.
+    /// What is noted of the request in these bytes, which had this reply and this agent's token. No
+    /// memory is taken.
     pub fn of(paths: &Paths, request: &[u8], agent: Option<AgentName>, reply: &Outgoing) -> Note
         ensures asked { result.asked ≡ asked_of request.now }
         ensures status { result.status ≡ status_out reply.now }
@@ -99,7 +99,8 @@ pub struct Entry<'a> {
 }
 
 impl Moment {
-    /// The second that began so many seconds after 1970-01-01T00:00:00Z, up to the end of the year 9999.
+    /// The second that began so many seconds after 1970-01-01T00:00:00Z, up to the end of the year
+    /// 9999.
     pub fn of_seconds(seconds: u64) -> Option<Moment>
         ensures day { IfSome result (λ moment. moment.day ≡ pos (seconds / 86_400)) }
         ensures second { IfSome result (λ moment. moment.second ≡ seconds % 86_400) }
@@ -298,8 +299,8 @@ fn agent_text<'a>(agent: Option<&'a AgentName>) -> &'a str
     }
 }
 
-/// The line of a request that was answered: day and time, the method and the path, the reply's status and
-/// bytes, milliseconds, and the agent.
+/// The line of a request that was answered: day and time, the method and the path, the reply's
+/// status and bytes, milliseconds, and the agent.
 pub fn entry_line(alloc: Global, entry: &Entry<'_>) -> Result<Vec<u8>, AllocError>
     ensures { IfOk result (λ line. line.items ≡ entry_line entry.now) }
 {
@@ -315,8 +316,8 @@ pub fn entry_line(alloc: Global, entry: &Entry<'_>) -> Result<Vec<u8>, AllocErro
     Ok(line)
 }
 
-/// Writes the line of a request that was answered, as far as it can be written; nothing where memory is
-/// wanting.
+/// Writes the line of a request that was answered, as far as it can be written; nothing where
+/// memory is wanting.
 pub fn write_entry<E: Write>(alloc: Global, entry: &Entry<'_>, errors: &mut E)
     ensures { AppendsPart (E.contents errors.old) (E.contents errors.new) (entry_line entry.now) }
 {

@@ -21,7 +21,8 @@ pub fn migrate<H: Registers, O: Output, E: Write>(
     output: &mut O,
     errors: &mut E,
 ) -> Status
-    ensures done { Migrates H.does host.old host.new asked.entry (O.contents output.old) (O.contents output.new)
+    ensures done { Migrates H.does host.old host.new asked.entry (O.contents output.old)
+        (O.contents output.new)
         (E.contents errors.old) (E.contents errors.new) (exit_code result) }
     ensures flushed { exit_code result ≤ 1 → O.is_flushed output.new }
 {
@@ -34,10 +35,13 @@ pub fn migrate<H: Registers, O: Output, E: Write>(
 
 // Prints the version of the program's tables, and tells where that can't be done.
 fn print_version<O: Output, E: Write>(output: &mut O, errors: &mut E) -> Status
-    ensures text { IsWrittenOrCutOff migrated (O.contents output.old) (O.contents output.new) (exit_code result) }
+    ensures text { IsWrittenOrCutOff migrated (O.contents output.old) (O.contents output.new)
+        (exit_code result) }
     ensures flushed { exit_code result ≤ 1 → O.is_flushed output.new }
     ensures silent { exit_code result ≤ 1 → Keeps (E.contents errors.old) (E.contents errors.new) }
-    ensures told { exit_code result ≡ 3 → AppendsPart (E.contents errors.old) (E.contents errors.new) (failure_line Failure.Unwritable) }
+    ensures told { exit_code result ≡ 3
+        → AppendsPart (E.contents errors.old) (E.contents errors.new)
+        (failure_line Failure.Unwritable) }
 {
     match write_text(output, "version 2\n".as_bytes()) {
         Ok(()) => Status::Done,

@@ -53,7 +53,8 @@ pub fn write_text<'a, O: Output>(output: &mut O, text: &[u8]) -> Result<(), Fail
 /// Writes the bytes as far as they can be written, and tells whether all were.
 pub fn write_part<W: Write>(writer: &mut W, bytes: &[u8]) -> bool
     ensures part { AppendsPart (W.contents writer.old) (W.contents writer.new) bytes.now }
-    ensures whole { IsTrue result → Appends (W.contents writer.old) (W.contents writer.new) bytes.now }
+    ensures whole { IsTrue result
+        → Appends (W.contents writer.old) (W.contents writer.new) bytes.now }
 {
     let mut rest = bytes;
     'turns: for _ in 0..u64::MAX {

@@ -30,11 +30,11 @@ use std::io::{Read, Write};
 
 /// Does what the words after the program's name ask for, and gives the exit status.
 ///
-/// 0: done, or help was asked for; 1: refused, or a reply to an exchange is a refusal; 2: the words ask
-/// for nothing that there is, or a value doesn't fit; 3: a file, memory, the store or the network failed.
-/// Standard output has the text of a command, or the help; with status 3 a front of it. Standard error
-/// has what is wrong with the words, or a line on what failed; that line is missing where it was
-/// standard output that failed, or a reply or a connection.
+/// 0: done, or help was asked for; 1: refused, or a reply to an exchange is a refusal; 2: the words
+/// ask for nothing that there is, or a value doesn't fit; 3: a file, memory, the store or the
+/// network failed. Standard output has the text of a command, or the help; with status 3 a front of
+/// it. Standard error has what is wrong with the words, or a line on what failed; that line is
+/// missing where it was standard output that failed, or a reply or a connection.
 pub fn run<R: NamedFiles + AllocGlobal, H: Ports, S: AsStr, I: Read, O: Output, E: Write>(
     rt: &R,
     host: &mut H,
@@ -45,22 +45,27 @@ pub fn run<R: NamedFiles + AllocGlobal, H: Ports, S: AsStr, I: Read, O: Output, 
 ) -> u8
     ensures at_most { result ≤ 3 }
 
-    // Words that ask for a command have it done, as it is stated of each command, or memory is wanting,
-    // which is told in its line.
+    // Words that ask for a command have it done, as it is stated of each command, or memory is
+    // wanting, which is told in its line.
     ensures performed { IsCommand (map S.text words.now) → ((result ≡ 3) × (host.new ≡ host.old)
-        × Keeps (O.contents output.old) (O.contents output.new) × IsTold IsWantOfMemory (E.contents errors.old) (E.contents errors.new))
+        × Keeps (O.contents output.old) (O.contents output.new)
+        × IsTold IsWantOfMemory (E.contents errors.old) (E.contents errors.new))
         ⊎ ((asked : Asked) × IsAsked (entered_by (map S.text words.now)) asked
         × Performs (IsReadOf (R.opens rt.now) R.File.remaining) (IsHosted H.listens H.serves)
-        H.Register.shows H.Register.is_clean H.Register.tells H.does host.old host.new asked (I.remaining input.old) (I.remaining input.new)
-        (O.contents output.old) (O.contents output.new) (E.contents errors.old) (E.contents errors.new) result) }
+        H.Register.shows H.Register.is_clean H.Register.tells H.does host.old host.new asked
+        (I.remaining input.old) (I.remaining input.new)
+        (O.contents output.old) (O.contents output.new) (E.contents errors.old)
+        (E.contents errors.new) result) }
 
     // Words that ask for a check have its text written, or the run fails and wrote a front of it.
     ensures check { AsksForCheck (map S.text words.now) → (bytes : List ℕ)
         × IsReportedOrCutOff bytes (O.contents output.old) (O.contents output.new) result }
 
     // Where standard input is checked and its bytes are known, the text is the report on them,
-    ensures check_input { ChecksInput (map S.text words.now) → IfSome (I.remaining input.old) (λ bytes.
-        IsReportedOrCutOff (part_read bytes) (O.contents output.old) (O.contents output.new) result) }
+    ensures check_input { ChecksInput (map S.text words.now)
+        → IfSome (I.remaining input.old) (λ bytes.
+        IsReportedOrCutOff (part_read bytes) (O.contents output.old)
+        (O.contents output.new) result) }
 
     // and of known bytes that part is taken, unless the run fails.
     ensures check_taken { ChecksInput (map S.text words.now) → result ≤ 1
@@ -87,7 +92,8 @@ pub fn run<R: NamedFiles + AllocGlobal, H: Ports, S: AsStr, I: Read, O: Output, 
         × TellsRefusal (O.contents output.old) (O.contents output.new) }
 
     // status 0 for a command, or for help that was written whole,
-    ensures done { result ≡ 0 → IsCommand (map S.text words.now) ⊎ (MayAskForHelp (map S.text words.now)
+    ensures done { result ≡ 0
+        → IsCommand (map S.text words.now) ⊎ (MayAskForHelp (map S.text words.now)
         × Appends (O.contents output.old) (O.contents output.new) HELP.now) }
 
     // and status 2 for words with a fault: nothing was read, and no output written.
@@ -105,9 +111,10 @@ pub fn run<R: NamedFiles + AllocGlobal, H: Ports, S: AsStr, I: Read, O: Output, 
     // and nothing is added to known bytes on standard error,
     ensures silent { result ≤ 1 → Keeps (E.contents errors.old) (E.contents errors.new) }
 
-    // and with status 3, of a check or where no command is asked for, the front of the line of the failure
-    // that was met: all of it, some or nothing.
-    ensures told { AsksForCheck (map S.text words.now) ⊎ (¬ IsCommand (map S.text words.now)) → result ≡ 3
+    // and with status 3, of a check or where no command is asked for, the front of the line of the
+    // failure that was met: all of it, some or nothing.
+    ensures told { AsksForCheck (map S.text words.now) ⊎ (¬ IsCommand (map S.text words.now))
+        → result ≡ 3
         → IsTold (IsMetBy (map S.text words.now) (O.contents output.old) (O.contents output.new))
         (E.contents errors.old) (E.contents errors.new) }
 {
@@ -127,9 +134,12 @@ fn perform<R: NamedFiles + AllocGlobal, H: Ports, I: Read, O: Output, E: Write>(
     output: &mut O,
     errors: &mut E,
 ) -> Status
-    ensures done { Performs (IsReadOf (R.opens rt.now) R.File.remaining) (IsHosted H.listens H.serves)
-        H.Register.shows H.Register.is_clean H.Register.tells H.does host.old host.new command.entry (I.remaining input.old) (I.remaining input.new)
-        (O.contents output.old) (O.contents output.new) (E.contents errors.old) (E.contents errors.new) (exit_code result) }
+    ensures done { Performs (IsReadOf (R.opens rt.now) R.File.remaining)
+        (IsHosted H.listens H.serves)
+        H.Register.shows H.Register.is_clean H.Register.tells H.does host.old host.new command.entry
+        (I.remaining input.old) (I.remaining input.new)
+        (O.contents output.old) (O.contents output.new) (E.contents errors.old)
+        (E.contents errors.new) (exit_code result) }
     ensures flushed { exit_code result ≤ 1 → O.is_flushed output.new }
 {
     match command {
@@ -150,9 +160,11 @@ fn check_told<R: NamedFiles + AllocGlobal, I: Read, O: Output, E: Write>(
     errors: &mut E,
 ) -> Status
     ensures report { (bytes : List ℕ)
-        × IsReportedOrCutOff bytes (O.contents output.old) (O.contents output.new) (exit_code result) }
+        × IsReportedOrCutOff bytes (O.contents output.old) (O.contents output.new)
+        (exit_code result) }
     ensures known { name_of source.entry ≡ None → IfSome (I.remaining input.old) (λ bytes.
-        IsReportedOrCutOff (part_read bytes) (O.contents output.old) (O.contents output.new) (exit_code result)) }
+        IsReportedOrCutOff (part_read bytes) (O.contents output.old) (O.contents output.new)
+        (exit_code result)) }
     ensures taken { name_of source.entry ≡ None → exit_code result ≤ 1
         → TakesPart (I.remaining input.old) (I.remaining input.new) }
     ensures at_most { TakesAtMostPart (I.remaining input.old) (I.remaining input.new) }
@@ -187,7 +199,8 @@ fn check_source<'a, R: NamedFiles + AllocGlobal, I: Read, O: Output>(
     ensures unread { IsSome (name_of source.entry)
         → Keeps (I.remaining input.old) (I.remaining input.new) }
     ensures flushed { OnOk result (O.is_flushed output.new) }
-    ensures err { IfErr result (IsMetOn source.entry (O.contents output.old) (O.contents output.new)) }
+    ensures err { IfErr result
+        (IsMetOn source.entry (O.contents output.old) (O.contents output.new)) }
 {
     match source {
         Source::StandardInput => check(rt.alloc(), source, input, output),

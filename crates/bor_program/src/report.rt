@@ -28,8 +28,10 @@ pub fn report<H: Registers, O: Output, E: Write>(
     output: &mut O,
     errors: &mut E,
 ) -> Status
-    ensures done { Reports H.Register.shows H.Register.is_clean H.Register.tells H.does host.old host.new asked.now
-        (O.contents output.old) (O.contents output.new) (E.contents errors.old) (E.contents errors.new) (exit_code result) }
+    ensures done { Reports H.Register.shows H.Register.is_clean H.Register.tells H.does host.old
+        host.new asked.now
+        (O.contents output.old) (O.contents output.new) (E.contents errors.old)
+        (E.contents errors.new) (exit_code result) }
     ensures flushed { exit_code result ≤ 1 → O.is_flushed output.new }
 {
     host.reach(Stage::Opening(asked.db));
@@ -51,8 +53,8 @@ pub fn report<H: Registers, O: Output, E: Write>(
 ///
 /// # Errors
 ///
-/// `Store`, `Memory`: nothing is printed. `Unwritable`: the text can't be written, or not to its end, or not
-/// handed on.
+/// `Store`, `Memory`: nothing is printed. `Unwritable`: the text can't be written, or not to its
+/// end, or not handed on.
 pub fn report_on<'a, K: OpenRegister, O: Output>(
     alloc: Global,
     register: &mut K,
@@ -78,8 +80,10 @@ pub fn report_in<K: Keep>(
     asked: &Report<'_>,
 ) -> Result<Text, StoreFault>
     ensures kept { Kept K.shows K.is_clean keep.old keep.new }
-    ensures text { Promised K.shows K.is_clean keep.old keep.new (λ r. IfOk result (IsReportOf asked.now r)) }
-    ensures accounted { IsAccounted Some K.may_tell result (K.fault_count keep.old) (K.fault_count keep.new) }
+    ensures text { Promised K.shows K.is_clean keep.old keep.new (λ r.
+        IfOk result (IsReportOf asked.now r)) }
+    ensures accounted { IsAccounted Some K.may_tell result (K.fault_count keep.old)
+        (K.fault_count keep.new) }
 {
     let day = day_of(keep, asked)?;
     report_text(alloc, keep, &asked.viewer, &asked.entity, day)
@@ -88,8 +92,10 @@ pub fn report_in<K: Keep>(
 // The day that is asked for, else the register's.
 fn day_of<K: Keep>(keep: &mut K, asked: &Report<'_>) -> Result<Day, StoreFault>
     ensures kept { Kept K.shows K.is_clean keep.old keep.new }
-    ensures day { Promised K.shows K.is_clean keep.old keep.new (λ r. IfOk result (λ day. day ≡ day_in asked.now.date r.day)) }
-    ensures accounted { IsAccounted Some K.may_tell result (K.fault_count keep.old) (K.fault_count keep.new) }
+    ensures day { Promised K.shows K.is_clean keep.old keep.new (λ r.
+        IfOk result (λ day. day ≡ day_in asked.now.date r.day)) }
+    ensures accounted { IsAccounted Some K.may_tell result (K.fault_count keep.old)
+        (K.fault_count keep.new) }
 {
     match asked.date {
         Some(day) => Ok(day),

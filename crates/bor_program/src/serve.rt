@@ -18,9 +18,9 @@ use bor_words::Serve;
 use std::alloc::Global;
 use std::io::Write;
 
-/// Answers requests over HTTP in the register in a file, of many clients at once, on a port of 127.0.0.1.
-/// Once it listens, it prints that; at the end the register is closed. What the log has is the host's to
-/// write.
+/// Answers requests over HTTP in the register in a file, of many clients at once, on a port of
+/// 127.0.0.1. Once it listens, it prints that; at the end the register is closed. What the log has
+/// is the host's to write.
 pub fn serve<H: Ports, O: Output, E: Write>(
     alloc: Global,
     host: &mut H,
@@ -28,8 +28,10 @@ pub fn serve<H: Ports, O: Output, E: Write>(
     output: &mut O,
     errors: &mut E,
 ) -> Status
-    ensures done { Serves (IsHosted H.listens H.serves) H.Register.shows H.Register.is_clean H.does host.old host.new asked.entry
-        (O.contents output.old) (O.contents output.new) (E.contents errors.old) (E.contents errors.new) (exit_code result) }
+    ensures done { Serves (IsHosted H.listens H.serves)
+        H.Register.shows H.Register.is_clean H.does host.old host.new asked.entry
+        (O.contents output.old) (O.contents output.new) (E.contents errors.old)
+        (E.contents errors.new) (exit_code result) }
     ensures flushed { exit_code result ≤ 1 → O.is_flushed output.new }
 {
     host.reach(Stage::Opening(asked.db));
@@ -54,10 +56,14 @@ fn listen<'a, H: Ports, O: Output>(
     asked: Serve<'_>,
     output: &mut O,
 ) -> Result<Status, Failure<'a>>
-    ensures hosted { IfOk result (λ status. IsHosted H.listens H.serves asked.entry register.old register.new (exit_code status)) }
-    ensures ok { IfOk result (λ status. IsServed H.Register.shows H.Register.is_clean register.old register.new asked.entry.connections (exit_code status)
+    ensures hosted { IfOk result (λ status.
+        IsHosted H.listens H.serves asked.entry register.old register.new (exit_code status)) }
+    ensures ok { IfOk result (λ status.
+        IsServed H.Register.shows H.Register.is_clean register.old register.new
+        asked.entry.connections (exit_code status)
         × Appends (O.contents output.old) (O.contents output.new) (listening asked.entry.port)) }
-    ensures part { AppendsPart (O.contents output.old) (O.contents output.new) (listening asked.entry.port) }
+    ensures part { AppendsPart (O.contents output.old) (O.contents output.new)
+        (listening asked.entry.port) }
     ensures flushed { OnOk result (O.is_flushed output.new) }
     ensures err { IfErr result (IsMetListening (O.contents output.old) (O.contents output.new)) }
     ensures unserved { OnErr result (register.new ≡ register.old) }
@@ -73,7 +79,8 @@ fn listen<'a, H: Ports, O: Output>(
 
 // Prints that the port is listened on.
 fn announce<'a, O: Output>(alloc: Global, port: u16, output: &mut O) -> Result<(), Failure<'a>>
-    ensures ok { OnOk result (Appends (O.contents output.old) (O.contents output.new) (listening port)) }
+    ensures ok { OnOk result
+        (Appends (O.contents output.old) (O.contents output.new) (listening port)) }
     ensures part { AppendsPart (O.contents output.old) (O.contents output.new) (listening port) }
     ensures flushed { OnOk result (O.is_flushed output.new) }
     ensures err { IfErr result (IsMetListening (O.contents output.old) (O.contents output.new)) }

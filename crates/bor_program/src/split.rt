@@ -3,7 +3,8 @@
 ghost use Rattle.std.specs.Prelude.{◌≡◌};
 ghost use Rattle.bor_program.specs.Splitting.{before, behind};
 
-/// The bytes before the first one that is this, and those behind it; all and none where there is none.
+/// The bytes before the first one that is this, and those behind it; all and none where there is
+/// none.
 pub fn split_at(byte: u8, bytes: &[u8]) -> (&[u8], &[u8])
     ensures before { result.0.now ≡ before byte bytes.now }
     ensures behind { result.1.now ≡ behind byte bytes.now }

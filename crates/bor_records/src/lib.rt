@@ -17,8 +17,8 @@
 //! assert_eq!(rt; admit(None, two, due), Ok(Status::New));
 //! ```
 //!
-//! `snapshot` answers for one agent's declaration, `open_rows` for all agents and declarations at once,
-//! each in the time of n look-ups among n.
+//! `snapshot` answers for one agent's declaration, `open_rows` for all agents and declarations at
+//! once, each in the time of n look-ups among n.
 //!
 //! What open records say of nodes and of the links between them stands in [`links`].
 //!

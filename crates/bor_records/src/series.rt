@@ -15,8 +15,8 @@ use bor_terms::Day;
 use std::alloc::{AllocError, Global};
 use std::collections::BTreeSet;
 
-// A record of an agent's declaration, by the texts of one of its rows. The record is compared first:
-// most rows are of few agents and declarations, so nearly all compares end with it.
+// A record of an agent's declaration, by the texts of one of its rows. The record is compared
+// first: most rows are of few agents and declarations, so nearly all compares end with it.
 #[derive(Clone, Copy, PartialEq, Eq, PartialOrd, Ord)]
 struct Series<'a> {
     rec: &'a str,
@@ -44,9 +44,11 @@ fn is_latest<'a>(
 ) -> Result<bool, AllocError>
     requires { IsOf series row.now }
     ensures latest { IfOk result (λ latest.
-        latest ≡ (is_dated day row.now && not (is_closed row.now.status) && not (contains series_cmp seen.old series.entry))) }
+        latest ≡ (is_dated day row.now && not (is_closed row.now.status)
+        && not (contains series_cmp seen.old series.entry))) }
     ensures seen { OnOk result ((other : Series) →
-        contains series_cmp seen.new other ≡ ((is_in other row.now && is_dated day row.now) || contains series_cmp seen.old other)) }
+        contains series_cmp seen.new other
+        ≡ ((is_in other row.now && is_dated day row.now) || contains series_cmp seen.old other)) }
 {
     if !is_dated(row, day) {
         return Ok(false);

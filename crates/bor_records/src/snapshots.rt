@@ -13,7 +13,8 @@ use std::alloc::{AllocError, Global};
 use std::collections::BTreeMap;
 
 fn counts(row: &Row, declaration: &Ident, day: Day) -> bool
-    ensures { result ≡ (is_same row.now.statement.declaration declaration.now && is_dated day row.now) }
+    ensures { result ≡ (is_same row.now.statement.declaration declaration.now
+        && is_dated day row.now) }
 {
     row.statement.declaration == *declaration && is_dated(row, day)
 }
@@ -48,8 +49,8 @@ fn entry(alloc: Global, row: &Row) -> Result<Entry, AllocError>
 
 /// The latest statements on a day of a declaration's open records, in the order of the records'
 /// identifiers, byte by byte. The rows are those of one agent, of all declarations, in order of
-/// lodging and of place (this register's profile of BODS 0.4, `recordStatus`). Only what is answered
-/// is copied.
+/// lodging and of place (this register's profile of BODS 0.4, `recordStatus`). Only what is
+/// answered is copied.
 pub fn snapshot(
     alloc: Global,
     rows: &[Row],

@@ -25,7 +25,8 @@ pub fn filing_under(
     filings: &[AcceptedFiling],
     key: &LodgeKey,
 ) -> Result<Option<Filing>, AllocError>
-    ensures { IfOk result (λ filing. filing ≡ option_map filing_shown (filing_keyed key.now filings.now)) }
+    ensures { IfOk result (λ filing.
+        filing ≡ option_map filing_shown (filing_keyed key.now filings.now)) }
 {
     match filing_with(filings, key) {
         Some(filing) => Ok(Some(filing.shown(alloc)?)),
@@ -40,7 +41,8 @@ pub fn line_under(
     key: &LodgeKey,
     day: Day,
 ) -> Result<Option<FilingLine>, AllocError>
-    ensures { IfOk result (λ line. line ≡ option_map (line_of day) (filing_keyed key.now filings.now)) }
+    ensures { IfOk result (λ line.
+        line ≡ option_map (line_of day) (filing_keyed key.now filings.now)) }
 {
     match filing_with(filings, key) {
         Some(filing) => Ok(Some(filing.line(alloc, day)?)),

@@ -1,8 +1,8 @@
 //! A register of filings as a value: what it holds, and what is told of it.
 //!
-//! Agents lodge files of statements. A filing is a draft until its due day, seen by its agent alone,
-//! and published from then on. A register holds its agents by name, each a [`Member`] with its filings
-//! in order of acceptance:
+//! Agents lodge files of statements. A filing is a draft until its due day, seen by its agent
+//! alone, and published from then on. A register holds its agents by name, each a [`Member`] with
+//! its filings in order of acceptance:
 //!
 //! ```
 //! let mut members = Vec::new(alloc);
@@ -14,8 +14,9 @@
 //! ```
 //!
 //! Who keeps members calls what is told of them here, wherever it gets them from: who has a token
-//! ([`caller_with`]), filings and their lines, live statements ([`last_live`], [`any_live_has_id`]),
-//! the rows that a viewer sees, and what is published. What keeps a register stands in [`keeping`].
+//! ([`caller_with`]), filings and their lines, live statements ([`last_live`],
+//! [`any_live_has_id`]), the rows that a viewer sees, and what is published. What keeps a register
+//! stands in [`keeping`].
 #![tactic(auto)]
 
 mod caller;

@@ -29,7 +29,8 @@ pub fn last_live(filings: &[AcceptedFiling], declaration: &Ident, rec: &Ident) -
 }
 
 fn any_filed_has_id(filings: &[AcceptedFiling], id: &Ident) -> bool
-    ensures { result ≡ list_any (λ f. list_any (λ s. is_same s.id id.now) f.statements) filings.now }
+    ensures { result ≡ list_any
+        (λ f. list_any (λ s. is_same s.id id.now) f.statements) filings.now }
 {
     filings
         .iter()

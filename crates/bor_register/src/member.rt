@@ -90,7 +90,9 @@ pub fn push_filing(
     requires room { length (filings_of name.now members.old) < filings_limit }
     ensures ok { IfOk result (λ number. let own = filings_of name.now members.old in
         (number ≡ length own + 1)
-        × (members.new ≡ with_filings name.now (own ++ accepted own key.now due bytes.now statements.now ∷ []) members.old)) }
+        × (members.new
+        ≡ with_filings name.now (own ++ accepted own key.now due bytes.now statements.now ∷ [])
+        members.old)) }
     ensures err { OnErr result (members.new ≡ members.old) }
 {
     let Some(at) = position(members, name) else {
@@ -112,7 +114,9 @@ pub fn push_filing(
 /// Withdraws the agent's filing with this number, where there is one. It takes no memory.
 #[tactic(auto, using(crate::proofs::Members::with_filings_absent))]
 pub fn withdraw_of(alloc: Global, members: &mut [Member], name: &AgentName, number: u32)
-    ensures { members.new ≡ with_filings name.now (with_withdrawn number (filings_of name.now members.old)) members.old }
+    ensures { members.new
+        ≡ with_filings name.now
+        (with_withdrawn number (filings_of name.now members.old)) members.old }
 {
     if let Some(at) = position(members, name) {
         let member = &mut members[at];
@@ -150,7 +154,8 @@ pub fn enrol_member(
     name: &AgentName,
     token: &Token,
 ) -> Result<(), AllocError>
-    ensures ok { OnOk result (members.new.items ≡ with_member (new_member name.now token.now) members.old.items) }
+    ensures ok { OnOk result
+        (members.new.items ≡ with_member (new_member name.now token.now) members.old.items) }
     ensures err { OnErr result (members.new.items ≡ members.old.items) }
 {
     let member = Member {

@@ -16,7 +16,8 @@ fn add_outwards(
     filings: &[AcceptedFiling],
     day: Day,
 ) -> Result<(), AllocError>
-    ensures { OnOk result (outwards.new.items ≡ outwards.old.items ++ outwards_of day name.now filings.now) }
+    ensures { OnOk result
+        (outwards.new.items ≡ outwards.old.items ++ outwards_of day name.now filings.now) }
 {
     for filing in filings {
         if filing.is_published(day) {

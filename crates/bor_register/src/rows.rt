@@ -69,7 +69,8 @@ fn add_visible(
     declaration: Option<&Ident>,
 ) -> Result<(), AllocError>
     ensures { OnOk result (rows.new.items ≡ rows.old.items
-        ++ asked_rows (option_map (λ d. d.now) declaration.entry) (visible_in viewer.now day agent.now filings.now)) }
+        ++ asked_rows (option_map (λ d. d.now) declaration.entry)
+        (visible_in viewer.now day agent.now filings.now)) }
 {
     for filing in filings {
         if filing.is_visible(viewer, agent, day) {
@@ -106,8 +107,8 @@ pub fn rows_seen(
     Ok(rows)
 }
 
-/// The rows of all agents that the viewer sees on a day: by agent, then in order of acceptance and of
-/// place. A viewer that isn't among the members sees what is published.
+/// The rows of all agents that the viewer sees on a day: by agent, then in order of acceptance and
+/// of place. A viewer that isn't among the members sees what is published.
 pub fn all_visible(
     alloc: Global,
     viewer: &AgentName,

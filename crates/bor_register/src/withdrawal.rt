@@ -37,8 +37,8 @@ fn any_shares(later: &[AcceptedFiling], filing: &AcceptedFiling) -> bool
 }
 
 /// Whether one of an agent's filings that was accepted after the one with this number has a live
-/// statement of one of its records; `false` where no filing has the number. A withdrawn filing has no
-/// statements, so it is succeeded by none and succeeds none.
+/// statement of one of its records; `false` where no filing has the number. A withdrawn filing has
+/// no statements, so it is succeeded by none and succeeds none.
 pub fn is_succeeded(filings: &[AcceptedFiling], number: u32) -> bool
     ensures { result ≡ has_successor number filings.now }
 {

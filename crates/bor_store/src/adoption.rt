@@ -61,7 +61,8 @@ const PERIOD: [&str; 6] = ["agent", "filing", "place", "item", "starts", "ends"]
 
 // Whether the table has all these columns.
 fn has_columns(table: &Table, columns: &[&str]) -> bool
-    ensures { result ≡ list_all (λ column. is_some (column_named table.now column.now)) columns.now }
+    ensures { result ≡ list_all
+        (λ column. is_some (column_named table.now column.now)) columns.now }
 {
     columns
         .iter()
@@ -70,7 +71,10 @@ fn has_columns(table: &Table, columns: &[&str]) -> bool
 
 // Whether there is a table of this name with all these columns.
 fn has_table(schema: &Schema, name: &str, columns: &[&str]) -> bool
-    ensures { result ≡ list_any (λ table. same_name table.name name.now && list_all (λ column. is_some (column_named table column.now)) columns.now) schema.now.tables }
+    ensures { result ≡ list_any
+        (λ table. same_name table.name name.now
+        && list_all (λ column. is_some (column_named table column.now)) columns.now)
+        schema.now.tables }
 {
     schema.tables.as_slice().iter().any(|table| table.is_named(name.as_bytes())
         && has_columns(table, columns))
@@ -107,7 +111,8 @@ pub(crate) fn version_rows<S: Alter>(conn: &mut Connection<S>) -> Result<Vec<Row
     requires { conn.old.in_transaction ≡ false }
     ensures mode { conn.new.in_transaction ≡ false }
     ensures asked { Asked version_text [] (state S.Store conn.old) (state S.Store conn.new) result }
-    ensures versions { HasCleanDisk (state S.Store conn.new) → IfOk result (λ rows. AreVersions (state S.Store conn.old) rows.items) }
+    ensures versions { HasCleanDisk (state S.Store conn.new)
+        → IfOk result (λ rows. AreVersions (state S.Store conn.old) rows.items) }
 {
     let _settled = conn.is_autocommit();
     conn.query_all(VERSIONS, &[])
@@ -131,7 +136,8 @@ pub(crate) fn version_in(rows: &[Row]) -> Result<i64, OpenFault>
 // Whether a version is that of these tables, which may have all columns or not.
 fn judge(version: i64, is_whole: bool) -> Result<(), OpenFault>
     ensures { MatchResult result (λ _. (version ≡ tables_version) × IsTrue is_whole)
-        (λ fault. ((fault ≡ faults.OtherVersion version) × (version ≢ tables_version)) ⊎ ((fault ≡ faults.NoRegister) × (version ≡ tables_version) × (is_whole ≡ false))) }
+        (λ fault. ((fault ≡ faults.OtherVersion version) × (version ≢ tables_version)) ⊎
+        ((fault ≡ faults.NoRegister) × (version ≡ tables_version) × (is_whole ≡ false))) }
 {
     if version != VERSION {
         return Err(OpenFault::OtherVersion(version));
@@ -144,19 +150,22 @@ fn judge(version: i64, is_whole: bool) -> Result<(), OpenFault>
 }
 
 /// Whether the tables of a connection are those of a register, as [`SqlKeep::adopt`] asks; the
-/// connection stays as it is. No transaction may be open. First [`OpenFault::NoRegister`] comes where
-/// there is no table `register` with the columns `one` and `version`, or not exactly one row in it,
-/// with a whole version; then [`OpenFault::OtherVersion`] where that isn't 2; then `NoRegister` where
-/// another table or column of a register is missing.
+/// connection stays as it is. No transaction may be open. First [`OpenFault::NoRegister`] comes
+/// where there is no table `register` with the columns `one` and `version`, or not exactly one row
+/// in it, with a whole version; then [`OpenFault::OtherVersion`] where that isn't 2; then
+/// `NoRegister` where another table or column of a register is missing.
 #[tactic(auto, using(crate::proofs::Judging::fault_fails))]
 pub fn examine<S: Alter>(conn: &mut Connection<S>) -> Result<(), OpenFault>
     requires { conn.old.in_transaction ≡ false }
     ensures reads { ReadsOnly (state S.Store conn.old) (state S.Store conn.new) }
-    ensures bare { is_versioned (state S.Store conn.old).now.schema ≡ false → result ≡ Err faults.NoRegister }
+    ensures bare { is_versioned (state S.Store conn.old).now.schema ≡ false
+        → result ≡ Err faults.NoRegister }
     ensures other { (n : ℤ) → result ≡ Err (faults.OtherVersion n) → n ≢ tables_version }
     ensures whole { OnOk result (IsTrue (has_all (state S.Store conn.old).now.schema)) }
-    ensures judged { HasCleanDisk (state S.Store conn.new) → IsJudged (state S.Store conn.old) result }
-    ensures shown { HasCleanDisk (state S.Store conn.new) → IsTrue (state S.Store conn.old).is_open → (r : Register) → ShowsIn r (state S.Store conn.old) → IfErr result IsFailure }
+    ensures judged { HasCleanDisk (state S.Store conn.new)
+        → IsJudged (state S.Store conn.old) result }
+    ensures shown { HasCleanDisk (state S.Store conn.new) → IsTrue (state S.Store conn.old).is_open
+        → (r : Register) → ShowsIn r (state S.Store conn.old) → IfErr result IsFailure }
     ensures first { HasCleanDisk (state S.Store conn.new) → IsTrue (state S.Store conn.old).is_open
         → (r : Register) → ShowsFirst r (state S.Store conn.old) → RefusesFirst result }
 {
@@ -171,25 +180,33 @@ pub fn examine<S: Alter>(conn: &mut Connection<S>) -> Result<(), OpenFault>
 }
 
 impl<S: Alter + Drop> SqlKeep<S> {
-    /// The register that the tables of a connection are. No transaction may be open. Where it answers
-    /// otherwise the connection is dropped, and the tables are as they were. First
-    /// [`OpenFault::NoRegister`] comes where there is no table `register` with the columns `one` and
-    /// `version`, or not exactly one row in it, with a whole version; then
-    /// [`OpenFault::OtherVersion`] where that isn't 2; then `NoRegister` where another table or column
-    /// of a register is missing.
+    /// The register that the tables of a connection are. No transaction may be open. Where it
+    /// answers otherwise the connection is dropped, and the tables are as they were. First
+    /// [`OpenFault::NoRegister`] comes where there is no table `register` with the columns `one`
+    /// and `version`, or not exactly one row in it, with a whole version; then
+    /// [`OpenFault::OtherVersion`] where that isn't 2; then `NoRegister` where another table or
+    /// column of a register is missing.
     pub fn adopt(alloc: Global, conn: Connection<S>) -> Result<SqlKeep<S>, OpenFault>
         requires { conn.in_transaction ≡ false }
-        ensures bare { is_versioned (state S.Store conn).now.schema ≡ false → result ≡ Err faults.NoRegister }
+        ensures bare { is_versioned (state S.Store conn).now.schema ≡ false
+            → result ≡ Err faults.NoRegister }
         ensures other { (n : ℤ) → result ≡ Err (faults.OtherVersion n) → n ≢ tables_version }
         ensures whole { IfOk result (λ k. IsTrue (has_all (state S.Store conn).now.schema)) }
-        ensures adopted { IfOk result (λ k. HasCleanDisk (state S.Store k.conn) → IsJudged (state S.Store conn) result) }
+        ensures adopted { IfOk result (λ k.
+            HasCleanDisk (state S.Store k.conn) → IsJudged (state S.Store conn) result) }
         ensures refused { IsFaithful S.Store → IsJudged (state S.Store conn) result }
-        ensures shown { IsFaithful S.Store → IsTrue (state S.Store conn).is_open → (r : Register) → ShowsIn r (state S.Store conn) → IfErr result IsFailure }
+        ensures shown { IsFaithful S.Store → IsTrue (state S.Store conn).is_open → (r : Register)
+            → ShowsIn r (state S.Store conn) → IfErr result IsFailure }
         ensures first { IsFaithful S.Store → IsTrue (state S.Store conn).is_open
             → (r : Register) → ShowsFirst r (state S.Store conn) → RefusesFirst result }
-        ensures began { IfOk result (λ k. IsClean (state S.Store k.conn) → IsClean (state S.Store conn)) }
-        ensures shows { IfOk result (λ k. IsClean (state S.Store k.conn) → (r : Register) → ShowsIn r (state S.Store conn) ↔ ShowsIn r (state S.Store k.conn)) }
-        ensures one { IfOk result (λ k. (r q : Register) → ShowsIn r (state S.Store k.conn) → ShowsIn q (state S.Store k.conn) → r ≡ q) }
+        ensures began { IfOk result (λ k.
+            IsClean (state S.Store k.conn) → IsClean (state S.Store conn)) }
+        ensures shows { IfOk result (λ k.
+            IsClean (state S.Store k.conn) → (r : Register)
+            → ShowsIn r (state S.Store conn) ↔ ShowsIn r (state S.Store k.conn)) }
+        ensures one { IfOk result (λ k.
+            (r q : Register) → ShowsIn r (state S.Store k.conn)
+            → ShowsIn q (state S.Store k.conn) → r ≡ q) }
         ensures unfaulted { IfOk result (λ k. k.faults ≡ 0) }
     {
         let mut conn = conn;

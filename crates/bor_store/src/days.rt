@@ -84,7 +84,8 @@ fn add_statement(
     statement: &Statement,
 ) -> Result<(), ReadError>
     ensures added { OnOk result (rows.new.items
-        ≡ rows.old.items ++ flat_map period_rows (interest_rows (standing agent.now filing place statement.now))) }
+        ≡ rows.old.items ++ flat_map period_rows
+        (interest_rows (standing agent.now filing place statement.now))) }
     ensures failed { IfErr result IsNoDamage }
 {
     let mut item = 0;

@@ -29,7 +29,8 @@ fn first<T: TableRow + Drop>(
     alloc: Global,
     found: Result<Vec<Row>, Error>,
 ) -> Result<Option<T>, ReadError>
-    ensures { (xs : List T) → IfOk found (λ rows. rows.items ≡ map T.columns xs) → All T.is_formed xs
+    ensures { (xs : List T) → IfOk found (λ rows. rows.items ≡ map T.columns xs)
+        → All T.is_formed xs
         → MatchResult result (λ x. x ≡ slice_get xs 0) IsNoDamage }
 {
     let rows = found?;
@@ -41,7 +42,8 @@ fn all<T: TableRow + Drop>(
     alloc: Global,
     found: Result<Vec<Row>, Error>,
 ) -> Result<Vec<T>, ReadError>
-    ensures { (xs : List T) → IfOk found (λ rows. rows.items ≡ map T.columns xs) → All T.is_formed xs
+    ensures { (xs : List T) → IfOk found (λ rows. rows.items ≡ map T.columns xs)
+        → All T.is_formed xs
         → MatchResult result (λ values. values.items ≡ xs) IsNoDamage }
 {
     let rows = found?;
@@ -57,7 +59,8 @@ fn found_file<S: Alter>(
 ) -> Result<Option<Filing>, ReadError>
     requires { conn.old.in_transaction ≡ false }
     ensures reads { ReadsOnly (state S.Store conn.old) (state S.Store conn.new) }
-    ensures answer { AnswersEither (state S.Store conn.old) (state S.Store conn.new) result (λ r file.
+    ensures answer { AnswersEither (state S.Store conn.old)
+        (state S.Store conn.new) result (λ r file.
         file ≡ option_map filing_shown (filed_at agent.now number r.members)) }
 {
     first(alloc, file_by_number(conn, agent.as_str(), number))
@@ -70,7 +73,8 @@ fn found_lines<S: Alter>(
 ) -> Result<Vec<FilingRow>, ReadError>
     requires { conn.old.in_transaction ≡ false }
     ensures reads { ReadsOnly (state S.Store conn.old) (state S.Store conn.new) }
-    ensures answer { AnswersEither (state S.Store conn.old) (state S.Store conn.new) result (λ r lines.
+    ensures answer { AnswersEither (state S.Store conn.old)
+        (state S.Store conn.new) result (λ r lines.
         lines.items ≡ filing_lines r.members) }
 {
     all(alloc, all_filings(conn))
@@ -161,8 +165,9 @@ fn gather<S: Alter>(
     Ok(days)
 }
 
-/// The days of interests that the files of the register's live filings say, by agent, filing, place and
-/// item. `Damaged` comes where one of the files isn't read, or doesn't fit the statements of its filing.
+/// The days of interests that the files of the register's live filings say, by agent, filing, place
+/// and item. `Damaged` comes where one of the files isn't read, or doesn't fit the statements of
+/// its filing.
 pub(crate) fn days_in_files<S: Alter>(
     conn: &mut Connection<S>,
     alloc: Global,

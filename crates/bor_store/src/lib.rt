@@ -1,8 +1,8 @@
 //! A register in the tables of SQLite.
 //!
 //! [`SqlKeep`] is a `Keep` (`bor_register::keeping`) over a connection to a store in memory or in a
-//! file. What it shows is what the last commit left (`bor_store_sql`): a change that is
-//! answered `Ok` is in the file, and a fault leaves the file as it was. The tables are of version 2;
+//! file. What it shows is what the last commit left (`bor_store_sql`): a change that is answered
+//! `Ok` is in the file, and a fault leaves the file as it was. The tables are of version 2;
 //! [`migrate`] moves those of version 1, which have nothing of the days of interests.
 #![tactic(auto)]
 

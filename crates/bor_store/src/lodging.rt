@@ -51,11 +51,17 @@ pub(crate) fn add_next_filing<S: Alter>(
     requires { conn.old.in_transaction ≡ false }
     ensures mode { conn.new.in_transaction ≡ false }
     ensures began { IsClean (state S.Store conn.new) → IsClean (state S.Store conn.old) }
-    ensures made { IsClean (state S.Store conn.new) → (r : Register) → ShowsIn r (state S.Store conn.old)
-        → is_enrolled agent.now r.members ≡ true → length (filings_of agent.now r.members) < filings_limit
-        → IfOk result (λ number. IsNextFiling number (length (filings_of agent.now r.members)) (added agent.now key.now due bytes.now statements.now r) (state S.Store conn.new)) }
-    ensures kept { IsClean (state S.Store conn.new) → OnErr result ((state S.Store conn.new).committed ≡ (state S.Store conn.old).committed) }
-    ensures undamaged { IsClean (state S.Store conn.new) → (r : Register) → ShowsIn r (state S.Store conn.old) → IfErr result IsNoDamage }
+    ensures made { IsClean (state S.Store conn.new) → (r : Register)
+        → ShowsIn r (state S.Store conn.old)
+        → is_enrolled agent.now r.members ≡ true
+        → length (filings_of agent.now r.members) < filings_limit
+        → IfOk result (λ number.
+        IsNextFiling number (length (filings_of agent.now r.members))
+        (added agent.now key.now due bytes.now statements.now r) (state S.Store conn.new)) }
+    ensures kept { IsClean (state S.Store conn.new)
+        → OnErr result ((state S.Store conn.new).committed ≡ (state S.Store conn.old).committed) }
+    ensures undamaged { IsClean (state S.Store conn.new) → (r : Register)
+        → ShowsIn r (state S.Store conn.old) → IfErr result IsNoDamage }
 {
     let number = next_number(conn, alloc, agent)?;
     all_formed(statements);

@@ -20,10 +20,11 @@ use bor_store_sql::texts::changes::{FIRST_VERSION, VERSION};
 use sqlite::{Alter, Connection, Row};
 use std::alloc::Global;
 
-// Whether tables are of version 1, and not of version 2: by the rows of their versions, and by whether
-// all tables of each version are there and the name `period` is used.
+// Whether tables are of version 1, and not of version 2: by the rows of their versions, and by
+// whether all tables of each version are there and the name `period` is used.
 fn version_told(rows: &[Row], first: bool, used: bool, second: bool) -> Result<bool, OpenFault>
-    ensures { IsErrAnd result IsFailure ⊎ TellsVersion (version_in rows.now) first used second result }
+    ensures { IsErrAnd result IsFailure ⊎ TellsVersion
+        (version_in rows.now) first used second result }
 {
     let version = version_in(rows)?;
     if version == FIRST_VERSION {
@@ -49,9 +50,12 @@ fn version_told(rows: &[Row], first: bool, used: bool, second: bool) -> Result<b
 fn is_first<S: Alter>(conn: &mut Connection<S>) -> Result<bool, OpenFault>
     requires { conn.old.in_transaction ≡ false }
     ensures reads { ReadsOnly (state S.Store conn.old) (state S.Store conn.new) }
-    ensures bare { is_versioned (state S.Store conn.old).now.schema ≡ false → result ≡ Err faults.NoRegister }
-    ensures taken { result ≡ Err faults.Taken → IsTrue (is_period_used (state S.Store conn.old).now.schema) }
-    ensures judged { HasCleanDisk (state S.Store conn.new) → IsVersionJudged (state S.Store conn.old) result }
+    ensures bare { is_versioned (state S.Store conn.old).now.schema ≡ false
+        → result ≡ Err faults.NoRegister }
+    ensures taken { result ≡ Err faults.Taken
+        → IsTrue (is_period_used (state S.Store conn.old).now.schema) }
+    ensures judged { HasCleanDisk (state S.Store conn.new)
+        → IsVersionJudged (state S.Store conn.old) result }
     ensures first { IsClean (state S.Store conn.new)
         → (r : Register) → ShowsFirst r (state S.Store conn.old)
         → MatchResult result (λ first. first ≡ true) IsFailure }
@@ -76,7 +80,8 @@ fn move_first<S: Alter>(conn: &mut Connection<S>, alloc: Global) -> Result<(), O
     requires { conn.old.in_transaction ≡ false }
     ensures mode { conn.new.in_transaction ≡ false }
     ensures began { IsClean (state S.Store conn.new) → IsClean (state S.Store conn.old) }
-    ensures kept { IsClean (state S.Store conn.new) → OnErr result ((state S.Store conn.new).committed ≡ (state S.Store conn.old).committed) }
+    ensures kept { IsClean (state S.Store conn.new)
+        → OnErr result ((state S.Store conn.new).committed ≡ (state S.Store conn.old).committed) }
     ensures told { IfErr result (λ fault. IsFailure fault ⊎ (fault ≡ faults.Damaged)) }
     ensures migrated { IsClean (state S.Store conn.new)
         → (r : Register) → ShowsFirst r (state S.Store conn.old)
@@ -87,27 +92,33 @@ fn move_first<S: Alter>(conn: &mut Connection<S>, alloc: Global) -> Result<(), O
     Ok(())
 }
 
-/// Moves the tables of a register from version 1 to version 2, in one transaction: the table `period` is
-/// made and filled from the files of the live filings, and the version is set. Tables of version 2 stay
-/// as they are. No transaction may be open. First [`OpenFault::NoRegister`] comes where there is no table
-/// `register` with the columns `one` and `version`, or not exactly one row in it, with a whole version;
-/// then [`OpenFault::OtherVersion`] where that is neither 1 nor 2; then `NoRegister` where another table
-/// or column of a register of this version is missing. Of version 1 [`OpenFault::Taken`] comes where a
-/// table, an index or a view is named `period`, and then [`OpenFault::Damaged`] where the reader
-/// refuses the file of a live filing, or what it is read to isn't what the tables have of the filing, but
-/// for statuses that it leaves out and for days, or a row of a filing has a value of no form. Where it answers otherwise than `Ok` the tables are as they were.
+/// Moves the tables of a register from version 1 to version 2, in one transaction: the table
+/// `period` is made and filled from the files of the live filings, and the version is set. Tables
+/// of version 2 stay as they are. No transaction may be open. First [`OpenFault::NoRegister`] comes
+/// where there is no table `register` with the columns `one` and `version`, or not exactly one row
+/// in it, with a whole version; then [`OpenFault::OtherVersion`] where that is neither 1 nor 2;
+/// then `NoRegister` where another table or column of a register of this version is missing. Of
+/// version 1 [`OpenFault::Taken`] comes where a table, an index or a view is named `period`, and
+/// then [`OpenFault::Damaged`] where the reader refuses the file of a live filing, or what it is
+/// read to isn't what the tables have of the filing, but for statuses that it leaves out and for
+/// days, or a row of a filing has a value of no form. Where it answers otherwise than `Ok` the
+/// tables are as they were.
 pub fn migrate<S: Alter>(conn: &mut Connection<S>, alloc: Global) -> Result<(), OpenFault>
     requires { conn.old.in_transaction ≡ false }
     ensures mode { conn.new.in_transaction ≡ false }
     ensures began { IsClean (state S.Store conn.new) → IsClean (state S.Store conn.old) }
-    ensures kept { IsClean (state S.Store conn.new) → OnErr result ((state S.Store conn.new).committed ≡ (state S.Store conn.old).committed) }
-    ensures bare { is_versioned (state S.Store conn.old).now.schema ≡ false → result ≡ Err faults.NoRegister }
-    ensures taken { result ≡ Err faults.Taken → IsTrue (is_period_used (state S.Store conn.old).now.schema) }
+    ensures kept { IsClean (state S.Store conn.new)
+        → OnErr result ((state S.Store conn.new).committed ≡ (state S.Store conn.old).committed) }
+    ensures bare { is_versioned (state S.Store conn.old).now.schema ≡ false
+        → result ≡ Err faults.NoRegister }
+    ensures taken { result ≡ Err faults.Taken
+        → IsTrue (is_period_used (state S.Store conn.old).now.schema) }
     ensures judged { IsClean (state S.Store conn.new)
         → IsMoveJudged (state S.Store conn.old) (state S.Store conn.new) result }
     ensures unchanged { IsClean (state S.Store conn.new)
         → (r : Register) → ShowsIn r (state S.Store conn.old)
-        → MatchResult result (λ _. (state S.Store conn.new).committed ≡ (state S.Store conn.old).committed) IsFailure }
+        → MatchResult result (λ _. (state S.Store conn.new).committed
+        ≡ (state S.Store conn.old).committed) IsFailure }
     ensures migrated { IsClean (state S.Store conn.new)
         → (r : Register) → ShowsFirst r (state S.Store conn.old)
         → Migrates r (state S.Store conn.new) result }

@@ -13,21 +13,21 @@ use thiserror::Error as ThisError;
 /// version 2.
 #[derive(Clone, Copy, Debug, PartialEq, Eq, ThisError)]
 pub enum OpenFault {
-    /// A table or a column of a register is missing, or the table `register` doesn't have exactly one
-    /// row with a whole version. The tables are as they were.
+    /// A table or a column of a register is missing, or the table `register` doesn't have exactly
+    /// one row with a whole version. The tables are as they were.
     #[error("no register")]
     NoRegister,
     /// The table `register` has this version, which isn't 2, nor 1 where tables were to be moved.
     /// The tables are as they were.
     #[error("register of version {0}")]
     OtherVersion(i64),
-    /// Where a register was to be set up, a table, an index or a view has a name of a register's; where
-    /// tables of version 1 were to be moved, the name `period`. The store is as it was.
+    /// Where a register was to be set up, a table, an index or a view has a name of a register's;
+    /// where tables of version 1 were to be moved, the name `period`. The store is as it was.
     #[error("not free for a register")]
     Taken,
-    /// Where tables of version 1 were to be moved, the reader refuses the file of a live filing, or what it
-    /// is read to isn't what the tables have of the filing, or a row of a filing has a value of no form.
-    /// The tables are as they were.
+    /// Where tables of version 1 were to be moved, the reader refuses the file of a live filing, or
+    /// what it is read to isn't what the tables have of the filing, or a row of a filing has a
+    /// value of no form. The tables are as they were.
     #[error("the register is damaged")]
     Damaged,
     /// Memory was wanting. The last commit stays.

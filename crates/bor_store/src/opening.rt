@@ -13,8 +13,9 @@ use crate::sql_keep::SqlKeep;
 use sqlite::{Connection, Error, FileFrom, FileStore, Files, Start};
 use sqlite_disk::Disk;
 
-/// A connection to the file of this path, which is made where there is none; `start` stands for what the
-/// file and its log hold. `:memory:` and files that are no database are [`OpenFault::Store`].
+/// A connection to the file of this path, which is made where there is none; `start` stands for
+/// what the file and its log hold. `:memory:` and files that are no database are
+/// [`OpenFault::Store`].
 #[tactic(auto, using(crate::proofs::Judging::fault_fails))]
 pub fn connect<S: Start>(
     rt: &HostRuntime,
@@ -33,8 +34,8 @@ pub fn connect<S: Start>(
 }
 
 impl<S: Start> SqlKeep<FileStore<FileFrom<S>>> {
-    /// The register in the file of this path, which is made where there is none. `:memory:` and files
-    /// that are no database are [`OpenFault::Store`]; the rest is [`SqlKeep::adopt`]'s.
+    /// The register in the file of this path, which is made where there is none. `:memory:` and
+    /// files that are no database are [`OpenFault::Store`]; the rest is [`SqlKeep::adopt`]'s.
     pub fn open(
         rt: &HostRuntime,
         path: &str,
@@ -42,7 +43,9 @@ impl<S: Start> SqlKeep<FileStore<FileFrom<S>>> {
     ) -> Result<SqlKeep<FileStore<FileFrom<S>>>, OpenFault>
         ensures found { IfOk result (λ k. IsClean (file_state k.conn)
             → (r : Register) → HoldsRegister (image_at S.Start) r → ShowsIn r (file_state k.conn)) }
-        ensures one { IfOk result (λ k. (r q : Register) → ShowsIn r (file_state k.conn) → ShowsIn q (file_state k.conn) → r ≡ q) }
+        ensures one { IfOk result (λ k.
+            (r q : Register) → ShowsIn r (file_state k.conn)
+            → ShowsIn q (file_state k.conn) → r ≡ q) }
         ensures unfaulted { IfOk result (λ k. k.faults ≡ 0) }
     {
         let conn = connect(rt, path, start)?;
@@ -51,8 +54,8 @@ impl<S: Start> SqlKeep<FileStore<FileFrom<S>>> {
 }
 
 impl<D: Disk + Drop> SqlKeep<FileStore<D>> {
-    /// Closes the register: the database file has all of it, without the log. Gives the files, which
-    /// hold what the keep showed: the next one to open them finds it.
+    /// Closes the register: the database file has all of it, without the log. Gives the files,
+    /// which hold what the keep showed: the next one to open them finds it.
     pub fn close(self) -> Result<Files<D>, Error>
         ensures { IsClosing self.conn result }
     {
@@ -60,8 +63,8 @@ impl<D: Disk + Drop> SqlKeep<FileStore<D>> {
     }
 }
 
-/// Closes a connection: the database file has all that it showed, without the log. Gives the files, as
-/// [`SqlKeep::close`] does.
+/// Closes a connection: the database file has all that it showed, without the log. Gives the files,
+/// as [`SqlKeep::close`] does.
 pub fn close_files<D: Disk + Drop>(conn: Connection<FileStore<D>>) -> Result<Files<D>, Error>
     ensures { IsClosing conn result }
 {

@@ -54,9 +54,10 @@ fn is_taken(schema: &Schema) -> bool
     is_one_used(schema, &NAMES)
 }
 
-/// Sets up a register of this day and registrar with no agents and no filings, in one transaction. A
-/// fault leaves what the last commit left; [`OpenFault::Taken`] comes where a table, an index or a view
-/// of the store has a name of the register's tables or indexes, whatever the case of its letters.
+/// Sets up a register of this day and registrar with no agents and no filings, in one transaction.
+/// A fault leaves what the last commit left; [`OpenFault::Taken`] comes where a table, an index or
+/// a view of the store has a name of the register's tables or indexes, whatever the case of its
+/// letters.
 pub fn set_up<S: Alter>(
     conn: &mut Connection<S>,
     registrar: &Token,
@@ -65,11 +66,14 @@ pub fn set_up<S: Alter>(
     requires { conn.old.in_transaction ≡ false }
     ensures mode { conn.new.in_transaction ≡ false }
     ensures began { IsClean (state S.Store conn.new) → IsClean (state S.Store conn.old) }
-    ensures taken { (result ≡ Err faults.Taken) ↔ IsTrue (is_taken (state S.Store conn.old).now.schema) }
+    ensures taken { (result ≡ Err faults.Taken)
+        ↔ IsTrue (is_taken (state S.Store conn.old).now.schema) }
     ensures untouched { result ≡ Err faults.Taken → conn.new ≡ conn.old }
-    ensures made { IsClean (state S.Store conn.new) → (state S.Store conn.old).committed.schema ≡ no_schema
+    ensures made { IsClean (state S.Store conn.new)
+        → (state S.Store conn.old).committed.schema ≡ no_schema
         → OnOk result (ShowsIn (empty_register registrar.now day) (state S.Store conn.new)) }
-    ensures kept { IsClean (state S.Store conn.new) → OnErr result ((state S.Store conn.new).committed ≡ (state S.Store conn.old).committed) }
+    ensures kept { IsClean (state S.Store conn.new)
+        → OnErr result ((state S.Store conn.new).committed ≡ (state S.Store conn.old).committed) }
 {
     if is_taken(conn.schema()) {
         return Err(OpenFault::Taken);

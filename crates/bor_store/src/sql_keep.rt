@@ -58,7 +58,8 @@ impl<S: Alter + Drop> SqlKeep<S> {
         }
     }
 
-    // The same of a change: want of memory is told as that, and each other error as a store that failed.
+    // The same of a change: want of memory is told as that, and each other error as a store that
+    // failed.
     fn made<T>(&mut self, made: Result<T, Error>) -> Result<T, StoreFault>
         ensures conn { self.new.conn ≡ self.old.conn }
         ensures told { result ≡ tells_made made }
@@ -127,7 +128,8 @@ impl<S: Alter + Drop> Keep for SqlKeep<S> {
 
     fn filing(&mut self, agent: &AgentName, key: &LodgeKey) -> Result<Option<Filing>, StoreFault>
         ensures reads { ReadsKeep ⟦<SqlKeep<S> as Keep>⟧ self.old self.new result (λ r filing.
-            filing ≡ option_map filing_shown (filing_keyed key.now (filings_of agent.now r.members))) }
+            filing ≡ option_map filing_shown
+            (filing_keyed key.now (filings_of agent.now r.members))) }
         ensures undamaged { IsUndamaged ⟦<SqlKeep<S> as Keep>⟧ self.old self.new result }
     {
         let answer = read_filing(self.conn.connection(), self.alloc, agent, key);
@@ -136,7 +138,8 @@ impl<S: Alter + Drop> Keep for SqlKeep<S> {
 
     fn line(&mut self, agent: &AgentName, key: &LodgeKey) -> Result<Option<FilingLine>, StoreFault>
         ensures reads { ReadsKeep ⟦<SqlKeep<S> as Keep>⟧ self.old self.new result (λ r line.
-            line ≡ option_map (line_of r.day) (filing_keyed key.now (filings_of agent.now r.members))) }
+            line ≡ option_map (line_of r.day)
+            (filing_keyed key.now (filings_of agent.now r.members))) }
         ensures undamaged { IsUndamaged ⟦<SqlKeep<S> as Keep>⟧ self.old self.new result }
     {
         let answer = read_line(self.conn.connection(), self.alloc, agent, key);
@@ -214,7 +217,8 @@ impl<S: Alter + Drop> Keep for SqlKeep<S> {
         declaration: &Ident,
     ) -> Result<Vec<Row>, StoreFault>
         ensures reads { ReadsKeep ⟦<SqlKeep<S> as Keep>⟧ self.old self.new result (λ r rows.
-            rows.items ≡ rows_of viewer.now r.day agent.now declaration.now (filings_of agent.now r.members)) }
+            rows.items
+            ≡ rows_of viewer.now r.day agent.now declaration.now (filings_of agent.now r.members)) }
         ensures undamaged { IsUndamaged ⟦<SqlKeep<S> as Keep>⟧ self.old self.new result }
     {
         let answer = read_rows_of(
@@ -281,14 +285,16 @@ impl<S: Alter + Drop> Keep for SqlKeep<S> {
         bytes: &[u8],
         statements: &[Statement],
     ) -> Result<u32, StoreFault>
-        requires enrolled { IsSure ⟦<SqlKeep<S> as Keep>⟧ self.old (λ r. is_enrolled agent.now r.members ≡ true) }
+        requires enrolled { IsSure ⟦<SqlKeep<S> as Keep>⟧ self.old (λ r.
+            is_enrolled agent.now r.members ≡ true) }
         requires room { IsSure ⟦<SqlKeep<S> as Keep>⟧ self.old (λ r.
             length (filings_of agent.now r.members) < filings_limit) }
         requires fresh { IsSure ⟦<SqlKeep<S> as Keep>⟧ self.old (λ r.
             filing_keyed key.now (filings_of agent.now r.members) ≡ None) }
         requires statements { IsSure ⟦<SqlKeep<S> as Keep>⟧ self.old (λ r.
             AreNew (live_of (filings_of agent.now r.members)) statements.now) }
-        ensures number { let keep = ⟦<SqlKeep<S> as Keep>⟧ in Promised keep.shows keep.is_clean self.old self.new (λ r. IfOk result (λ number.
+        ensures number { let keep = ⟦<SqlKeep<S> as Keep>⟧ in Promised keep.shows keep.is_clean
+            self.old self.new (λ r. IfOk result (λ number.
             number ≡ length (filings_of agent.now r.members) + 1)) }
         ensures changes { ChangesKeep ⟦<SqlKeep<S> as Keep>⟧ self.old self.new result (λ r.
             let own = filings_of agent.now r.members in
@@ -311,10 +317,11 @@ impl<S: Alter + Drop> Keep for SqlKeep<S> {
     }
 
     fn withdraw(&mut self, agent: &AgentName, number: u32) -> Result<(), StoreFault>
-        ensures changes { ChangesKeep ⟦<SqlKeep<S> as Keep>⟧ self.old self.new result (λ r. record r {
-          members = with_filings agent.now
-              (with_withdrawn number (filings_of agent.now r.members)) r.members;
-        }) }
+        ensures changes { ChangesKeep ⟦<SqlKeep<S> as Keep>⟧ self.old self.new result
+            (λ r. record r {
+              members = with_filings agent.now
+                  (with_withdrawn number (filings_of agent.now r.members)) r.members;
+            }) }
         ensures undamaged { IsUndamaged ⟦<SqlKeep<S> as Keep>⟧ self.old self.new result }
     {
         let made = withdraw_filing(self.conn.connection(), agent.as_str(), number);
@@ -333,10 +340,12 @@ impl<S: Alter + Drop> Keep for SqlKeep<S> {
     fn add_agent(&mut self, agent: &AgentName, token: &Token) -> Result<(), StoreFault>
         requires new_name { IsSure ⟦<SqlKeep<S> as Keep>⟧ self.old (λ r.
             is_enrolled agent.now r.members ≡ false) }
-        requires new_token { IsSure ⟦<SqlKeep<S> as Keep>⟧ self.old (λ r. is_taken token.now r ≡ false) }
-        ensures changes { ChangesKeep ⟦<SqlKeep<S> as Keep>⟧ self.old self.new result (λ r. record r {
-          members = with_member (new_member agent.now token.now) r.members;
-        }) }
+        requires new_token { IsSure ⟦<SqlKeep<S> as Keep>⟧ self.old (λ r.
+            is_taken token.now r ≡ false) }
+        ensures changes { ChangesKeep ⟦<SqlKeep<S> as Keep>⟧ self.old self.new result
+            (λ r. record r {
+              members = with_member (new_member agent.now token.now) r.members;
+            }) }
         ensures undamaged { IsUndamaged ⟦<SqlKeep<S> as Keep>⟧ self.old self.new result }
     {
         let made = add_agent(self.conn.connection(), agent, token);

@@ -38,7 +38,8 @@ fn is_alike<S: Alter + Drop>(
 ) -> Result<bool, ReadError>
     requires { lookup.old.in_transaction ≡ false }
     ensures reads { ReadsOnly (state S.Store lookup.old) (state S.Store lookup.new) }
-    ensures answer { Answers (state S.Store lookup.old) (state S.Store lookup.new) result (λ r alike.
+    ensures answer { Answers (state S.Store lookup.old)
+        (state S.Store lookup.new) result (λ r alike.
         alike ≡ is_like one.now (node_at view.now.day candidate.now (rows_seen view.now r))) }
 {
     match node_in(lookup, alloc, view, candidate)? {
@@ -59,7 +60,8 @@ fn add_if_alike<S: Alter + Drop>(
     requires { lookup.old.in_transaction ≡ false }
     ensures reads { ReadsOnly (state S.Store lookup.old) (state S.Store lookup.new) }
     ensures answer { Answers (state S.Store lookup.old) (state S.Store lookup.new) result (λ r _.
-        Grown (IsAlike view.now.day (rows_seen view.now r) one.now candidate.now) class.old class.new) }
+        Grown (IsAlike view.now.day (rows_seen view.now r) one.now candidate.now)
+        class.old class.new) }
 {
     if class.has(candidate) {
         return Ok(());
@@ -83,7 +85,8 @@ fn add_alike<S: Alter + Drop>(
     requires { lookup.old.in_transaction ≡ false }
     ensures reads { ReadsOnly (state S.Store lookup.old) (state S.Store lookup.new) }
     ensures answer { Answers (state S.Store lookup.old) (state S.Store lookup.new) result (λ r _.
-        Grown (IsAlikeIn view.now.day (rows_seen view.now r) one.now candidates.now) class.old class.new) }
+        Grown (IsAlikeIn view.now.day (rows_seen view.now r) one.now candidates.now)
+        class.old class.new) }
 {
     for candidate in candidates {
         add_if_alike(lookup, alloc, view, class, one, candidate)?;
@@ -104,7 +107,8 @@ fn add_signed<S: Alter + Drop>(
     requires { lookup.old.in_transaction ≡ false }
     ensures reads { ReadsOnly (state S.Store lookup.old) (state S.Store lookup.new) }
     ensures answer { Answers (state S.Store lookup.old) (state S.Store lookup.new) result (λ r _.
-        Expands view.now.day (rows_seen view.now r) one.now (sign ∷ []) class.old class.new (λ k. contains sign_cmp looked.old k) (λ k. contains sign_cmp looked.new k)) }
+        Expands view.now.day (rows_seen view.now r) one.now (sign ∷ []) class.old class.new
+        (λ k. contains sign_cmp looked.old k) (λ k. contains sign_cmp looked.new k)) }
 {
     if looked.contains(&sign) {
         return Ok(());
@@ -128,7 +132,9 @@ fn add_identified<S: Alter + Drop>(
     requires { lookup.old.in_transaction ≡ false }
     ensures reads { ReadsOnly (state S.Store lookup.old) (state S.Store lookup.new) }
     ensures answer { Answers (state S.Store lookup.old) (state S.Store lookup.new) result (λ r _.
-        Expands view.now.day (rows_seen view.now r) one.now (map by_identifier identifiers.now) class.old class.new (λ k. contains sign_cmp looked.old k) (λ k. contains sign_cmp looked.new k)) }
+        Expands view.now.day (rows_seen view.now r) one.now
+        (map by_identifier identifiers.now) class.old class.new
+        (λ k. contains sign_cmp looked.old k) (λ k. contains sign_cmp looked.new k)) }
 {
     for identifier in identifiers {
         let sign = Sign::of_identifier(alloc, identifier)?;
@@ -149,7 +155,8 @@ fn add_signs<S: Alter + Drop>(
     requires { lookup.old.in_transaction ≡ false }
     ensures reads { ReadsOnly (state S.Store lookup.old) (state S.Store lookup.new) }
     ensures answer { Answers (state S.Store lookup.old) (state S.Store lookup.new) result (λ r _.
-        Expands view.now.day (rows_seen view.now r) one.now (signs one.now) class.old class.new (λ k. contains sign_cmp looked.old k) (λ k. contains sign_cmp looked.new k)) }
+        Expands view.now.day (rows_seen view.now r) one.now (signs one.now) class.old class.new
+        (λ k. contains sign_cmp looked.old k) (λ k. contains sign_cmp looked.new k)) }
 {
     let sign = Sign::of_node(alloc, &one.node)?;
     add_signed(lookup, alloc, view, class, looked, one, sign)?;
@@ -176,7 +183,8 @@ fn add_aliases<S: Alter + Drop>(
     requires { lookup.old.in_transaction ≡ false }
     ensures reads { ReadsOnly (state S.Store lookup.old) (state S.Store lookup.new) }
     ensures answer { Answers (state S.Store lookup.old) (state S.Store lookup.new) result (λ r _.
-        Follows (seen view.now r) node.now class.old class.new (λ k. contains sign_cmp looked.old k) (λ k. contains sign_cmp looked.new k)) }
+        Follows (seen view.now r) node.now class.old class.new (λ k. contains sign_cmp looked.old k)
+        (λ k. contains sign_cmp looked.new k)) }
 {
     let Some(one) = node_in(lookup, alloc, view, node)? else {
         return Ok(());
@@ -196,7 +204,8 @@ fn same_in<S: Alter + Drop>(
 ) -> Result<Vec<Node>, ReadError>
     requires { lookup.old.in_transaction ≡ false }
     ensures reads { ReadsOnly (state S.Store lookup.old) (state S.Store lookup.new) }
-    ensures answer { Answers (state S.Store lookup.old) (state S.Store lookup.new) result (λ r nodes.
+    ensures answer { Answers (state S.Store lookup.old)
+        (state S.Store lookup.new) result (λ r nodes.
         AreSame (seen view.now r) node.now nodes.items) }
 {
     let mut class = Class::new(alloc);
@@ -220,7 +229,8 @@ fn same_told<S: Alter + Drop>(
 ) -> Result<Vec<Node>, ReadError>
     requires { lookup.old.in_transaction ≡ false }
     ensures reads { ReadsOnly (state S.Store lookup.old) (state S.Store lookup.new) }
-    ensures answer { Answers (state S.Store lookup.old) (state S.Store lookup.new) result (λ r nodes.
+    ensures answer { Answers (state S.Store lookup.old)
+        (state S.Store lookup.new) result (λ r nodes.
         AreSame (seen view.now r) node.now nodes.items) }
 {
     lookup.list_where_many(alloc, view)?;
@@ -230,9 +240,9 @@ fn same_told<S: Alter + Drop>(
     }
 }
 
-/// All nodes that stand for one entity with a node on a day, of what the viewer sees, by finitely many aliases,
-/// each once and in any order; the node is one of them, whether or not it is open. An identifier that they
-/// share is looked up once.
+/// All nodes that stand for one entity with a node on a day, of what the viewer sees, by finitely
+/// many aliases, each once and in any order; the node is one of them, whether or not it is open. An
+/// identifier that they share is looked up once.
 pub fn read_same<S: Alter + Drop>(
     lookup: &mut Lookup<S>,
     alloc: Global,
@@ -242,7 +252,8 @@ pub fn read_same<S: Alter + Drop>(
 ) -> Result<Vec<Node>, ReadError>
     requires { lookup.old.in_transaction ≡ false }
     ensures reads { ReadsOnly (state S.Store lookup.old) (state S.Store lookup.new) }
-    ensures answer { Answers (state S.Store lookup.old) (state S.Store lookup.new) result (λ r nodes.
+    ensures answer { Answers (state S.Store lookup.old)
+        (state S.Store lookup.new) result (λ r nodes.
         AreSame (seen_at viewer.now day r) node.now nodes.items) }
 {
     let view = view_of(lookup, alloc, viewer, day)?;

@@ -45,8 +45,9 @@ const MANY: usize = 128;
 /// All are read where there are at most so many statements for each record that was read.
 const SHARE: usize = 16;
 
-/// For a view, whether the viewer sees a filing and which row a record shows, where that was told; of
-/// these rows the records, by where they stand; and all that the viewer sees as lists, where it was read.
+/// For a view, whether the viewer sees a filing and which row a record shows, where that was told;
+/// of these rows the records, by where they stand; and all that the viewer sees as lists, where it
+/// was read.
 #[derive(Drop)]
 pub(crate) struct Found {
     pub(crate) view: View,
@@ -83,8 +84,8 @@ impl Found {
         found
     }
 
-    /// All is read now where the register has at most so many statements: so many for each record that was
-    /// read. It is told where as many records were read since it was last told as before.
+    /// All is read now where the register has at most so many statements: so many for each record
+    /// that was read. It is told where as many records were read since it was last told as before.
     pub(crate) fn most(&mut self) -> Option<u32>
         ensures view { self.new.view ≡ self.old.view }
         ensures same { (r : Register) → AreOf r self.old → AreOf r self.new }
@@ -109,7 +110,8 @@ impl Found {
     /// Whether the viewer sees the filing.
     pub(crate) fn filing(&self, key: &FilingKey) -> Option<bool>
         ensures { IfSome result (λ seen. (r : Register) → AreOf r self.now
-            → seen ≡ is_number_seen self.now.view.viewer self.now.view.today key.now.agent (filings_of key.now.agent r.members) key.now.number) }
+            → seen ≡ is_number_seen self.now.view.viewer self.now.view.today key.now.agent
+            (filings_of key.now.agent r.members) key.now.number) }
     {
         match self.filings.get(key) {
             Some(seen) => Some(*seen),
@@ -120,7 +122,8 @@ impl Found {
     /// The same with this filing; nothing where memory is wanting.
     pub(crate) fn with_filing(self, key: FilingKey, seen: bool) -> Option<Found>
         ensures { IfSome result (λ found. (r : Register) → AreOf r self
-            → seen ≡ is_number_seen self.view.viewer self.view.today key.agent (filings_of key.agent r.members) key.number → AreOf r found) }
+            → seen ≡ is_number_seen self.view.viewer self.view.today key.agent
+            (filings_of key.agent r.members) key.number → AreOf r found) }
     {
         let Found {
             view,
@@ -150,7 +153,8 @@ impl Found {
         alloc: Global,
         node: &Node,
     ) -> Result<Option<Option<NodeInfo>>, AllocError>
-        ensures { IfOk result (λ found. (r : Register) (info : Option NodeInfo) → AreOf r self.now → found ≡ Some info
+        ensures { IfOk result (λ found.
+            (r : Register) (info : Option NodeInfo) → AreOf r self.now → found ≡ Some info
             → info ≡ info_of (seen self.now.view r) node.now) }
     {
         match self.rows.get(node) {
@@ -166,7 +170,8 @@ impl Found {
         alloc: Global,
         node: &Node,
     ) -> Result<Option<Option<OpenNode>>, AllocError>
-        ensures { IfOk result (λ found. (r : Register) (one : Option OpenNode) → AreOf r self.now → found ≡ Some one
+        ensures { IfOk result (λ found.
+            (r : Register) (one : Option OpenNode) → AreOf r self.now → found ≡ Some one
             → one ≡ node_at self.now.view.day node.now (rows_seen self.now.view r)) }
     {
         match self.rows.get(node) {
@@ -208,7 +213,8 @@ impl Found {
 
     /// The record of the statement at a place.
     pub(crate) fn placed(&self, alloc: Global, at: &At) -> Result<Option<Node>, AllocError>
-        ensures { IfOk result (λ found. (r : Register) (n : Node) → AreOf r self.now → found ≡ Some n
+        ensures { IfOk result (λ found.
+            (r : Register) (n : Node) → AreOf r self.now → found ≡ Some n
             → record_standing r.members at.now ≡ Some n) }
     {
         let key = PlaceKey {

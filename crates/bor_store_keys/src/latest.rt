@@ -50,7 +50,8 @@ fn last_told<S: Alter + Drop>(
     requires { lookup.old.in_transaction ≡ false }
     ensures reads { ReadsOnly (state S.Store lookup.old) (state S.Store lookup.new) }
     ensures answer { Answers (state S.Store lookup.old) (state S.Store lookup.new) result (λ r last.
-        last ≡ last_or None (filter (is_told view.now agent.now (filings_of agent.now r.members)) rows.items)) }
+        last ≡ last_or None
+        (filter (is_told view.now agent.now (filings_of agent.now r.members)) rows.items)) }
 {
     while let Some(row) = rows.pop() {
         if is_told(lookup, alloc, view, agent, &row)? {

@@ -1,11 +1,12 @@
 //! Nodes, links and aliases of a register in tables, read by key over a connection.
 //!
-//! A read asks by the indexes of the tables for the statements of the records that it meets. What a record
-//! shows is the latest statement of its series that the viewer sees, where it isn't closed; what is found
-//! by a subject, by a record or by an identifier is confirmed by it. Where a report has met much of the
-//! register, all that the viewer sees is read at once, and lists in memory (`bor_chains`) answer the rest.
-//! Where the connection shows a register (`bor_store_sql`), the answers are those of the nodes and links of
-//! all rows that the viewer sees (`bor_records::links`), or memory or the store failed.
+//! A read asks by the indexes of the tables for the statements of the records that it meets. What a
+//! record shows is the latest statement of its series that the viewer sees, where it isn't closed;
+//! what is found by a subject, by a record or by an identifier is confirmed by it. Where a report
+//! has met much of the register, all that the viewer sees is read at once, and lists in memory
+//! (`bor_chains`) answer the rest. Where the connection shows a register (`bor_store_sql`), the
+//! answers are those of the nodes and links of all rows that the viewer sees
+//! (`bor_records::links`), or memory or the store failed.
 #![tactic(auto)]
 
 mod alike;

@@ -27,7 +27,8 @@ use bor_terms::{AgentName, Day};
 use sqlite::Alter;
 use std::alloc::Global;
 
-// The link between two records into an open entity: where that is the subject, and the party is open.
+// The link between two records into an open entity: where that is the subject, and the party is
+// open.
 fn link_between<S: Alter + Drop>(
     lookup: &mut Lookup<S>,
     alloc: Global,
@@ -41,7 +42,9 @@ fn link_between<S: Alter + Drop>(
     ensures reads { ReadsOnly (state S.Store lookup.old) (state S.Store lookup.new) }
     ensures answer { Answers (state S.Store lookup.old) (state S.Store lookup.new) result (λ r link.
         is_entity_info (info_of (seen view.now r) node.now) ≡ true
-        → link ≡ only_into node.now (link_between view.now.day (nodes_of view.now.day (rows_seen view.now r)) party subject interests.now)) }
+        → link ≡ only_into node.now
+        (link_between view.now.day
+        (nodes_of view.now.day (rows_seen view.now r)) party subject interests.now)) }
 {
     if subject != *node {
         return Ok(None);
@@ -123,9 +126,11 @@ fn links_of<S: Alter + Drop>(
 ) -> Result<Vec<Link>, ReadError>
     requires { lookup.old.in_transaction ≡ false }
     ensures reads { ReadsOnly (state S.Store lookup.old) (state S.Store lookup.new) }
-    ensures answer { Answers (state S.Store lookup.old) (state S.Store lookup.new) result (λ r links.
+    ensures answer { Answers (state S.Store lookup.old)
+        (state S.Store lookup.new) result (λ r links.
         is_entity_info (info_of (seen view.now r) node.now) ≡ true
-        → links.items ≡ filter_map (link_at view.now.day (rows_seen view.now r) node.now) records.now) }
+        → links.items
+        ≡ filter_map (link_at view.now.day (rows_seen view.now r) node.now) records.now) }
 {
     let mut links = Vec::new(alloc);
     for one in records {
@@ -144,7 +149,8 @@ fn links_into<S: Alter + Drop>(
 ) -> Result<Vec<Link>, ReadError>
     requires { lookup.old.in_transaction ≡ false }
     ensures reads { ReadsOnly (state S.Store lookup.old) (state S.Store lookup.new) }
-    ensures answer { Answers (state S.Store lookup.old) (state S.Store lookup.new) result (λ r links.
+    ensures answer { Answers (state S.Store lookup.old)
+        (state S.Store lookup.new) result (λ r links.
         AreLinksInto (seen view.now r) node.now links.items) }
 {
     if !is_entity(lookup, alloc, view, node)? {
@@ -163,7 +169,8 @@ fn links_told<S: Alter + Drop>(
 ) -> Result<Vec<Link>, ReadError>
     requires { lookup.old.in_transaction ≡ false }
     ensures reads { ReadsOnly (state S.Store lookup.old) (state S.Store lookup.new) }
-    ensures answer { Answers (state S.Store lookup.old) (state S.Store lookup.new) result (λ r links.
+    ensures answer { Answers (state S.Store lookup.old)
+        (state S.Store lookup.new) result (λ r links.
         AreLinksInto (seen view.now r) node.now links.items) }
 {
     lookup.list_where_many(alloc, view)?;
@@ -173,8 +180,8 @@ fn links_told<S: Alter + Drop>(
     }
 }
 
-/// The links into a node on a day, of what the viewer sees: of each open relationship with this subject whose
-/// two ends are open, each once and in any order.
+/// The links into a node on a day, of what the viewer sees: of each open relationship with this
+/// subject whose two ends are open, each once and in any order.
 pub fn read_links_into<S: Alter + Drop>(
     lookup: &mut Lookup<S>,
     alloc: Global,
@@ -184,7 +191,8 @@ pub fn read_links_into<S: Alter + Drop>(
 ) -> Result<Vec<Link>, ReadError>
     requires { lookup.old.in_transaction ≡ false }
     ensures reads { ReadsOnly (state S.Store lookup.old) (state S.Store lookup.new) }
-    ensures answer { Answers (state S.Store lookup.old) (state S.Store lookup.new) result (λ r links.
+    ensures answer { Answers (state S.Store lookup.old)
+        (state S.Store lookup.new) result (λ r links.
         AreLinksInto (seen_at viewer.now day r) node.now links.items) }
 {
     let view = view_of(lookup, alloc, viewer, day)?;

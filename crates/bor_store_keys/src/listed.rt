@@ -24,7 +24,8 @@ pub(crate) fn node_listed<S: Alter + Drop>(
 ) -> Result<Option<NodeInfo>, ReadError>
     requires { Holds (state S.Store lookup.old) (λ r. lists.shown ≡ seen view.now r) }
     ensures kept { lookup.new ≡ lookup.old }
-    ensures answer { Answers (state S.Store lookup.old) (state S.Store lookup.new) result (λ r info. info ≡ info_of (seen view.now r) node.now) }
+    ensures answer { Answers (state S.Store lookup.old) (state S.Store lookup.new) result (λ r info.
+        info ≡ info_of (seen view.now r) node.now) }
 {
     let told = lists.node(node);
     lookup.put_lists(view, lists);
@@ -40,7 +41,8 @@ pub(crate) fn same_listed<S: Alter + Drop>(
 ) -> Result<Vec<Node>, ReadError>
     requires { Holds (state S.Store lookup.old) (λ r. lists.shown ≡ seen view.now r) }
     ensures kept { lookup.new ≡ lookup.old }
-    ensures answer { Answers (state S.Store lookup.old) (state S.Store lookup.new) result (λ r nodes. AreSame (seen view.now r) node.now nodes.items) }
+    ensures answer { Answers (state S.Store lookup.old) (state S.Store lookup.new) result
+        (λ r nodes. AreSame (seen view.now r) node.now nodes.items) }
 {
     let told = lists.same(node);
     lookup.put_lists(view, lists);
@@ -56,7 +58,8 @@ pub(crate) fn links_listed<S: Alter + Drop>(
 ) -> Result<Vec<Link>, ReadError>
     requires { Holds (state S.Store lookup.old) (λ r. lists.shown ≡ seen view.now r) }
     ensures kept { lookup.new ≡ lookup.old }
-    ensures answer { Answers (state S.Store lookup.old) (state S.Store lookup.new) result (λ r links. AreLinksInto (seen view.now r) node.now links.items) }
+    ensures answer { Answers (state S.Store lookup.old) (state S.Store lookup.new) result
+        (λ r links. AreLinksInto (seen view.now r) node.now links.items) }
 {
     let told = lists.links_into(node);
     lookup.put_lists(view, lists);

@@ -33,10 +33,11 @@ use sqlite::{Alter, Connection};
 use std::alloc::{AllocError, Global};
 use std::marker::Model;
 
-/// A connection to a register's tables, with what a report was last told over it: of one viewer and day
-/// the filings that are seen and what nodes show, with where it stands. So a report reads each of them once.
-/// Where a report has met much of the register, all is read at once, and the report asks lists in memory
-/// from then on. What was told is forgotten where the connection is used for anything else.
+/// A connection to a register's tables, with what a report was last told over it: of one viewer and
+/// day the filings that are seen and what nodes show, with where it stands. So a report reads each
+/// of them once. Where a report has met much of the register, all is read at once, and the report
+/// asks lists in memory from then on. What was told is forgotten where the connection is used for
+/// anything else.
 #[derive(Drop)]
 pub struct Lookup<S: Alter + Drop> {
     conn: Connection<S>,
@@ -73,7 +74,8 @@ impl<S: Alter + Drop> Lookup<S> {
 
     /// The connection, for whatever is asked of it. What was found is forgotten.
     pub fn connection(&mut self) -> &mut Connection<S>
-        ensures* writes_back { sem 𝓛 (Lends (the_row S.row S.Store) (held.the_row S.row S.Store) self.entry result (λ w. w)) }
+        ensures* writes_back { sem 𝓛 (Lends (the_row S.row S.Store)
+            (held.the_row S.row S.Store) self.entry result (λ w. w)) }
         ensures value { result.now ≡ self.old }
     {
         self.found = None;
@@ -95,7 +97,8 @@ impl<S: Alter + Drop> Lookup<S> {
     pub(crate) fn read_today(&mut self, alloc: Global) -> Result<Day, ReadError>
         requires { self.old.in_transaction ≡ false }
         ensures reads { ReadsOnly (state S.Store self.old) (state S.Store self.new) }
-        ensures answer { Answers (state S.Store self.old) (state S.Store self.new) result (λ r day. day ≡ r.day) }
+        ensures answer { Answers (state S.Store self.old) (state S.Store self.new) result (λ r day.
+            day ≡ r.day) }
     {
         read_day(&mut self.conn, alloc)
     }
@@ -111,7 +114,8 @@ impl<S: Alter + Drop> Lookup<S> {
         requires { self.old.in_transaction ≡ false }
         ensures reads { ReadsOnly (state S.Store self.old) (state S.Store self.new) }
         ensures answer { Answers (state S.Store self.old) (state S.Store self.new) result (λ r seen.
-            seen ≡ is_number_seen view.now.viewer view.now.today agent.now (filings_of agent.now r.members) number) }
+            seen ≡ is_number_seen view.now.viewer view.now.today agent.now
+            (filings_of agent.now r.members) number) }
     {
         is_number_seen(
             &mut self.conn,
@@ -132,7 +136,8 @@ impl<S: Alter + Drop> Lookup<S> {
         requires { self.old.in_transaction ≡ false }
         ensures reads { ReadsOnly (state S.Store self.old) (state S.Store self.new) }
         ensures answer { Answers (state S.Store self.old) (state S.Store self.new) result (λ r rows.
-            rows.items ≡ map bare (in_series node.now.declaration node.now.rec (placed_of node.now.agent r))) }
+            rows.items
+            ≡ map bare (in_series node.now.declaration node.now.rec (placed_of node.now.agent r))) }
     {
         read_series(
             &mut self.conn,
@@ -152,7 +157,9 @@ impl<S: Alter + Drop> Lookup<S> {
         requires { self.old.in_transaction ≡ false }
         ensures reads { ReadsOnly (state S.Store self.old) (state S.Store self.new) }
         ensures answer { Answers (state S.Store self.old) (state S.Store self.new) result (λ r rows.
-            rows.items ≡ map bare (with_subject node.now.declaration node.now.rec (placed_of node.now.agent r))) }
+            rows.items
+            ≡ map bare
+            (with_subject node.now.declaration node.now.rec (placed_of node.now.agent r))) }
     {
         read_subject(
             &mut self.conn,
@@ -163,7 +170,8 @@ impl<S: Alter + Drop> Lookup<S> {
         )
     }
 
-    /// The rows of the live statements of the agent's records with this identifier, of whatever declaration.
+    /// The rows of the live statements of the agent's records with this identifier, of whatever
+    /// declaration.
     pub(crate) fn recorded(
         &mut self,
         alloc: Global,
@@ -279,7 +287,8 @@ impl<S: Alter + Drop> Lookup<S> {
     /// Whether the viewer sees the filing, where that was found.
     pub(crate) fn is_seen(&self, view: &View, key: &FilingKey) -> Option<bool>
         ensures { IfSome result (λ seen. Holds (state S.Store self.now) (λ r.
-            seen ≡ is_number_seen view.now.viewer view.now.today key.now.agent (filings_of key.now.agent r.members) key.now.number)) }
+            seen ≡ is_number_seen view.now.viewer view.now.today key.now.agent
+            (filings_of key.now.agent r.members) key.now.number)) }
     {
         match &self.found {
             Some(found) if found.view.is(view) => found.filing(key),
@@ -290,7 +299,8 @@ impl<S: Alter + Drop> Lookup<S> {
     /// Notes whether the viewer sees the filing.
     pub(crate) fn note_filing(&mut self, view: &View, key: FilingKey, seen: bool)
         requires { Holds (state S.Store self.old) (λ r.
-            seen ≡ is_number_seen view.now.viewer view.now.today key.agent (filings_of key.agent r.members) key.number) }
+            seen ≡ is_number_seen view.now.viewer view.now.today key.agent
+            (filings_of key.agent r.members) key.number) }
         ensures { self.new ≡ self.old }
     {
         match self.found.take() {
@@ -306,7 +316,8 @@ impl<S: Alter + Drop> Lookup<S> {
         view: &View,
         node: &Node,
     ) -> Result<Option<Option<NodeInfo>>, AllocError>
-        ensures { IfOk result (λ found. (info : Option NodeInfo) → found ≡ Some info → Holds (state S.Store self.now) (λ r.
+        ensures { IfOk result (λ found.
+            (info : Option NodeInfo) → found ≡ Some info → Holds (state S.Store self.now) (λ r.
             info ≡ info_of (seen view.now r) node.now)) }
     {
         match &self.found {
@@ -322,7 +333,8 @@ impl<S: Alter + Drop> Lookup<S> {
         view: &View,
         node: &Node,
     ) -> Result<Option<Option<OpenNode>>, AllocError>
-        ensures { IfOk result (λ found. (one : Option OpenNode) → found ≡ Some one → Holds (state S.Store self.now) (λ r.
+        ensures { IfOk result (λ found.
+            (one : Option OpenNode) → found ≡ Some one → Holds (state S.Store self.now) (λ r.
             one ≡ node_at view.now.day node.now (rows_seen view.now r))) }
     {
         match &self.found {
@@ -333,7 +345,8 @@ impl<S: Alter + Drop> Lookup<S> {
 
     /// The record of the statement at a place, where that was found.
     pub(crate) fn placed(&self, alloc: Global, at: &At) -> Result<Option<Node>, AllocError>
-        ensures { IfOk result (λ found. (n : Node) → found ≡ Some n → Holds (state S.Store self.now) (λ r.
+        ensures { IfOk result (λ found.
+            (n : Node) → found ≡ Some n → Holds (state S.Store self.now) (λ r.
             record_standing r.members at.now ≡ Some n)) }
     {
         match &self.found {
@@ -344,7 +357,8 @@ impl<S: Alter + Drop> Lookup<S> {
 
     /// Notes the row that a record shows.
     pub(crate) fn note_row(&mut self, alloc: Global, view: &View, node: Node, row: Option<Row>)
-        requires { Holds (state S.Store self.old) (λ r. row ≡ open_at view.now.day node (rows_seen view.now r)) }
+        requires { Holds (state S.Store self.old) (λ r.
+            row ≡ open_at view.now.day node (rows_seen view.now r)) }
         ensures { self.new ≡ self.old }
     {
         match self.found.take() {
@@ -356,7 +370,8 @@ impl<S: Alter + Drop> Lookup<S> {
     // All is read now where the register has at most so many statements.
     fn most(&mut self, view: &View) -> Option<u32>
         ensures kept { self.new ≡ self.old }
-        ensures today { IfSome result (λ _. Holds (state S.Store self.old) (λ r. view.now.today ≡ r.day)) }
+        ensures today { IfSome result (λ _.
+            Holds (state S.Store self.old) (λ r. view.now.today ≡ r.day)) }
     {
         match self.found.take() {
             Some(mut found) if found.view.is(view) => {
@@ -384,10 +399,12 @@ impl<S: Alter + Drop> Lookup<S> {
         }
     }
 
-    /// What the viewer sees as lists, where all was read. They are taken out, so that they can be asked.
+    /// What the viewer sees as lists, where all was read. They are taken out, so that they can be
+    /// asked.
     pub(crate) fn take_lists(&mut self, view: &View) -> Option<ListSource>
         ensures kept { self.new ≡ self.old }
-        ensures lists { IfSome result (λ lists. Holds (state S.Store self.old) (λ r. lists.shown ≡ seen view.now r)) }
+        ensures lists { IfSome result (λ lists.
+            Holds (state S.Store self.old) (λ r. lists.shown ≡ seen view.now r)) }
     {
         match self.found.take() {
             Some(mut found) if found.view.is(view) => {
@@ -419,12 +436,14 @@ impl<S: Alter + Drop> Lookup<S> {
 
 // What is read at once.
 impl<S: Alter + Drop> Lookup<S> {
-    // Reads and notes all rows that the viewer sees, where the register has at most so many statements.
+    // Reads and notes all rows that the viewer sees, where the register has at most so many
+    // statements.
     fn list(&mut self, alloc: Global, view: &View, most: u32) -> Result<(), ReadError>
         requires mode { self.old.in_transaction ≡ false }
         requires today { Holds (state S.Store self.old) (λ r. view.now.today ≡ r.day) }
         ensures reads { ReadsOnly (state S.Store self.old) (state S.Store self.new) }
-        ensures answer { Answers (state S.Store self.old) (state S.Store self.new) result (λ r _. Unit {0}) }
+        ensures answer { Answers (state S.Store self.old) (state S.Store self.new) result
+            (λ r _. Unit {0}) }
     {
         if self.has_more(most)? {
             return Ok(());
@@ -434,12 +453,14 @@ impl<S: Alter + Drop> Lookup<S> {
         Ok(())
     }
 
-    /// Where many records were read one by one, and the register isn't much larger, reads and notes all
-    /// that the viewer sees. Where memory is wanting for it, records are read one by one as before.
+    /// Where many records were read one by one, and the register isn't much larger, reads and notes
+    /// all that the viewer sees. Where memory is wanting for it, records are read one by one as
+    /// before.
     pub(crate) fn list_where_many(&mut self, alloc: Global, view: &View) -> Result<(), ReadError>
         requires { self.old.in_transaction ≡ false }
         ensures reads { ReadsOnly (state S.Store self.old) (state S.Store self.new) }
-        ensures answer { Answers (state S.Store self.old) (state S.Store self.new) result (λ r _. Unit {0}) }
+        ensures answer { Answers (state S.Store self.old) (state S.Store self.new) result
+            (λ r _. Unit {0}) }
     {
         let Some(most) = self.most(view) else {
             return Ok(());

@@ -136,7 +136,8 @@ pub(crate) fn is_node<S: Alter + Drop>(
     Ok(info_in(lookup, alloc, view, node)?.is_some())
 }
 
-// What a chain asks of a node, which is read of the tables once, or of the lists where all was read.
+// What a chain asks of a node, which is read of the tables once, or of the lists where all was
+// read.
 fn info_told<S: Alter + Drop>(
     lookup: &mut Lookup<S>,
     alloc: Global,
@@ -158,8 +159,8 @@ fn info_told<S: Alter + Drop>(
     }
 }
 
-/// What a chain asks of a node on a day, of what the viewer sees; `None` where no open record of an entity
-/// or a person is there.
+/// What a chain asks of a node on a day, of what the viewer sees; `None` where no open record of an
+/// entity or a person is there.
 pub fn read_node<S: Alter + Drop>(
     lookup: &mut Lookup<S>,
     alloc: Global,

@@ -27,7 +27,8 @@ fn interests<S: Alter + Drop>(
 ) -> Result<Vec<Interest>, ReadError>
     requires { lookup.old.in_transaction ≡ false }
     ensures reads { ReadsOnly (state S.Store lookup.old) (state S.Store lookup.new) }
-    ensures answer { Answers (state S.Store lookup.old) (state S.Store lookup.new) result (λ r interests.
+    ensures answer { Answers (state S.Store lookup.old) (state S.Store lookup.new) result
+        (λ r interests.
         interests.items ≡ map (λ row. row.interest) (interests_at at.now r.members)) }
 {
     let rows = lookup.interests(alloc, at)?;
@@ -42,7 +43,8 @@ fn identifiers<S: Alter + Drop>(
 ) -> Result<Vec<Identifier>, ReadError>
     requires { lookup.old.in_transaction ≡ false }
     ensures reads { ReadsOnly (state S.Store lookup.old) (state S.Store lookup.new) }
-    ensures answer { Answers (state S.Store lookup.old) (state S.Store lookup.new) result (λ r identifiers.
+    ensures answer { Answers (state S.Store lookup.old) (state S.Store lookup.new) result
+        (λ r identifiers.
         identifiers.items ≡ map (λ row. row.identifier) (identifiers_at at.now r.members)) }
 {
     let rows = lookup.identifiers(alloc, at)?;
@@ -57,7 +59,8 @@ fn with_lists<S: Alter + Drop>(
 ) -> Result<Row, ReadError>
     requires { lookup.old.in_transaction ≡ false }
     ensures reads { ReadsOnly (state S.Store lookup.old) (state S.Store lookup.new) }
-    ensures answer { Answers (state S.Store lookup.old) (state S.Store lookup.new) result (λ r listed.
+    ensures answer { Answers (state S.Store lookup.old) (state S.Store lookup.new) result
+        (λ r listed.
         listed ≡ listed_row r.members row) }
 {
     match &row.part {

@@ -43,8 +43,10 @@ pub(crate) fn records_into<S: Alter + Drop>(
 ) -> Result<Vec<Node>, ReadError>
     requires { lookup.old.in_transaction ≡ false }
     ensures reads { ReadsOnly (state S.Store lookup.old) (state S.Store lookup.new) }
-    ensures answer { Answers (state S.Store lookup.old) (state S.Store lookup.new) result (λ r records.
-        CoverRecords (with_subject node.now.declaration node.now.rec (placed_of node.now.agent r)) records.items) }
+    ensures answer { Answers (state S.Store lookup.old) (state S.Store lookup.new) result
+        (λ r records.
+        CoverRecords (with_subject node.now.declaration node.now.rec (placed_of node.now.agent r))
+        records.items) }
 {
     let rows = lookup.naming(alloc, node)?;
     let records = records_at(alloc, rows)?;
@@ -93,7 +95,8 @@ fn records_standing<S: Alter + Drop>(
 ) -> Result<Vec<Node>, ReadError>
     requires { lookup.old.in_transaction ≡ false }
     ensures reads { ReadsOnly (state S.Store lookup.old) (state S.Store lookup.new) }
-    ensures answer { Answers (state S.Store lookup.old) (state S.Store lookup.new) result (λ r records.
+    ensures answer { Answers (state S.Store lookup.old) (state S.Store lookup.new) result
+        (λ r records.
         records.items ≡ filter_map (λ row. record_standing r.members row.at) rows.now) }
 {
     let mut records = Vec::new(alloc);
@@ -113,7 +116,8 @@ fn records_identified<S: Alter + Drop>(
 ) -> Result<Vec<Node>, ReadError>
     requires { lookup.old.in_transaction ≡ false }
     ensures reads { ReadsOnly (state S.Store lookup.old) (state S.Store lookup.new) }
-    ensures answer { Answers (state S.Store lookup.old) (state S.Store lookup.new) result (λ r records.
+    ensures answer { Answers (state S.Store lookup.old) (state S.Store lookup.new) result
+        (λ r records.
         CoverRecords (with_identifier scheme.now id.now (placed r.members)) records.items) }
 {
     let rows = lookup.identified(alloc, scheme, id)?;
@@ -130,7 +134,8 @@ fn records_named<S: Alter + Drop>(
 ) -> Result<Vec<Node>, ReadError>
     requires { lookup.old.in_transaction ≡ false }
     ensures reads { ReadsOnly (state S.Store lookup.old) (state S.Store lookup.new) }
-    ensures answer { Answers (state S.Store lookup.old) (state S.Store lookup.new) result (λ r records.
+    ensures answer { Answers (state S.Store lookup.old) (state S.Store lookup.new) result
+        (λ r records.
         CoverRecords (in_record rec.now (placed_of agent.now r)) records.items) }
 {
     let rows = lookup.recorded(alloc, agent, rec)?;
@@ -146,7 +151,8 @@ pub(crate) fn records_with<S: Alter + Drop>(
 ) -> Result<Vec<Node>, ReadError>
     requires { lookup.old.in_transaction ≡ false }
     ensures reads { ReadsOnly (state S.Store lookup.old) (state S.Store lookup.new) }
-    ensures answer { Answers (state S.Store lookup.old) (state S.Store lookup.new) result (λ r records.
+    ensures answer { Answers (state S.Store lookup.old) (state S.Store lookup.new) result
+        (λ r records.
         CoverRecords (with_sign sign.now r) records.items) }
 {
     if sign.of_record {

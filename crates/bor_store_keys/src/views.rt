@@ -64,7 +64,8 @@ fn filing_read<S: Alter + Drop>(
     requires { lookup.old.in_transaction ≡ false }
     ensures reads { ReadsOnly (state S.Store lookup.old) (state S.Store lookup.new) }
     ensures answer { Answers (state S.Store lookup.old) (state S.Store lookup.new) result (λ r seen.
-        seen ≡ is_number_seen view.now.viewer view.now.today key.agent (filings_of key.agent r.members) key.number) }
+        seen ≡ is_number_seen view.now.viewer view.now.today key.agent
+        (filings_of key.agent r.members) key.number) }
 {
     let seen = lookup.filing_seen(alloc, view, &key.agent, key.number)?;
     lookup.note_filing(view, key, seen);
@@ -82,7 +83,8 @@ pub(crate) fn is_filing_seen<S: Alter + Drop>(
     requires { lookup.old.in_transaction ≡ false }
     ensures reads { ReadsOnly (state S.Store lookup.old) (state S.Store lookup.new) }
     ensures answer { Answers (state S.Store lookup.old) (state S.Store lookup.new) result (λ r seen.
-        seen ≡ is_number_seen view.now.viewer view.now.today agent.now (filings_of agent.now r.members) number) }
+        seen ≡ is_number_seen view.now.viewer view.now.today agent.now
+        (filings_of agent.now r.members) number) }
 {
     let key = FilingKey {
         number,

@@ -96,7 +96,8 @@ pub fn interests_of_one<S: Alter>(
     Ok(with_periods(alloc, lines, periods.as_slice())?)
 }
 
-/// The interests of the statement of this row. A relationship alone has any, so none are asked for of another.
+/// The interests of the statement of this row. A relationship alone has any, so none are asked for
+/// of another.
 fn interests_of_row<S: Alter>(
     conn: &mut Connection<S>,
     alloc: Global,
@@ -122,7 +123,8 @@ fn interests_of<S: Alter>(
 ) -> Result<Vec<InterestRow>, ReadError>
     requires { conn.old.in_transaction ≡ false }
     ensures reads { ReadsOnly (state S.Store conn.old) (state S.Store conn.new) }
-    ensures answer { Answers (state S.Store conn.old) (state S.Store conn.new) result (λ r interests.
+    ensures answer { Answers (state S.Store conn.old) (state S.Store conn.new) result
+        (λ r interests.
         interests.items ≡ flat_map (λ row. part_interests row.part row.at r.members) rows.now) }
 {
     let mut interests = Vec::new(alloc);
@@ -150,7 +152,8 @@ pub fn identifiers_of_one<S: Alter>(
     )
 }
 
-/// The identifiers of the statement of this row. An entity alone has any, so none are asked for of another.
+/// The identifiers of the statement of this row. An entity alone has any, so none are asked for of
+/// another.
 fn identifiers_of_row<S: Alter>(
     conn: &mut Connection<S>,
     alloc: Global,
@@ -176,7 +179,8 @@ fn identifiers_of<S: Alter>(
 ) -> Result<Vec<IdentifierRow>, ReadError>
     requires { conn.old.in_transaction ≡ false }
     ensures reads { ReadsOnly (state S.Store conn.old) (state S.Store conn.new) }
-    ensures answer { Answers (state S.Store conn.old) (state S.Store conn.new) result (λ r identifiers.
+    ensures answer { Answers (state S.Store conn.old) (state S.Store conn.new) result
+        (λ r identifiers.
         identifiers.items ≡ flat_map (λ row. part_identifiers row.part row.at r.members) rows.now) }
 {
     let mut identifiers = Vec::new(alloc);
@@ -212,7 +216,8 @@ fn placed<S: Alter>(
 
 // Adds the statement's row where it is seen.
 fn push_if(rows: &mut Vec<Row>, seen: bool, placed: Placed) -> Result<(), ReadError>
-    ensures { MatchResult result (λ _. rows.new.items ≡ rows.old.items ++ (if seen then row_placed placed ∷ [] else [])) IsNoDamage }
+    ensures { MatchResult result (λ _. rows.new.items
+        ≡ rows.old.items ++ (if seen then row_placed placed ∷ [] else [])) IsNoDamage }
 {
     if seen {
         rows.push(placed.into_row())?;
@@ -232,7 +237,10 @@ fn seen<S: Alter>(
     requires { conn.old.in_transaction ≡ false }
     ensures reads { ReadsOnly (state S.Store conn.old) (state S.Store conn.new) }
     ensures answer { Answers (state S.Store conn.old) (state S.Store conn.new) result (λ r rows.
-        rows.items ≡ map row_placed (filter (is_seen viewer.now day agent.now (filings_of agent.now r.members)) statements.items)) }
+        rows.items
+        ≡ map row_placed
+        (filter (is_seen viewer.now day agent.now (filings_of agent.now r.members))
+        statements.items)) }
 {
     let mut rows = Vec::new(alloc);
     // Filings are numbered from 1 on.
@@ -259,7 +267,8 @@ pub fn read_rows_of<S: Alter>(
     requires { conn.old.in_transaction ≡ false }
     ensures reads { ReadsOnly (state S.Store conn.old) (state S.Store conn.new) }
     ensures answer { Answers (state S.Store conn.old) (state S.Store conn.new) result (λ r rows.
-        rows.items ≡ rows_of viewer.now r.day agent.now declaration.now (filings_of agent.now r.members)) }
+        rows.items
+        ≡ rows_of viewer.now r.day agent.now declaration.now (filings_of agent.now r.members)) }
 {
     let day = read_day(conn, alloc)?;
     let statements = placed(conn, alloc, agent, declaration)?;

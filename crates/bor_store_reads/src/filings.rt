@@ -42,13 +42,14 @@ fn found_line<S: Alter>(
     requires { conn.old.in_transaction ≡ false }
     ensures reads { ReadsOnly (state S.Store conn.old) (state S.Store conn.new) }
     ensures answer { Answers (state S.Store conn.old) (state S.Store conn.new) result (λ r row.
-        row ≡ option_map (filing_row agent.now) (filing_keyed key.now (filings_of agent.now r.members))) }
+        row ≡ option_map (filing_row agent.now)
+        (filing_keyed key.now (filings_of agent.now r.members))) }
 {
     first(alloc, line_by_key(conn, agent.as_str(), key.as_str()))
 }
 
-/// The line of the agent's filing under a key, on the register's day; `None` where it has lodged none
-/// under it.
+/// The line of the agent's filing under a key, on the register's day; `None` where it has lodged
+/// none under it.
 #[tactic(auto, using(crate::proofs::FoundFilings::line_found))]
 pub fn read_line<S: Alter>(
     conn: &mut Connection<S>,

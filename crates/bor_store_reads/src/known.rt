@@ -53,7 +53,8 @@ pub(crate) fn known_of<S: Alter>(
     ensures reads { ReadsOnly (state S.Store conn.old) (state S.Store conn.new) }
     ensures number { IfOk result (λ known. known.number ≡ number) }
     ensures answer { Answers (state S.Store conn.old) (state S.Store conn.new) result (λ r known.
-        IsKnown viewer.now day agent.now (filings_of agent.now r.members) last → IsKnown viewer.now day agent.now (filings_of agent.now r.members) known) }
+        IsKnown viewer.now day agent.now (filings_of agent.now r.members) last
+        → IsKnown viewer.now day agent.now (filings_of agent.now r.members) known) }
 {
     if last.number == number {
         return Ok(last);

@@ -52,8 +52,8 @@ pub fn read_record<S: Alter>(
     all(alloc, statements_of_record(conn, agent, rec))
 }
 
-/// The rows of the agent's live relationship statements of a declaration that name this record as their
-/// subject, by filing and place.
+/// The rows of the agent's live relationship statements of a declaration that name this record as
+/// their subject, by filing and place.
 pub fn read_subject<S: Alter>(
     conn: &mut Connection<S>,
     alloc: Global,

@@ -19,7 +19,8 @@ fn found_register<S: Alter>(
 ) -> Result<Option<RegisterRow>, ReadError>
     requires { conn.old.in_transaction ≡ false }
     ensures reads { ReadsOnly (state S.Store conn.old) (state S.Store conn.new) }
-    ensures answer { Answers (state S.Store conn.old) (state S.Store conn.new) result (λ r row. row ≡ Some (register_row r)) }
+    ensures answer { Answers (state S.Store conn.old) (state S.Store conn.new) result (λ r row.
+        row ≡ Some (register_row r)) }
 {
     first(alloc, all_register(conn))
 }
@@ -31,7 +32,8 @@ pub(crate) fn read_register<S: Alter>(
 ) -> Result<RegisterRow, ReadError>
     requires { conn.old.in_transaction ≡ false }
     ensures reads { ReadsOnly (state S.Store conn.old) (state S.Store conn.new) }
-    ensures answer { Answers (state S.Store conn.old) (state S.Store conn.new) result (λ r row. row ≡ register_row r) }
+    ensures answer { Answers (state S.Store conn.old) (state S.Store conn.new) result (λ r row.
+        row ≡ register_row r) }
 {
     match found_register(conn, alloc)? {
         Some(row) => Ok(row),
@@ -43,7 +45,8 @@ pub(crate) fn read_register<S: Alter>(
 pub fn read_day<S: Alter>(conn: &mut Connection<S>, alloc: Global) -> Result<Day, ReadError>
     requires { conn.old.in_transaction ≡ false }
     ensures reads { ReadsOnly (state S.Store conn.old) (state S.Store conn.new) }
-    ensures answer { Answers (state S.Store conn.old) (state S.Store conn.new) result (λ r day. day ≡ r.day) }
+    ensures answer { Answers (state S.Store conn.old) (state S.Store conn.new) result (λ r day.
+        day ≡ r.day) }
 {
     Ok(read_register(conn, alloc)?.day)
 }

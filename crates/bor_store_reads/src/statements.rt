@@ -46,7 +46,8 @@ pub(crate) fn found_statement<S: Alter>(
     requires { conn.old.in_transaction ≡ false }
     ensures reads { ReadsOnly (state S.Store conn.old) (state S.Store conn.new) }
     ensures answer { Answers (state S.Store conn.old) (state S.Store conn.new) result (λ r row.
-        row ≡ option_map bare (last_or None (in_series declaration.now rec.now (placed_of agent.now r)))) }
+        row ≡ option_map bare
+        (last_or None (in_series declaration.now rec.now (placed_of agent.now r)))) }
 {
     first(
         alloc,
@@ -64,13 +65,14 @@ pub(crate) fn found_filing<S: Alter>(
     requires { conn.old.in_transaction ≡ false }
     ensures reads { ReadsOnly (state S.Store conn.old) (state S.Store conn.new) }
     ensures answer { Answers (state S.Store conn.old) (state S.Store conn.new) result (λ r row.
-        row ≡ option_map (filing_row agent.now) (slice_get (numbered number (filings_of agent.now r.members)) 0)) }
+        row ≡ option_map (filing_row agent.now)
+        (slice_get (numbered number (filings_of agent.now r.members)) 0)) }
 {
     first(alloc, line_by_number(conn, agent.as_str(), number))
 }
 
-/// What is known of the record's last live statement; `rec` is its identifier. `None` where the record
-/// has none.
+/// What is known of the record's last live statement; `rec` is its identifier. `None` where the
+/// record has none.
 pub fn read_last<S: Alter>(
     conn: &mut Connection<S>,
     alloc: Global,

@@ -34,7 +34,8 @@ fn found_statements<S: Alter>(
     all(alloc, statements_of_filing(conn, agent.as_str(), number))
 }
 
-/// Whether the last statement of this one's record stands in a filing after the one with this number.
+/// Whether the last statement of this one's record stands in a filing after the one with this
+/// number.
 fn is_followed<S: Alter>(
     conn: &mut Connection<S>,
     alloc: Global,
@@ -45,7 +46,8 @@ fn is_followed<S: Alter>(
     requires { conn.old.in_transaction ≡ false }
     ensures reads { ReadsOnly (state S.Store conn.old) (state S.Store conn.new) }
     ensures answer { Answers (state S.Store conn.old) (state S.Store conn.new) result (λ r followed.
-        followed ≡ is_later number (last_or None (in_series row.now.declaration row.now.rec (placed_of agent.now r)))) }
+        followed ≡ is_later number
+        (last_or None (in_series row.now.declaration row.now.rec (placed_of agent.now r)))) }
 {
     match found_statement(conn, alloc, agent, &row.declaration, &row.rec)? {
         Some(last) => Ok(number < last.at.filing),
@@ -64,7 +66,10 @@ fn any_followed<S: Alter>(
     requires { conn.old.in_transaction ≡ false }
     ensures reads { ReadsOnly (state S.Store conn.old) (state S.Store conn.new) }
     ensures answer { Answers (state S.Store conn.old) (state S.Store conn.new) result (λ r any.
-        any ≡ list_any (λ row. is_later number (last_or None (in_series row.declaration row.rec (placed_of agent.now r)))) rows.now) }
+        any ≡ list_any
+        (λ row. is_later number
+        (last_or None (in_series row.declaration row.rec (placed_of agent.now r))))
+        rows.now) }
 {
     for row in rows {
         if is_followed(conn, alloc, agent, number, row)? {
@@ -74,9 +79,9 @@ fn any_followed<S: Alter>(
     Ok(false)
 }
 
-/// Whether a filing of the agent that was accepted after the one with this number has a live statement
-/// of one of its records. `false` where the agent has no such filing, and where that one is withdrawn:
-/// its statements are gone.
+/// Whether a filing of the agent that was accepted after the one with this number has a live
+/// statement of one of its records. `false` where the agent has no such filing, and where that one
+/// is withdrawn: its statements are gone.
 pub fn has_successor<S: Alter>(
     conn: &mut Connection<S>,
     alloc: Global,

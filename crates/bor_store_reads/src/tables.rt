@@ -1,5 +1,5 @@
-//! Whole tables, whether there are more statements than a number, and the members of the register that
-//! the tables are.
+//! Whole tables, whether there are more statements than a number, and the members of the register
+//! that the tables are.
 
 ghost use Rattle.std.specs.Prelude.{◌≡◌, false, length, map, nat_le, not};
 ghost use Rattle.std.specs.List.{flat_map};
@@ -109,7 +109,8 @@ fn identifiers<S: Alter>(
 fn placed<S: Alter>(conn: &mut Connection<S>, alloc: Global) -> Result<Vec<Placed>, ReadError>
     requires { conn.old.in_transaction ≡ false }
     ensures reads { ReadsOnly (state S.Store conn.old) (state S.Store conn.new) }
-    ensures answer { Answers (state S.Store conn.old) (state S.Store conn.new) result (λ r statements.
+    ensures answer { Answers (state S.Store conn.old) (state S.Store conn.new) result
+        (λ r statements.
         statements.items ≡ placed r.members) }
 {
     let statements = statements(conn, alloc)?;

@@ -15,7 +15,8 @@ pub(crate) fn first<T: TableRow + Drop>(
     alloc: Global,
     found: Result<Vec<Row>, Error>,
 ) -> Result<Option<T>, ReadError>
-    ensures { (xs : List T) → IfOk found (λ rows. rows.items ≡ map T.columns xs) → All T.is_formed xs → MatchResult result (λ x. x ≡ slice_get xs 0) IsNoDamage }
+    ensures { (xs : List T) → IfOk found (λ rows. rows.items ≡ map T.columns xs)
+        → All T.is_formed xs → MatchResult result (λ x. x ≡ slice_get xs 0) IsNoDamage }
 {
     let rows = found?;
     Ok(first_row(alloc, rows.as_slice())?)
@@ -26,7 +27,8 @@ pub(crate) fn all<T: TableRow + Drop>(
     alloc: Global,
     found: Result<Vec<Row>, Error>,
 ) -> Result<Vec<T>, ReadError>
-    ensures { (xs : List T) → IfOk found (λ rows. rows.items ≡ map T.columns xs) → All T.is_formed xs → MatchResult result (λ values. values.items ≡ xs) IsNoDamage }
+    ensures { (xs : List T) → IfOk found (λ rows. rows.items ≡ map T.columns xs)
+        → All T.is_formed xs → MatchResult result (λ values. values.items ≡ xs) IsNoDamage }
 {
     let rows = found?;
     Ok(read_rows(alloc, rows.as_slice())?)
@@ -34,7 +36,8 @@ pub(crate) fn all<T: TableRow + Drop>(
 
 /// Whether a row was found.
 pub(crate) fn any(found: Result<Vec<Row>, Error>) -> Result<bool, ReadError>
-    ensures { (xs : List SqlRow) → IfOk found (λ rows. rows.items ≡ xs) → MatchResult result (λ any. any ≡ not (length xs == 0)) IsNoDamage }
+    ensures { (xs : List SqlRow) → IfOk found (λ rows. rows.items ≡ xs)
+        → MatchResult result (λ any. any ≡ not (length xs == 0)) IsNoDamage }
 {
     let rows = found?;
     Ok(!rows.as_slice().is_empty())
@@ -42,7 +45,8 @@ pub(crate) fn any(found: Result<Vec<Row>, Error>) -> Result<bool, ReadError>
 
 /// The truth value of the first row; false where no row was found.
 pub(crate) fn flag(found: Result<Vec<Row>, Error>) -> Result<bool, ReadError>
-    ensures { (bs : List Bool) → IfOk found (λ rows. rows.items ≡ map (λ b. truth b ∷ []) bs) → MatchResult result (λ flag. flag ≡ unwrap_or (slice_get bs 0) false) IsNoDamage }
+    ensures { (bs : List Bool) → IfOk found (λ rows. rows.items ≡ map (λ b. truth b ∷ []) bs)
+        → MatchResult result (λ flag. flag ≡ unwrap_or (slice_get bs 0) false) IsNoDamage }
 {
     let rows = found?;
     Ok(first_flag(rows.as_slice())?)

@@ -15,9 +15,9 @@ use bor_terms::AgentName;
 use sqlite::{Alter, Connection};
 use std::alloc::Global;
 
-/// The rows of all agents that the viewer sees: of its own live filings, and of the others' published
-/// ones. They stand by agent, then in order of acceptance and of place. A viewer that isn't enrolled sees
-/// what is published.
+/// The rows of all agents that the viewer sees: of its own live filings, and of the others'
+/// published ones. They stand by agent, then in order of acceptance and of place. A viewer that
+/// isn't enrolled sees what is published.
 #[tactic(auto, using(crate::proofs::Whole::visible_is))]
 pub fn read_visible<S: Alter>(
     conn: &mut Connection<S>,

@@ -30,9 +30,12 @@ fn insert_filing<S: Alter>(
     bytes: &[u8],
 ) -> Result<usize, Error>
     ensures same_reference { tx.new.conn.ghost_name ≡ tx.old.conn.ghost_name }
-    ensures clean { HasCleanDisk (state S.Store tx.new.conn.now) → HasCleanDisk (state S.Store tx.old.conn.now) }
-    ensures steps { HasCleanDisk (state S.Store tx.new.conn.now) → IsTrue (state S.Store tx.old.conn.now).in_transaction
-        → Steps Any (with_filing_row agent.now (live_filing number key.now due bytes.now [])) (state S.Store tx.old.conn.now) (state S.Store tx.new.conn.now) result }
+    ensures clean { HasCleanDisk (state S.Store tx.new.conn.now)
+        → HasCleanDisk (state S.Store tx.old.conn.now) }
+    ensures steps { HasCleanDisk (state S.Store tx.new.conn.now)
+        → IsTrue (state S.Store tx.old.conn.now).in_transaction
+        → Steps Any (with_filing_row agent.now (live_filing number key.now due bytes.now []))
+        (state S.Store tx.old.conn.now) (state S.Store tx.new.conn.now) result }
 {
     tx.execute(
         INSERT_FILING,
@@ -48,9 +51,16 @@ fn insert_statement<S: Alter>(
     statement: &Statement,
 ) -> Result<usize, Error>
     ensures same_reference { tx.new.conn.ghost_name ≡ tx.old.conn.ghost_name }
-    ensures clean { HasCleanDisk (state S.Store tx.new.conn.now) → HasCleanDisk (state S.Store tx.old.conn.now) }
-    ensures steps { HasCleanDisk (state S.Store tx.new.conn.now) → IsTrue (state S.Store tx.old.conn.now).in_transaction
-        → Steps Any (with_statement_row (bare (record { at = record { agent = agent.now; filing = number; place = place }; statement = statement.now })))
+    ensures clean { HasCleanDisk (state S.Store tx.new.conn.now)
+        → HasCleanDisk (state S.Store tx.old.conn.now) }
+    ensures steps { HasCleanDisk (state S.Store tx.new.conn.now)
+        → IsTrue (state S.Store tx.old.conn.now).in_transaction
+        → Steps Any
+        (with_statement_row
+        (bare (record {
+          at = record { agent = agent.now; filing = number; place = place };
+          statement = statement.now;
+        })))
         (state S.Store tx.old.conn.now) (state S.Store tx.new.conn.now) result }
 {
     tx.execute(
@@ -68,9 +78,17 @@ fn insert_interest<S: Alter>(
     interest: &Interest,
 ) -> Result<usize, Error>
     ensures same_reference { tx.new.conn.ghost_name ≡ tx.old.conn.ghost_name }
-    ensures clean { HasCleanDisk (state S.Store tx.new.conn.now) → HasCleanDisk (state S.Store tx.old.conn.now) }
-    ensures steps { HasCleanDisk (state S.Store tx.new.conn.now) → IsTrue (state S.Store tx.old.conn.now).in_transaction
-        → Steps Any (with_interest_rows (record { at = record { agent = agent.now; filing = number; place = place }; item = item; interest = interest.now } ∷ []))
+    ensures clean { HasCleanDisk (state S.Store tx.new.conn.now)
+        → HasCleanDisk (state S.Store tx.old.conn.now) }
+    ensures steps { HasCleanDisk (state S.Store tx.new.conn.now)
+        → IsTrue (state S.Store tx.old.conn.now).in_transaction
+        → Steps Any
+        (with_interest_rows
+        (record {
+          at = record { agent = agent.now; filing = number; place = place };
+          item = item;
+          interest = interest.now;
+        } ∷ []))
         (state S.Store tx.old.conn.now) (state S.Store tx.new.conn.now) result }
 {
     tx.execute(
@@ -88,9 +106,18 @@ fn put_period<S: Alter>(
     interest: &Interest,
 ) -> Result<usize, Error>
     ensures same_reference { tx.new.conn.ghost_name ≡ tx.old.conn.ghost_name }
-    ensures clean { HasCleanDisk (state S.Store tx.new.conn.now) → HasCleanDisk (state S.Store tx.old.conn.now) }
-    ensures steps { HasCleanDisk (state S.Store tx.new.conn.now) → IsTrue (state S.Store tx.old.conn.now).in_transaction
-        → Steps Any (with_period_row (period_of (record { at = record { agent = agent.now; filing = number; place = place }; item = item; interest = interest.now })))
+    ensures clean { HasCleanDisk (state S.Store tx.new.conn.now)
+        → HasCleanDisk (state S.Store tx.old.conn.now) }
+    ensures steps { HasCleanDisk (state S.Store tx.new.conn.now)
+        → IsTrue (state S.Store tx.old.conn.now).in_transaction
+        → Steps Any
+        (with_period_row
+        (period_of
+        (record {
+          at = record { agent = agent.now; filing = number; place = place };
+          item = item;
+          interest = interest.now;
+        })))
         (state S.Store tx.old.conn.now) (state S.Store tx.new.conn.now) result }
 {
     tx.execute(
@@ -116,9 +143,17 @@ fn insert_period<S: Alter>(
     interest: &Interest,
 ) -> Result<(), Error>
     ensures same_reference { tx.new.conn.ghost_name ≡ tx.old.conn.ghost_name }
-    ensures clean { HasCleanDisk (state S.Store tx.new.conn.now) → HasCleanDisk (state S.Store tx.old.conn.now) }
-    ensures steps { HasCleanDisk (state S.Store tx.new.conn.now) → IsTrue (state S.Store tx.old.conn.now).in_transaction
-        → Steps Any (with_period_rows (record { at = record { agent = agent.now; filing = number; place = place }; item = item; interest = interest.now } ∷ []))
+    ensures clean { HasCleanDisk (state S.Store tx.new.conn.now)
+        → HasCleanDisk (state S.Store tx.old.conn.now) }
+    ensures steps { HasCleanDisk (state S.Store tx.new.conn.now)
+        → IsTrue (state S.Store tx.old.conn.now).in_transaction
+        → Steps Any
+        (with_period_rows
+        (record {
+          at = record { agent = agent.now; filing = number; place = place };
+          item = item;
+          interest = interest.now;
+        } ∷ []))
         (state S.Store tx.old.conn.now) (state S.Store tx.new.conn.now) result }
 {
     if !is_said(interest) {
@@ -137,9 +172,17 @@ fn insert_identifier<S: Alter>(
     identifier: &Identifier,
 ) -> Result<usize, Error>
     ensures same_reference { tx.new.conn.ghost_name ≡ tx.old.conn.ghost_name }
-    ensures clean { HasCleanDisk (state S.Store tx.new.conn.now) → HasCleanDisk (state S.Store tx.old.conn.now) }
-    ensures steps { HasCleanDisk (state S.Store tx.new.conn.now) → IsTrue (state S.Store tx.old.conn.now).in_transaction
-        → Steps Any (with_identifier_rows (record { at = record { agent = agent.now; filing = number; place = place }; item = item; identifier = identifier.now } ∷ []))
+    ensures clean { HasCleanDisk (state S.Store tx.new.conn.now)
+        → HasCleanDisk (state S.Store tx.old.conn.now) }
+    ensures steps { HasCleanDisk (state S.Store tx.new.conn.now)
+        → IsTrue (state S.Store tx.old.conn.now).in_transaction
+        → Steps Any
+        (with_identifier_rows
+        (record {
+          at = record { agent = agent.now; filing = number; place = place };
+          item = item;
+          identifier = identifier.now;
+        } ∷ []))
         (state S.Store tx.old.conn.now) (state S.Store tx.new.conn.now) result }
 {
     tx.execute(
@@ -187,9 +230,14 @@ fn insert_interests<S: Alter>(
     interests: &[Interest],
 ) -> Result<(), Error>
     ensures same_reference { tx.new.conn.ghost_name ≡ tx.old.conn.ghost_name }
-    ensures clean { HasCleanDisk (state S.Store tx.new.conn.now) → HasCleanDisk (state S.Store tx.old.conn.now) }
-    ensures steps { HasCleanDisk (state S.Store tx.new.conn.now) → IsTrue (state S.Store tx.old.conn.now).in_transaction
-        → Steps Any (with_interest_rows (interests_from (record { agent = agent.now; filing = number; place = place }) 1 interests.now))
+    ensures clean { HasCleanDisk (state S.Store tx.new.conn.now)
+        → HasCleanDisk (state S.Store tx.old.conn.now) }
+    ensures steps { HasCleanDisk (state S.Store tx.new.conn.now)
+        → IsTrue (state S.Store tx.old.conn.now).in_transaction
+        → Steps Any
+        (with_interest_rows
+        (interests_from (record { agent = agent.now; filing = number; place = place })
+        1 interests.now))
         (state S.Store tx.old.conn.now) (state S.Store tx.new.conn.now) result }
     ensures counted { IfOk result (λ _. length interests.now < 2 ^ 32) }
 {
@@ -209,9 +257,14 @@ fn insert_periods<S: Alter>(
     interests: &[Interest],
 ) -> Result<(), Error>
     ensures same_reference { tx.new.conn.ghost_name ≡ tx.old.conn.ghost_name }
-    ensures clean { HasCleanDisk (state S.Store tx.new.conn.now) → HasCleanDisk (state S.Store tx.old.conn.now) }
-    ensures steps { HasCleanDisk (state S.Store tx.new.conn.now) → IsTrue (state S.Store tx.old.conn.now).in_transaction
-        → Steps Any (with_period_rows (interests_from (record { agent = agent.now; filing = number; place = place }) 1 interests.now))
+    ensures clean { HasCleanDisk (state S.Store tx.new.conn.now)
+        → HasCleanDisk (state S.Store tx.old.conn.now) }
+    ensures steps { HasCleanDisk (state S.Store tx.new.conn.now)
+        → IsTrue (state S.Store tx.old.conn.now).in_transaction
+        → Steps Any
+        (with_period_rows
+        (interests_from (record { agent = agent.now; filing = number; place = place })
+        1 interests.now))
         (state S.Store tx.old.conn.now) (state S.Store tx.new.conn.now) result }
 {
     let mut item = 0;
@@ -230,9 +283,14 @@ fn insert_identifiers<S: Alter>(
     identifiers: &[Identifier],
 ) -> Result<(), Error>
     ensures same_reference { tx.new.conn.ghost_name ≡ tx.old.conn.ghost_name }
-    ensures clean { HasCleanDisk (state S.Store tx.new.conn.now) → HasCleanDisk (state S.Store tx.old.conn.now) }
-    ensures steps { HasCleanDisk (state S.Store tx.new.conn.now) → IsTrue (state S.Store tx.old.conn.now).in_transaction
-        → Steps Any (with_identifier_rows (identifiers_from (record { agent = agent.now; filing = number; place = place }) 1 identifiers.now))
+    ensures clean { HasCleanDisk (state S.Store tx.new.conn.now)
+        → HasCleanDisk (state S.Store tx.old.conn.now) }
+    ensures steps { HasCleanDisk (state S.Store tx.new.conn.now)
+        → IsTrue (state S.Store tx.old.conn.now).in_transaction
+        → Steps Any
+        (with_identifier_rows
+        (identifiers_from (record { agent = agent.now; filing = number; place = place })
+        1 identifiers.now))
         (state S.Store tx.old.conn.now) (state S.Store tx.new.conn.now) result }
     ensures counted { IfOk result (λ _. length identifiers.now < 2 ^ 32) }
 {
@@ -253,9 +311,16 @@ fn insert_placed<S: Alter>(
     statement: &Statement,
 ) -> Result<(), Error>
     ensures same_reference { tx.new.conn.ghost_name ≡ tx.old.conn.ghost_name }
-    ensures clean { HasCleanDisk (state S.Store tx.new.conn.now) → HasCleanDisk (state S.Store tx.old.conn.now) }
-    ensures steps { HasCleanDisk (state S.Store tx.new.conn.now) → IsTrue (state S.Store tx.old.conn.now).in_transaction
-        → Steps Any (with_one_placed (record { at = record { agent = agent.now; filing = number; place = place }; statement = statement.now }))
+    ensures clean { HasCleanDisk (state S.Store tx.new.conn.now)
+        → HasCleanDisk (state S.Store tx.old.conn.now) }
+    ensures steps { HasCleanDisk (state S.Store tx.new.conn.now)
+        → IsTrue (state S.Store tx.old.conn.now).in_transaction
+        → Steps Any
+        (with_one_placed
+        (record {
+          at = record { agent = agent.now; filing = number; place = place };
+          statement = statement.now;
+        }))
         (state S.Store tx.old.conn.now) (state S.Store tx.new.conn.now) result }
     ensures counted { IfOk result (λ _. IsCounted statement.now) }
 {
@@ -272,9 +337,12 @@ fn insert_statements<S: Alter>(
     statements: &[Statement],
 ) -> Result<(), Error>
     ensures same_reference { tx.new.conn.ghost_name ≡ tx.old.conn.ghost_name }
-    ensures clean { HasCleanDisk (state S.Store tx.new.conn.now) → HasCleanDisk (state S.Store tx.old.conn.now) }
-    ensures steps { HasCleanDisk (state S.Store tx.new.conn.now) → IsTrue (state S.Store tx.old.conn.now).in_transaction
-        → Steps Any (with_placed (placed_from agent.now number 1 statements.now)) (state S.Store tx.old.conn.now) (state S.Store tx.new.conn.now) result }
+    ensures clean { HasCleanDisk (state S.Store tx.new.conn.now)
+        → HasCleanDisk (state S.Store tx.old.conn.now) }
+    ensures steps { HasCleanDisk (state S.Store tx.new.conn.now)
+        → IsTrue (state S.Store tx.old.conn.now).in_transaction
+        → Steps Any (with_placed (placed_from agent.now number 1 statements.now))
+        (state S.Store tx.old.conn.now) (state S.Store tx.new.conn.now) result }
     ensures counted { IfOk result (λ _. AreCounted statements.now) }
 {
     let mut place = 0;
@@ -296,17 +364,20 @@ fn insert_rows<S: Alter>(
     statements: &[Statement],
 ) -> Result<(), Error>
     ensures same_reference { tx.new.conn.ghost_name ≡ tx.old.conn.ghost_name }
-    ensures clean { HasCleanDisk (state S.Store tx.new.conn.now) → HasCleanDisk (state S.Store tx.old.conn.now) }
-    ensures steps { HasCleanDisk (state S.Store tx.new.conn.now) → IsTrue (state S.Store tx.old.conn.now).in_transaction
-        → Steps Any (with_live_filing agent.now number key.now due bytes.now statements.now) (state S.Store tx.old.conn.now) (state S.Store tx.new.conn.now) result }
+    ensures clean { HasCleanDisk (state S.Store tx.new.conn.now)
+        → HasCleanDisk (state S.Store tx.old.conn.now) }
+    ensures steps { HasCleanDisk (state S.Store tx.new.conn.now)
+        → IsTrue (state S.Store tx.old.conn.now).in_transaction
+        → Steps Any (with_live_filing agent.now number key.now due bytes.now statements.now)
+        (state S.Store tx.old.conn.now) (state S.Store tx.new.conn.now) result }
     ensures counted { IfOk result (λ _. AreCounted statements.now) }
 {
     insert_filing(tx, agent, number, key, due, bytes)?;
     insert_statements(tx, agent, number, statements)
 }
 
-/// Adds a filing to those of an agent, in a transaction of its own: its row, then for each statement
-/// its row, its identifiers and its interests. The number is the agent's next.
+/// Adds a filing to those of an agent, in a transaction of its own: its row, then for each
+/// statement its row, its identifiers and its interests. The number is the agent's next.
 pub fn add_filing<S: Alter>(
     conn: &mut Connection<S>,
     agent: &str,
@@ -319,11 +390,17 @@ pub fn add_filing<S: Alter>(
     requires { conn.old.in_transaction ≡ false }
     ensures mode { conn.new.in_transaction ≡ false }
     ensures began { IsClean (state S.Store conn.new) → IsClean (state S.Store conn.old) }
-    ensures made { IsClean (state S.Store conn.new) → (r : Register) → ShowsIn r (state S.Store conn.old)
-        → is_enrolled agent.now r.members ≡ true → length (filings_of agent.now r.members) < filings_limit
-        → number ≡ length (filings_of agent.now r.members) + 1 → All IsFormedStatement statements.now
-        → OnOk result (ShowsIn (added agent.now key.now due bytes.now statements.now r) (state S.Store conn.new)) }
-    ensures kept { IsClean (state S.Store conn.new) → OnErr result ((state S.Store conn.new).committed ≡ (state S.Store conn.old).committed) }
+    ensures made { IsClean (state S.Store conn.new) → (r : Register)
+        → ShowsIn r (state S.Store conn.old)
+        → is_enrolled agent.now r.members ≡ true
+        → length (filings_of agent.now r.members) < filings_limit
+        → number ≡ length (filings_of agent.now r.members) + 1
+        → All IsFormedStatement statements.now
+        → OnOk result
+        (ShowsIn (added agent.now key.now due bytes.now statements.now r)
+        (state S.Store conn.new)) }
+    ensures kept { IsClean (state S.Store conn.new)
+        → OnErr result ((state S.Store conn.new).committed ≡ (state S.Store conn.old).committed) }
 {
     let _settled = conn.is_autocommit();
     // Their clauses say that the key has its form, and that the number is that of a day.

@@ -126,7 +126,8 @@ pub(crate) fn filing_values<'a>(
     ]
 }
 
-/// The columns of an identifier: where its statement stands, which of its identifiers it is, and what it is.
+/// The columns of an identifier: where its statement stands, which of its identifiers it is, and
+/// what it is.
 pub(crate) fn identifier_values<'a>(
     agent: &'a str,
     filing: u32,
@@ -256,7 +257,8 @@ fn share_values(share: Option<Span>) -> [ValueRef<'static>; 4]
     }
 }
 
-/// The columns of an interest: where its statement stands, which of its interests it is, and what it is.
+/// The columns of an interest: where its statement stands, which of its interests it is, and what
+/// it is.
 pub(crate) fn interest_values<'a>(
     agent: &'a str,
     filing: u32,
@@ -294,8 +296,8 @@ fn day_or_null(day: Option<Day>) -> ValueRef<'static>
     }
 }
 
-/// The columns of the days of an interest: where its statement stands, which of its interests it is, and
-/// its first and its last day.
+/// The columns of the days of an interest: where its statement stands, which of its interests it
+/// is, and its first and its last day.
 pub(crate) fn period_values(
     agent: &str,
     filing: u32,

@@ -23,9 +23,12 @@ use sqlite::{Alter, Connection, Error, Transaction};
 #[tactic(auto, using(crate::proofs::Created::register_created))]
 fn create_register<S: Alter>(tx: &mut Transaction<'_, S>) -> Result<usize, Error>
     ensures same_reference { tx.new.conn.ghost_name ≡ tx.old.conn.ghost_name }
-    ensures clean { HasCleanDisk (state S.Store tx.new.conn.now) → HasCleanDisk (state S.Store tx.old.conn.now) }
-    ensures leads { HasCleanDisk (state S.Store tx.new.conn.now) → IsTrue (state S.Store tx.old.conn.now).in_transaction
-        → Leads (IsBlank no_schema) (IsBlank schema_1) (state S.Store tx.old.conn.now) (state S.Store tx.new.conn.now) result }
+    ensures clean { HasCleanDisk (state S.Store tx.new.conn.now)
+        → HasCleanDisk (state S.Store tx.old.conn.now) }
+    ensures leads { HasCleanDisk (state S.Store tx.new.conn.now)
+        → IsTrue (state S.Store tx.old.conn.now).in_transaction
+        → Leads (IsBlank no_schema) (IsBlank schema_1) (state S.Store tx.old.conn.now)
+        (state S.Store tx.new.conn.now) result }
 {
     run(tx, REGISTER_TABLE, &[])
 }
@@ -33,9 +36,12 @@ fn create_register<S: Alter>(tx: &mut Transaction<'_, S>) -> Result<usize, Error
 #[tactic(auto, using(crate::proofs::Created::agent_created))]
 fn create_agent<S: Alter>(tx: &mut Transaction<'_, S>) -> Result<usize, Error>
     ensures same_reference { tx.new.conn.ghost_name ≡ tx.old.conn.ghost_name }
-    ensures clean { HasCleanDisk (state S.Store tx.new.conn.now) → HasCleanDisk (state S.Store tx.old.conn.now) }
-    ensures leads { HasCleanDisk (state S.Store tx.new.conn.now) → IsTrue (state S.Store tx.old.conn.now).in_transaction
-        → Leads (IsBlank schema_1) (IsBlank schema_2) (state S.Store tx.old.conn.now) (state S.Store tx.new.conn.now) result }
+    ensures clean { HasCleanDisk (state S.Store tx.new.conn.now)
+        → HasCleanDisk (state S.Store tx.old.conn.now) }
+    ensures leads { HasCleanDisk (state S.Store tx.new.conn.now)
+        → IsTrue (state S.Store tx.old.conn.now).in_transaction
+        → Leads (IsBlank schema_1) (IsBlank schema_2) (state S.Store tx.old.conn.now)
+        (state S.Store tx.new.conn.now) result }
 {
     run(tx, AGENT_TABLE, &[])
 }
@@ -43,9 +49,12 @@ fn create_agent<S: Alter>(tx: &mut Transaction<'_, S>) -> Result<usize, Error>
 #[tactic(auto, using(crate::proofs::Created::filing_created))]
 fn create_filing<S: Alter>(tx: &mut Transaction<'_, S>) -> Result<usize, Error>
     ensures same_reference { tx.new.conn.ghost_name ≡ tx.old.conn.ghost_name }
-    ensures clean { HasCleanDisk (state S.Store tx.new.conn.now) → HasCleanDisk (state S.Store tx.old.conn.now) }
-    ensures leads { HasCleanDisk (state S.Store tx.new.conn.now) → IsTrue (state S.Store tx.old.conn.now).in_transaction
-        → Leads (IsBlank schema_2) (IsBlank schema_3) (state S.Store tx.old.conn.now) (state S.Store tx.new.conn.now) result }
+    ensures clean { HasCleanDisk (state S.Store tx.new.conn.now)
+        → HasCleanDisk (state S.Store tx.old.conn.now) }
+    ensures leads { HasCleanDisk (state S.Store tx.new.conn.now)
+        → IsTrue (state S.Store tx.old.conn.now).in_transaction
+        → Leads (IsBlank schema_2) (IsBlank schema_3) (state S.Store tx.old.conn.now)
+        (state S.Store tx.new.conn.now) result }
 {
     run(tx, FILING_TABLE, &[])
 }
@@ -53,9 +62,12 @@ fn create_filing<S: Alter>(tx: &mut Transaction<'_, S>) -> Result<usize, Error>
 #[tactic(auto, using(crate::proofs::Created::statement_created))]
 fn create_statement<S: Alter>(tx: &mut Transaction<'_, S>) -> Result<usize, Error>
     ensures same_reference { tx.new.conn.ghost_name ≡ tx.old.conn.ghost_name }
-    ensures clean { HasCleanDisk (state S.Store tx.new.conn.now) → HasCleanDisk (state S.Store tx.old.conn.now) }
-    ensures leads { HasCleanDisk (state S.Store tx.new.conn.now) → IsTrue (state S.Store tx.old.conn.now).in_transaction
-        → Leads (IsBlank schema_3) (IsBlank schema_4) (state S.Store tx.old.conn.now) (state S.Store tx.new.conn.now) result }
+    ensures clean { HasCleanDisk (state S.Store tx.new.conn.now)
+        → HasCleanDisk (state S.Store tx.old.conn.now) }
+    ensures leads { HasCleanDisk (state S.Store tx.new.conn.now)
+        → IsTrue (state S.Store tx.old.conn.now).in_transaction
+        → Leads (IsBlank schema_3) (IsBlank schema_4) (state S.Store tx.old.conn.now)
+        (state S.Store tx.new.conn.now) result }
 {
     run(tx, STATEMENT_TABLE, &[])
 }
@@ -63,9 +75,12 @@ fn create_statement<S: Alter>(tx: &mut Transaction<'_, S>) -> Result<usize, Erro
 #[tactic(auto, using(crate::proofs::Created::interest_created))]
 fn create_interest<S: Alter>(tx: &mut Transaction<'_, S>) -> Result<usize, Error>
     ensures same_reference { tx.new.conn.ghost_name ≡ tx.old.conn.ghost_name }
-    ensures clean { HasCleanDisk (state S.Store tx.new.conn.now) → HasCleanDisk (state S.Store tx.old.conn.now) }
-    ensures leads { HasCleanDisk (state S.Store tx.new.conn.now) → IsTrue (state S.Store tx.old.conn.now).in_transaction
-        → Leads (IsBlank schema_4) (IsBlank schema_5) (state S.Store tx.old.conn.now) (state S.Store tx.new.conn.now) result }
+    ensures clean { HasCleanDisk (state S.Store tx.new.conn.now)
+        → HasCleanDisk (state S.Store tx.old.conn.now) }
+    ensures leads { HasCleanDisk (state S.Store tx.new.conn.now)
+        → IsTrue (state S.Store tx.old.conn.now).in_transaction
+        → Leads (IsBlank schema_4) (IsBlank schema_5) (state S.Store tx.old.conn.now)
+        (state S.Store tx.new.conn.now) result }
 {
     run(tx, INTEREST_TABLE, &[])
 }
@@ -73,9 +88,12 @@ fn create_interest<S: Alter>(tx: &mut Transaction<'_, S>) -> Result<usize, Error
 #[tactic(auto, using(crate::proofs::Created::identifier_created))]
 fn create_identifier<S: Alter>(tx: &mut Transaction<'_, S>) -> Result<usize, Error>
     ensures same_reference { tx.new.conn.ghost_name ≡ tx.old.conn.ghost_name }
-    ensures clean { HasCleanDisk (state S.Store tx.new.conn.now) → HasCleanDisk (state S.Store tx.old.conn.now) }
-    ensures leads { HasCleanDisk (state S.Store tx.new.conn.now) → IsTrue (state S.Store tx.old.conn.now).in_transaction
-        → Leads (IsBlank schema_5) (IsBlank schema_6) (state S.Store tx.old.conn.now) (state S.Store tx.new.conn.now) result }
+    ensures clean { HasCleanDisk (state S.Store tx.new.conn.now)
+        → HasCleanDisk (state S.Store tx.old.conn.now) }
+    ensures leads { HasCleanDisk (state S.Store tx.new.conn.now)
+        → IsTrue (state S.Store tx.old.conn.now).in_transaction
+        → Leads (IsBlank schema_5) (IsBlank schema_6) (state S.Store tx.old.conn.now)
+        (state S.Store tx.new.conn.now) result }
 {
     run(tx, IDENTIFIER_TABLE, &[])
 }
@@ -83,9 +101,12 @@ fn create_identifier<S: Alter>(tx: &mut Transaction<'_, S>) -> Result<usize, Err
 #[tactic(auto, using(crate::proofs::Created::record_index_created))]
 fn create_record_index<S: Alter>(tx: &mut Transaction<'_, S>) -> Result<usize, Error>
     ensures same_reference { tx.new.conn.ghost_name ≡ tx.old.conn.ghost_name }
-    ensures clean { HasCleanDisk (state S.Store tx.new.conn.now) → HasCleanDisk (state S.Store tx.old.conn.now) }
-    ensures leads { HasCleanDisk (state S.Store tx.new.conn.now) → IsTrue (state S.Store tx.old.conn.now).in_transaction
-        → Leads (IsBlank schema_6) (IsBlank schema_7) (state S.Store tx.old.conn.now) (state S.Store tx.new.conn.now) result }
+    ensures clean { HasCleanDisk (state S.Store tx.new.conn.now)
+        → HasCleanDisk (state S.Store tx.old.conn.now) }
+    ensures leads { HasCleanDisk (state S.Store tx.new.conn.now)
+        → IsTrue (state S.Store tx.old.conn.now).in_transaction
+        → Leads (IsBlank schema_6) (IsBlank schema_7) (state S.Store tx.old.conn.now)
+        (state S.Store tx.new.conn.now) result }
 {
     run(tx, RECORD_INDEX, &[])
 }
@@ -93,9 +114,12 @@ fn create_record_index<S: Alter>(tx: &mut Transaction<'_, S>) -> Result<usize, E
 #[tactic(auto, using(crate::proofs::Created::subject_index_created))]
 fn create_subject_index<S: Alter>(tx: &mut Transaction<'_, S>) -> Result<usize, Error>
     ensures same_reference { tx.new.conn.ghost_name ≡ tx.old.conn.ghost_name }
-    ensures clean { HasCleanDisk (state S.Store tx.new.conn.now) → HasCleanDisk (state S.Store tx.old.conn.now) }
-    ensures leads { HasCleanDisk (state S.Store tx.new.conn.now) → IsTrue (state S.Store tx.old.conn.now).in_transaction
-        → Leads (IsBlank schema_7) (IsBlank schema_8) (state S.Store tx.old.conn.now) (state S.Store tx.new.conn.now) result }
+    ensures clean { HasCleanDisk (state S.Store tx.new.conn.now)
+        → HasCleanDisk (state S.Store tx.old.conn.now) }
+    ensures leads { HasCleanDisk (state S.Store tx.new.conn.now)
+        → IsTrue (state S.Store tx.old.conn.now).in_transaction
+        → Leads (IsBlank schema_7) (IsBlank schema_8) (state S.Store tx.old.conn.now)
+        (state S.Store tx.new.conn.now) result }
 {
     run(tx, SUBJECT_INDEX, &[])
 }
@@ -103,9 +127,12 @@ fn create_subject_index<S: Alter>(tx: &mut Transaction<'_, S>) -> Result<usize, 
 #[tactic(auto, using(crate::proofs::Created::identifier_index_created))]
 fn create_identifier_index<S: Alter>(tx: &mut Transaction<'_, S>) -> Result<usize, Error>
     ensures same_reference { tx.new.conn.ghost_name ≡ tx.old.conn.ghost_name }
-    ensures clean { HasCleanDisk (state S.Store tx.new.conn.now) → HasCleanDisk (state S.Store tx.old.conn.now) }
-    ensures leads { HasCleanDisk (state S.Store tx.new.conn.now) → IsTrue (state S.Store tx.old.conn.now).in_transaction
-        → Leads (IsBlank schema_8) (IsBlank schema_9) (state S.Store tx.old.conn.now) (state S.Store tx.new.conn.now) result }
+    ensures clean { HasCleanDisk (state S.Store tx.new.conn.now)
+        → HasCleanDisk (state S.Store tx.old.conn.now) }
+    ensures leads { HasCleanDisk (state S.Store tx.new.conn.now)
+        → IsTrue (state S.Store tx.old.conn.now).in_transaction
+        → Leads (IsBlank schema_8) (IsBlank schema_9) (state S.Store tx.old.conn.now)
+        (state S.Store tx.new.conn.now) result }
 {
     run(tx, IDENTIFIER_INDEX, &[])
 }
@@ -113,9 +140,12 @@ fn create_identifier_index<S: Alter>(tx: &mut Transaction<'_, S>) -> Result<usiz
 #[tactic(auto, using(crate::proofs::Created::line_index_created))]
 fn create_line_index<S: Alter>(tx: &mut Transaction<'_, S>) -> Result<usize, Error>
     ensures same_reference { tx.new.conn.ghost_name ≡ tx.old.conn.ghost_name }
-    ensures clean { HasCleanDisk (state S.Store tx.new.conn.now) → HasCleanDisk (state S.Store tx.old.conn.now) }
-    ensures leads { HasCleanDisk (state S.Store tx.new.conn.now) → IsTrue (state S.Store tx.old.conn.now).in_transaction
-        → Leads (IsBlank schema_9) (IsBlank first_schema) (state S.Store tx.old.conn.now) (state S.Store tx.new.conn.now) result }
+    ensures clean { HasCleanDisk (state S.Store tx.new.conn.now)
+        → HasCleanDisk (state S.Store tx.old.conn.now) }
+    ensures leads { HasCleanDisk (state S.Store tx.new.conn.now)
+        → IsTrue (state S.Store tx.old.conn.now).in_transaction
+        → Leads (IsBlank schema_9) (IsBlank first_schema) (state S.Store tx.old.conn.now)
+        (state S.Store tx.new.conn.now) result }
 {
     run(tx, LINE_INDEX, &[])
 }
@@ -124,8 +154,10 @@ fn create_line_index<S: Alter>(tx: &mut Transaction<'_, S>) -> Result<usize, Err
 #[tactic(auto, using(crate::proofs::Beside::period_made_beside))]
 pub(crate) fn create_period<S: Alter>(tx: &mut Transaction<'_, S>) -> Result<usize, Error>
     ensures same_reference { tx.new.conn.ghost_name ≡ tx.old.conn.ghost_name }
-    ensures clean { HasCleanDisk (state S.Store tx.new.conn.now) → HasCleanDisk (state S.Store tx.old.conn.now) }
-    ensures moves { HasCleanDisk (state S.Store tx.new.conn.now) → IsTrue (state S.Store tx.old.conn.now).in_transaction
+    ensures clean { HasCleanDisk (state S.Store tx.new.conn.now)
+        → HasCleanDisk (state S.Store tx.old.conn.now) }
+    ensures moves { HasCleanDisk (state S.Store tx.new.conn.now)
+        → IsTrue (state S.Store tx.old.conn.now).in_transaction
         → Moves MakesPeriod (state S.Store tx.old.conn.now) (state S.Store tx.new.conn.now) result }
 {
     run(tx, PERIOD_TABLE, &[])
@@ -133,9 +165,12 @@ pub(crate) fn create_period<S: Alter>(tx: &mut Transaction<'_, S>) -> Result<usi
 
 fn create_lists<S: Alter>(tx: &mut Transaction<'_, S>) -> Result<(), Error>
     ensures same_reference { tx.new.conn.ghost_name ≡ tx.old.conn.ghost_name }
-    ensures clean { HasCleanDisk (state S.Store tx.new.conn.now) → HasCleanDisk (state S.Store tx.old.conn.now) }
-    ensures leads { HasCleanDisk (state S.Store tx.new.conn.now) → IsTrue (state S.Store tx.old.conn.now).in_transaction
-        → Leads (IsBlank no_schema) (IsBlank schema_3) (state S.Store tx.old.conn.now) (state S.Store tx.new.conn.now) result }
+    ensures clean { HasCleanDisk (state S.Store tx.new.conn.now)
+        → HasCleanDisk (state S.Store tx.old.conn.now) }
+    ensures leads { HasCleanDisk (state S.Store tx.new.conn.now)
+        → IsTrue (state S.Store tx.old.conn.now).in_transaction
+        → Leads (IsBlank no_schema) (IsBlank schema_3) (state S.Store tx.old.conn.now)
+        (state S.Store tx.new.conn.now) result }
 {
     create_register(tx)?;
     create_agent(tx)?;
@@ -145,9 +180,12 @@ fn create_lists<S: Alter>(tx: &mut Transaction<'_, S>) -> Result<(), Error>
 
 fn create_details<S: Alter>(tx: &mut Transaction<'_, S>) -> Result<(), Error>
     ensures same_reference { tx.new.conn.ghost_name ≡ tx.old.conn.ghost_name }
-    ensures clean { HasCleanDisk (state S.Store tx.new.conn.now) → HasCleanDisk (state S.Store tx.old.conn.now) }
-    ensures leads { HasCleanDisk (state S.Store tx.new.conn.now) → IsTrue (state S.Store tx.old.conn.now).in_transaction
-        → Leads (IsBlank schema_3) (IsBlank schema_6) (state S.Store tx.old.conn.now) (state S.Store tx.new.conn.now) result }
+    ensures clean { HasCleanDisk (state S.Store tx.new.conn.now)
+        → HasCleanDisk (state S.Store tx.old.conn.now) }
+    ensures leads { HasCleanDisk (state S.Store tx.new.conn.now)
+        → IsTrue (state S.Store tx.old.conn.now).in_transaction
+        → Leads (IsBlank schema_3) (IsBlank schema_6) (state S.Store tx.old.conn.now)
+        (state S.Store tx.new.conn.now) result }
 {
     create_statement(tx)?;
     create_interest(tx)?;
@@ -157,9 +195,12 @@ fn create_details<S: Alter>(tx: &mut Transaction<'_, S>) -> Result<(), Error>
 
 fn create_indexes<S: Alter>(tx: &mut Transaction<'_, S>) -> Result<(), Error>
     ensures same_reference { tx.new.conn.ghost_name ≡ tx.old.conn.ghost_name }
-    ensures clean { HasCleanDisk (state S.Store tx.new.conn.now) → HasCleanDisk (state S.Store tx.old.conn.now) }
-    ensures leads { HasCleanDisk (state S.Store tx.new.conn.now) → IsTrue (state S.Store tx.old.conn.now).in_transaction
-        → Leads (IsBlank schema_6) (IsBlank first_schema) (state S.Store tx.old.conn.now) (state S.Store tx.new.conn.now) result }
+    ensures clean { HasCleanDisk (state S.Store tx.new.conn.now)
+        → HasCleanDisk (state S.Store tx.old.conn.now) }
+    ensures leads { HasCleanDisk (state S.Store tx.new.conn.now)
+        → IsTrue (state S.Store tx.old.conn.now).in_transaction
+        → Leads (IsBlank schema_6) (IsBlank first_schema) (state S.Store tx.old.conn.now)
+        (state S.Store tx.new.conn.now) result }
 {
     create_record_index(tx)?;
     create_subject_index(tx)?;
@@ -174,9 +215,12 @@ fn insert_register<S: Alter>(
     day: Day,
 ) -> Result<usize, Error>
     ensures same_reference { tx.new.conn.ghost_name ≡ tx.old.conn.ghost_name }
-    ensures clean { HasCleanDisk (state S.Store tx.new.conn.now) → HasCleanDisk (state S.Store tx.old.conn.now) }
-    ensures leads { HasCleanDisk (state S.Store tx.new.conn.now) → IsTrue (state S.Store tx.old.conn.now).in_transaction
-        → Leads (Has no_contents) (Has (contents (empty_register registrar.now day))) (state S.Store tx.old.conn.now) (state S.Store tx.new.conn.now) result }
+    ensures clean { HasCleanDisk (state S.Store tx.new.conn.now)
+        → HasCleanDisk (state S.Store tx.old.conn.now) }
+    ensures leads { HasCleanDisk (state S.Store tx.new.conn.now)
+        → IsTrue (state S.Store tx.old.conn.now).in_transaction
+        → Leads (Has no_contents) (Has (contents (empty_register registrar.now day)))
+        (state S.Store tx.old.conn.now) (state S.Store tx.new.conn.now) result }
 {
     tx.execute(INSERT_REGISTER, &register_values(day, registrar))
 }
@@ -187,9 +231,12 @@ fn make_register<S: Alter>(
     day: Day,
 ) -> Result<(), Error>
     ensures same_reference { tx.new.conn.ghost_name ≡ tx.old.conn.ghost_name }
-    ensures clean { HasCleanDisk (state S.Store tx.new.conn.now) → HasCleanDisk (state S.Store tx.old.conn.now) }
-    ensures leads { HasCleanDisk (state S.Store tx.new.conn.now) → IsTrue (state S.Store tx.old.conn.now).in_transaction
-        → Leads (IsBlank no_schema) (Has (contents (empty_register registrar.now day))) (state S.Store tx.old.conn.now) (state S.Store tx.new.conn.now) result }
+    ensures clean { HasCleanDisk (state S.Store tx.new.conn.now)
+        → HasCleanDisk (state S.Store tx.old.conn.now) }
+    ensures leads { HasCleanDisk (state S.Store tx.new.conn.now)
+        → IsTrue (state S.Store tx.old.conn.now).in_transaction
+        → Leads (IsBlank no_schema) (Has (contents (empty_register registrar.now day)))
+        (state S.Store tx.old.conn.now) (state S.Store tx.new.conn.now) result }
 {
     create_lists(tx)?;
     create_details(tx)?;
@@ -199,15 +246,17 @@ fn make_register<S: Alter>(
     Ok(())
 }
 
-/// Makes the tables of a register with no agents and no filings, in a transaction of its own. Where the
-/// store has other tables it may work too, and nothing is promised of what is shown.
+/// Makes the tables of a register with no agents and no filings, in a transaction of its own. Where
+/// the store has other tables it may work too, and nothing is promised of what is shown.
 pub fn set_up<S: Alter>(conn: &mut Connection<S>, registrar: &Token, day: Day) -> Result<(), Error>
     requires { conn.old.in_transaction ≡ false }
     ensures mode { conn.new.in_transaction ≡ false }
     ensures began { IsClean (state S.Store conn.new) → IsClean (state S.Store conn.old) }
-    ensures made { IsClean (state S.Store conn.new) → (state S.Store conn.old).committed.schema ≡ no_schema
+    ensures made { IsClean (state S.Store conn.new)
+        → (state S.Store conn.old).committed.schema ≡ no_schema
         → OnOk result (ShowsIn (empty_register registrar.now day) (state S.Store conn.new)) }
-    ensures kept { IsClean (state S.Store conn.new) → OnErr result ((state S.Store conn.new).committed ≡ (state S.Store conn.old).committed) }
+    ensures kept { IsClean (state S.Store conn.new)
+        → OnErr result ((state S.Store conn.new).committed ≡ (state S.Store conn.old).committed) }
 {
     let _settled = conn.is_autocommit();
     // Their clauses say that the token has its form, and that the number is that of a day.

@@ -44,8 +44,8 @@ fn is_row(row: &Row, values: &[ValueRef<'_>]) -> bool
     true
 }
 
-// Whether a row is that of the statement at this place. Where the statement says no status, a row of any
-// status is.
+// Whether a row is that of the statement at this place. Where the statement says no status, a row
+// of any status is.
 fn is_statement<'a>(
     row: &'a Row,
     agent: &'a str,
@@ -70,11 +70,12 @@ fn are_interests(
     place: u32,
     interests: &[Interest],
 ) -> Result<bool, Error>
-    ensures { IfOk result (λ are. IsTrue are ↔ Pairwise (λ item interest row. row ≡ interest_columns (record {
-      at = record { agent = agent.now; filing = number; place = place };
-      item = item;
-      interest = interest;
-    })) 1 interests.now rows.now) }
+    ensures { IfOk result (λ are.
+        IsTrue are ↔ Pairwise (λ item interest row. row ≡ interest_columns (record {
+          at = record { agent = agent.now; filing = number; place = place };
+          item = item;
+          interest = interest;
+        })) 1 interests.now rows.now) }
 {
     if rows.len() != interests.len() {
         return Ok(false);
@@ -98,11 +99,12 @@ fn are_identifiers(
     place: u32,
     identifiers: &[Identifier],
 ) -> Result<bool, Error>
-    ensures { IfOk result (λ are. IsTrue are ↔ Pairwise (λ item identifier row. row ≡ identifier_columns (record {
-      at = record { agent = agent.now; filing = number; place = place };
-      item = item;
-      identifier = identifier;
-    })) 1 identifiers.now rows.now) }
+    ensures { IfOk result (λ are.
+        IsTrue are ↔ Pairwise (λ item identifier row. row ≡ identifier_columns (record {
+          at = record { agent = agent.now; filing = number; place = place };
+          item = item;
+          identifier = identifier;
+        })) 1 identifiers.now rows.now) }
 {
     if rows.len() != identifiers.len() {
         return Ok(false);
@@ -130,7 +132,8 @@ fn keeps_interests<S: Alter>(
     ensures mode { conn.new.in_transaction ≡ false }
     ensures tells { let at : At = record { agent = agent.now; filing = number; place = place } in
         Tells (state S.Store conn.old) (state S.Store conn.new) result (λ r.
-        map interest_columns (interests_from at 1 interests.now) ≡ map interest_columns (interests_at at r.members)) }
+        map interest_columns (interests_from at 1 interests.now)
+        ≡ map interest_columns (interests_at at r.members)) }
 {
     let rows = interests_of_statement(conn, agent, number, place)?;
     are_interests(rows.as_slice(), agent, number, place, interests)
@@ -148,7 +151,8 @@ fn keeps_identifiers<S: Alter>(
     ensures mode { conn.new.in_transaction ≡ false }
     ensures tells { let at : At = record { agent = agent.now; filing = number; place = place } in
         Tells (state S.Store conn.old) (state S.Store conn.new) result (λ r.
-        map identifier_columns (identifiers_from at 1 identifiers.now) ≡ map identifier_columns (identifiers_at at r.members)) }
+        map identifier_columns (identifiers_from at 1 identifiers.now)
+        ≡ map identifier_columns (identifiers_at at r.members)) }
 {
     let rows = identifiers_of_statement(conn, agent, number, place)?;
     are_identifiers(rows.as_slice(), agent, number, place, identifiers)
@@ -220,9 +224,9 @@ fn keeps_rows<S: Alter>(
     Ok(true)
 }
 
-/// Whether the tables, of either version, have of the agent's filing with this number just the rows that
-/// these statements make: of each its own, but for a status that it leaves out, and those of its
-/// interests, which have no days, and of its identifiers. The tables are left as they are.
+/// Whether the tables, of either version, have of the agent's filing with this number just the rows
+/// that these statements make: of each its own, but for a status that it leaves out, and those of
+/// its interests, which have no days, and of its identifiers. The tables are left as they are.
 pub fn keeps_statements<S: Alter>(
     conn: &mut Connection<S>,
     agent: &str,

@@ -27,7 +27,8 @@ use sqlite::{Alter, Connection, Error, Row};
 pub fn agent_by_name<S: Alter>(conn: &mut Connection<S>, name: &str) -> Result<Vec<Row>, Error>
     requires { conn.old.in_transaction ≡ false }
     ensures mode { conn.new.in_transaction ≡ false }
-    ensures finds { Finds (state S.Store conn.old) (state S.Store conn.new) result (λ r. map agent_columns (named name.now r.members)) }
+    ensures finds { Finds (state S.Store conn.old) (state S.Store conn.new) result (λ r.
+        map agent_columns (named name.now r.members)) }
 {
     query_by_one(conn, AGENT_BY_NAME, name)
 }
@@ -37,13 +38,14 @@ pub fn agent_by_name<S: Alter>(conn: &mut Connection<S>, name: &str) -> Result<V
 pub fn agent_by_token<S: Alter>(conn: &mut Connection<S>, token: &str) -> Result<Vec<Row>, Error>
     requires { conn.old.in_transaction ≡ false }
     ensures mode { conn.new.in_transaction ≡ false }
-    ensures finds { Finds (state S.Store conn.old) (state S.Store conn.new) result (λ r. map agent_columns (with_token token.now r.members)) }
+    ensures finds { Finds (state S.Store conn.old) (state S.Store conn.new) result (λ r.
+        map agent_columns (with_token token.now r.members)) }
 {
     query_by_one(conn, AGENT_BY_TOKEN, token)
 }
 
-/// The agent's filings under a key, by number: number, due day, whether it is withdrawn, and the file.
-/// No row where it has lodged none.
+/// The agent's filings under a key, by number: number, due day, whether it is withdrawn, and the
+/// file. No row where it has lodged none.
 #[tactic(auto, using(crate::proofs::Plain::filing_by_key_asks))]
 pub fn filing_by_key<S: Alter>(
     conn: &mut Connection<S>,
@@ -52,7 +54,9 @@ pub fn filing_by_key<S: Alter>(
 ) -> Result<Vec<Row>, Error>
     requires { conn.old.in_transaction ≡ false }
     ensures mode { conn.new.in_transaction ≡ false }
-    ensures finds { Finds (state S.Store conn.old) (state S.Store conn.new) result (λ r. map (λ f. shown_columns (filing_shown f)) (keyed key.now (filings_of agent.now r.members))) }
+    ensures finds { Finds (state S.Store conn.old) (state S.Store conn.new) result (λ r.
+        map (λ f. shown_columns (filing_shown f))
+        (keyed key.now (filings_of agent.now r.members))) }
 {
     query_by_two(conn, FILING_BY_KEY, agent, key)
 }
@@ -66,7 +70,9 @@ pub fn line_by_key<S: Alter>(
 ) -> Result<Vec<Row>, Error>
     requires { conn.old.in_transaction ≡ false }
     ensures mode { conn.new.in_transaction ≡ false }
-    ensures finds { Finds (state S.Store conn.old) (state S.Store conn.new) result (λ r. map (λ f. line_columns (filing_row agent.now f)) (keyed key.now (filings_of agent.now r.members))) }
+    ensures finds { Finds (state S.Store conn.old) (state S.Store conn.new) result (λ r.
+        map (λ f. line_columns (filing_row agent.now f))
+        (keyed key.now (filings_of agent.now r.members))) }
 {
     query_by_two(conn, LINE_BY_KEY, agent, key)
 }
@@ -80,7 +86,9 @@ pub fn line_by_number<S: Alter>(
 ) -> Result<Vec<Row>, Error>
     requires { conn.old.in_transaction ≡ false }
     ensures mode { conn.new.in_transaction ≡ false }
-    ensures finds { Finds (state S.Store conn.old) (state S.Store conn.new) result (λ r. map (λ f. line_columns (filing_row agent.now f)) (numbered number (filings_of agent.now r.members))) }
+    ensures finds { Finds (state S.Store conn.old) (state S.Store conn.new) result (λ r.
+        map (λ f. line_columns (filing_row agent.now f))
+        (numbered number (filings_of agent.now r.members))) }
 {
     query_by_filing(conn, LINE_BY_NUMBER, agent, number)
 }
@@ -95,7 +103,9 @@ pub fn same_bytes<S: Alter>(
 ) -> Result<Vec<Row>, Error>
     requires { conn.old.in_transaction ≡ false }
     ensures mode { conn.new.in_transaction ≡ false }
-    ensures finds { Finds (state S.Store conn.old) (state S.Store conn.new) result (λ r. map (λ f. truth (is_same f.bytes bytes.now) ∷ []) (keyed key.now (filings_of agent.now r.members))) }
+    ensures finds { Finds (state S.Store conn.old) (state S.Store conn.new) result (λ r.
+        map (λ f. truth (is_same f.bytes bytes.now) ∷ [])
+        (keyed key.now (filings_of agent.now r.members))) }
 {
     query_by_file(conn, SAME_BYTES, agent, key, bytes)
 }
@@ -105,7 +115,8 @@ pub fn same_bytes<S: Alter>(
 pub fn filings_of_agent<S: Alter>(conn: &mut Connection<S>, agent: &str) -> Result<Vec<Row>, Error>
     requires { conn.old.in_transaction ≡ false }
     ensures mode { conn.new.in_transaction ≡ false }
-    ensures finds { Finds (state S.Store conn.old) (state S.Store conn.new) result (λ r. map (λ f. line_columns (filing_row agent.now f)) (filings_of agent.now r.members)) }
+    ensures finds { Finds (state S.Store conn.old) (state S.Store conn.new) result (λ r.
+        map (λ f. line_columns (filing_row agent.now f)) (filings_of agent.now r.members)) }
 {
     query_by_one(conn, FILINGS_OF_AGENT, agent)
 }
@@ -115,7 +126,8 @@ pub fn filings_of_agent<S: Alter>(conn: &mut Connection<S>, agent: &str) -> Resu
 pub fn last_filing<S: Alter>(conn: &mut Connection<S>, agent: &str) -> Result<Vec<Row>, Error>
     requires { conn.old.in_transaction ≡ false }
     ensures mode { conn.new.in_transaction ≡ false }
-    ensures finds { Finds (state S.Store conn.old) (state S.Store conn.new) result (λ r. map (λ f. line_columns (filing_row agent.now f)) (last (filings_of agent.now r.members))) }
+    ensures finds { Finds (state S.Store conn.old) (state S.Store conn.new) result (λ r.
+        map (λ f. line_columns (filing_row agent.now f)) (last (filings_of agent.now r.members))) }
 {
     query_by_one(conn, LAST_FILING, agent)
 }
@@ -130,7 +142,9 @@ pub fn last_of_series<S: Alter>(
 ) -> Result<Vec<Row>, Error>
     requires { conn.old.in_transaction ≡ false }
     ensures mode { conn.new.in_transaction ≡ false }
-    ensures finds { Finds (state S.Store conn.old) (state S.Store conn.new) result (λ r. map (λ p. statement_columns (bare p)) (last (in_series declaration.now rec.now (placed_of agent.now r)))) }
+    ensures finds { Finds (state S.Store conn.old) (state S.Store conn.new) result (λ r.
+        map (λ p. statement_columns (bare p))
+        (last (in_series declaration.now rec.now (placed_of agent.now r)))) }
 {
     query_by_three(conn, LAST_OF_SERIES, agent, declaration, rec)
 }
@@ -144,7 +158,8 @@ pub fn statement_by_id<S: Alter>(
 ) -> Result<Vec<Row>, Error>
     requires { conn.old.in_transaction ≡ false }
     ensures mode { conn.new.in_transaction ≡ false }
-    ensures finds { Finds (state S.Store conn.old) (state S.Store conn.new) result (λ r. map place_columns (identified id.now (placed_of agent.now r))) }
+    ensures finds { Finds (state S.Store conn.old) (state S.Store conn.new) result (λ r.
+        map place_columns (identified id.now (placed_of agent.now r))) }
 {
     query_by_two(conn, STATEMENT_BY_ID, agent, id)
 }
@@ -158,8 +173,10 @@ pub fn statements_of_filing<S: Alter>(
 ) -> Result<Vec<Row>, Error>
     requires { conn.old.in_transaction ≡ false }
     ensures mode { conn.new.in_transaction ≡ false }
-    ensures finds { Finds (state S.Store conn.old) (state S.Store conn.new) result (λ r. map (λ p. statement_columns (bare p)) (in_filing number (placed_of agent.now r))) }
-    ensures both { FindsBoth (state S.Store conn.old) (state S.Store conn.new) result (λ r. map (λ p. statement_columns (bare p)) (in_filing number (placed_of agent.now r))) }
+    ensures finds { Finds (state S.Store conn.old) (state S.Store conn.new) result (λ r.
+        map (λ p. statement_columns (bare p)) (in_filing number (placed_of agent.now r))) }
+    ensures both { FindsBoth (state S.Store conn.old) (state S.Store conn.new) result (λ r.
+        map (λ p. statement_columns (bare p)) (in_filing number (placed_of agent.now r))) }
 {
     query_by_filing(conn, STATEMENTS_OF_FILING, agent, number)
 }
@@ -173,7 +190,9 @@ pub fn statements_of_declaration<S: Alter>(
 ) -> Result<Vec<Row>, Error>
     requires { conn.old.in_transaction ≡ false }
     ensures mode { conn.new.in_transaction ≡ false }
-    ensures finds { Finds (state S.Store conn.old) (state S.Store conn.new) result (λ r. map (λ p. statement_columns (bare p)) (in_declaration declaration.now (placed_of agent.now r))) }
+    ensures finds { Finds (state S.Store conn.old) (state S.Store conn.new) result (λ r.
+        map (λ p. statement_columns (bare p))
+        (in_declaration declaration.now (placed_of agent.now r))) }
 {
     query_by_two(conn, STATEMENTS_OF_DECLARATION, agent, declaration)
 }
@@ -188,8 +207,14 @@ pub fn interests_of_statement<S: Alter>(
 ) -> Result<Vec<Row>, Error>
     requires { conn.old.in_transaction ≡ false }
     ensures mode { conn.new.in_transaction ≡ false }
-    ensures finds { Finds (state S.Store conn.old) (state S.Store conn.new) result (λ r. map interest_columns (interests_at (record { agent = agent.now; filing = number; place = place }) r.members)) }
-    ensures both { FindsBoth (state S.Store conn.old) (state S.Store conn.new) result (λ r. map interest_columns (interests_at (record { agent = agent.now; filing = number; place = place }) r.members)) }
+    ensures finds { Finds (state S.Store conn.old) (state S.Store conn.new) result (λ r.
+        map interest_columns
+        (interests_at (record { agent = agent.now; filing = number; place = place })
+        r.members)) }
+    ensures both { FindsBoth (state S.Store conn.old) (state S.Store conn.new) result (λ r.
+        map interest_columns
+        (interests_at (record { agent = agent.now; filing = number; place = place })
+        r.members)) }
 {
     query_by_statement(conn, INTERESTS_OF_STATEMENT, agent, number, place)
 }
@@ -204,7 +229,11 @@ pub fn periods_of_statement<S: Alter>(
 ) -> Result<Vec<Row>, Error>
     requires { conn.old.in_transaction ≡ false }
     ensures mode { conn.new.in_transaction ≡ false }
-    ensures finds { Finds (state S.Store conn.old) (state S.Store conn.new) result (λ r. map period_columns (flat_map period_rows (interests_at (record { agent = agent.now; filing = number; place = place }) r.members))) }
+    ensures finds { Finds (state S.Store conn.old) (state S.Store conn.new) result (λ r.
+        map period_columns
+        (flat_map period_rows
+        (interests_at (record { agent = agent.now; filing = number; place = place })
+        r.members))) }
 {
     query_by_statement(conn, PERIODS_OF_STATEMENT, agent, number, place)
 }
@@ -218,8 +247,12 @@ pub fn file_by_number<S: Alter>(
 ) -> Result<Vec<Row>, Error>
     requires { conn.old.in_transaction ≡ false }
     ensures mode { conn.new.in_transaction ≡ false }
-    ensures finds { Finds (state S.Store conn.old) (state S.Store conn.new) result (λ r. map (λ f. shown_columns (filing_shown f)) (numbered number (filings_of agent.now r.members))) }
-    ensures both { FindsBoth (state S.Store conn.old) (state S.Store conn.new) result (λ r. map (λ f. shown_columns (filing_shown f)) (numbered number (filings_of agent.now r.members))) }
+    ensures finds { Finds (state S.Store conn.old) (state S.Store conn.new) result (λ r.
+        map (λ f. shown_columns (filing_shown f))
+        (numbered number (filings_of agent.now r.members))) }
+    ensures both { FindsBoth (state S.Store conn.old) (state S.Store conn.new) result (λ r.
+        map (λ f. shown_columns (filing_shown f))
+        (numbered number (filings_of agent.now r.members))) }
 {
     query_by_filing(conn, FILE_BY_NUMBER, agent, number)
 }
@@ -234,8 +267,14 @@ pub fn identifiers_of_statement<S: Alter>(
 ) -> Result<Vec<Row>, Error>
     requires { conn.old.in_transaction ≡ false }
     ensures mode { conn.new.in_transaction ≡ false }
-    ensures finds { Finds (state S.Store conn.old) (state S.Store conn.new) result (λ r. map identifier_columns (identifiers_at (record { agent = agent.now; filing = number; place = place }) r.members)) }
-    ensures both { FindsBoth (state S.Store conn.old) (state S.Store conn.new) result (λ r. map identifier_columns (identifiers_at (record { agent = agent.now; filing = number; place = place }) r.members)) }
+    ensures finds { Finds (state S.Store conn.old) (state S.Store conn.new) result (λ r.
+        map identifier_columns
+        (identifiers_at (record { agent = agent.now; filing = number; place = place })
+        r.members)) }
+    ensures both { FindsBoth (state S.Store conn.old) (state S.Store conn.new) result (λ r.
+        map identifier_columns
+        (identifiers_at (record { agent = agent.now; filing = number; place = place })
+        r.members)) }
 {
     query_by_statement(conn, IDENTIFIERS_OF_STATEMENT, agent, number, place)
 }

@@ -19,7 +19,8 @@ pub(crate) fn query<S: Alter>(
     requires settled { conn.old.in_transaction ≡ false }
     requires asks { IsQuery sql.now }
     ensures mode { conn.new.in_transaction ≡ false }
-    ensures asked { Asked sql.now (bound params.now) (state S.Store conn.old) (state S.Store conn.new) result }
+    ensures asked { Asked sql.now (bound params.now) (state S.Store conn.old)
+        (state S.Store conn.new) result }
 {
     let _settled = conn.is_autocommit();
     conn.query_all(sql, params)
@@ -34,7 +35,8 @@ pub(crate) fn query_by_one<S: Alter>(
     requires settled { conn.old.in_transaction ≡ false }
     requires asks { IsQuery sql.now }
     ensures mode { conn.new.in_transaction ≡ false }
-    ensures asked { Asked sql.now (Text text.now ∷ []) (state S.Store conn.old) (state S.Store conn.new) result }
+    ensures asked { Asked sql.now (Text text.now ∷ []) (state S.Store conn.old)
+        (state S.Store conn.new) result }
 {
     query(conn, sql, &one_text(text))
 }
@@ -49,7 +51,8 @@ pub(crate) fn query_by_two<S: Alter>(
     requires settled { conn.old.in_transaction ≡ false }
     requires asks { IsQuery sql.now }
     ensures mode { conn.new.in_transaction ≡ false }
-    ensures asked { Asked sql.now (Text first.now ∷ Text second.now ∷ []) (state S.Store conn.old) (state S.Store conn.new) result }
+    ensures asked { Asked sql.now (Text first.now ∷ Text second.now ∷ []) (state S.Store conn.old)
+        (state S.Store conn.new) result }
 {
     query(conn, sql, &two_texts(first, second))
 }
@@ -65,7 +68,8 @@ pub(crate) fn query_by_three<S: Alter>(
     requires settled { conn.old.in_transaction ≡ false }
     requires asks { IsQuery sql.now }
     ensures mode { conn.new.in_transaction ≡ false }
-    ensures asked { Asked sql.now (Text first.now ∷ Text second.now ∷ Text third.now ∷ []) (state S.Store conn.old) (state S.Store conn.new) result }
+    ensures asked { Asked sql.now (Text first.now ∷ Text second.now ∷ Text third.now ∷ [])
+        (state S.Store conn.old) (state S.Store conn.new) result }
 {
     query(conn, sql, &three_texts(first, second, third))
 }
@@ -80,7 +84,8 @@ pub(crate) fn query_by_filing<S: Alter>(
     requires settled { conn.old.in_transaction ≡ false }
     requires asks { IsQuery sql.now }
     ensures mode { conn.new.in_transaction ≡ false }
-    ensures asked { Asked sql.now (Text agent.now ∷ Int (pos number) ∷ []) (state S.Store conn.old) (state S.Store conn.new) result }
+    ensures asked { Asked sql.now (Text agent.now ∷ Int (pos number) ∷ []) (state S.Store conn.old)
+        (state S.Store conn.new) result }
 {
     query(conn, sql, &filing_key(agent, number))
 }
@@ -96,7 +101,8 @@ pub(crate) fn query_by_statement<S: Alter>(
     requires settled { conn.old.in_transaction ≡ false }
     requires asks { IsQuery sql.now }
     ensures mode { conn.new.in_transaction ≡ false }
-    ensures asked { Asked sql.now (Text agent.now ∷ Int (pos number) ∷ Int (pos place) ∷ []) (state S.Store conn.old) (state S.Store conn.new) result }
+    ensures asked { Asked sql.now (Text agent.now ∷ Int (pos number) ∷ Int (pos place) ∷ [])
+        (state S.Store conn.old) (state S.Store conn.new) result }
 {
     query(conn, sql, &statement_key(agent, number, place))
 }
@@ -112,7 +118,8 @@ pub(crate) fn query_by_file<S: Alter>(
     requires settled { conn.old.in_transaction ≡ false }
     requires asks { IsQuery sql.now }
     ensures mode { conn.new.in_transaction ≡ false }
-    ensures asked { Asked sql.now (Text agent.now ∷ Text key.now ∷ Blob bytes.now ∷ []) (state S.Store conn.old) (state S.Store conn.new) result }
+    ensures asked { Asked sql.now (Text agent.now ∷ Text key.now ∷ Blob bytes.now ∷ [])
+        (state S.Store conn.old) (state S.Store conn.new) result }
 {
     query(conn, sql, &file_key(agent, key, bytes))
 }

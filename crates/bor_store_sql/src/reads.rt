@@ -21,7 +21,8 @@ use sqlite::{Alter, Connection, Error, Row};
 pub fn all_register<S: Alter>(conn: &mut Connection<S>) -> Result<Vec<Row>, Error>
     requires { conn.old.in_transaction ≡ false }
     ensures mode { conn.new.in_transaction ≡ false }
-    ensures finds { Finds (state S.Store conn.old) (state S.Store conn.new) result (λ r. register_columns r ∷ []) }
+    ensures finds { Finds (state S.Store conn.old) (state S.Store conn.new) result (λ r.
+        register_columns r ∷ []) }
 {
     query(conn, ALL_REGISTER, &[])
 }
@@ -31,7 +32,8 @@ pub fn all_register<S: Alter>(conn: &mut Connection<S>) -> Result<Vec<Row>, Erro
 pub fn all_agents<S: Alter>(conn: &mut Connection<S>) -> Result<Vec<Row>, Error>
     requires { conn.old.in_transaction ≡ false }
     ensures mode { conn.new.in_transaction ≡ false }
-    ensures finds { Finds (state S.Store conn.old) (state S.Store conn.new) result (λ r. map agent_columns r.members) }
+    ensures finds { Finds (state S.Store conn.old) (state S.Store conn.new) result (λ r.
+        map agent_columns r.members) }
 {
     query(conn, ALL_AGENTS, &[])
 }
@@ -41,8 +43,10 @@ pub fn all_agents<S: Alter>(conn: &mut Connection<S>) -> Result<Vec<Row>, Error>
 pub fn all_filings<S: Alter>(conn: &mut Connection<S>) -> Result<Vec<Row>, Error>
     requires { conn.old.in_transaction ≡ false }
     ensures mode { conn.new.in_transaction ≡ false }
-    ensures finds { Finds (state S.Store conn.old) (state S.Store conn.new) result (λ r. map line_columns (filing_lines r.members)) }
-    ensures both { FindsBoth (state S.Store conn.old) (state S.Store conn.new) result (λ r. map line_columns (filing_lines r.members)) }
+    ensures finds { Finds (state S.Store conn.old) (state S.Store conn.new) result (λ r.
+        map line_columns (filing_lines r.members)) }
+    ensures both { FindsBoth (state S.Store conn.old) (state S.Store conn.new) result (λ r.
+        map line_columns (filing_lines r.members)) }
 {
     query(conn, ALL_FILINGS, &[])
 }
@@ -52,7 +56,8 @@ pub fn all_filings<S: Alter>(conn: &mut Connection<S>) -> Result<Vec<Row>, Error
 pub fn all_statements<S: Alter>(conn: &mut Connection<S>) -> Result<Vec<Row>, Error>
     requires { conn.old.in_transaction ≡ false }
     ensures mode { conn.new.in_transaction ≡ false }
-    ensures finds { Finds (state S.Store conn.old) (state S.Store conn.new) result (λ r. map (λ p. statement_columns (bare p)) (placed r.members)) }
+    ensures finds { Finds (state S.Store conn.old) (state S.Store conn.new) result (λ r.
+        map (λ p. statement_columns (bare p)) (placed r.members)) }
 {
     query(conn, ALL_STATEMENTS, &[])
 }
@@ -62,7 +67,8 @@ pub fn all_statements<S: Alter>(conn: &mut Connection<S>) -> Result<Vec<Row>, Er
 pub fn all_interests<S: Alter>(conn: &mut Connection<S>) -> Result<Vec<Row>, Error>
     requires { conn.old.in_transaction ≡ false }
     ensures mode { conn.new.in_transaction ≡ false }
-    ensures finds { Finds (state S.Store conn.old) (state S.Store conn.new) result (λ r. map interest_columns (flat_map interest_rows (placed r.members))) }
+    ensures finds { Finds (state S.Store conn.old) (state S.Store conn.new) result (λ r.
+        map interest_columns (flat_map interest_rows (placed r.members))) }
 {
     query(conn, ALL_INTERESTS, &[])
 }
@@ -72,7 +78,8 @@ pub fn all_interests<S: Alter>(conn: &mut Connection<S>) -> Result<Vec<Row>, Err
 pub fn all_periods<S: Alter>(conn: &mut Connection<S>) -> Result<Vec<Row>, Error>
     requires { conn.old.in_transaction ≡ false }
     ensures mode { conn.new.in_transaction ≡ false }
-    ensures finds { Finds (state S.Store conn.old) (state S.Store conn.new) result (λ r. map period_columns (flat_map period_rows (flat_map interest_rows (placed r.members)))) }
+    ensures finds { Finds (state S.Store conn.old) (state S.Store conn.new) result (λ r.
+        map period_columns (flat_map period_rows (flat_map interest_rows (placed r.members)))) }
 {
     query(conn, ALL_PERIODS, &[])
 }
@@ -82,7 +89,8 @@ pub fn all_periods<S: Alter>(conn: &mut Connection<S>) -> Result<Vec<Row>, Error
 pub fn all_identifiers<S: Alter>(conn: &mut Connection<S>) -> Result<Vec<Row>, Error>
     requires { conn.old.in_transaction ≡ false }
     ensures mode { conn.new.in_transaction ≡ false }
-    ensures finds { Finds (state S.Store conn.old) (state S.Store conn.new) result (λ r. map identifier_columns (flat_map identifier_rows (placed r.members))) }
+    ensures finds { Finds (state S.Store conn.old) (state S.Store conn.new) result (λ r.
+        map identifier_columns (flat_map identifier_rows (placed r.members))) }
 {
     query(conn, ALL_IDENTIFIERS, &[])
 }
@@ -92,7 +100,8 @@ pub fn all_identifiers<S: Alter>(conn: &mut Connection<S>) -> Result<Vec<Row>, E
 pub fn more_statements<S: Alter>(conn: &mut Connection<S>, count: u32) -> Result<Vec<Row>, Error>
     requires { conn.old.in_transaction ≡ false }
     ensures mode { conn.new.in_transaction ≡ false }
-    ensures finds { Finds (state S.Store conn.old) (state S.Store conn.new) result (λ r. map (λ p. Int (pos 1) ∷ []) (take 1 (drop count (placed r.members)))) }
+    ensures finds { Finds (state S.Store conn.old) (state S.Store conn.new) result (λ r.
+        map (λ p. Int (pos 1) ∷ []) (take 1 (drop count (placed r.members)))) }
 {
     query(conn, MORE_STATEMENTS, &one_number(count))
 }

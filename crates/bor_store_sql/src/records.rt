@@ -24,13 +24,15 @@ pub fn statements_of_series<S: Alter>(
 ) -> Result<Vec<Row>, Error>
     requires { conn.old.in_transaction ≡ false }
     ensures mode { conn.new.in_transaction ≡ false }
-    ensures finds { Finds (state S.Store conn.old) (state S.Store conn.new) result (λ r. map (λ p. statement_columns (bare p)) (in_series declaration.now rec.now (placed_of agent.now r))) }
+    ensures finds { Finds (state S.Store conn.old) (state S.Store conn.new) result (λ r.
+        map (λ p. statement_columns (bare p))
+        (in_series declaration.now rec.now (placed_of agent.now r))) }
 {
     query_by_three(conn, STATEMENTS_OF_SERIES, agent, declaration, rec)
 }
 
-/// The live statements of the agent's records with this identifier, of whatever declaration, by filing
-/// and place.
+/// The live statements of the agent's records with this identifier, of whatever declaration, by
+/// filing and place.
 #[tactic(auto, using(crate::proofs::Plain::statements_of_record_asks))]
 pub fn statements_of_record<S: Alter>(
     conn: &mut Connection<S>,
@@ -39,13 +41,14 @@ pub fn statements_of_record<S: Alter>(
 ) -> Result<Vec<Row>, Error>
     requires { conn.old.in_transaction ≡ false }
     ensures mode { conn.new.in_transaction ≡ false }
-    ensures finds { Finds (state S.Store conn.old) (state S.Store conn.new) result (λ r. map (λ p. statement_columns (bare p)) (in_record rec.now (placed_of agent.now r))) }
+    ensures finds { Finds (state S.Store conn.old) (state S.Store conn.new) result (λ r.
+        map (λ p. statement_columns (bare p)) (in_record rec.now (placed_of agent.now r))) }
 {
     query_by_two(conn, STATEMENTS_OF_RECORD, agent, rec)
 }
 
-/// The agent's live relationship statements of a declaration that name this record as their subject, by
-/// filing and place.
+/// The agent's live relationship statements of a declaration that name this record as their
+/// subject, by filing and place.
 #[tactic(auto, using(crate::proofs::Plain::statements_of_subject_asks))]
 pub fn statements_of_subject<S: Alter>(
     conn: &mut Connection<S>,
@@ -55,12 +58,15 @@ pub fn statements_of_subject<S: Alter>(
 ) -> Result<Vec<Row>, Error>
     requires { conn.old.in_transaction ≡ false }
     ensures mode { conn.new.in_transaction ≡ false }
-    ensures finds { Finds (state S.Store conn.old) (state S.Store conn.new) result (λ r. map (λ p. statement_columns (bare p)) (with_subject declaration.now rec.now (placed_of agent.now r))) }
+    ensures finds { Finds (state S.Store conn.old) (state S.Store conn.new) result (λ r.
+        map (λ p. statement_columns (bare p))
+        (with_subject declaration.now rec.now (placed_of agent.now r))) }
 {
     query_by_three(conn, STATEMENTS_OF_SUBJECT, agent, declaration, rec)
 }
 
-/// The live statement at a place of the agent's filing with this number; no row where there is none.
+/// The live statement at a place of the agent's filing with this number; no row where there is
+/// none.
 #[tactic(auto, using(crate::proofs::Plain::statement_by_place_asks))]
 pub fn statement_by_place<S: Alter>(
     conn: &mut Connection<S>,
@@ -70,13 +76,16 @@ pub fn statement_by_place<S: Alter>(
 ) -> Result<Vec<Row>, Error>
     requires { conn.old.in_transaction ≡ false }
     ensures mode { conn.new.in_transaction ≡ false }
-    ensures finds { Finds (state S.Store conn.old) (state S.Store conn.new) result (λ r. map (λ p. statement_columns (bare p)) (standing_at (record { agent = agent.now; filing = number; place = place }) r.members)) }
+    ensures finds { Finds (state S.Store conn.old) (state S.Store conn.new) result (λ r.
+        map (λ p. statement_columns (bare p))
+        (standing_at (record { agent = agent.now; filing = number; place = place })
+        r.members)) }
 {
     query_by_statement(conn, STATEMENT_BY_PLACE, agent, number, place)
 }
 
-/// The identifiers of all live statements that have this scheme and this identifier, by agent, filing,
-/// place and item.
+/// The identifiers of all live statements that have this scheme and this identifier, by agent,
+/// filing, place and item.
 #[tactic(auto, using(crate::proofs::Plain::identifiers_by_id_asks))]
 pub fn identifiers_by_id<S: Alter>(
     conn: &mut Connection<S>,
@@ -85,7 +94,8 @@ pub fn identifiers_by_id<S: Alter>(
 ) -> Result<Vec<Row>, Error>
     requires { conn.old.in_transaction ≡ false }
     ensures mode { conn.new.in_transaction ≡ false }
-    ensures finds { Finds (state S.Store conn.old) (state S.Store conn.new) result (λ r. map identifier_columns (identified_by scheme.now id.now r.members)) }
+    ensures finds { Finds (state S.Store conn.old) (state S.Store conn.new) result (λ r.
+        map identifier_columns (identified_by scheme.now id.now r.members)) }
 {
     query_by_two(conn, IDENTIFIERS_BY_ID, scheme, id)
 }

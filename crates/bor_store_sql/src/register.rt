@@ -15,9 +15,12 @@ use sqlite::{Alter, Connection, Error, Transaction};
 
 fn update_day<S: Alter>(tx: &mut Transaction<'_, S>, day: Day) -> Result<usize, Error>
     ensures same_reference { tx.new.conn.ghost_name ≡ tx.old.conn.ghost_name }
-    ensures clean { HasCleanDisk (state S.Store tx.new.conn.now) → HasCleanDisk (state S.Store tx.old.conn.now) }
-    ensures steps { HasCleanDisk (state S.Store tx.new.conn.now) → IsTrue (state S.Store tx.old.conn.now).in_transaction
-        → Steps (IsOneRegister day) (with_day day) (state S.Store tx.old.conn.now) (state S.Store tx.new.conn.now) result }
+    ensures clean { HasCleanDisk (state S.Store tx.new.conn.now)
+        → HasCleanDisk (state S.Store tx.old.conn.now) }
+    ensures steps { HasCleanDisk (state S.Store tx.new.conn.now)
+        → IsTrue (state S.Store tx.old.conn.now).in_transaction
+        → Steps (IsOneRegister day) (with_day day) (state S.Store tx.old.conn.now)
+        (state S.Store tx.new.conn.now) result }
 {
     tx.execute(UPDATE_DAY, &day_value(day))
 }
@@ -28,9 +31,12 @@ fn insert_agent<S: Alter>(
     token: &str,
 ) -> Result<usize, Error>
     ensures same_reference { tx.new.conn.ghost_name ≡ tx.old.conn.ghost_name }
-    ensures clean { HasCleanDisk (state S.Store tx.new.conn.now) → HasCleanDisk (state S.Store tx.old.conn.now) }
-    ensures steps { HasCleanDisk (state S.Store tx.new.conn.now) → IsTrue (state S.Store tx.old.conn.now).in_transaction
-        → Steps Any (with_agent_row (agent_columns (new_member agent.now token.now))) (state S.Store tx.old.conn.now) (state S.Store tx.new.conn.now) result }
+    ensures clean { HasCleanDisk (state S.Store tx.new.conn.now)
+        → HasCleanDisk (state S.Store tx.old.conn.now) }
+    ensures steps { HasCleanDisk (state S.Store tx.new.conn.now)
+        → IsTrue (state S.Store tx.old.conn.now).in_transaction
+        → Steps Any (with_agent_row (agent_columns (new_member agent.now token.now)))
+        (state S.Store tx.old.conn.now) (state S.Store tx.new.conn.now) result }
 {
     tx.execute(INSERT_AGENT, &agent_values(agent, token))
 }
@@ -40,9 +46,11 @@ pub fn set_day<S: Alter>(conn: &mut Connection<S>, day: Day) -> Result<(), Error
     requires { conn.old.in_transaction ≡ false }
     ensures mode { conn.new.in_transaction ≡ false }
     ensures began { IsClean (state S.Store conn.new) → IsClean (state S.Store conn.old) }
-    ensures made { IsClean (state S.Store conn.new) → (r : Register) → ShowsIn r (state S.Store conn.old)
+    ensures made { IsClean (state S.Store conn.new) → (r : Register)
+        → ShowsIn r (state S.Store conn.old)
         → OnOk result (ShowsIn (record r { day = day }) (state S.Store conn.new)) }
-    ensures kept { IsClean (state S.Store conn.new) → OnErr result ((state S.Store conn.new).committed ≡ (state S.Store conn.old).committed) }
+    ensures kept { IsClean (state S.Store conn.new)
+        → OnErr result ((state S.Store conn.new).committed ≡ (state S.Store conn.old).committed) }
 {
     let _settled = conn.is_autocommit();
     // Its clause says that the number is that of a day.
@@ -61,9 +69,12 @@ pub fn add_agent<S: Alter>(
     requires { conn.old.in_transaction ≡ false }
     ensures mode { conn.new.in_transaction ≡ false }
     ensures began { IsClean (state S.Store conn.new) → IsClean (state S.Store conn.old) }
-    ensures made { IsClean (state S.Store conn.new) → (r : Register) → ShowsIn r (state S.Store conn.old)
-        → is_enrolled agent.now r.members ≡ false → OnOk result (ShowsIn (enrolled agent.now token.now r) (state S.Store conn.new)) }
-    ensures kept { IsClean (state S.Store conn.new) → OnErr result ((state S.Store conn.new).committed ≡ (state S.Store conn.old).committed) }
+    ensures made { IsClean (state S.Store conn.new) → (r : Register)
+        → ShowsIn r (state S.Store conn.old)
+        → is_enrolled agent.now r.members ≡ false
+        → OnOk result (ShowsIn (enrolled agent.now token.now r) (state S.Store conn.new)) }
+    ensures kept { IsClean (state S.Store conn.new)
+        → OnErr result ((state S.Store conn.new).committed ≡ (state S.Store conn.old).committed) }
 {
     let _settled = conn.is_autocommit();
     let name = agent.as_str();

@@ -20,9 +20,12 @@ fn mark_withdrawn<S: Alter>(
     number: u32,
 ) -> Result<usize, Error>
     ensures same_reference { tx.new.conn.ghost_name ≡ tx.old.conn.ghost_name }
-    ensures clean { HasCleanDisk (state S.Store tx.new.conn.now) → HasCleanDisk (state S.Store tx.old.conn.now) }
-    ensures steps { HasCleanDisk (state S.Store tx.new.conn.now) → IsTrue (state S.Store tx.old.conn.now).in_transaction
-        → Steps (IsOnce agent.now number) (with_mark agent.now number) (state S.Store tx.old.conn.now) (state S.Store tx.new.conn.now) result }
+    ensures clean { HasCleanDisk (state S.Store tx.new.conn.now)
+        → HasCleanDisk (state S.Store tx.old.conn.now) }
+    ensures steps { HasCleanDisk (state S.Store tx.new.conn.now)
+        → IsTrue (state S.Store tx.old.conn.now).in_transaction
+        → Steps (IsOnce agent.now number) (with_mark agent.now number)
+        (state S.Store tx.old.conn.now) (state S.Store tx.new.conn.now) result }
 {
     run_by_filing(tx, MARK_WITHDRAWN, agent, number)
 }
@@ -34,9 +37,12 @@ fn delete_identifiers<S: Alter>(
     number: u32,
 ) -> Result<usize, Error>
     ensures same_reference { tx.new.conn.ghost_name ≡ tx.old.conn.ghost_name }
-    ensures clean { HasCleanDisk (state S.Store tx.new.conn.now) → HasCleanDisk (state S.Store tx.old.conn.now) }
-    ensures steps { HasCleanDisk (state S.Store tx.new.conn.now) → IsTrue (state S.Store tx.old.conn.now).in_transaction
-        → Steps Any (without_identifiers agent.now number) (state S.Store tx.old.conn.now) (state S.Store tx.new.conn.now) result }
+    ensures clean { HasCleanDisk (state S.Store tx.new.conn.now)
+        → HasCleanDisk (state S.Store tx.old.conn.now) }
+    ensures steps { HasCleanDisk (state S.Store tx.new.conn.now)
+        → IsTrue (state S.Store tx.old.conn.now).in_transaction
+        → Steps Any (without_identifiers agent.now number) (state S.Store tx.old.conn.now)
+        (state S.Store tx.new.conn.now) result }
 {
     run_by_filing(tx, DELETE_IDENTIFIERS, agent, number)
 }
@@ -48,9 +54,12 @@ fn delete_periods<S: Alter>(
     number: u32,
 ) -> Result<usize, Error>
     ensures same_reference { tx.new.conn.ghost_name ≡ tx.old.conn.ghost_name }
-    ensures clean { HasCleanDisk (state S.Store tx.new.conn.now) → HasCleanDisk (state S.Store tx.old.conn.now) }
-    ensures steps { HasCleanDisk (state S.Store tx.new.conn.now) → IsTrue (state S.Store tx.old.conn.now).in_transaction
-        → Steps Any (without_periods agent.now number) (state S.Store tx.old.conn.now) (state S.Store tx.new.conn.now) result }
+    ensures clean { HasCleanDisk (state S.Store tx.new.conn.now)
+        → HasCleanDisk (state S.Store tx.old.conn.now) }
+    ensures steps { HasCleanDisk (state S.Store tx.new.conn.now)
+        → IsTrue (state S.Store tx.old.conn.now).in_transaction
+        → Steps Any (without_periods agent.now number) (state S.Store tx.old.conn.now)
+        (state S.Store tx.new.conn.now) result }
 {
     run_by_filing(tx, DELETE_PERIODS, agent, number)
 }
@@ -62,9 +71,12 @@ fn delete_interests<S: Alter>(
     number: u32,
 ) -> Result<usize, Error>
     ensures same_reference { tx.new.conn.ghost_name ≡ tx.old.conn.ghost_name }
-    ensures clean { HasCleanDisk (state S.Store tx.new.conn.now) → HasCleanDisk (state S.Store tx.old.conn.now) }
-    ensures steps { HasCleanDisk (state S.Store tx.new.conn.now) → IsTrue (state S.Store tx.old.conn.now).in_transaction
-        → Steps Any (without_interests agent.now number) (state S.Store tx.old.conn.now) (state S.Store tx.new.conn.now) result }
+    ensures clean { HasCleanDisk (state S.Store tx.new.conn.now)
+        → HasCleanDisk (state S.Store tx.old.conn.now) }
+    ensures steps { HasCleanDisk (state S.Store tx.new.conn.now)
+        → IsTrue (state S.Store tx.old.conn.now).in_transaction
+        → Steps Any (without_interests agent.now number) (state S.Store tx.old.conn.now)
+        (state S.Store tx.new.conn.now) result }
 {
     run_by_filing(tx, DELETE_INTERESTS, agent, number)
 }
@@ -76,9 +88,12 @@ fn delete_statements<S: Alter>(
     number: u32,
 ) -> Result<usize, Error>
     ensures same_reference { tx.new.conn.ghost_name ≡ tx.old.conn.ghost_name }
-    ensures clean { HasCleanDisk (state S.Store tx.new.conn.now) → HasCleanDisk (state S.Store tx.old.conn.now) }
-    ensures steps { HasCleanDisk (state S.Store tx.new.conn.now) → IsTrue (state S.Store tx.old.conn.now).in_transaction
-        → Steps Any (without_statements agent.now number) (state S.Store tx.old.conn.now) (state S.Store tx.new.conn.now) result }
+    ensures clean { HasCleanDisk (state S.Store tx.new.conn.now)
+        → HasCleanDisk (state S.Store tx.old.conn.now) }
+    ensures steps { HasCleanDisk (state S.Store tx.new.conn.now)
+        → IsTrue (state S.Store tx.old.conn.now).in_transaction
+        → Steps Any (without_statements agent.now number) (state S.Store tx.old.conn.now)
+        (state S.Store tx.new.conn.now) result }
 {
     run_by_filing(tx, DELETE_STATEMENTS, agent, number)
 }
@@ -89,9 +104,12 @@ fn withdraw_rows<S: Alter>(
     number: u32,
 ) -> Result<(), Error>
     ensures same_reference { tx.new.conn.ghost_name ≡ tx.old.conn.ghost_name }
-    ensures clean { HasCleanDisk (state S.Store tx.new.conn.now) → HasCleanDisk (state S.Store tx.old.conn.now) }
-    ensures steps { HasCleanDisk (state S.Store tx.new.conn.now) → IsTrue (state S.Store tx.old.conn.now).in_transaction
-        → Steps (IsOnce agent.now number) (withdrawn_in agent.now number) (state S.Store tx.old.conn.now) (state S.Store tx.new.conn.now) result }
+    ensures clean { HasCleanDisk (state S.Store tx.new.conn.now)
+        → HasCleanDisk (state S.Store tx.old.conn.now) }
+    ensures steps { HasCleanDisk (state S.Store tx.new.conn.now)
+        → IsTrue (state S.Store tx.old.conn.now).in_transaction
+        → Steps (IsOnce agent.now number) (withdrawn_in agent.now number)
+        (state S.Store tx.old.conn.now) (state S.Store tx.new.conn.now) result }
 {
     mark_withdrawn(tx, agent, number)?;
     delete_periods(tx, agent, number)?;
@@ -110,9 +128,11 @@ pub fn withdraw_filing<S: Alter>(
     requires { conn.old.in_transaction ≡ false }
     ensures mode { conn.new.in_transaction ≡ false }
     ensures began { IsClean (state S.Store conn.new) → IsClean (state S.Store conn.old) }
-    ensures made { IsClean (state S.Store conn.new) → (r : Register) → ShowsIn r (state S.Store conn.old)
+    ensures made { IsClean (state S.Store conn.new) → (r : Register)
+        → ShowsIn r (state S.Store conn.old)
         → OnOk result (ShowsIn (withdrawn agent.now number r) (state S.Store conn.new)) }
-    ensures kept { IsClean (state S.Store conn.new) → OnErr result ((state S.Store conn.new).committed ≡ (state S.Store conn.old).committed) }
+    ensures kept { IsClean (state S.Store conn.new)
+        → OnErr result ((state S.Store conn.new).committed ≡ (state S.Store conn.old).committed) }
 {
     let _settled = conn.is_autocommit();
     let mut tx = conn.transaction();

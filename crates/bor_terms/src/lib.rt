@@ -12,8 +12,9 @@
 //! assert_eq!(rt; AgentName::read(rt.alloc(), "Acme Ltd")?, None);
 //! ```
 //!
-//! A text is kept byte for byte: nothing is trimmed, folded or normalised. There are no times of day,
-//! no time zones and no days outside the years 0 to 9999, and a share has whole percents alone.
+//! A text is kept byte for byte: nothing is trimmed, folded or normalised. There are no times of
+//! day, no time zones and no days outside the years 0 to 9999, and a share has whole percents
+//! alone.
 #![tactic(auto)]
 
 mod agent_name;

@@ -7,9 +7,9 @@ use crate::day::{Day, of_civil, pair_at};
 use jiff_core::civil::days_in_month;
 
 impl Day {
-    /// The first day of what a text names: the day that [`Day::read`] reads; of exactly `YYYY-MM` the
-    /// first day of the month; of exactly `YYYY` 1 January. `None` for another form, and where the
-    /// calendar has no such day, month or year.
+    /// The first day of what a text names: the day that [`Day::read`] reads; of exactly `YYYY-MM`
+    /// the first day of the month; of exactly `YYYY` 1 January. `None` for another form, and where
+    /// the calendar has no such day, month or year.
     #[tactic(auto, unfolding(crate::specs::Period::start_of))]
     pub fn read_start(text: &str) -> Option<Day>
         ensures { result ≡ start_of text.now }
@@ -27,9 +27,9 @@ impl Day {
         None
     }
 
-    /// The last day of what a text names: the day that [`Day::read`] reads; of exactly `YYYY-MM` the
-    /// last day of the month; of exactly `YYYY` 31 December. `None` for another form, and where the
-    /// calendar has no such day, month or year.
+    /// The last day of what a text names: the day that [`Day::read`] reads; of exactly `YYYY-MM`
+    /// the last day of the month; of exactly `YYYY` 31 December. `None` for another form, and where
+    /// the calendar has no such day, month or year.
     #[tactic(auto, unfolding(crate::specs::Period::end_of))]
     pub fn read_end(text: &str) -> Option<Day>
         ensures { result ≡ end_of text.now }

@@ -23,7 +23,8 @@ impl Model for Span {
 
     ghost view = { λ s. range s.low s.low_open s.high s.high_open };
 
-    ghost invariant = { λ s. (s.high ≤ 100) × HasPoints (range s.low s.low_open s.high s.high_open) };
+    ghost invariant = { λ s. (s.high ≤ 100)
+        × HasPoints (range s.low s.low_open s.high s.high_open) };
 
     ghost inverse = { λ r. record {
       low = r.low;
@@ -38,7 +39,8 @@ impl Span {
     /// is above 100, or where no half percent lies in the range.
     #[tactic(auto, using(crate::proofs::Shown::shown_made))]
     pub fn new(low: u8, low_open: bool, high: u8, high_open: bool) -> Option<Span>
-        ensures some { IsSome result ↔ ((low ≤ 100) × (high ≤ 100) × HasPoints (range low low_open high high_open)) }
+        ensures some { IsSome result
+            ↔ ((low ≤ 100) × (high ≤ 100) × HasPoints (range low low_open high high_open)) }
         ensures ends { IfSome result (λ span. span ≡ range low low_open high high_open) }
 
         // These ends are the ones that are shown of the range's points.

@@ -27,8 +27,8 @@ pub trait Form {
         ensures { result.now ≡ shown text.now };
 }
 
-/// A text of the form `F`, byte for byte. Texts are compared and ordered by their bytes. Copies of a text
-/// share its bytes.
+/// A text of the form `F`, byte for byte. Texts are compared and ordered by their bytes. Copies of
+/// a text share its bytes.
 #[derive(Drop)]
 pub struct Text<F: Form> {
     text: Rc<String>,
@@ -53,10 +53,11 @@ impl<F: Form> Text<F> {
         F::fits(text)
     }
 
-    /// The text that it is, byte for byte, or `None` where it does not have the form. Memory is asked
-    /// for only where it has.
+    /// The text that it is, byte for byte, or `None` where it does not have the form. Memory is
+    /// asked for only where it has.
     pub fn read(alloc: Global, text: &str) -> Result<Option<Text<F>>, AllocError>
-        ensures value { IfOk result (λ read. read ≡ (if F.is_form text.now then Some text.now else None)) }
+        ensures value { IfOk result (λ read.
+            read ≡ (if F.is_form text.now then Some text.now else None)) }
         ensures refused { F.is_form text.now ≡ false → IsOk result }
     {
         if !F::fits(text) {
@@ -91,8 +92,8 @@ impl<F: Form> Text<F> {
         Rc::unwrap_or_clone(self.text)
     }
 
-    /// Another text that is the same. It shares the bytes of this one and takes no memory; the allocator is
-    /// there as for all that is copied.
+    /// Another text that is the same. It shares the bytes of this one and takes no memory; the
+    /// allocator is there as for all that is copied.
     pub fn copy(&self, _alloc: Global) -> Result<Text<F>, AllocError>
         ensures { IfOk result (λ copied. copied ≡ self.now) }
     {

@@ -11,30 +11,31 @@ ghost use Rattle.bor_wire.specs.Turns.{FrontsAreRuns};
 
 use bor_desk::operations::Keep;
 
-/// An agent's drafts stay invisible to every other agent, to the last byte of a reply. Of two lists of
-/// requests, each answered from a new register: where an agent's own are the same, on the same days and
-/// with the same published by the others at each, it receives the same bytes.
+/// An agent's drafts stay invisible to every other agent, to the last byte of a reply. Of two lists
+/// of requests, each answered from a new register: where an agent's own are the same, on the same
+/// days and with the same published by the others at each, it receives the same bytes.
 pub fn drafts_stay_invisible()
     ensures { DraftsStayInvisible }
 {}
 
-/// A chain report omits nobody and invents nobody. Of requests that are answered from a new register,
-/// each reply with status 200 to one for chains names exactly the persons joined to the entity.
+/// A chain report omits nobody and invents nobody. Of requests that are answered from a new
+/// register, each reply with status 200 to one for chains names exactly the persons joined to the
+/// entity.
 pub fn reports_name_the_joined()
     ensures { ReportsNameTheJoined }
 {}
 
 /// The first sentence of exchanges one after the other, from keeps of new registers, as
-/// [`exchanges_are_a_run`] gives their runs: an agent whose own exchanges are the same in both, on the
-/// same days and with the same published by the others at each, is sent the same bytes.
+/// [`exchanges_are_a_run`] gives their runs: an agent whose own exchanges are the same in both, on
+/// the same days and with the same published by the others at each, is sent the same bytes.
 pub fn exchanges_keep_drafts_invisible<K: Keep>()
     ensures { ExchangesKeepDraftsInvisible K.shows }
 {}
 
-/// A lodging that is sent again acts once. Whatever came between, it is told the number and the due day
-/// as before, its filing's state now, and that it isn't new, with status 200, and changes nothing; a
-/// withdrawn filing is told so too. The key with another due day or another file is refused, and nothing
-/// changes. This holds of every register and run.
+/// A lodging that is sent again acts once. Whatever came between, it is told the number and the due
+/// day as before, its filing's state now, and that it isn't new, with status 200, and changes
+/// nothing; a withdrawn filing is told so too. The key with another due day or another file is
+/// refused, and nothing changes. This holds of every register and run.
 pub fn repeats_act_once()
     ensures { RepeatsActOnce }
 {}
@@ -51,36 +52,36 @@ pub fn report_bytes_give_persons()
     ensures { BytesGivePersons }
 {}
 
-/// Two runs, from any two legal registers, in which an agent has the same filings at the start and the
-/// same history give it the same bytes in the same order.
+/// Two runs, from any two legal registers, in which an agent has the same filings at the start and
+/// the same history give it the same bytes in the same order.
 pub fn same_history_same_bytes()
     ensures { SameHistorySameBytes }
 {}
 
-/// With one reply for each input of a run, an agent receives one for each exchange of its history, of
-/// every register and run.
+/// With one reply for each input of a run, an agent receives one for each exchange of its history,
+/// of every register and run.
 pub fn each_is_received()
     ensures { EachIsReceived }
 {}
 
 /// What spells no request, or has a token that nobody has, is in no agent's history and leaves the
-/// register, and no agent receives its reply. What it is told depends on its bytes alone: the refusal
-/// that they spell, or `NoAgent`. This holds of every register and run.
+/// register, and no agent receives its reply. What it is told depends on its bytes alone: the
+/// refusal that they spell, or `NoAgent`. This holds of every register and run.
 pub fn nobodys_inputs()
     ensures { NobodysInputs }
 {}
 
 /// Exchanges one after the other, from a keep of a legal register, each as the contract of
-/// [`exchange`](crate::exchange) says, are a run over what their inputs spell: the replies that were
-/// sent are the run's, the register left is too, and each agent receives what it would alone. Those
-/// that ended with status 503 or with a failed read have no part in it.
+/// [`exchange`](crate::exchange) says, are a run over what their inputs spell: the replies that
+/// were sent are the run's, the register left is too, and each agent receives what it would alone.
+/// Those that ended with status 503 or with a failed read have no part in it.
 pub fn exchanges_are_a_run<K: Keep>()
     ensures { ExchangesAreARun K.shows K.is_clean }
 {}
 
-/// A front of exchanges one after the other is a run too, where the keep that it leaves is clean. So what
-/// was replied before a store failed keeps its promises, whatever the store does later on: `in_turn` of
-/// [`replay`](crate::replay) gives such exchanges, with the keep after each.
+/// A front of exchanges one after the other is a run too, where the keep that it leaves is clean.
+/// So what was replied before a store failed keeps its promises, whatever the store does later on:
+/// `in_turn` of [`replay`](crate::replay) gives such exchanges, with the keep after each.
 pub fn fronts_are_runs<K: Keep>()
     ensures { FrontsAreRuns K.shows K.is_clean }
 {}

@@ -1,5 +1,5 @@
-//! The register over HTTP/1.1 (RFC 9112): a request is read, spelled, answered by the desk and replied
-//! to, over any keep of a register, any reader and any writer.
+//! The register over HTTP/1.1 (RFC 9112): a request is read, spelled, answered by the desk and
+//! replied to, over any keep of a register, any reader and any writer.
 //!
 //! [`exchange`] serves one request, and writes one reply:
 //!
@@ -12,12 +12,12 @@
 //! assert!(rt; out.ends_with(b"{\"agent\":\"alder\"}"));
 //! ```
 //!
-//! [`replay`] answers a list of inputs in turn. The bytes that an agent receives follow from its own
-//! filings, its own exchanges, the day at each of them, and what the others had published then
+//! [`replay`] answers a list of inputs in turn. The bytes that an agent receives follow from its
+//! own filings, its own exchanges, the day at each of them, and what the others had published then
 //! ([`laws`]).
 //!
-//! A connection serves one request, so each reply has `Connection: close`; [`rendering`] makes its bytes.
-//! Nothing here knows of sockets or of how a register is kept.
+//! A connection serves one request, so each reply has `Connection: close`; [`rendering`] makes its
+//! bytes. Nothing here knows of sockets or of how a register is kept.
 #![tactic(auto)]
 
 pub mod laws;

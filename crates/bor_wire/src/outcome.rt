@@ -22,14 +22,15 @@ pub enum Outcome {
     Replied(u16),
     /// The reader failed. Nothing changed, and nothing was written.
     ReadFailed,
-    /// The writer failed, or took nothing. The request was answered and its change, if any, stays; a
-    /// front of the reply was written.
+    /// The writer failed, or took nothing. The request was answered and its change, if any, stays;
+    /// a front of the reply was written.
     WriteFailed(u16),
 }
 
 // Writes the bytes of a reply with this status.
 fn write_reply<W: Write>(writer: &mut Counted<W>, status: u16, bytes: &[u8]) -> Outcome
-    ensures written { IsWritten result status bytes.now (W.contents writer.old.inner) (W.contents writer.new.inner) }
+    ensures written { IsWritten result status bytes.now (W.contents writer.old.inner)
+        (W.contents writer.new.inner) }
     ensures faults { writer.new.faults ≡ write_faults result writer.old.faults }
 {
     if send(writer, bytes) {
@@ -41,19 +42,20 @@ fn write_reply<W: Write>(writer: &mut Counted<W>, status: u16, bytes: &[u8]) -> 
 
 /// Reads one request, has the desk answer it, and writes the reply.
 ///
-/// With a status other than 503 the bytes that are written, of which a failing writer takes a front,
-/// are the reply to the one input, which each agent receives as it would alone, and the register left
-/// is the one after it; with 503 they are [`UNAVAILABLE`], and nothing changed. What each agent receives
-/// is said of legal registers, and the rest of each whose agents stand in order of their names, as every
-/// legal one's do; that nothing changed with a status of 400 or more or a failed read, that 503 has
-/// [`UNAVAILABLE`] written, and which refusal an input is told that spells no request, of any register
-/// and any keep.
+/// With a status other than 503 the bytes that are written, of which a failing writer takes a
+/// front, are the reply to the one input, which each agent receives as it would alone, and the
+/// register left is the one after it; with 503 they are [`UNAVAILABLE`], and nothing changed. What
+/// each agent receives is said of legal registers, and the rest of each whose agents stand in order
+/// of their names, as every legal one's do; that nothing changed with a status of 400 or more or a
+/// failed read, that 503 has [`UNAVAILABLE`] written, and which refusal an input is told that
+/// spells no request, of any register and any keep.
 ///
-/// Statements on bytes are of readers and writers that tell theirs, as those over memory do: of another
-/// reader it isn't said which request was answered, and of another writer not what was written. What is
-/// left, and the faults, are said of any. At most 1,064,960 bytes are read. A failed read, an
-/// interruption too, ends the exchange as [`Outcome::ReadFailed`], and a write that fails or takes
-/// nothing as [`Outcome::WriteFailed`]: each comes exactly where that end's count of faults moved.
+/// Statements on bytes are of readers and writers that tell theirs, as those over memory do: of
+/// another reader it isn't said which request was answered, and of another writer not what was
+/// written. What is left, and the faults, are said of any. At most 1,064,960 bytes are read. A
+/// failed read, an interruption too, ends the exchange as [`Outcome::ReadFailed`], and a write that
+/// fails or takes nothing as [`Outcome::WriteFailed`]: each comes exactly where that end's count of
+/// faults moved.
 pub fn exchange<K: Keep, R: Read, W: Write>(
     alloc: Global,
     keep: &mut K,
@@ -62,13 +64,18 @@ pub fn exchange<K: Keep, R: Read, W: Write>(
 ) -> Outcome
     ensures began { K.is_clean keep.new → K.is_clean keep.old }
     ensures exchanged { Promised K.shows K.is_clean keep.old keep.new (λ r. IsOrdered r.members →
-        IsExchanged result (K.shows keep.new) r (R.remaining reader.old.inner) (W.contents writer.old.inner) (W.contents writer.new.inner)) }
-    ensures kept { Promised K.shows K.is_clean keep.old keep.new (λ r. WithoutReply result (K.shows keep.new r)) }
-    ensures refused_kept { Promised K.shows K.is_clean keep.old keep.new (λ r. IfRefused result (K.shows keep.new r)) }
-    ensures unavailable { TellsUnavailable result (W.contents writer.old.inner) (W.contents writer.new.inner) }
+        IsExchanged result (K.shows keep.new) r (R.remaining reader.old.inner)
+        (W.contents writer.old.inner) (W.contents writer.new.inner)) }
+    ensures kept { Promised K.shows K.is_clean keep.old keep.new (λ r.
+        WithoutReply result (K.shows keep.new r)) }
+    ensures refused_kept { Promised K.shows K.is_clean keep.old keep.new (λ r.
+        IfRefused result (K.shows keep.new r)) }
+    ensures unavailable { TellsUnavailable result (W.contents writer.old.inner)
+        (W.contents writer.new.inner) }
     ensures refused { OnRefusal (R.remaining reader.old.inner) (λ why.
         TellsRefusal result why (W.contents writer.old.inner) (W.contents writer.new.inner)) }
-    ensures taken { TakesAtMost request_limit (R.remaining reader.old.inner) (R.remaining reader.new.inner) }
+    ensures taken { TakesAtMost request_limit (R.remaining reader.old.inner)
+        (R.remaining reader.new.inner) }
     ensures read_faults { reader.new.faults ≡ read_faults result reader.old.faults }
     ensures write_faults { writer.new.faults ≡ write_faults result writer.old.faults }
 {

@@ -61,22 +61,23 @@ impl Outgoing {
 /// What goes out for an input, and for whom.
 #[derive(Drop)]
 pub struct Response {
-    /// The agent whose token the request has; `None` where the registrar or nobody has it, where the input
-    /// spells no request, or where the status is 503 and it isn't known.
+    /// The agent whose token the request has; `None` where the registrar or nobody has it, where
+    /// the input spells no request, or where the status is 503 and it isn't known.
     pub agent: Option<AgentName>,
     /// What goes out.
     pub outgoing: Outgoing,
 }
 
-/// Answers the request in these bytes: an [`exchange`](crate::exchange) over them, whose reply stays in
-/// memory. It names the agent that is answered.
+/// Answers the request in these bytes: an [`exchange`](crate::exchange) over them, whose reply
+/// stays in memory. It names the agent that is answered.
 pub fn respond<K: Keep>(alloc: Global, paths: &Paths, keep: &mut K, input: &[u8]) -> Response
     ensures began { K.is_clean keep.new → K.is_clean keep.old }
     ensures exchanged { Promised K.shows K.is_clean keep.old keep.new (λ r.
         IsOrdered r.members → IsResponse (K.shows keep.new) r input.now result.outgoing) }
     ensures refused_kept { Promised K.shows K.is_clean keep.old keep.new (λ r.
         IfRefusing result.outgoing (K.shows keep.new r)) }
-    ensures agent { Promised K.shows K.is_clean keep.old keep.new (λ r. NamesWhoAsks r input.now result) }
+    ensures agent { Promised K.shows K.is_clean keep.old keep.new (λ r.
+        NamesWhoAsks r input.now result) }
 {
     let mut reader = Counted::new(input);
     let (agent, outgoing) = read_reply(alloc, paths, keep, &mut reader);
@@ -141,11 +142,12 @@ fn rendered(alloc: Global, mut out: Vec<u8>, reply: &DeskReply) -> Outgoing
     }
 }
 
-/// The reply to a request. The room for a short one is reserved before the desk is asked, so that no
-/// change is made whose reply finds no memory.
+/// The reply to a request. The room for a short one is reserved before the desk is asked, so that
+/// no change is made whose reply finds no memory.
 fn answered<K: Keep>(alloc: Global, keep: &mut K, asking: &Asking) -> Response
     ensures began { K.is_clean keep.new → K.is_clean keep.old }
-    ensures reply { Promised K.shows K.is_clean keep.old keep.new (λ r. IsOrderedFor asking.now.request r
+    ensures reply { Promised K.shows K.is_clean keep.old keep.new (λ r.
+        IsOrderedFor asking.now.request r
         → GoesOut result.outgoing (K.shows keep.new) r (Ok (asked_view asking.now))) }
     ensures kept { Promised K.shows K.is_clean keep.old keep.new (λ r.
         IfRefusing result.outgoing (K.shows keep.new r)) }
@@ -204,8 +206,8 @@ fn reply_for<K: Keep>(alloc: Global, paths: &Paths, keep: &mut K, raw: RawReques
     }
 }
 
-/// The reply to the request that a reader gives, and the agent that it is for; no reply where the reader
-/// failed.
+/// The reply to the request that a reader gives, and the agent that it is for; no reply where the
+/// reader failed.
 pub(crate) fn read_reply<K: Keep, R: Read>(
     alloc: Global,
     paths: &Paths,
@@ -217,13 +219,15 @@ pub(crate) fn read_reply<K: Keep, R: Read>(
         (λ spelled status bytes. Promised K.shows K.is_clean keep.old keep.new (λ r.
         IsOrdered r.members → IsSent (K.shows keep.new) r spelled status bytes))
         (Promised K.shows K.is_clean keep.old keep.new (K.shows keep.new)) }
-    ensures kept { Promised K.shows K.is_clean keep.old keep.new (λ r. IfNoChange result.1 (K.shows keep.new r)) }
+    ensures kept { Promised K.shows K.is_clean keep.old keep.new (λ r.
+        IfNoChange result.1 (K.shows keep.new r)) }
     ensures agent { OnSpelled (R.remaining reader.old.inner) (λ spelled.
         Promised K.shows K.is_clean keep.old keep.new (λ r.
         IfSome result.1 (λ out. IsFor out result.0 (agent_spelled r spelled)))) }
     ensures refused { OnRefusal (R.remaining reader.old.inner) (GoesOutRefused result.1) }
     ensures status { IfSome result.1 HasStatus }
-    ensures taken { TakesAtMost request_limit (R.remaining reader.old.inner) (R.remaining reader.new.inner) }
+    ensures taken { TakesAtMost request_limit (R.remaining reader.old.inner)
+        (R.remaining reader.new.inner) }
     ensures faults { reader.new.faults ≡ faults_unread result.1 reader.old.faults }
 {
     match read_request(alloc, reader) {

@@ -48,18 +48,20 @@ fn reply_to<K: Keep>(alloc: Global, paths: &Paths, keep: &mut K, input: &[u8]) -
 
 /// Answers inputs in turn, each from the register that the one before it left.
 ///
-/// Without the inputs whose reply is [`Reply::Unavailable`], the replies are those of the run over what
-/// the inputs spell, and so is the register left; what each agent receives follows from its own
-/// exchanges alone; a report on chains with status 200 names exactly the persons joined to the entity in
-/// what the caller sees; and a reply with a status of 400 or more leaves the register as it was.
+/// Without the inputs whose reply is [`Reply::Unavailable`], the replies are those of the run over
+/// what the inputs spell, and so is the register left; what each agent receives follows from its
+/// own exchanges alone; a report on chains with status 200 names exactly the persons joined to the
+/// entity in what the caller sees; and a reply with a status of 400 or more leaves the register as
+/// it was.
 ///
-/// This is said of a keep that ends clean. Of one that doesn't, as where its store failed at some input,
-/// it holds up to the last keep that was clean: the replies are those of exchanges in turn, and each front
-/// of these is a run of its own ([`fronts_are_runs`](crate::laws::fronts_are_runs)).
+/// This is said of a keep that ends clean. Of one that doesn't, as where its store failed at some
+/// input, it holds up to the last keep that was clean: the replies are those of exchanges in turn,
+/// and each front of these is a run of its own ([`fronts_are_runs`](crate::laws::fronts_are_runs)).
 ///
 /// # Errors
 ///
-/// There is no memory for the list of replies or for the paths; then nothing that is shown has changed.
+/// There is no memory for the list of replies or for the paths; then nothing that is shown has
+/// changed.
 pub fn replay<K: Keep>(
     alloc: Global,
     keep: &mut K,
@@ -69,20 +71,30 @@ pub fn replay<K: Keep>(
     ensures count { IfOk result (λ replies. length replies.items ≡ length inputs.now) }
     ensures spelled { IfOk result (λ replies. (spelled : List Spelled)
         × AreSpelled (served (map (λ v. v.items) inputs.now) replies.items) spelled) }
-    ensures replies { Promised K.shows K.is_clean keep.old keep.new (λ r. IsLegal r → IfOk result (λ replies.
-        (spelled : List Spelled) → AreSpelled (served (map (λ v. v.items) inputs.now) replies.items) spelled →
+    ensures replies { Promised K.shows K.is_clean keep.old keep.new (λ r.
+        IsLegal r → IfOk result (λ replies.
+        (spelled : List Spelled)
+        → AreSpelled (served (map (λ v. v.items) inputs.now) replies.items) spelled →
         AreReplies r spelled (full replies.items))) }
-    ensures left { Promised K.shows K.is_clean keep.old keep.new (λ r. IsLegal r → IfOk result (λ replies.
-        (spelled : List Spelled) → AreSpelled (served (map (λ v. v.items) inputs.now) replies.items) spelled →
+    ensures left { Promised K.shows K.is_clean keep.old keep.new (λ r.
+        IsLegal r → IfOk result (λ replies.
+        (spelled : List Spelled)
+        → AreSpelled (served (map (λ v. v.items) inputs.now) replies.items) spelled →
         K.shows keep.new (register_left r spelled))) }
-    ensures alone { Promised K.shows K.is_clean keep.old keep.new (λ r. IsLegal r → IfOk result (λ replies.
-        (spelled : List Spelled) → AreSpelled (served (map (λ v. v.items) inputs.now) replies.items) spelled →
+    ensures alone { Promised K.shows K.is_clean keep.old keep.new (λ r.
+        IsLegal r → IfOk result (λ replies.
+        (spelled : List Spelled)
+        → AreSpelled (served (map (λ v. v.items) inputs.now) replies.items) spelled →
         (name : List ℕ) → IsAlone name r spelled (full replies.items))) }
-    ensures reports { Promised K.shows K.is_clean keep.old keep.new (λ r. IsLegal r → IfOk result (λ replies.
-        (spelled : List Spelled) → AreSpelled (served (map (λ v. v.items) inputs.now) replies.items) spelled →
+    ensures reports { Promised K.shows K.is_clean keep.old keep.new (λ r.
+        IsLegal r → IfOk result (λ replies.
+        (spelled : List Spelled)
+        → AreSpelled (served (map (λ v. v.items) inputs.now) replies.items) spelled →
         AreReports r spelled (full replies.items))) }
-    ensures refused_kept { Promised K.shows K.is_clean keep.old keep.new (λ r. IsLegal r → IfOk result (λ replies.
-        (spelled : List Spelled) → AreSpelled (served (map (λ v. v.items) inputs.now) replies.items) spelled →
+    ensures refused_kept { Promised K.shows K.is_clean keep.old keep.new (λ r.
+        IsLegal r → IfOk result (λ replies.
+        (spelled : List Spelled)
+        → AreSpelled (served (map (λ v. v.items) inputs.now) replies.items) spelled →
         RefusalsLeave r spelled (full replies.items))) }
     ensures in_turn { IfOk result (λ replies.
         InTurn K.shows K.is_clean keep.old keep.new (map (λ v. v.items) inputs.now) replies.items) }

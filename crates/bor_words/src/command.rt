@@ -54,9 +54,12 @@ impl<'a> Command<'a> {
 
     // The command that clap found.
     fn of(alloc: Global, matches: &ArgMatches<'a>) -> Result<Self, Unread<'a>>
-        ensures fits { OnOk result (first_unfit (values_of (subcommand_rows_of matches.now)) ≡ None) }
+        ensures fits { OnOk result
+            (first_unfit (values_of (subcommand_rows_of matches.now)) ≡ None) }
         ensures asked { IfOk result (IsAsked (subcommand_rows_of matches.now)) }
-        ensures err { IfErr result (IsUnfitAmong (rows_in (subcommand_rows_of matches.now)) (values_of (subcommand_rows_of matches.now))) }
+        ensures err { IfErr result
+            (IsUnfitAmong (rows_in (subcommand_rows_of matches.now))
+            (values_of (subcommand_rows_of matches.now))) }
     {
         if let Some(found) = behind(matches, "exchange") {
             return Ok(Command::Exchange(Exchange::read(alloc, found)?));
@@ -77,7 +80,8 @@ impl<'a> Command<'a> {
 // What clap finds in the words after the program's name.
 fn parsed<'a, S: AsStr>(alloc: Global, words: &'a [S]) -> Result<ArgMatches<'a>, Error>
     ensures clean { OnOk result (fault_of bor_app (map S.text words.entry.now) ≡ []) }
-    ensures found { IfOk result (λ matches. subcommand_rows_of matches ≡ entered_by (map S.text words.entry.now)) }
+    ensures found { IfOk result (λ matches.
+        subcommand_rows_of matches ≡ entered_by (map S.text words.entry.now)) }
     ensures err { IfErr result (HasKind (fault_of bor_app (map S.text words.entry.now))) }
 {
     parser(alloc)?.try_get_matches_from(words)

@@ -14,8 +14,8 @@ use bor_terms::Day;
 use clap::ArgMatches;
 use std::alloc::Global;
 
-/// What `bor exchange` is asked to do: to answer the requests in files, each in the register that the
-/// one before it left.
+/// What `bor exchange` is asked to do: to answer the requests in files, each in the register that
+/// the one before it left.
 #[derive(Debug, Drop, PartialEq, Eq)]
 pub struct Exchange<'a> {
     /// The register's file. Without one the register is a new one in memory.
@@ -32,8 +32,11 @@ impl<'a> Exchange<'a> {
     // What was found behind the command's name.
     pub(crate) fn read(alloc: Global, found: &ArgMatches<'a>) -> Result<Self, Unread<'a>>
         ensures ok { IfOk result (IsExchange (rows_of (found_of found.now))) }
-        ensures fits { OnOk result (first_unfit (exchange_values (rows_of (found_of found.now))) ≡ None) }
-        ensures err { IfErr result (IsUnfitAmong (rows_of (found_of found.now)) (exchange_values (rows_of (found_of found.now)))) }
+        ensures fits { OnOk result
+            (first_unfit (exchange_values (rows_of (found_of found.now))) ≡ None) }
+        ensures err { IfErr result
+            (IsUnfitAmong (rows_of (found_of found.now))
+            (exchange_values (rows_of (found_of found.now)))) }
     {
         let registrar = RegistrarSource::read(alloc, found)?;
         let day = day(found, "day")?;

@@ -1,5 +1,5 @@
-//! The words of the program's command line: which command they ask for, with each value read as what
-//! it has to be.
+//! The words of the program's command line: which command they ask for, with each value read as
+//! what it has to be.
 //!
 //! ```
 //! let words = ["report", "--db", "register.db", "--viewer", "alder", "--agent", "alder", "--declaration", "c1", "--record", "e1"];

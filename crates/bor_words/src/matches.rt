@@ -9,14 +9,16 @@ use std::alloc::{AllocError, Global};
 
 /// What was found behind the command of this name, where it was entered.
 pub fn behind<'m, 'a>(matches: &'m ArgMatches<'a>, name: &str) -> Option<&'m ArgMatches<'a>>
-    ensures { option_map (λ m. rows_of (found_of m.now)) result ≡ found_behind name.now (subcommand_rows_of matches.now) }
+    ensures { option_map (λ m. rows_of (found_of m.now)) result
+        ≡ found_behind name.now (subcommand_rows_of matches.now) }
 {
     matches.subcommand_matches(name)
 }
 
 /// What was given for a word, where it was.
 pub fn optional<'a>(found: &ArgMatches<'a>, word: &str) -> Option<&'a str>
-    ensures { option_map (λ text. text.now) result ≡ first_of word.now (rows_of (found_of found.now)) }
+    ensures { option_map (λ text. text.now) result
+        ≡ first_of word.now (rows_of (found_of found.now)) }
 {
     found.get_str(word)
 }
@@ -40,7 +42,8 @@ pub fn is_set(found: &ArgMatches<'_>, word: &str) -> bool
 
 /// The files that were named.
 pub fn files_named<'a>(alloc: Global, found: &ArgMatches<'a>) -> Result<Vec<&'a str>, AllocError>
-    ensures { IfOk result (λ files. map (λ file. file.now) files.items ≡ files_named (rows_of (found_of found.now))) }
+    ensures { IfOk result (λ files.
+        map (λ file. file.now) files.items ≡ files_named (rows_of (found_of found.now))) }
 {
     match found.get_strs("FILE") {
         Some(names) => Vec::from_slice(alloc, names),

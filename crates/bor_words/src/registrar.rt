@@ -26,7 +26,9 @@ impl<'a> RegistrarSource<'a> {
     // What was found behind the command's name.
     pub(crate) fn read(alloc: Global, found: &ArgMatches<'a>) -> Result<Self, Unread<'a>>
         ensures ok { IfOk result (IsRegistrar (rows_of (found_of found.now))) }
-        ensures fits { OnOk result (is_registrar (first_of (codes "registrar") (rows_of (found_of found.now))) (first_of (codes "registrar-file") (rows_of (found_of found.now))) ≡ true) }
+        ensures fits { OnOk result
+            (is_registrar (first_of (codes "registrar") (rows_of (found_of found.now)))
+            (first_of (codes "registrar-file") (rows_of (found_of found.now))) ≡ true) }
         ensures err { IfErr result (IsUnfitRegistrar (rows_of (found_of found.now))) }
     {
         match (

@@ -31,8 +31,11 @@ impl<'a> Report<'a> {
     // What was found behind the command's name.
     pub(crate) fn read(alloc: Global, found: &ArgMatches<'a>) -> Result<Self, Unread<'a>>
         ensures ok { IfOk result (IsReport (rows_of (found_of found.now))) }
-        ensures fits { OnOk result (first_unfit (report_values (rows_of (found_of found.now))) ≡ None) }
-        ensures err { IfErr result (IsUnfitAmong (rows_of (found_of found.now)) (report_values (rows_of (found_of found.now)))) }
+        ensures fits { OnOk result
+            (first_unfit (report_values (rows_of (found_of found.now))) ≡ None) }
+        ensures err { IfErr result
+            (IsUnfitAmong (rows_of (found_of found.now))
+            (report_values (rows_of (found_of found.now)))) }
     {
         let viewer = agent_name(alloc, found, "viewer")?;
         let entity = Node {

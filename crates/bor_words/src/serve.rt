@@ -28,8 +28,11 @@ impl<'a> Serve<'a> {
     // What was found behind the command's name.
     pub(crate) fn read(found: &ArgMatches<'a>) -> Result<Self, Unread<'a>>
         ensures ok { IfOk result (IsServe (rows_of (found_of found.now))) }
-        ensures fits { OnOk result (first_unfit (serve_values (rows_of (found_of found.now))) ≡ None) }
-        ensures err { IfErr result (IsUnfitAmong (rows_of (found_of found.now)) (serve_values (rows_of (found_of found.now)))) }
+        ensures fits { OnOk result
+            (first_unfit (serve_values (rows_of (found_of found.now))) ≡ None) }
+        ensures err { IfErr result
+            (IsUnfitAmong (rows_of (found_of found.now))
+            (serve_values (rows_of (found_of found.now)))) }
     {
         Ok(Serve {
             db: given(found, "db"),

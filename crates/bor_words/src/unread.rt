@@ -33,8 +33,9 @@ pub struct Unfit<'a> {
 }
 
 impl Unread<'_> {
-    /// What went wrong, or what was asked for. A value that doesn't fit is `ValueValidation`, a token that
-    /// isn't told `MissingRequiredArgument`, and one that is told twice `ArgumentConflict`.
+    /// What went wrong, or what was asked for. A value that doesn't fit is `ValueValidation`, a
+    /// token that isn't told `MissingRequiredArgument`, and one that is told twice
+    /// `ArgumentConflict`.
     pub fn kind(&self) -> ErrorKind
         ensures { result ≡ kind_of_answer self.now }
     {

@@ -28,7 +28,8 @@ const A_PORT: &str = "a port, 1 to 65535";
 const A_COUNT: &str = "a number of connections, 0 to 1000000";
 
 fn unfit<'a>(word: &'static str, value: &'a str, fitting: &'static str) -> Unread<'a>
-    ensures { result ≡ Unread.Unfit (record { word = word.entry; value = value.entry; fitting = fitting.entry }) }
+    ensures { result ≡ Unread.Unfit
+        (record { word = word.entry; value = value.entry; fitting = fitting.entry }) }
 {
     Unread::Unfit(Unfit {
         word,
@@ -45,7 +46,9 @@ pub fn token<'a>(
 ) -> Result<Token, Unread<'a>>
     ensures value { IfOk result (λ read. read ≡ given word.now (rows_of (found_of found.now))) }
     ensures fits { OnOk result (is_token (given word.now (rows_of (found_of found.now))) ≡ true) }
-    ensures err { IfErr result (IsUnfitAt word.now (given word.now (rows_of (found_of found.now))) (is_token (given word.now (rows_of (found_of found.now))))) }
+    ensures err { IfErr result
+        (IsUnfitAt word.now (given word.now (rows_of (found_of found.now)))
+        (is_token (given word.now (rows_of (found_of found.now))))) }
 {
     let text = given(found, word);
     match Token::read(alloc, text)? {
@@ -61,8 +64,11 @@ pub fn agent_name<'a>(
     word: &'static str,
 ) -> Result<AgentName, Unread<'a>>
     ensures value { IfOk result (λ read. read ≡ given word.now (rows_of (found_of found.now))) }
-    ensures fits { OnOk result (is_agent_name (given word.now (rows_of (found_of found.now))) ≡ true) }
-    ensures err { IfErr result (IsUnfitAt word.now (given word.now (rows_of (found_of found.now))) (is_agent_name (given word.now (rows_of (found_of found.now))))) }
+    ensures fits { OnOk result
+        (is_agent_name (given word.now (rows_of (found_of found.now))) ≡ true) }
+    ensures err { IfErr result
+        (IsUnfitAt word.now (given word.now (rows_of (found_of found.now)))
+        (is_agent_name (given word.now (rows_of (found_of found.now))))) }
 {
     let text = given(found, word);
     match AgentName::read(alloc, text)? {
@@ -79,7 +85,9 @@ pub fn ident<'a>(
 ) -> Result<Ident, Unread<'a>>
     ensures value { IfOk result (λ read. read ≡ given word.now (rows_of (found_of found.now))) }
     ensures fits { OnOk result (is_ident (given word.now (rows_of (found_of found.now))) ≡ true) }
-    ensures err { IfErr result (IsUnfitAt word.now (given word.now (rows_of (found_of found.now))) (is_ident (given word.now (rows_of (found_of found.now))))) }
+    ensures err { IfErr result
+        (IsUnfitAt word.now (given word.now (rows_of (found_of found.now)))
+        (is_ident (given word.now (rows_of (found_of found.now))))) }
 {
     let text = given(found, word);
     match Ident::read(alloc, text)? {
@@ -90,8 +98,11 @@ pub fn ident<'a>(
 
 /// The day that was given for this word.
 pub fn day<'a>(found: &ArgMatches<'a>, word: &'static str) -> Result<Day, Unread<'a>>
-    ensures value { IfOk result (λ day. Some day ≡ day_of (given word.now (rows_of (found_of found.now)))) }
-    ensures err { IfErr result (IsUnfitAt word.now (given word.now (rows_of (found_of found.now))) (is_some (day_of (given word.now (rows_of (found_of found.now)))))) }
+    ensures value { IfOk result (λ day.
+        Some day ≡ day_of (given word.now (rows_of (found_of found.now)))) }
+    ensures err { IfErr result
+        (IsUnfitAt word.now (given word.now (rows_of (found_of found.now)))
+        (is_some (day_of (given word.now (rows_of (found_of found.now)))))) }
 {
     let text = given(found, word);
     match Day::read(text) {
@@ -102,9 +113,12 @@ pub fn day<'a>(found: &ArgMatches<'a>, word: &'static str) -> Result<Day, Unread
 
 /// The day that was given for this word, if it was given.
 pub fn date<'a>(found: &ArgMatches<'a>, word: &'static str) -> Result<Option<Day>, Unread<'a>>
-    ensures value { IfOk result (λ date. date ≡ option_and_then day_of (first_of word.now (rows_of (found_of found.now)))) }
+    ensures value { IfOk result (λ date.
+        date ≡ option_and_then day_of (first_of word.now (rows_of (found_of found.now)))) }
     ensures fits { OnOk result (is_date (first_of word.now (rows_of (found_of found.now))) ≡ true) }
-    ensures err { IfErr result (IsUnfitAt word.now (given word.now (rows_of (found_of found.now))) (is_date (first_of word.now (rows_of (found_of found.now))))) }
+    ensures err { IfErr result
+        (IsUnfitAt word.now (given word.now (rows_of (found_of found.now)))
+        (is_date (first_of word.now (rows_of (found_of found.now))))) }
 {
     let Some(text) = optional(found, word) else {
         return Ok(None);
@@ -117,8 +131,11 @@ pub fn date<'a>(found: &ArgMatches<'a>, word: &'static str) -> Result<Option<Day
 
 /// The port that was given.
 pub fn port<'a>(found: &ArgMatches<'a>) -> Result<u16, Unread<'a>>
-    ensures value { IfOk result (λ port. Some port ≡ port_of (given (codes "port") (rows_of (found_of found.now)))) }
-    ensures err { IfErr result (IsUnfitAt (codes "port") (given (codes "port") (rows_of (found_of found.now))) (is_some (port_of (given (codes "port") (rows_of (found_of found.now)))))) }
+    ensures value { IfOk result (λ port.
+        Some port ≡ port_of (given (codes "port") (rows_of (found_of found.now)))) }
+    ensures err { IfErr result
+        (IsUnfitAt (codes "port") (given (codes "port") (rows_of (found_of found.now)))
+        (is_some (port_of (given (codes "port") (rows_of (found_of found.now)))))) }
 {
     let text = given(found, "port");
     match number_within(text, 1, 65_535) {
@@ -129,8 +146,13 @@ pub fn port<'a>(found: &ArgMatches<'a>) -> Result<u16, Unread<'a>>
 
 /// The number of connections that was given.
 pub fn connections<'a>(found: &ArgMatches<'a>) -> Result<u32, Unread<'a>>
-    ensures value { IfOk result (λ count. Some count ≡ connections_of (given (codes "connections") (rows_of (found_of found.now)))) }
-    ensures err { IfErr result (IsUnfitAt (codes "connections") (given (codes "connections") (rows_of (found_of found.now))) (is_some (connections_of (given (codes "connections") (rows_of (found_of found.now)))))) }
+    ensures value { IfOk result (λ count.
+        Some count ≡ connections_of (given (codes "connections") (rows_of (found_of found.now)))) }
+    ensures err { IfErr result
+        (IsUnfitAt (codes "connections")
+        (given (codes "connections") (rows_of (found_of found.now)))
+        (is_some (connections_of
+        (given (codes "connections") (rows_of (found_of found.now)))))) }
 {
     let text = given(found, "connections");
     match number_within(text, 0, 1_000_000) {

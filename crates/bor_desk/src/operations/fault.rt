@@ -17,7 +17,8 @@ use std::alloc::AllocError;
 pub enum LodgeFault {
     /// The agent has lodged another file under the key, or the same with another due day.
     KeyReused,
-    /// The agent has [`FILINGS_LIMIT`](crate::operations::FILINGS_LIMIT) filings, withdrawn ones included.
+    /// The agent has [`FILINGS_LIMIT`](crate::operations::FILINGS_LIMIT) filings, withdrawn ones
+    /// included.
     FilingsFull,
     /// The due day is before the register's day.
     DuePast,

@@ -41,7 +41,8 @@ impl<'a, K: Keep> LinkSource for KeepSource<'a, K> {
 
     ghost shown = { shown_to };
 
-    ghost shows = { λ x m. (x.viewer.now ≡ m.viewer) × (x.day ≡ m.day) × K.shows x.keep.now m.register };
+    ghost shows = { λ x m. (x.viewer.now ≡ m.viewer) × (x.day ≡ m.day)
+        × K.shows x.keep.now m.register };
 
     ghost is_clean = { λ x. K.is_clean x.keep.now };
 

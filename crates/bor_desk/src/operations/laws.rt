@@ -28,20 +28,21 @@ pub fn forms_are_kept()
 {}
 
 /// In a legal register what is published of a record is the front of what is live of it. So the
-/// published filings of an agent obey the record rules by themselves, and no settled status tells of
-/// a draft.
+/// published filings of an agent obey the record rules by themselves, and no settled status tells
+/// of a draft.
 pub fn published_is_a_prefix()
     ensures { PublishedPrefix }
 {}
 
-/// An agent of a legal register sees the same as it would alone with what the others have published:
-/// no number, key, byte or draft of another is in it, nor an order of acceptance between agents.
+/// An agent of a legal register sees the same as it would alone with what the others have
+/// published: no number, key, byte or draft of another is in it, nor an order of acceptance between
+/// agents.
 pub fn sight_is_alone()
     ensures { SightAlone }
 {}
 
-/// What a viewer sees shows the same nodes and links with the numbers of the filings and without, on
-/// every day. So a chain report tells nothing of another agent's numbers. This holds of every
+/// What a viewer sees shows the same nodes and links with the numbers of the filings and without,
+/// on every day. So a chain report tells nothing of another agent's numbers. This holds of every
 /// register.
 pub fn numbers_make_no_links()
     ensures { NumbersMakeNoLinks }

@@ -100,7 +100,8 @@ fn settled_status<K: Keep>(
     place: u32,
 ) -> Result<Status, LodgeFault>
     ensures kept { Kept K.shows K.is_clean keep.old keep.new }
-    ensures accounted { IsAccounted of_lodging K.may_tell result (K.fault_count keep.old) (K.fault_count keep.new) }
+    ensures accounted { IsAccounted of_lodging K.may_tell result (K.fault_count keep.old)
+        (K.fault_count keep.new) }
     ensures answer { Promised K.shows K.is_clean keep.old keep.new (λ r.
         (live : List Live) → AreFound live earlier.now →
         IsDone of_lodging (λ status. status) result (told_verdict place
@@ -126,7 +127,8 @@ fn settle<K: Keep>(
 ) -> Result<(), LodgeFault>
     requires few { length statements.old ≤ statements_limit }
     ensures kept { Kept K.shows K.is_clean keep.old keep.new }
-    ensures accounted { IsAccounted of_lodging K.may_tell result (K.fault_count keep.old) (K.fault_count keep.new) }
+    ensures accounted { IsAccounted of_lodging K.may_tell result (K.fault_count keep.old)
+        (K.fault_count keep.new) }
     ensures answer { Promised K.shows K.is_clean keep.old keep.new (λ r.
         IsDone of_lodging (λ _. statements.new) result
         (told_settled (settled (live_of (filings_of agent.now r.members)) due statements.old))) }
@@ -151,7 +153,8 @@ fn settled<K: Keep>(
     bytes: &[u8],
 ) -> Result<Vec<Statement>, LodgeFault>
     ensures kept { Kept K.shows K.is_clean keep.old keep.new }
-    ensures accounted { IsAccounted of_lodging K.may_tell result (K.fault_count keep.old) (K.fault_count keep.new) }
+    ensures accounted { IsAccounted of_lodging K.may_tell result (K.fault_count keep.old)
+        (K.fault_count keep.new) }
     ensures answer { Promised K.shows K.is_clean keep.old keep.new (λ r.
         IsDone of_lodging (λ statements. statements.items) result
         (settled_reading (live_of (filings_of agent.now r.members)) due (reading bytes.now))) }
@@ -171,10 +174,12 @@ fn repeat<K: Keep>(
     line: &FilingLine,
 ) -> Result<Lodged, LodgeFault>
     ensures kept { Kept K.shows K.is_clean keep.old keep.new }
-    ensures accounted { IsAccounted of_lodging K.may_tell result (K.fault_count keep.old) (K.fault_count keep.new) }
+    ensures accounted { IsAccounted of_lodging K.may_tell result (K.fault_count keep.old)
+        (K.fault_count keep.new) }
     ensures answer { Promised K.shows K.is_clean keep.old keep.new (λ r.
         (f : AcceptedFiling) → filing_keyed key.now (filings_of agent.now r.members) ≡ Some f →
-        line.now ≡ line_of r.day f → IsDone of_lodging (λ lodged. lodged) result (repeated r.day due bytes.now f)) }
+        line.now ≡ line_of r.day f
+        → IsDone of_lodging (λ lodged. lodged) result (repeated r.day due bytes.now f)) }
 {
     if line.due != due || !keep.has_file(agent, key, bytes)? {
         return Err(LodgeFault::KeyReused);
@@ -190,10 +195,12 @@ fn repeat<K: Keep>(
 // The register's day, where the agent may have one more filing and the due day isn't past.
 fn day_for<K: Keep>(keep: &mut K, agent: &AgentName, due: Day) -> Result<Day, LodgeFault>
     ensures kept { Kept K.shows K.is_clean keep.old keep.new }
-    ensures accounted { IsAccounted of_lodging K.may_tell result (K.fault_count keep.old) (K.fault_count keep.new) }
+    ensures accounted { IsAccounted of_lodging K.may_tell result (K.fault_count keep.old)
+        (K.fault_count keep.new) }
     ensures answer { Promised K.shows K.is_clean keep.old keep.new (λ r.
         IsDone of_lodging (λ day. day) result
-        (if nat_le filings_limit (length (filings_of agent.now r.members)) then Err lodge_faults.FilingsFull
+        (if nat_le filings_limit (length (filings_of agent.now r.members))
+        then Err lodge_faults.FilingsFull
         else (if int_lt due r.day then Err lodge_faults.DuePast else Ok r.day))) }
 {
     if keep.filing_count(agent)? >= FILINGS_LIMIT {
@@ -222,7 +229,8 @@ fn prepare<K: Keep>(
     bytes: &[u8],
 ) -> Result<Prepared, LodgeFault>
     ensures kept { Kept K.shows K.is_clean keep.old keep.new }
-    ensures accounted { IsAccounted of_lodging K.may_tell result (K.fault_count keep.old) (K.fault_count keep.new) }
+    ensures accounted { IsAccounted of_lodging K.may_tell result (K.fault_count keep.old)
+        (K.fault_count keep.new) }
     ensures answer { Promised K.shows K.is_clean keep.old keep.new (λ r.
         (key : List ℕ) → IsDone of_lodging
         (λ new. accepted (filings_of agent.now r.members) key due bytes.now new.statements.items)
@@ -247,13 +255,16 @@ fn lodge_new<K: Keep>(
     due: Day,
     bytes: &[u8],
 ) -> Result<Lodged, LodgeFault>
-    requires enrolled { Sure K.shows K.is_clean keep.old (λ r. is_enrolled agent.now r.members ≡ true) }
+    requires enrolled { Sure K.shows K.is_clean keep.old (λ r.
+        is_enrolled agent.now r.members ≡ true) }
     requires new_key { Sure K.shows K.is_clean keep.old (λ r.
         filing_keyed key.now (filings_of agent.now r.members) ≡ None) }
     ensures began { K.is_clean keep.new → K.is_clean keep.old }
     ensures step { Promised K.shows K.is_clean keep.old keep.new (λ r.
-        IsOutcome of_lodging result (K.shows keep.new) r (lodge_step r agent.now key.now due bytes.now)) }
-    ensures accounted { IsAccounted of_lodging K.may_tell result (K.fault_count keep.old) (K.fault_count keep.new) }
+        IsOutcome of_lodging result (K.shows keep.new) r
+        (lodge_step r agent.now key.now due bytes.now)) }
+    ensures accounted { IsAccounted of_lodging K.may_tell result (K.fault_count keep.old)
+        (K.fault_count keep.new) }
 {
     let new = prepare(alloc, keep, agent, due, bytes)?;
     let number = keep.add_filing(agent, key, due, bytes, &new.statements)?;
@@ -285,11 +296,14 @@ pub fn lodge<K: Keep>(
     due: Day,
     bytes: &[u8],
 ) -> Result<Lodged, LodgeFault>
-    requires enrolled { Sure K.shows K.is_clean keep.old (λ r. is_enrolled agent.now r.members ≡ true) }
+    requires enrolled { Sure K.shows K.is_clean keep.old (λ r.
+        is_enrolled agent.now r.members ≡ true) }
     ensures began { K.is_clean keep.new → K.is_clean keep.old }
     ensures step { Promised K.shows K.is_clean keep.old keep.new (λ r.
-        IsOutcome of_lodging result (K.shows keep.new) r (lodge_step r agent.now key.now due bytes.now)) }
-    ensures accounted { IsAccounted of_lodging K.may_tell result (K.fault_count keep.old) (K.fault_count keep.new) }
+        IsOutcome of_lodging result (K.shows keep.new) r
+        (lodge_step r agent.now key.now due bytes.now)) }
+    ensures accounted { IsAccounted of_lodging K.may_tell result (K.fault_count keep.old)
+        (K.fault_count keep.new) }
     ensures legal { Promised K.shows K.is_clean keep.old keep.new (λ r.
         IsLegal r → (left : Register) × K.shows keep.new left × IsLegal left) }
 {

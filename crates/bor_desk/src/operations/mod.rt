@@ -1,8 +1,8 @@
 //! The operations of a register of filings: lodging and withdrawing by its agents, the day and the
 //! enrolment of agents by its registrar.
 //!
-//! Agents lodge files of statements. A filing is a draft until its due day, seen by its agent alone,
-//! and published from then on; a draft may be withdrawn. Any [`Keep`] keeps a register;
+//! Agents lodge files of statements. A filing is a draft until its due day, seen by its agent
+//! alone, and published from then on; a draft may be withdrawn. Any [`Keep`] keeps a register;
 //! [`ListKeep`] does in memory:
 //!
 //! ```
@@ -15,8 +15,8 @@
 //! assert_eq!(rt; keep.published()?.len(), 1);
 //! ```
 //!
-//! [`KeepSource`] is any keep as a source of nodes and links, as a viewer sees them on a day: what a
-//! walk of `bor_chains` asks.
+//! [`KeepSource`] is any keep as a source of nodes and links, as a viewer sees them on a day: what
+//! a walk of `bor_chains` asks.
 //!
 //! Which statement may follow which is told by `bor_records`, what a file says by `bods_read`. Who
 //! asks is not looked into here: the callers say which agent it is.

@@ -20,7 +20,8 @@ pub fn advance<K: Keep>(keep: &mut K, day: Day) -> Result<Day, AdvanceFault>
     ensures began { K.is_clean keep.new → K.is_clean keep.old }
     ensures step { Promised K.shows K.is_clean keep.old keep.new (λ r.
         IsOutcome of_advance result (K.shows keep.new) r (advance_step r day)) }
-    ensures accounted { IsAccounted of_advance K.may_tell result (K.fault_count keep.old) (K.fault_count keep.new) }
+    ensures accounted { IsAccounted of_advance K.may_tell result (K.fault_count keep.old)
+        (K.fault_count keep.new) }
     ensures legal { Promised K.shows K.is_clean keep.old keep.new (λ r.
         IsLegal r → (left : Register) × K.shows keep.new left × IsLegal left) }
 {
@@ -42,14 +43,15 @@ fn is_taken<K: Keep>(keep: &mut K, token: &Token) -> Result<bool, StoreFault>
 
 /// Enrols an agent under a name and a token, and hands the name back.
 ///
-/// The refusals are, in their order: `NameTaken` where an agent has the name, and `TokenTaken` where
-/// an agent or the registrar has the token. A refusal leaves the register as it was, and so does
-/// `Store`; name and token are dropped then.
+/// The refusals are, in their order: `NameTaken` where an agent has the name, and `TokenTaken`
+/// where an agent or the registrar has the token. A refusal leaves the register as it was, and so
+/// does `Store`; name and token are dropped then.
 pub fn enrol<K: Keep>(keep: &mut K, name: AgentName, token: Token) -> Result<AgentName, EnrolFault>
     ensures began { K.is_clean keep.new → K.is_clean keep.old }
     ensures step { Promised K.shows K.is_clean keep.old keep.new (λ r.
         IsOutcome of_enrolment result (K.shows keep.new) r (enrol_step r name token)) }
-    ensures accounted { IsAccounted of_enrolment K.may_tell result (K.fault_count keep.old) (K.fault_count keep.new) }
+    ensures accounted { IsAccounted of_enrolment K.may_tell result (K.fault_count keep.old)
+        (K.fault_count keep.new) }
     ensures legal { Promised K.shows K.is_clean keep.old keep.new (λ r.
         IsLegal r → (left : Register) × K.shows keep.new left × IsLegal left) }
 {

@@ -21,12 +21,14 @@ fn withdrawable<K: Keep>(
     key: &LodgeKey,
 ) -> Result<FilingLine, WithdrawFault>
     ensures kept { Kept K.shows K.is_clean keep.old keep.new }
-    ensures accounted { IsAccounted of_withdrawal K.may_tell result (K.fault_count keep.old) (K.fault_count keep.new) }
+    ensures accounted { IsAccounted of_withdrawal K.may_tell result (K.fault_count keep.old)
+        (K.fault_count keep.new) }
     ensures answer { Promised K.shows K.is_clean keep.old keep.new (λ r.
         IsDone of_withdrawal line_withdrawn result
         (withdrawal (sight_of agent.now r) key.now)) }
     ensures found { Promised K.shows K.is_clean keep.old keep.new (λ r. IfOk result (λ line.
-        Some line ≡ option_map (line_of r.day) (filing_keyed key.now (filings_of agent.now r.members)))) }
+        Some line ≡ option_map (line_of r.day)
+        (filing_keyed key.now (filings_of agent.now r.members)))) }
 {
     let Some(line) = keep.line(agent, key)? else {
         return Err(WithdrawFault::NoSuchFiling);
@@ -45,8 +47,8 @@ fn withdrawable<K: Keep>(
 /// Tells the filing's line. A filing that is withdrawn already is told as the first time. The
 /// refusals are, in their order: `NoSuchFiling`; `Published`; `HasSuccessor` where a later live
 /// filing of the agent has a statement of one of its records. A refusal leaves the register as it
-/// was, and so does `Store`. No call of the keep is made twice, and the one that changes it last; none
-/// copies a file.
+/// was, and so does `Store`. No call of the keep is made twice, and the one that changes it last;
+/// none copies a file.
 pub fn withdraw<K: Keep>(
     keep: &mut K,
     agent: &AgentName,
@@ -55,7 +57,8 @@ pub fn withdraw<K: Keep>(
     ensures began { K.is_clean keep.new → K.is_clean keep.old }
     ensures step { Promised K.shows K.is_clean keep.old keep.new (λ r.
         IsOutcome of_withdrawal result (K.shows keep.new) r (withdraw_step r agent.now key.now)) }
-    ensures accounted { IsAccounted of_withdrawal K.may_tell result (K.fault_count keep.old) (K.fault_count keep.new) }
+    ensures accounted { IsAccounted of_withdrawal K.may_tell result (K.fault_count keep.old)
+        (K.fault_count keep.new) }
     ensures legal { Promised K.shows K.is_clean keep.old keep.new (λ r.
         IsLegal r → (left : Register) × K.shows keep.new left × IsLegal left) }
 {

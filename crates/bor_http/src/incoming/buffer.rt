@@ -9,12 +9,12 @@ use std::alloc::{AllocError, Global};
 use std::io::Read;
 use std::marker::Model;
 
-/// The first room of a buffer that grows. Most heads fit, and the C library gives and takes blocks below
-/// 1 KiB without merging what was freed.
+/// The first room of a buffer that grows. Most heads fit, and the C library gives and takes blocks
+/// below 1 KiB without merging what was freed.
 const FIRST_ROOM: usize = 960;
 
-/// Room with the bytes that have come at its front. Each byte of it is cleared once, and each read goes
-/// right into it.
+/// Room with the bytes that have come at its front. Each byte of it is cleared once, and each read
+/// goes right into it.
 #[derive(Drop)]
 pub(crate) struct Buffer {
     room: Vec<u8>,
@@ -71,8 +71,8 @@ impl Buffer {
         &self.room[..self.filled]
     }
 
-    /// Sees to it that there is room left: where there is none, it is doubled, up to a limit, which the
-    /// bytes that have come are below.
+    /// Sees to it that there is room left: where there is none, it is doubled, up to a limit, which
+    /// the bytes that have come are below.
     pub(crate) fn make_room(&mut self, limit: usize) -> Result<(), AllocError>
         requires { length self.old.bytes < limit }
         ensures bytes { self.new.bytes ≡ self.old.bytes }
@@ -96,10 +96,12 @@ impl Buffer {
     /// Reads once into the room that is left, and gives how many bytes came: none only at the end.
     pub(crate) fn read_from<R: Read>(&mut self, reader: &mut Counted<R>) -> Result<usize, WireFault>
         requires { length self.old.bytes < self.old.size }
-        ensures bytes { Grows (R.remaining reader.old.inner) (R.remaining reader.new.inner) self.old.bytes self.new.bytes }
+        ensures bytes { Grows (R.remaining reader.old.inner)
+            (R.remaining reader.new.inner) self.old.bytes self.new.bytes }
         ensures size { self.new.size ≡ self.old.size }
         ensures within { length self.new.bytes ≤ self.new.size }
-        ensures piece { ReadsPiece (R.remaining reader.new.inner) self.old.bytes self.new.bytes result }
+        ensures piece { ReadsPiece
+            (R.remaining reader.new.inner) self.old.bytes self.new.bytes result }
         ensures faults { FaultsTell result reader.old.faults reader.new.faults }
     {
         match reader.read(&mut self.room[self.filled..]) {

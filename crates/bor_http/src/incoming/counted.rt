@@ -41,8 +41,10 @@ impl<R: Read> Counted<R> {
     /// The reader's.
     pub fn read(&mut self, buf: &mut [u8]) -> io::Result<usize>
         ensures bound { ReadsAtMost result buf.new }
-        ensures bytes { ReadConsumes (R.remaining self.old.inner) (R.remaining self.new.inner) result buf.new }
-        ensures faults { self.new.faults ≡ (if is_ok result then self.old.faults else after_fault self.old.faults) }
+        ensures bytes { ReadConsumes (R.remaining self.old.inner)
+            (R.remaining self.new.inner) result buf.new }
+        ensures faults { self.new.faults
+            ≡ (if is_ok result then self.old.faults else after_fault self.old.faults) }
     {
         let result = self.inner.read(buf);
         if result.is_err() {
@@ -60,9 +62,11 @@ impl<W: Write> Counted<W> {
     /// The writer's. That it takes nothing is no error, but a fault.
     pub fn write(&mut self, buf: &[u8]) -> io::Result<usize>
         ensures bound { WritesAtMost result buf.now }
-        ensures bytes { WriteAppends (W.contents self.old.inner) (W.contents self.new.inner) result buf.now }
+        ensures bytes { WriteAppends (W.contents self.old.inner)
+            (W.contents self.new.inner) result buf.now }
         ensures faults { self.new.faults
-            ≡ (if takes_nothing result buf.now then after_fault self.old.faults else self.old.faults) }
+            ≡ (if takes_nothing result buf.now then after_fault self.old.faults
+            else self.old.faults) }
     {
         let result = self.inner.write(buf);
         let fault = match &result {

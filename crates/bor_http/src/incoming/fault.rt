@@ -73,8 +73,8 @@ pub enum Refusal {
     /// No head ends within the first 16,384 bytes, of which there are as many; or the head has more
     /// than 66 line feeds.
     HeadTooLarge,
-    /// The input ended without a head, with fewer than 16,384 bytes; or, after `BodyTooLarge`, within
-    /// the body.
+    /// The input ended without a head, with fewer than 16,384 bytes; or, after `BodyTooLarge`,
+    /// within the body.
     CutShort,
     /// The bytes up to the empty line aren't one request line with fields (RFC 9112).
     BadHead,

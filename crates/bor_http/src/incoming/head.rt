@@ -40,8 +40,8 @@ fn head_end(bytes: &[u8]) -> Option<usize>
     None
 }
 
-/// The length of the head at the front of the bytes, where a scan found none that ends a line before
-/// `from`.
+/// The length of the head at the front of the bytes, where a scan found none that ends a line
+/// before `from`.
 pub(crate) fn head_end_from(bytes: &[u8], from: usize) -> Option<usize>
     requires within { from ≤ length bytes.now }
     requires scanned { IsScanned bytes.now from }

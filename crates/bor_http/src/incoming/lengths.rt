@@ -17,7 +17,8 @@ const BODY_LIMIT: usize = 1_048_576;
 
 /// The number that the digits give, up to one past the limit, if all are digits.
 fn decimal(bytes: &[u8]) -> Option<usize>
-    ensures { result ≡ (if list_all is_ascii_digit bytes.now then Some (min (digits_value 10 bytes.now) (body_limit + 1)) else None) }
+    ensures { result ≡ (if list_all is_ascii_digit bytes.now
+        then Some (min (digits_value 10 bytes.now) (body_limit + 1)) else None) }
 {
     let mut value = 0;
     for b in bytes {

@@ -1,5 +1,5 @@
-//! What is known of the request that an input begins with. Each function does nothing: its contract is
-//! the law.
+//! What is known of the request that an input begins with. Each function does nothing: its contract
+//! is the law.
 
 ghost use Rattle.bor_http.specs.Incoming.Laws.{OneRequest, RestIsIgnored};
 

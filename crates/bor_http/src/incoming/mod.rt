@@ -10,7 +10,8 @@
 //! assert!(rt; request.only(b"host") == Some(b"localhost".as_slice()) && request.body().is_empty());
 //! ```
 //!
-//! Every reader and writer is a [`Counted`], which tells how often it failed; [`send`] writes a reply.
+//! Every reader and writer is a [`Counted`], which tells how often it failed; [`send`] writes a
+//! reply.
 //!
 //! What the target and the fields mean is not looked at here, but for `Content-Length` and
 //! `Transfer-Encoding`.

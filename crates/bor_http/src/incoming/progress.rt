@@ -19,7 +19,8 @@ const HEAD_LIMIT: usize = 16_384;
 pub enum Progress {
     /// No head ends within so many bytes at its front, below 16,384.
     Searched(usize),
-    /// It is whole once there are so many bytes: its head and its body, or those for which it is refused.
+    /// It is whole once there are so many bytes: its head and its body, or those for which it is
+    /// refused.
     Needs(usize),
 }
 
@@ -32,8 +33,8 @@ impl Progress {
         Progress::Searched(0)
     }
 
-    /// What is known of these bytes, of which it was known so much; before a head was found there are at
-    /// most 16,384 of them.
+    /// What is known of these bytes, of which it was known so much; before a head was found there
+    /// are at most 16,384 of them.
     ///
     /// # Errors
     ///
@@ -42,7 +43,8 @@ impl Progress {
         requires known { IsProgress bytes.now self }
         requires within { length bytes.now ≤ needs self }
         ensures known { IfOk result (IsProgress bytes.now) }
-        ensures whole { IfOk result (λ progress. (needs progress ≤ length bytes.now) ↔ IsWhole bytes.now) }
+        ensures whole { IfOk result (λ progress.
+            (needs progress ≤ length bytes.now) ↔ IsWhole bytes.now) }
     {
         match self {
             Progress::Searched(count) => search(alloc, bytes, count),
@@ -73,7 +75,8 @@ fn search(alloc: Global, bytes: &[u8], searched: usize) -> Result<Progress, Allo
     requires known { IsProgress bytes.now (Searched searched) }
     requires within { length bytes.now ≤ head_limit }
     ensures known { IfOk result (IsProgress bytes.now) }
-    ensures whole { IfOk result (λ progress. (needs progress ≤ length bytes.now) ↔ IsWhole bytes.now) }
+    ensures whole { IfOk result (λ progress.
+        (needs progress ≤ length bytes.now) ↔ IsWhole bytes.now) }
 {
     match head_end_from(bytes, searched.saturating_sub(2)) {
         Some(len) => Ok(Progress::Needs(needed(alloc, bytes, len)?)),
@@ -82,8 +85,8 @@ fn search(alloc: Global, bytes: &[u8], searched: usize) -> Result<Progress, Allo
     }
 }
 
-// How many bytes a request has whose head is the first `len` of these; or those, where it is refused for
-// its head.
+// How many bytes a request has whose head is the first `len` of these; or those, where it is
+// refused for its head.
 fn needed(alloc: Global, bytes: &[u8], len: usize) -> Result<usize, AllocError>
     requires head { head_len bytes.now ≡ Some len }
     requires within { length bytes.now ≤ head_limit }

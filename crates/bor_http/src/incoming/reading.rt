@@ -22,10 +22,13 @@ pub(crate) fn read_head<R: Read>(
 ) -> Result<usize, WireFault>
     requires empty { buffer.old.bytes ≡ [] }
     requires size { buffer.old.size ≤ head_limit }
-    ensures bytes { Grows (R.remaining reader.old.inner) (R.remaining reader.new.inner) [] buffer.new.bytes }
+    ensures bytes { Grows (R.remaining reader.old.inner) (R.remaining reader.new.inner)
+        [] buffer.new.bytes }
     ensures within { length buffer.new.bytes ≤ head_limit }
-    ensures few { IfOk result (λ n. (n ≤ length buffer.new.bytes) × (line_feeds (take n buffer.new.bytes) ≤ line_limit)) }
-    ensures head { IfSome (R.remaining reader.old.inner) (λ input. Gives (λ n. n) result (head_at input)) }
+    ensures few { IfOk result (λ n.
+        (n ≤ length buffer.new.bytes) × (line_feeds (take n buffer.new.bytes) ≤ line_limit)) }
+    ensures head { IfSome (R.remaining reader.old.inner) (λ input.
+        Gives (λ n. n) result (head_at input)) }
     ensures faults { FaultsTell result reader.old.faults reader.new.faults }
 {
     // Where the scan goes on: no head ends that begins before it.
@@ -74,7 +77,8 @@ pub(crate) fn read_body<R: Read>(
     behind: &[u8],
     wanted: usize,
 ) -> Result<Vec<u8>, WireFault>
-    ensures body { ReadsBody (λ body. body.items) (R.remaining reader.old.inner) (R.remaining reader.new.inner)
+    ensures body { ReadsBody (λ body. body.items) (R.remaining reader.old.inner)
+        (R.remaining reader.new.inner)
         behind.now wanted result }
     ensures faults { FaultsTell result reader.old.faults reader.new.faults }
 {

@@ -35,7 +35,8 @@ pub(crate) struct HeadSpans {
 pub(crate) fn parse_head(alloc: Global, head: &[u8]) -> Result<HeadSpans, WireFault>
     requires { line_feeds head.now ≤ line_limit }
     ensures within { IfOk result (λ s. AreWithin head.now s.method s.target s.fields.items) }
-    ensures parts { HeadAnswers (λ s. parts_at head.now s.method s.target s.fields.items) head.now result }
+    ensures parts { HeadAnswers
+        (λ s. parts_at head.now s.method s.target s.fields.items) head.now result }
 {
     let mut fields = [EMPTY_HEADER_SPAN; FIELD_LIMIT];
     match parse_request(head, &mut fields) {
@@ -54,8 +55,8 @@ pub(crate) fn parse_head(alloc: Global, head: &[u8]) -> Result<HeadSpans, WireFa
     }
 }
 
-/// A request as it was read, whole: a head (RFC 9112) and as many bytes behind it as the head says. Only
-/// [`read_request`] makes one.
+/// A request as it was read, whole: a head (RFC 9112) and as many bytes behind it as the head says.
+/// Only [`read_request`] makes one.
 #[derive(Drop)]
 pub struct RawRequest {
     head: Vec<u8>,
@@ -74,7 +75,8 @@ impl Model for RawRequest {
       body = r.body.items;
     } };
 
-    ghost invariant = { λ r. AreWithin r.head.items r.spans.method r.spans.target r.spans.fields.items };
+    ghost invariant = { λ r. AreWithin r.head.items r.spans.method r.spans.target
+        r.spans.fields.items };
 }
 
 impl RawRequest {
@@ -99,10 +101,11 @@ impl RawRequest {
         &self.body
     }
 
-    /// The value of the one field that has the name, in whichever letter case, if there is exactly one;
-    /// without the blanks at its ends.
+    /// The value of the one field that has the name, in whichever letter case, if there is exactly
+    /// one; without the blanks at its ends.
     pub fn only(&self, name: &[u8]) -> Option<&[u8]>
-        ensures { option_map (λ value. value.now) result ≡ only_value name.now self.now.parts.fields }
+        ensures { option_map (λ value. value.now) result
+            ≡ only_value name.now self.now.parts.fields }
     {
         if count_named(&self.head, &self.spans.fields, name) == 1 {
             find_value(&self.head, &self.spans.fields, name)
@@ -115,19 +118,22 @@ impl RawRequest {
 /// Reads one request: its head, and as many bytes behind it as the head says.
 ///
 /// What is read follows from the bytes of the reader alone, in whatever pieces they come, and what
-/// stands behind the body has no part in it. Nothing is asked of the reader once the request is there,
-/// and at most 1,064,960 bytes are taken of it.
+/// stands behind the body has no part in it. Nothing is asked of the reader once the request is
+/// there, and at most 1,064,960 bytes are taken of it.
 ///
 /// # Errors
 ///
-/// `Refused`: the bytes are no request; what comes first of [`Refusal`], up to the second `CutShort`.
-/// `Read`: the reader failed, exactly where its count of faults moved. `Memory`: memory is wanting.
+/// `Refused`: the bytes are no request; what comes first of [`Refusal`], up to the second
+/// `CutShort`. `Read`: the reader failed, exactly where its count of faults moved. `Memory`: memory
+/// is wanting.
 pub fn read_request<R: Read>(
     alloc: Global,
     reader: &mut Counted<R>,
 ) -> Result<RawRequest, WireFault>
-    ensures request { IfSome (R.remaining reader.old.inner) (λ input. Answers result (IsMessage input)) }
-    ensures taken { TakesAtMost request_limit (R.remaining reader.old.inner) (R.remaining reader.new.inner) }
+    ensures request { IfSome (R.remaining reader.old.inner) (λ input.
+        Answers result (IsMessage input)) }
+    ensures taken { TakesAtMost request_limit (R.remaining reader.old.inner)
+        (R.remaining reader.new.inner) }
     ensures faults { FaultsTell result reader.old.faults reader.new.faults }
 {
     let mut buffer = Buffer::new(alloc);

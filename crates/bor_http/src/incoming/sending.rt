@@ -8,12 +8,15 @@ ghost use Rattle.bor_http.specs.Incoming.Counted.{after_fault};
 use crate::incoming::counted::Counted;
 use std::io::Write;
 
-/// Writes all bytes, and tells whether it did: it stops at the first write that fails or takes nothing,
-/// and then a front of the bytes is written.
+/// Writes all bytes, and tells whether it did: it stops at the first write that fails or takes
+/// nothing, and then a front of the bytes is written.
 pub fn send<W: Write>(writer: &mut Counted<W>, bytes: &[u8]) -> bool
-    ensures whole { OnTrue result (Appends (W.contents writer.old.inner) (W.contents writer.new.inner) bytes.now) }
-    ensures part { (n : ℕ) × Appends (W.contents writer.old.inner) (W.contents writer.new.inner) (take n bytes.now) }
-    ensures faults { writer.new.faults ≡ (if result then writer.old.faults else after_fault writer.old.faults) }
+    ensures whole { OnTrue result
+        (Appends (W.contents writer.old.inner) (W.contents writer.new.inner) bytes.now) }
+    ensures part { (n : ℕ) × Appends (W.contents writer.old.inner) (W.contents writer.new.inner)
+        (take n bytes.now) }
+    ensures faults { writer.new.faults
+        ≡ (if result then writer.old.faults else after_fault writer.old.faults) }
 {
     let mut at = 0;
     'send: while at < bytes.len() {

@@ -8,8 +8,8 @@
 //! assert_eq!(rt; allow_of(Path::Filing), "DELETE, PUT");
 //! ```
 //!
-//! A path is matched as it stands: nothing is decoded, and no slash is added or dropped. Queries and
-//! tokens are not looked at here.
+//! A path is matched as it stands: nothing is decoded, and no slash is added or dropped. Queries
+//! and tokens are not looked at here.
 
 mod path;
 mod route;

@@ -40,8 +40,8 @@ fn by(wanted: &Method, method: &[u8], route: Route) -> Option<Route>
     }
 }
 
-/// What a path asks for by a method (RFC 9110, 9.3), if it has the method. Methods are compared as they
-/// stand: `get` and `HEAD` are not `GET`.
+/// What a path asks for by a method (RFC 9110, 9.3), if it has the method. Methods are compared as
+/// they stand: `get` and `HEAD` are not `GET`.
 #[tactic(auto, unfolding(crate::specs::Routes::Routes::route_at))]
 pub fn route_at(path: Path, method: &[u8]) -> Option<Route>
     ensures { result ≡ spec.route_at path method.now }

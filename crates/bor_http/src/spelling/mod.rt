@@ -8,8 +8,8 @@
 //! assert!(rt; matches!(asking.request, Request::Filings));
 //! ```
 //!
-//! Refusals come in the order of the table in `specs/Spelling/Refusals.antt`. No register is asked here:
-//! the desk says whose token it is, and whether the request may be asked.
+//! Refusals come in the order of the table in `specs/Spelling/Refusals.antt`. No register is asked
+//! here: the desk says whose token it is, and whether the request may be asked.
 
 mod asking;
 pub mod laws;

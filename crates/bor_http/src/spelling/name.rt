@@ -17,7 +17,8 @@ pub(crate) fn agent_named(
     pairs: &[QueryPair],
     name: Name,
 ) -> Result<AgentName, WireFault>
-    ensures { Finds (λ agent. agent) result (named name (once (fitting is_agent_name) name (pair_texts pairs.now))) }
+    ensures { Finds (λ agent. agent) result
+        (named name (once (fitting is_agent_name) name (pair_texts pairs.now))) }
 {
     let Some(text) = only_value(pairs, name.as_str()) else {
         return Err(WireFault::Refused(Refusal::BadQuery(name)));
@@ -35,7 +36,8 @@ pub(crate) fn ident_named(
     pairs: &[QueryPair],
     name: Name,
 ) -> Result<Ident, WireFault>
-    ensures { Finds (λ ident. ident) result (named name (once (fitting is_ident) name (pair_texts pairs.now))) }
+    ensures { Finds (λ ident. ident) result
+        (named name (once (fitting is_ident) name (pair_texts pairs.now))) }
 {
     let Some(text) = only_value(pairs, name.as_str()) else {
         return Err(WireFault::Refused(Refusal::BadQuery(name)));
@@ -63,7 +65,8 @@ pub(crate) fn day_named(pairs: &[QueryPair], name: Name) -> Result<Day, WireFaul
 /// The day of this name's value, or none where the name is missing.
 #[tactic(auto, unfolding(crate::specs::Spelling::Parts::at_most_once))]
 pub(crate) fn day_if_named(pairs: &[QueryPair], name: Name) -> Result<Option<Day>, WireFault>
-    ensures { Finds (λ day. day) result (named name (at_most_once day_of name (pair_texts pairs.now))) }
+    ensures { Finds (λ day. day) result
+        (named name (at_most_once day_of name (pair_texts pairs.now))) }
 {
     if count_pairs(pairs, name.as_str()) == 0 {
         return Ok(None);

@@ -60,7 +60,8 @@ impl<S: Read> Reading<S> {
         ensures fits { length self.new.received.items ≤ request_limit }
         ensures held { (result ≡ More) ⊎ ((result ≡ Blocked) ⊎ (result ≡ Failed)) →
             IsReading S.remaining self.new.stream self.new.received.items self.new.progress }
-        ensures whole { result ≡ Whole → IsWhole self.new.received.items ⊎ IsAtEnd (S.remaining self.new.stream) }
+        ensures whole { result ≡ Whole
+            → IsWhole self.new.received.items ⊎ IsAtEnd (S.remaining self.new.stream) }
     {
         let wanted = self.progress.wanted(self.received.len());
         let Ok(room) = make_room(&mut self.received, wanted) else {
@@ -103,8 +104,8 @@ pub(crate) fn is_blocked(error: &io::Error) -> bool {
     matches!(error.kind(), ErrorKind::WouldBlock | ErrorKind::Interrupted)
 }
 
-// Room for bytes of which so many are wanted: for how many there is some. It is doubled where there is none,
-// and never for more than is wanted.
+// Room for bytes of which so many are wanted: for how many there is some. It is doubled where there
+// is none, and never for more than is wanted.
 fn make_room(received: &mut Vec<u8>, wanted: usize) -> Result<usize, AllocError>
     requires { 0 < wanted }
     ensures items { received.new.items ≡ received.old.items }
@@ -125,8 +126,10 @@ fn receive<S: Read>(stream: &mut S, received: &mut Vec<u8>, room: usize) -> io::
     requires within { room ≤ 16384 }
     requires room { vec_len received.old + room ≤ vec_capacity received.old }
     ensures { MatchResult result
-        (λ n. Received (S.remaining stream.old) (S.remaining stream.new) received.old.items received.new.items room n)
-        (λ _. Keeps (S.remaining stream.old) (S.remaining stream.new) × (received.new.items ≡ received.old.items)) }
+        (λ n. Received (S.remaining stream.old)
+        (S.remaining stream.new) received.old.items received.new.items room n)
+        (λ _. Keeps (S.remaining stream.old) (S.remaining stream.new)
+        × (received.new.items ≡ received.old.items)) }
 {
     let mut part = [0; PART];
     let count = stream.read(&mut part[..room])?;

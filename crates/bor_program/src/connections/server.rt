@@ -53,7 +53,8 @@ pub(crate) struct Server<S> {
 }
 
 impl<S: Read + Write + OpenStream + Drop> Server<S> {
-    /// A server of so many connections, of which none has come, and that notes what it answers or doesn't.
+    /// A server of so many connections, of which none has come, and that notes what it answers or
+    /// doesn't.
     pub(crate) fn new(alloc: Global, limits: Limits, connections: u32, is_noting: bool) -> Server<S>
         ensures queue { result.queue.items ≡ [] }
         ensures left { result.left ≡ connections }
@@ -93,7 +94,8 @@ impl<S: Read + Write + OpenStream + Drop> Server<S> {
         watch: &mut W,
     ) -> std::io::Result<()>
         ensures becomes { Becomes self.old self.new }
-        ensures does { (told : W) × Does W.does watch.old told 0 × W.does told (Waits (is_err result)) watch.new }
+        ensures does { (told : W) × Does W.does watch.old told 0
+            × W.does told (Waits (is_err result)) watch.new }
     {
         self.tell(watch);
         let waited = watch.wait(self.wait, &mut self.places);
@@ -111,7 +113,8 @@ impl<S: Read + Write + OpenStream + Drop> Server<S> {
         now: Duration,
     )
         requires { AreHeld S.remaining S.contents self.old.queue.items }
-        ensures { LetsIn W.does watch.old watch.new S.remaining S.contents (telling_in self.old) (pending_in self.old) self.old.status self.new }
+        ensures { LetsIn W.does watch.old watch.new S.remaining S.contents (telling_in self.old)
+            (pending_in self.old) self.old.status self.new }
     {
         for _ in 0..LET_IN {
             if self.left == 0 || !self.places.is_called() {
@@ -130,7 +133,8 @@ impl<S: Read + Write + OpenStream + Drop> Server<S> {
     )
         requires some { 0 < self.old.left }
         requires held { AreHeld S.remaining S.contents self.old.queue.items }
-        ensures { LetsIn W.does watch.old watch.new S.remaining S.contents (telling_in self.old) (pending_in self.old) self.old.status self.new }
+        ensures { LetsIn W.does watch.old watch.new S.remaining S.contents (telling_in self.old)
+            (pending_in self.old) self.old.status self.new }
     {
         if self.queue.reserve(1).is_err() {
             return;
@@ -148,7 +152,8 @@ impl<S: Read + Write + OpenStream + Drop> Server<S> {
         }
     }
 
-    // Gives a client a place that came in. One that can't have one is given up before anything was read of it.
+    // Gives a client a place that came in. One that can't have one is given up before anything was
+    // read of it.
     fn admit<L: OpenListener<Stream = S>, W: Watch<L>>(
         &mut self,
         stream: S,
@@ -156,7 +161,8 @@ impl<S: Read + Write + OpenStream + Drop> Server<S> {
         now: Duration,
     )
         requires { AreHeld S.remaining S.contents self.old.queue.items }
-        ensures lets { Lets S.remaining S.contents (telling_in self.old) (pending_in self.old + 1) 0 self.old.status self.new }
+        ensures lets { Lets S.remaining S.contents (telling_in self.old)
+            (pending_in self.old + 1) 0 self.old.status self.new }
         ensures does { Does W.does watch.old watch.new 0 }
     {
         self.make_way();
@@ -176,8 +182,10 @@ impl<S: Read + Write + OpenStream + Drop> Server<S> {
     // Where all places are taken, the client that was idle for the longest gives way.
     fn make_way(&mut self)
         requires { AreHeld S.remaining S.contents self.old.queue.items }
-        ensures lets { Lets S.remaining S.contents (telling_in self.old) (pending_in self.old) 0 self.old.status self.new }
-        ensures full { 256 ≤ length self.old.queue.items → GivesWay self.old.queue.items self.new.queue.items }
+        ensures lets { Lets S.remaining S.contents (telling_in self.old)
+            (pending_in self.old) 0 self.old.status self.new }
+        ensures full { 256 ≤ length self.old.queue.items
+            → GivesWay self.old.queue.items self.new.queue.items }
         ensures other { length self.old.queue.items < 256 → self.new.queue ≡ self.old.queue }
     {
         if self.queue.len() >= PLACES {
@@ -205,7 +213,8 @@ impl<S: Read + Write + OpenStream + Drop> Server<S> {
     // Has the client give way that was idle for the longest.
     fn turn_out(&mut self)
         requires { AreHeld S.remaining S.contents self.old.queue.items }
-        ensures lets { Lets S.remaining S.contents (telling_in self.old) (pending_in self.old) 0 self.old.status self.new }
+        ensures lets { Lets S.remaining S.contents (telling_in self.old)
+            (pending_in self.old) 0 self.old.status self.new }
         ensures way { GivesWay self.old.queue.items self.new.queue.items }
     {
         let index = longest_idle(&self.queue);
@@ -218,7 +227,8 @@ impl<S: Read + Write + OpenStream + Drop> Server<S> {
     pub(crate) fn serve_all<K: Keep>(&mut self, keep: &mut K, now: Option<Duration>)
         requires { AreHeld S.remaining S.contents self.old.queue.items }
         ensures held { AreHeld S.remaining S.contents self.new.queue.items }
-        ensures advances { Advances K.shows K.is_clean S.remaining S.contents keep.old keep.new self.old self.new }
+        ensures advances { Advances K.shows K.is_clean S.remaining S.contents keep.old keep.new
+            self.old self.new }
     {
         self.wait = if self.left > 0 && self.places.is_called() {
             Some(Duration::ZERO)
@@ -234,7 +244,8 @@ impl<S: Read + Write + OpenStream + Drop> Server<S> {
     fn serve_next<K: Keep>(&mut self, keep: &mut K, now: Option<Duration>)
         requires { AreHeld S.remaining S.contents self.old.queue.items }
         ensures held { AreHeld S.remaining S.contents self.new.queue.items }
-        ensures advances { Advances K.shows K.is_clean S.remaining S.contents keep.old keep.new self.old self.new }
+        ensures advances { Advances K.shows K.is_clean S.remaining S.contents keep.old keep.new
+            self.old self.new }
     {
         let Some(client) = self.queue.pop_front() else {
             return;
@@ -250,7 +261,8 @@ impl<S: Read + Write + OpenStream + Drop> Server<S> {
         requires held { AreHeld S.remaining S.contents self.old.queue.items }
         requires client { IsHeld S.remaining S.contents client.phase }
         ensures held { AreHeld S.remaining S.contents self.new.queue.items }
-        ensures serves { Serves K.shows K.is_clean S.remaining S.contents keep.old keep.new (telling client.phase) self.old self.new }
+        ensures serves { Serves K.shows K.is_clean S.remaining S.contents keep.old keep.new
+            (telling client.phase) self.old self.new }
     {
         let Client {
             place,
@@ -281,7 +293,8 @@ impl<S: Read + Write + OpenStream + Drop> Server<S> {
     fn go_on(&mut self, client: Client<S>, now: Duration)
         requires held { AreHeld S.remaining S.contents self.old.queue.items }
         requires client { IsHeld S.remaining S.contents client.phase }
-        ensures { Lets S.remaining S.contents (telling client.phase ++ telling_in self.old) (pending_in self.old + 1) 0 self.old.status self.new }
+        ensures { Lets S.remaining S.contents (telling client.phase ++ telling_in self.old)
+            (pending_in self.old + 1) 0 self.old.status self.new }
     {
         let Client {
             place,
@@ -311,7 +324,8 @@ impl<S: Read + Write + OpenStream + Drop> Server<S> {
     fn stay(&mut self, client: Client<S>)
         requires held { AreHeld S.remaining S.contents self.old.queue.items }
         requires client { IsHeld S.remaining S.contents client.phase }
-        ensures { Lets S.remaining S.contents (telling client.phase ++ telling_in self.old) (pending_in self.old + 1) 0 self.old.status self.new }
+        ensures { Lets S.remaining S.contents (telling client.phase ++ telling_in self.old)
+            (pending_in self.old + 1) 0 self.old.status self.new }
     {
         match self.queue.push_back(client) {
             Ok(()) => {}
@@ -325,7 +339,8 @@ impl<S: Read + Write + OpenStream + Drop> Server<S> {
         requires client { IsHeld S.remaining S.contents client.phase }
         ensures queue { self.new.queue ≡ self.old.queue }
         ensures left { self.new.left ≡ self.old.left }
-        ensures lets { Lets S.remaining S.contents (telling client.phase ++ telling_in self.old) (pending_in self.old + 1) 0 self.old.status self.new }
+        ensures lets { Lets S.remaining S.contents (telling client.phase ++ telling_in self.old)
+            (pending_in self.old + 1) 0 self.old.status self.new }
     {
         let failed = gives_up(client.phase);
         self.end(client.place, failed);
@@ -346,7 +361,8 @@ impl<S: Read + Write + OpenStream + Drop> Server<S> {
     /// Gives up the clients that are there, and those that have not come.
     pub(crate) fn finish(&mut self)
         requires { AreHeld S.remaining S.contents self.old.queue.items }
-        ensures lets { Lets S.remaining S.contents (telling_in self.old) (pending_in self.old) self.old.left self.old.status self.new }
+        ensures lets { Lets S.remaining S.contents (telling_in self.old)
+            (pending_in self.old) self.old.left self.old.status self.new }
         ensures pending { pending_in self.new ≡ 0 }
     {
         self.give_up_all();
@@ -356,7 +372,8 @@ impl<S: Read + Write + OpenStream + Drop> Server<S> {
     // Gives up the clients that are there.
     fn give_up_all(&mut self)
         requires { AreHeld S.remaining S.contents self.old.queue.items }
-        ensures lets { Lets S.remaining S.contents (telling_in self.old) (pending_in self.old) 0 self.old.status self.new }
+        ensures lets { Lets S.remaining S.contents (telling_in self.old)
+            (pending_in self.old) 0 self.old.status self.new }
         ensures left { self.new.left ≡ self.old.left }
         ensures empty { length self.new.queue.items ≡ 0 }
     {
@@ -368,7 +385,8 @@ impl<S: Read + Write + OpenStream + Drop> Server<S> {
     // Gives up the first client, if one is there.
     fn give_up_first(&mut self)
         requires { AreHeld S.remaining S.contents self.old.queue.items }
-        ensures lets { Lets S.remaining S.contents (telling_in self.old) (pending_in self.old) 0 self.old.status self.new }
+        ensures lets { Lets S.remaining S.contents (telling_in self.old)
+            (pending_in self.old) 0 self.old.status self.new }
         ensures left { self.new.left ≡ self.old.left }
         ensures fewer { length self.new.queue.items ≡ length self.old.queue.items - 1 }
     {
@@ -380,7 +398,8 @@ impl<S: Read + Write + OpenStream + Drop> Server<S> {
     // Counts those that have not come as failed.
     fn leave_out(&mut self)
         requires { AreHeld S.remaining S.contents self.old.queue.items }
-        ensures lets { Lets S.remaining S.contents (telling_in self.old) (pending_in self.old) self.old.left self.old.status self.new }
+        ensures lets { Lets S.remaining S.contents (telling_in self.old)
+            (pending_in self.old) self.old.left self.old.status self.new }
         ensures pending { pending_in self.new ≡ length self.old.queue.items }
     {
         if self.left > 0 {

@@ -42,7 +42,8 @@ impl Service {
         ensures began { K.is_clean keep.new → K.is_clean keep.old }
         ensures exchanged { Promised K.shows K.is_clean keep.old keep.new (λ r.
             IsOrdered r.members → IsResponse (K.shows keep.new) r request.now result) }
-        ensures noted { MayAdd (IsNoteOf (Promised K.shows K.is_clean keep.old keep.new) request.now result)
+        ensures noted { MayAdd (IsNoteOf
+            (Promised K.shows K.is_clean keep.old keep.new) request.now result)
             self.old.notes.items self.new.notes.items }
     {
         if self.paths.is_none() {

@@ -17,8 +17,8 @@ use std::time::{Clock, Duration};
 // After so many waits that failed, one after the other, a server gives up.
 const FAULT_LIMIT: u32 = 1_000;
 
-/// Serves this many connections of a listener, many at once, as [`serve_within`] does with the limits of a
-/// server.
+/// Serves this many connections of a listener, many at once, as [`serve_within`] does with the
+/// limits of a server.
 pub fn serve_on<R: Clock + AllocGlobal, K: Keep, L: OpenListener, W: Watch<L>>(
     rt: &R,
     keep: &mut K,
@@ -29,7 +29,8 @@ pub fn serve_on<R: Clock + AllocGlobal, K: Keep, L: OpenListener, W: Watch<L>>(
 where
     L::Stream: Read + Write + OpenStream,
     ensures served { IsServed K.shows K.is_clean keep.old keep.new connections result }
-    ensures streams { IsServedOver K.shows K.is_clean (IsOf L.Stream.remaining L.Stream.contents) W.does
+    ensures streams { IsServedOver K.shows K.is_clean
+        (IsOf L.Stream.remaining L.Stream.contents) W.does
         keep.old keep.new watch.old watch.new connections result }
 {
     serve_within(
@@ -42,14 +43,14 @@ where
     )
 }
 
-/// Serves this many connections of a listener, up to 256 at once, and gives 0, or 3 where one failed: it
-/// couldn't be let in, its request didn't come in time, its reply wasn't taken in time, or the reply
-/// was 503. A connection that fails is one of them. Where a client comes in and all places are taken, the
-/// one that was idle for the longest gives way.
+/// Serves this many connections of a listener, up to 256 at once, and gives 0, or 3 where one
+/// failed: it couldn't be let in, its request didn't come in time, its reply wasn't taken in time,
+/// or the reply was 503. A connection that fails is one of them. Where a client comes in and all
+/// places are taken, the one that was idle for the longest gives way.
 ///
-/// A request is answered as soon as it is whole, or its client has ended it. The listener doesn't block.
-/// A wait for a client may last for ever, where no other is there. Nothing else waits for longer than the
-/// limits.
+/// A request is answered as soon as it is whole, or its client has ended it. The listener doesn't
+/// block. A wait for a client may last for ever, where no other is there. Nothing else waits for
+/// longer than the limits.
 pub fn serve_within<R: Clock + AllocGlobal, K: Keep, L: OpenListener, W: Watch<L>>(
     rt: &R,
     keep: &mut K,
@@ -61,7 +62,8 @@ pub fn serve_within<R: Clock + AllocGlobal, K: Keep, L: OpenListener, W: Watch<L
 where
     L::Stream: Read + Write + OpenStream,
     ensures served { IsServed K.shows K.is_clean keep.old keep.new connections result }
-    ensures streams { IsServedOver K.shows K.is_clean (IsOf L.Stream.remaining L.Stream.contents) W.does
+    ensures streams { IsServedOver K.shows K.is_clean
+        (IsOf L.Stream.remaining L.Stream.contents) W.does
         keep.old keep.new watch.old watch.new connections result }
 {
     let mut server = Server::new(rt.alloc(), limits, connections, watch.is_noting());
@@ -82,7 +84,8 @@ fn run<R: Clock, K: Keep, L: OpenListener, W: Watch<L>>(
 where
     L::Stream: Read + Write + OpenStream,
     requires { AreHeld L.Stream.remaining L.Stream.contents server.old.queue.items }
-    ensures { Runs K.shows K.is_clean W.does L.Stream.remaining L.Stream.contents keep.old keep.new watch.old watch.new server.old server.new }
+    ensures { Runs K.shows K.is_clean W.does L.Stream.remaining L.Stream.contents keep.old keep.new
+        watch.old watch.new server.old server.new }
 {
     if watch.watch_listener(listener).is_err() {
         return;
@@ -102,8 +105,8 @@ where
     }
 }
 
-// Waits, and tells how many waits have failed now, one after the other, where so many had before. After one
-// that failed it sleeps for a little.
+// Waits, and tells how many waits have failed now, one after the other, where so many had before.
+// After one that failed it sleeps for a little.
 fn wait<R: Clock, L: OpenListener, W: Watch<L>>(
     rt: &R,
     watch: &mut W,

@@ -19,7 +19,8 @@ use std::time::Duration;
 // How many steps a client may have in one turn.
 const STEPS: usize = 32;
 
-/// Reads, answers or writes once, as the client's phase is. A request is answered as soon as it is whole.
+/// Reads, answers or writes once, as the client's phase is. A request is answered as soon as it is
+/// whole.
 pub(crate) fn step<K: Keep, S: Read + Write + OpenStream + Drop>(
     service: &mut Service,
     keep: &mut K,
@@ -27,7 +28,8 @@ pub(crate) fn step<K: Keep, S: Read + Write + OpenStream + Drop>(
 ) -> Step<S>
     requires { IsHeld S.remaining S.contents phase }
     ensures held { IsHeld S.remaining S.contents (phase_of result) }
-    ensures step { IsStep K.shows K.is_clean S.remaining S.contents keep.old keep.new (telling phase) (telling (phase_of result)) }
+    ensures step { IsStep K.shows K.is_clean S.remaining S.contents keep.old keep.new
+        (telling phase) (telling (phase_of result)) }
 {
     match phase {
         Phase::Reading(reading) => read_on(service, keep, reading),
@@ -44,7 +46,8 @@ fn read_on<K: Keep, S: Read + Write + OpenStream + Drop>(
 ) -> Step<S>
     requires { IsHeld S.remaining S.contents (Phase.Reading reading) }
     ensures held { IsHeld S.remaining S.contents (phase_of result) }
-    ensures step { IsStep K.shows K.is_clean S.remaining S.contents keep.old keep.new [] (telling (phase_of result)) }
+    ensures step { IsStep K.shows K.is_clean S.remaining S.contents keep.old keep.new []
+        (telling (phase_of result)) }
 {
     match reading.read(service.alloc()) {
         Taken::More => Step::Goes(Phase::Reading(reading), Pace::Moved),
@@ -79,7 +82,8 @@ fn write_on<S: Read + Write + OpenStream + Drop>(mut writing: Writing<S>) -> Ste
 fn drain_on<S: Read + Write + Drop>(mut draining: Draining<S>) -> Step<S>
     requires { IsHeld S.remaining S.contents (Phase.Draining draining) }
     ensures held { IsHeld S.remaining S.contents (phase_of result) }
-    ensures tells { telling (phase_of result) ≡ answer_of draining.request.items draining.reply ∷ [] }
+    ensures tells { telling (phase_of result)
+        ≡ answer_of draining.request.items draining.reply ∷ [] }
 {
     match draining.drain() {
         Drained::More => Step::Goes(Phase::Draining(draining), Pace::Moved),
@@ -98,7 +102,8 @@ pub(crate) fn steps<K: Keep, S: Read + Write + OpenStream + Drop>(
 ) -> Step<S>
     requires { IsHeld S.remaining S.contents phase }
     ensures held { IsHeld S.remaining S.contents (phase_of result) }
-    ensures step { IsStep K.shows K.is_clean S.remaining S.contents keep.old keep.new (telling phase) (telling (phase_of result)) }
+    ensures step { IsStep K.shows K.is_clean S.remaining S.contents keep.old keep.new
+        (telling phase) (telling (phase_of result)) }
 {
     for _ in 0..STEPS {
         if !timing.is_ready() {

@@ -8,8 +8,8 @@ use crate::connections::limits::Limits;
 use crate::connections::phase::{Pace, Phase};
 use std::time::Duration;
 
-/// Since when a client is in its phase, once a clock was read in it; since when it is idle; and whether
-/// something may be read or written.
+/// Since when a client is in its phase, once a clock was read in it; since when it is idle; and
+/// whether something may be read or written.
 #[derive(Clone, Copy, Debug, PartialEq, Eq)]
 pub(crate) struct Timing {
     since: Option<Duration>,
@@ -63,11 +63,13 @@ impl Timing {
         }
     }
 
-    /// How much of a limit is left at this time. The time of a phase begins when it is first asked for.
+    /// How much of a limit is left at this time. The time of a phase begins when it is first asked
+    /// for.
     pub(crate) fn left(&mut self, limit: Duration, now: Duration) -> Duration
         ensures idle { self.new.idle_since ≡ self.old.idle_since }
         ensures begun { self.new.since ≡ Some (unwrap_or self.old.since now) }
-        ensures left { as_nanos result ≡ as_nanos limit - (as_nanos now - as_nanos (unwrap_or self.old.since now)) }
+        ensures left { as_nanos result
+            ≡ as_nanos limit - (as_nanos now - as_nanos (unwrap_or self.old.since now)) }
     {
         let since = self.since.unwrap_or(now);
         self.since = Some(since);

@@ -89,8 +89,8 @@ impl Places {
 
 /// What tells where something may be read or written.
 ///
-/// It tells of a change: a client that was read or written on until nothing more could be is told of again
-/// once something can. It may tell of more than there is.
+/// It tells of a change: a client that was read or written on until nothing more could be is told
+/// of again once something can. It may tell of more than there is.
 pub trait Watch<L: OpenListener> {
     /// This call leads from one state of it to another.
     ghost does: { Self → Act → Self → Type 0 };
@@ -119,8 +119,8 @@ pub trait Watch<L: OpenListener> {
     fn watch(&mut self, stream: &L::Stream, place: usize) -> io::Result<()>
         ensures { does self.old (Watches (is_err result)) self.new };
 
-    /// Waits until something may be read or written, or a client may be waiting, or the time is up, and marks
-    /// where. Without a limit it waits for ever.
+    /// Waits until something may be read or written, or a client may be waiting, or the time is up,
+    /// and marks where. Without a limit it waits for ever.
     ///
     /// # Errors
     ///
@@ -138,7 +138,8 @@ pub trait Watch<L: OpenListener> {
         ensures { does self.old (Notes note) self.new };
 }
 
-/// A client that waits to come in at a listener that doesn't block, if there is one. Its stream doesn't either.
+/// A client that waits to come in at a listener that doesn't block, if there is one. Its stream
+/// doesn't either.
 ///
 /// # Errors
 ///

@@ -12,7 +12,8 @@ use bor_wire::Outgoing;
 use std::io::{Read, Write};
 use std::net::{OpenStream, Shutdown};
 
-/// A client to whom its reply is written: its request, the reply, and how much of that it was handed.
+/// A client to whom its reply is written: its request, the reply, and how much of that it was
+/// handed.
 #[derive(Drop)]
 pub(crate) struct Writing<S> {
     stream: S,
@@ -39,8 +40,10 @@ impl<S: Read + Write + OpenStream> Writing<S> {
     pub(crate) fn new(reading: Reading<S>, reply: Outgoing) -> Writing<S>
         requires came { Came S.remaining reading.stream reading.received.items }
         requires fits { length reading.received.items ≤ request_limit }
-        requires ready { IsReady S.remaining reading.stream (answer_of reading.received.items reply) }
-        ensures held { IsWriting S.remaining S.contents result.stream (answer_of result.request.items result.reply) result.sent }
+        requires ready { IsReady S.remaining reading.stream
+            (answer_of reading.received.items reply) }
+        ensures held { IsWriting S.remaining S.contents result.stream
+            (answer_of result.request.items result.reply) result.sent }
         ensures request { result.request.items ≡ reading.received.items }
         ensures reply { result.reply ≡ reply }
     {
@@ -54,8 +57,10 @@ impl<S: Read + Write + OpenStream> Writing<S> {
 
     /// Writes once.
     pub(crate) fn write(&mut self) -> Written
-        requires { IsWriting S.remaining S.contents self.old.stream (answer_of self.old.request.items self.old.reply) self.old.sent }
-        ensures held { IsWriting S.remaining S.contents self.new.stream (answer_of self.new.request.items self.new.reply) self.new.sent }
+        requires { IsWriting S.remaining S.contents self.old.stream
+            (answer_of self.old.request.items self.old.reply) self.old.sent }
+        ensures held { IsWriting S.remaining S.contents self.new.stream
+            (answer_of self.new.request.items self.new.reply) self.new.sent }
         ensures request { self.new.request ≡ self.old.request }
         ensures reply { self.new.reply ≡ self.old.reply }
         ensures whole { result ≡ Whole → self.new.sent ≡ length (bytes_out self.new.reply) }
@@ -77,7 +82,8 @@ impl<S: Read + Write + OpenStream> Writing<S> {
 
     /// Whether its connection has failed, where it ends now.
     pub(crate) fn has_failed(&self) -> bool
-        ensures { result ≡ has_failed (Told (answer_of self.now.request.items self.now.reply) self.now.sent) }
+        ensures { result ≡ has_failed
+            (Told (answer_of self.now.request.items self.now.reply) self.now.sent) }
     {
         self.reply.status() == 503 || self.sent < self.reply.bytes().len()
     }
@@ -85,8 +91,10 @@ impl<S: Read + Write + OpenStream> Writing<S> {
     /// Tells the client, to whom all was written, that no more is.
     pub(crate) fn end(self) -> Draining<S>
         requires whole { self.sent ≡ length (bytes_out self.reply) }
-        requires held { IsWriting S.remaining S.contents self.stream (answer_of self.request.items self.reply) self.sent }
-        ensures held { IsDraining S.remaining S.contents result.stream (answer_of result.request.items result.reply) result.left }
+        requires held { IsWriting S.remaining S.contents self.stream
+            (answer_of self.request.items self.reply) self.sent }
+        ensures held { IsDraining S.remaining S.contents result.stream
+            (answer_of result.request.items result.reply) result.left }
         ensures request { result.request ≡ self.request }
         ensures reply { result.reply ≡ self.reply }
     {
@@ -101,8 +109,8 @@ impl<S: Read + Write + OpenStream> Writing<S> {
     }
 }
 
-// Whether a reply with this status may be written before its request is read to its end: to a head that
-// is none or too large, to a body that is too large, and where memory was wanting for them.
+// Whether a reply with this status may be written before its request is read to its end: to a head
+// that is none or too large, to a body that is too large, and where memory was wanting for them.
 fn may_be_unread(status: u16) -> bool {
     matches!(status, 400 | 413 | 431 | 503)
 }
@@ -110,8 +118,8 @@ fn may_be_unread(status: u16) -> bool {
 // How many bytes are read behind a reply, and dropped.
 const REST: usize = 16_777_216;
 
-/// A client that was handed its reply, and may still be sending: how much of that is read, and whether it is
-/// waited for.
+/// A client that was handed its reply, and may still be sending: how much of that is read, and
+/// whether it is waited for.
 #[derive(Drop)]
 pub(crate) struct Draining<S> {
     stream: S,
@@ -135,7 +143,9 @@ pub(crate) enum Drained {
 impl<S: Read + Write> Draining<S> {
     /// Whether its connection has failed: the reply is the one that says that the store failed.
     pub(crate) fn has_failed(&self) -> bool
-        ensures { result ≡ has_failed (Told (answer_of self.now.request.items self.now.reply) (length (bytes_out self.now.reply))) }
+        ensures { result ≡ has_failed
+            (Told (answer_of self.now.request.items self.now.reply)
+            (length (bytes_out self.now.reply))) }
     {
         self.reply.status() == 503
     }
@@ -144,7 +154,8 @@ impl<S: Read + Write> Draining<S> {
     pub(crate) fn drain(&mut self) -> Drained
         ensures request { self.new.request ≡ self.old.request }
         ensures reply { self.new.reply ≡ self.old.reply }
-        ensures dropped { Drops (S.remaining self.old.stream) (S.remaining self.new.stream) self.old.left self.new.left }
+        ensures dropped { Drops (S.remaining self.old.stream)
+            (S.remaining self.new.stream) self.old.left self.new.left }
     {
         let mut part = [0; PART];
         let room = self.left.min(PART);

@@ -32,7 +32,8 @@ impl Model for Class {
 
     ghost view = { λ c. c.order.items };
 
-    ghost invariant = { λ c. AreGiven c.order.items c.given.keys × IsDistinct same_node c.order.items };
+    ghost invariant = { λ c. AreGiven c.order.items c.given.keys
+        × IsDistinct same_node c.order.items };
 }
 
 impl Class {

@@ -1,5 +1,5 @@
-//! Laws of nodes and links. Each function does nothing: its contract is the law, and it is proved for
-//! all lists.
+//! Laws of nodes and links. Each function does nothing: its contract is the law, and it is proved
+//! for all lists.
 
 ghost use Rattle.bor_records.specs.Links.Laws.{EveryStakeIsAHolding, OpenRowsAreTheLatest, OpenRowsAreReadByKey, SnapshotsShowTheOpenRows, NodesAreReadByKey, AliasesAreReadByKey, AliasesAreReadByCandidates, LinksAreReadByCandidates, NodesAreDistinct};
 
@@ -20,7 +20,8 @@ pub fn open_rows_are_read_by_key()
     ensures { OpenRowsAreReadByKey }
 {}
 
-/// A record is open for chains exactly where a snapshot of its agent's rows shows it, with that row.
+/// A record is open for chains exactly where a snapshot of its agent's rows shows it, with that
+/// row.
 pub fn snapshots_show_the_open_rows()
     ensures { SnapshotsShowTheOpenRows }
 {}

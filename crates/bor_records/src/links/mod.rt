@@ -1,5 +1,5 @@
-//! Nodes and links: what the rows of a register say on a day of entities, persons and who holds what,
-//! and which entities are one (UK Companies Act 2006, Schedule 1A, paragraph 18; BODS 0.4).
+//! Nodes and links: what the rows of a register say on a day of entities, persons and who holds
+//! what, and which entities are one (UK Companies Act 2006, Schedule 1A, paragraph 18; BODS 0.4).
 //!
 //! A node is an open record of an entity or a person, a link an open relationship between two of
 //! them, with what its interests are on the day:
@@ -14,9 +14,9 @@
 //! assert!(rt; holding_of(&votes, day));
 //! ```
 //!
-//! `specs/Links` says which nodes and links all rows have, and what a source may answer of one node. By
-//! the [`laws`] a node and its aliases can be read by their keys, and the links into a node by
-//! candidates, with no list of all rows.
+//! `specs/Links` says which nodes and links all rows have, and what a source may answer of one
+//! node. By the [`laws`] a node and its aliases can be read by their keys, and the links into a
+//! node by candidates, with no list of all rows.
 //!
 //! Left out: how links are followed, and who may see which rows.
 

@@ -81,7 +81,8 @@ impl Node {
 pub enum NodeInfo {
     /// An entity.
     Entity {
-        /// It is a legal entity: a `registeredEntity` or a `legalEntity` (BODS 0.4), and nothing else.
+        /// It is a legal entity: a `registeredEntity` or a `legalEntity` (BODS 0.4), and nothing
+        /// else.
         legal: bool,
     },
     /// A person.
@@ -126,8 +127,8 @@ pub struct OpenNode {
 
 impl OpenNode {
     /// Whether two open nodes stand for one entity by one step (this register's profile): two
-    /// entities of one agent with equal record in different declarations, or two different ones that
-    /// share an identifier of equal scheme and id.
+    /// entities of one agent with equal record in different declarations, or two different ones
+    /// that share an identifier of equal scheme and id.
     pub fn is_alias(&self, other: &OpenNode) -> bool
         ensures { result ≡ are_alike self.now other.now }
     {

@@ -107,9 +107,9 @@ fn is_member(interests: &[Interest], day: Day) -> bool
         .any(|interest| is_membership(interest, day))
 }
 
-/// Whether the interests of a relationship are a holding on a day: one of a named type, not `indirect`,
-/// that has begun by then and not ended before, and whose share can be above nothing (paragraph 18(1),
-/// and this register's profile). It takes no memory.
+/// Whether the interests of a relationship are a holding on a day: one of a named type, not
+/// `indirect`, that has begun by then and not ended before, and whose share can be above nothing
+/// (paragraph 18(1), and this register's profile). It takes no memory.
 pub fn holding_of(interests: &[Interest], day: Day) -> bool
     ensures { result ≡ is_holding day interests.now }
 {
@@ -118,8 +118,8 @@ pub fn holding_of(interests: &[Interest], day: Day) -> bool
 
 /// Whether the interests of a relationship are a majority stake on a day: a majority of the voting
 /// rights (paragraph 18(3)(a)), or a member's right to appoint or remove a majority of the board
-/// (paragraph 18(3)(b)), each by interests that have begun by then and not ended before. It takes no
-/// memory.
+/// (paragraph 18(3)(b)), each by interests that have begun by then and not ended before. It takes
+/// no memory.
 pub fn stake_of(interests: &[Interest], day: Day) -> bool
     ensures { result ≡ is_stake day interests.now }
 {

@@ -1,4 +1,5 @@
-//! Maps beside the filings of a register in memory, so that what is asked of a record takes no scan.
+//! Maps beside the filings of a register in memory, so that what is asked of a record takes no
+//! scan.
 
 ghost use Rattle.std.specs.Prelude.{◌≡◌, ◌++◌, ◌∷◌, [], OnOk, IfOk, cond, map};
 ghost use Rattle.std.specs.Ordering.{is_eq};
@@ -15,24 +16,25 @@ use bor_terms::{AgentName, Ident};
 use std::alloc::{AllocError, Global};
 use std::collections::BTreeMap;
 
-/// Where an agent's statement stands: in which of the agent's filings, and where there, both from 0.
+/// Where an agent's statement stands: in which of the agent's filings, and where there, both from
+/// 0.
 #[derive(Clone, Copy)]
 pub(crate) struct Place {
     pub(crate) filing: usize,
     pub(crate) statement: usize,
 }
 
-/// An agent's statement, by its identifier. The identifier is compared first: most statements are of
-/// few agents.
+/// An agent's statement, by its identifier. The identifier is compared first: most statements are
+/// of few agents.
 #[derive(Drop, PartialEq, Eq, PartialOrd, Ord)]
 pub(crate) struct StatementKey {
     pub(crate) id: Ident,
     pub(crate) agent: AgentName,
 }
 
-/// By record and by identifier the places of an agent's statements, in order of acceptance; by subject
-/// the relationships that have named it; by sign the entities that have had it. A place may have lost
-/// its statement, and a record that was found may name something else by now.
+/// By record and by identifier the places of an agent's statements, in order of acceptance; by
+/// subject the relationships that have named it; by sign the entities that have had it. A place may
+/// have lost its statement, and a record that was found may name something else by now.
 #[derive(Drop)]
 pub(crate) struct Index {
     pub(crate) series: BTreeMap<Node, Vec<Place>>,
@@ -132,7 +134,8 @@ fn put<K: Ord + Drop, V: Drop>(
 ) -> Result<(), AllocError>
     ensures at { OnOk result (under K.cmp map.new key ≡ under K.cmp map.old key ++ value ∷ []) }
     ensures each { OnOk result ((q : K) → under K.cmp map.new q
-        ≡ cond (is_eq (K.cmp key q)) (under K.cmp map.old key ++ value ∷ []) (under K.cmp map.old q)) }
+        ≡ cond (is_eq (K.cmp key q)) (under K.cmp map.old key ++ value ∷ [])
+        (under K.cmp map.old q)) }
 {
     let mut items = match map.remove(&key) {
         Some(items) => items,
@@ -179,7 +182,8 @@ fn add_series(
     statements: &[Statement],
 ) -> Result<(), AllocError>
     ensures { OnOk result ((n : Node) → under node_cmp series.new n
-        ≡ under node_cmp series.old n ++ places_from (λ s. is_eq (node_cmp (stated agent.now s) n)) filing 0 statements.now) }
+        ≡ under node_cmp series.old n
+        ++ places_from (λ s. is_eq (node_cmp (stated agent.now s) n)) filing 0 statements.now) }
 {
     for (i, statement) in statements.iter().enumerate() {
         let key = record_of(alloc, agent, statement)?;
@@ -205,7 +209,8 @@ fn add_named(
     statements: &[Statement],
 ) -> Result<(), AllocError>
     ensures { OnOk result ((k : StatementKey) → under key_cmp named.new k
-        ≡ under key_cmp named.old k ++ places_from (λ s. is_eq (key_cmp (key_of agent.now s) k)) filing 0 statements.now) }
+        ≡ under key_cmp named.old k
+        ++ places_from (λ s. is_eq (key_cmp (key_of agent.now s) k)) filing 0 statements.now) }
 {
     for (i, statement) in statements.iter().enumerate() {
         let key = StatementKey {
@@ -232,7 +237,8 @@ fn note<K: Ord + Drop>(
     mut keys: Vec<K>,
     node: &Node,
 ) -> Result<(), AllocError>
-    ensures { OnOk result (CmpEqualImpliesEq K.cmp → IsNoted keys.items node.now (under K.cmp map.old) (under K.cmp map.new)) }
+    ensures { OnOk result (CmpEqualImpliesEq K.cmp
+        → IsNoted keys.items node.now (under K.cmp map.old) (under K.cmp map.new)) }
 {
     while let Some(key) = keys.pop() {
         put(alloc, map, key, node.copy(alloc)?)?;
@@ -266,7 +272,9 @@ fn add_naming(
     agent: &AgentName,
     statements: &[Statement],
 ) -> Result<(), AllocError>
-    ensures { OnOk result (AreNoted subjects_of agent.now statements.now (under node_cmp naming.old) (under node_cmp naming.new)) }
+    ensures { OnOk result
+        (AreNoted subjects_of agent.now statements.now (under node_cmp naming.old)
+        (under node_cmp naming.new)) }
 {
     for statement in statements {
         let keys = subjects_of(alloc, agent, statement)?;
@@ -314,7 +322,9 @@ fn add_signed(
     agent: &AgentName,
     statements: &[Statement],
 ) -> Result<(), AllocError>
-    ensures { OnOk result (AreNoted signs_of agent.now statements.now (under sign_cmp signed.old) (under sign_cmp signed.new)) }
+    ensures { OnOk result
+        (AreNoted signs_of agent.now statements.now (under sign_cmp signed.old)
+        (under sign_cmp signed.new)) }
 {
     for statement in statements {
         let keys = signs_of(alloc, agent, statement)?;

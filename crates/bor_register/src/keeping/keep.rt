@@ -24,9 +24,9 @@ use bor_terms::{AgentName, Day, Ident, LodgeKey, Token};
 /// A keep of a register.
 ///
 /// Its meaning is a relation to registers (`shows`). It promises something of a register only where
-/// it showed that one and ends clean (`is_clean`: its store has returned what was written), and asks
-/// for something only where it shows one and is clean. A read leaves what is shown (`Reads`); a change
-/// makes what it says of it (`Changes`); a fault leaves it, and adds one to `faults`.
+/// it showed that one and ends clean (`is_clean`: its store has returned what was written), and
+/// asks for something only where it shows one and is clean. A read leaves what is shown (`Reads`);
+/// a change makes what it says of it (`Changes`); a fault leaves it, and adds one to `faults`.
 pub trait Keep {
     /// The state shows this register.
     ghost shows: { Self → Register → Type 0 };
@@ -59,16 +59,19 @@ pub trait Keep {
         ensures { Reads shows is_clean fault_count may_tell self.old self.new result (λ r day.
             day ≡ r.day) };
 
-    /// The agent's filing under a key, a withdrawn one too; `None` where it has lodged none under it.
+    /// The agent's filing under a key, a withdrawn one too; `None` where it has lodged none under
+    /// it.
     fn filing(&mut self, agent: &AgentName, key: &LodgeKey) -> Result<Option<Filing>, StoreFault>
         ensures { Reads shows is_clean fault_count may_tell self.old self.new result (λ r filing.
-            filing ≡ option_map filing_shown (filing_keyed key.now (filings_of agent.now r.members))) };
+            filing ≡ option_map filing_shown
+            (filing_keyed key.now (filings_of agent.now r.members))) };
 
-    /// The line of the agent's filing under a key, on the register's day; `None` where it has lodged none
-    /// under it.
+    /// The line of the agent's filing under a key, on the register's day; `None` where it has
+    /// lodged none under it.
     fn line(&mut self, agent: &AgentName, key: &LodgeKey) -> Result<Option<FilingLine>, StoreFault>
         ensures { Reads shows is_clean fault_count may_tell self.old self.new result (λ r line.
-            line ≡ option_map (line_of r.day) (filing_keyed key.now (filings_of agent.now r.members))) };
+            line ≡ option_map (line_of r.day)
+            (filing_keyed key.now (filings_of agent.now r.members))) };
 
     /// Whether the agent has a filing under the key, withdrawn or not, whose file has these bytes.
     fn has_file(
@@ -90,8 +93,8 @@ pub trait Keep {
         ensures { Reads shows is_clean fault_count may_tell self.old self.new result (λ r lines.
             lines.items ≡ map (line_of r.day) (filings_of agent.now r.members)) };
 
-    /// What is known of the record's last live statement; `rec` is its identifier. `None` where the record
-    /// has none.
+    /// What is known of the record's last live statement; `rec` is its identifier. `None` where the
+    /// record has none.
     fn last(
         &mut self,
         agent: &AgentName,
@@ -107,8 +110,8 @@ pub trait Keep {
             has ≡ has_id id.now (live_of (filings_of agent.now r.members))) };
 
     /// Whether a filing of the agent that was accepted after the one with this number has a live
-    /// statement of one of its records. `false` where the agent has no such filing, and where that one is
-    /// withdrawn: its statements are gone.
+    /// statement of one of its records. `false` where the agent has no such filing, and where that
+    /// one is withdrawn: its statements are gone.
     fn has_successor(&mut self, agent: &AgentName, number: u32) -> Result<bool, StoreFault>
         ensures { Reads shows is_clean fault_count may_tell self.old self.new result (λ r has.
             has ≡ has_successor number (filings_of agent.now r.members)) };
@@ -122,10 +125,12 @@ pub trait Keep {
         declaration: &Ident,
     ) -> Result<Vec<Row>, StoreFault>
         ensures { Reads shows is_clean fault_count may_tell self.old self.new result (λ r rows.
-            rows.items ≡ rows_of viewer.now r.day agent.now declaration.now (filings_of agent.now r.members)) };
+            rows.items
+            ≡ rows_of viewer.now r.day agent.now declaration.now
+            (filings_of agent.now r.members)) };
 
-    /// What a node is on a day by what the viewer sees, or `None` where it isn't open then. The day is
-    /// any day; what the viewer sees goes by the register's.
+    /// What a node is on a day by what the viewer sees, or `None` where it isn't open then. The day
+    /// is any day; what the viewer sees goes by the register's.
     fn node(
         &mut self,
         viewer: &AgentName,
@@ -135,9 +140,9 @@ pub trait Keep {
         ensures { Reads shows is_clean fault_count may_tell self.old self.new result (λ r info.
             info ≡ info_of (seen_at viewer.now day r) node.now) };
 
-    /// All nodes that stand for one entity with a node on a day by what the viewer sees, by finitely
-    /// many aliases, each once and in any order. The node itself is one of them; where it isn't open,
-    /// it is the only one.
+    /// All nodes that stand for one entity with a node on a day by what the viewer sees, by
+    /// finitely many aliases, each once and in any order. The node itself is one of them; where it
+    /// isn't open, it is the only one.
     fn same(&mut self, viewer: &AgentName, day: Day, node: &Node) -> Result<Vec<Node>, StoreFault>
         ensures { Reads shows is_clean fault_count may_tell self.old self.new result (λ r nodes.
             AreSame (seen_at viewer.now day r) node.now nodes.items) };
@@ -168,7 +173,8 @@ pub trait Keep {
         bytes: &[u8],
         statements: &[Statement],
     ) -> Result<u32, StoreFault>
-        requires enrolled { Sure shows is_clean self.old (λ r. is_enrolled agent.now r.members ≡ true) }
+        requires enrolled { Sure shows is_clean self.old (λ r.
+            is_enrolled agent.now r.members ≡ true) }
         requires room { Sure shows is_clean self.old (λ r.
             length (filings_of agent.now r.members) < filings_limit) }
         requires fresh { Sure shows is_clean self.old (λ r.
@@ -187,10 +193,11 @@ pub trait Keep {
     /// Withdraws the agent's filing with this number: its statements are gone, its number, key, due
     /// day and bytes stay. What may be withdrawn is for the caller to test.
     fn withdraw(&mut self, agent: &AgentName, number: u32) -> Result<(), StoreFault>
-        ensures { Changes shows is_clean fault_count may_tell self.old self.new result (λ r. record r {
-          members = with_filings agent.now
-              (with_withdrawn number (filings_of agent.now r.members)) r.members;
-        }) };
+        ensures { Changes shows is_clean fault_count may_tell self.old self.new result
+            (λ r. record r {
+              members = with_filings agent.now
+                  (with_withdrawn number (filings_of agent.now r.members)) r.members;
+            }) };
 
     /// Sets the register's day. That it isn't an earlier one is for the caller to test.
     fn set_day(&mut self, day: Day) -> Result<(), StoreFault>
@@ -202,7 +209,8 @@ pub trait Keep {
         requires new_name { Sure shows is_clean self.old (λ r.
             is_enrolled agent.now r.members ≡ false) }
         requires new_token { Sure shows is_clean self.old (λ r. is_taken token.now r ≡ false) }
-        ensures { Changes shows is_clean fault_count may_tell self.old self.new result (λ r. record r {
-          members = with_member (new_member agent.now token.now) r.members;
-        }) };
+        ensures { Changes shows is_clean fault_count may_tell self.old self.new result
+            (λ r. record r {
+              members = with_member (new_member agent.now token.now) r.members;
+            }) };
 }

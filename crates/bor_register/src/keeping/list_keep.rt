@@ -34,11 +34,11 @@ use std::marker::Model;
 /// A register in memory: the plain implementation of `Keep`. It has no store that could fail, so
 /// its one fault is want of memory.
 ///
-/// Maps beside the filings (`Index`) follow each change, so what is asked of a record is read by its
-/// key, and a report takes what it meets. Where memory is wanting while a filing is added, they are let
-/// go: from then on statements are looked for one by one, and what a viewer sees is listed as nodes and
-/// links where a chain first asks for one of them. These lists are kept until another viewer or day is
-/// asked for, or the register changes.
+/// Maps beside the filings (`Index`) follow each change, so what is asked of a record is read by
+/// its key, and a report takes what it meets. Where memory is wanting while a filing is added, they
+/// are let go: from then on statements are looked for one by one, and what a viewer sees is listed
+/// as nodes and links where a chain first asks for one of them. These lists are kept until another
+/// viewer or day is asked for, or the register changes.
 #[derive(Drop)]
 pub struct ListKeep {
     alloc: Global,
@@ -68,7 +68,10 @@ impl Model for ListKeep {
     // register as it is.
     ghost invariant = { λ k. IsOrdered k.members.items
         × IfSome k.index (λ x. IsIndex k.members.items x)
-        × IfSome k.last_asked (λ o. o.source.shown ≡ seen_at o.viewer o.day (record { day = k.day; registrar = k.registrar; members = k.members.items })) };
+        × IfSome k.last_asked
+        (λ o. o.source.shown
+        ≡ seen_at o.viewer o.day
+        (record { day = k.day; registrar = k.registrar; members = k.members.items })) };
 }
 
 impl ListKeep {
@@ -89,10 +92,12 @@ impl ListKeep {
         }
     }
 
-    // The nodes and links that the viewer sees on a day. They are taken out, so that they can be asked.
+    // The nodes and links that the viewer sees on a day. They are taken out, so that they can be
+    // asked.
     fn take_source(&mut self, viewer: &AgentName, day: Day) -> Result<ListSource, AllocError>
         ensures kept { self.new ≡ self.old }
-        ensures seen { IfOk result (λ source. source.shown ≡ seen_at viewer.now day self.old.register) }
+        ensures seen { IfOk result (λ source.
+            source.shown ≡ seen_at viewer.now day self.old.register) }
     {
         match self.last_asked.take() {
             Some(last) if last.is_of(viewer, day) => Ok(last.source),
@@ -124,7 +129,8 @@ impl ListKeep {
         node: &Node,
     ) -> Result<Option<NodeInfo>, AllocError>
         ensures kept { self.new ≡ self.old }
-        ensures told { IfOk result (λ info. info ≡ info_of (seen_at viewer.now day self.old.register) node.now) }
+        ensures told { IfOk result (λ info.
+            info ≡ info_of (seen_at viewer.now day self.old.register) node.now) }
     {
         let mut source = self.take_source(viewer, day)?;
         let told = source.node(node);
@@ -139,7 +145,8 @@ impl ListKeep {
         node: &Node,
     ) -> Result<Vec<Node>, AllocError>
         ensures kept { self.new ≡ self.old }
-        ensures told { IfOk result (λ nodes. AreSame (seen_at viewer.now day self.old.register) node.now nodes.items) }
+        ensures told { IfOk result (λ nodes.
+            AreSame (seen_at viewer.now day self.old.register) node.now nodes.items) }
     {
         let mut source = self.take_source(viewer, day)?;
         let told = source.same(node);
@@ -154,7 +161,8 @@ impl ListKeep {
         node: &Node,
     ) -> Result<Vec<Link>, AllocError>
         ensures kept { self.new ≡ self.old }
-        ensures told { IfOk result (λ links. AreLinksInto (seen_at viewer.now day self.old.register) node.now links.items) }
+        ensures told { IfOk result (λ links.
+            AreLinksInto (seen_at viewer.now day self.old.register) node.now links.items) }
     {
         let mut source = self.take_source(viewer, day)?;
         let told = source.links_into(node);
@@ -164,7 +172,8 @@ impl ListKeep {
 
     // What the viewer sees on a day, where the maps are there.
     fn sight<'a>(&'a self, viewer: &'a AgentName, day: Day) -> Option<Sight<'a>>
-        ensures { IfSome result (λ sight. IsIndexed sight × (in_sight sight ≡ seen_at viewer.now day self.now.register)) }
+        ensures { IfSome result (λ sight.
+            IsIndexed sight × (in_sight sight ≡ seen_at viewer.now day self.now.register)) }
     {
         match &self.index {
             Some(index) => Some(Sight {
@@ -186,7 +195,8 @@ impl ListKeep {
         node: &Node,
     ) -> Result<Option<NodeInfo>, AllocError>
         ensures kept { self.new ≡ self.old }
-        ensures told { IfOk result (λ info. info ≡ info_of (seen_at viewer.now day self.old.register) node.now) }
+        ensures told { IfOk result (λ info.
+            info ≡ info_of (seen_at viewer.now day self.old.register) node.now) }
     {
         if let Some(sight) = self.sight(viewer, day) {
             return node_told(&sight, node);
@@ -201,7 +211,8 @@ impl ListKeep {
         node: &Node,
     ) -> Result<Vec<Node>, AllocError>
         ensures kept { self.new ≡ self.old }
-        ensures told { IfOk result (λ nodes. AreSame (seen_at viewer.now day self.old.register) node.now nodes.items) }
+        ensures told { IfOk result (λ nodes.
+            AreSame (seen_at viewer.now day self.old.register) node.now nodes.items) }
     {
         if let Some(sight) = self.sight(viewer, day) {
             return same_told(&sight, node);
@@ -216,7 +227,8 @@ impl ListKeep {
         node: &Node,
     ) -> Result<Vec<Link>, AllocError>
         ensures kept { self.new ≡ self.old }
-        ensures told { IfOk result (λ links. AreLinksInto (seen_at viewer.now day self.old.register) node.now links.items) }
+        ensures told { IfOk result (λ links.
+            AreLinksInto (seen_at viewer.now day self.old.register) node.now links.items) }
     {
         if let Some(sight) = self.sight(viewer, day) {
             return links_told(&sight, node);
@@ -225,7 +237,8 @@ impl ListKeep {
     }
 
     fn last_of(&self, agent: &AgentName, declaration: &Ident, rec: &Ident) -> Option<Last>
-        ensures { result ≡ last_of declaration.now rec.now (live_of (filings_of agent.now self.now.register.members)) }
+        ensures { result ≡ last_of declaration.now rec.now
+            (live_of (filings_of agent.now self.now.register.members)) }
     {
         let filings = own_filings(&self.members, agent);
         if let Some(index) = &self.index {
@@ -237,7 +250,8 @@ impl ListKeep {
     }
 
     fn has_id(&self, agent: &AgentName, id: &Ident) -> bool
-        ensures { result ≡ has_id id.now (live_of (filings_of agent.now self.now.register.members)) }
+        ensures { result ≡ has_id id.now
+            (live_of (filings_of agent.now self.now.register.members)) }
     {
         let filings = own_filings(&self.members, agent);
         if let Some(index) = &self.index {
@@ -248,13 +262,15 @@ impl ListKeep {
         any_live_has_id(filings, id)
     }
 
-    // The maps with a filing that is to be added to an agent's, where there is memory for it. They are
-    // taken out.
+    // The maps with a filing that is to be added to an agent's, where there is memory for it. They
+    // are taken out.
     fn take_index(&mut self, agent: &AgentName, statements: &[Statement]) -> Option<Index>
         ensures kept { self.new ≡ self.old }
         ensures grown { IfSome result (λ index. (f : AcceptedFiling) → f.statements ≡ statements.now
             → is_enrolled agent.now self.old.register.members ≡ true
-            → IsIndex (with_filings agent.now (filings_of agent.now self.old.register.members ++ f ∷ []) self.old.register.members) index) }
+            → IsIndex (with_filings agent.now
+            (filings_of agent.now self.old.register.members ++ f ∷ [])
+            self.old.register.members) index) }
     {
         let filing = own_filings(&self.members, agent).len();
         match self.index.take() {
@@ -281,7 +297,8 @@ fn node_named(
     declaration: &Ident,
     rec: &Ident,
 ) -> Result<Node, AllocError>
-    ensures { IfOk result (λ node. node ≡ record { agent = agent.now; declaration = declaration.now; rec = rec.now }) }
+    ensures { IfOk result (λ node.
+        node ≡ record { agent = agent.now; declaration = declaration.now; rec = rec.now }) }
 {
     Ok(Node {
         agent: agent.copy(alloc)?,

@@ -20,8 +20,8 @@
 //! assert_eq!(rt; keep.filings(&alder)?.len(), 0);
 //! ```
 //!
-//! A keep does what it is asked and tests nothing of it: `bor_desk::operations`, which hands all of this
-//! on, says which lodging, which withdrawal and which day may be.
+//! A keep does what it is asked and tests nothing of it: `bor_desk::operations`, which hands all of
+//! this on, says which lodging, which withdrawal and which day may be.
 
 mod index;
 mod keep;

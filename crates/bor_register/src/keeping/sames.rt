@@ -20,7 +20,8 @@ use std::collections::BTreeSet;
 // Whether a record is open and alike.
 fn is_alike(sight: &Sight, one: &OpenNode, candidate: &Node) -> Result<bool, AllocError>
     requires { IsIndexed sight.now }
-    ensures { IfOk result (λ alike. alike ≡ is_like one.now (node_at sight.now.day candidate.now (rows_in_sight sight.now))) }
+    ensures { IfOk result (λ alike.
+        alike ≡ is_like one.now (node_at sight.now.day candidate.now (rows_in_sight sight.now))) }
 {
     match node_in(sight, candidate)? {
         Some(other) => Ok(one.is_alias(&other)),
@@ -36,7 +37,9 @@ fn add_if_alike(
     candidate: &Node,
 ) -> Result<(), AllocError>
     requires { IsIndexed sight.now }
-    ensures { OnOk result (Grown (IsAlike sight.now.day (rows_in_sight sight.now) one.now candidate.now) class.old class.new) }
+    ensures { OnOk result
+        (Grown (IsAlike sight.now.day (rows_in_sight sight.now) one.now candidate.now)
+        class.old class.new) }
 {
     if class.has(candidate) {
         return Ok(());
@@ -56,7 +59,9 @@ fn add_alike(
     candidates: &[Node],
 ) -> Result<(), AllocError>
     requires { IsIndexed sight.now }
-    ensures { OnOk result (Grown (IsAlikeIn sight.now.day (rows_in_sight sight.now) one.now candidates.now) class.old class.new) }
+    ensures { OnOk result
+        (Grown (IsAlikeIn sight.now.day (rows_in_sight sight.now) one.now candidates.now)
+        class.old class.new) }
 {
     for candidate in candidates {
         add_if_alike(sight, class, one, candidate)?;
@@ -73,7 +78,9 @@ fn add_signed(
     sign: Sign,
 ) -> Result<(), AllocError>
     requires { IsIndexed sight.now }
-    ensures { OnOk result (Expands sight.now.day (rows_in_sight sight.now) one.now (sign ∷ []) class.old class.new (λ k. contains sign_cmp looked.old k) (λ k. contains sign_cmp looked.new k)) }
+    ensures { OnOk result
+        (Expands sight.now.day (rows_in_sight sight.now) one.now (sign ∷ []) class.old class.new
+        (λ k. contains sign_cmp looked.old k) (λ k. contains sign_cmp looked.new k)) }
 {
     if looked.contains(&sign) {
         return Ok(());
@@ -92,7 +99,10 @@ fn add_identified(
     identifiers: &[Identifier],
 ) -> Result<(), AllocError>
     requires { IsIndexed sight.now }
-    ensures { OnOk result (Expands sight.now.day (rows_in_sight sight.now) one.now (map by_identifier identifiers.now) class.old class.new (λ k. contains sign_cmp looked.old k) (λ k. contains sign_cmp looked.new k)) }
+    ensures { OnOk result
+        (Expands sight.now.day (rows_in_sight sight.now) one.now
+        (map by_identifier identifiers.now) class.old class.new
+        (λ k. contains sign_cmp looked.old k) (λ k. contains sign_cmp looked.new k)) }
 {
     for identifier in identifiers {
         let sign = Sign::of_identifier(sight.alloc, identifier)?;
@@ -109,7 +119,9 @@ fn add_signs(
     one: &OpenNode,
 ) -> Result<(), AllocError>
     requires { IsIndexed sight.now }
-    ensures { OnOk result (Expands sight.now.day (rows_in_sight sight.now) one.now (signs one.now) class.old class.new (λ k. contains sign_cmp looked.old k) (λ k. contains sign_cmp looked.new k)) }
+    ensures { OnOk result
+        (Expands sight.now.day (rows_in_sight sight.now) one.now (signs one.now) class.old class.new
+        (λ k. contains sign_cmp looked.old k) (λ k. contains sign_cmp looked.new k)) }
 {
     let sign = Sign::of_node(sight.alloc, &one.node)?;
     add_signed(sight, class, looked, one, sign)?;
@@ -124,7 +136,9 @@ fn add_aliases(
     node: &Node,
 ) -> Result<(), AllocError>
     requires { IsIndexed sight.now }
-    ensures { OnOk result (Follows (in_sight sight.now) node.now class.old class.new (λ k. contains sign_cmp looked.old k) (λ k. contains sign_cmp looked.new k)) }
+    ensures { OnOk result
+        (Follows (in_sight sight.now) node.now class.old class.new
+        (λ k. contains sign_cmp looked.old k) (λ k. contains sign_cmp looked.new k)) }
 {
     let Some(one) = node_in(sight, node)? else {
         return Ok(());

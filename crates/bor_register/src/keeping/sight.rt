@@ -31,7 +31,8 @@ pub(crate) struct Sight<'a> {
 
 // Whether the viewer sees a statement of the agent at this place, dated at or before the day.
 fn is_told(sight: &Sight, agent: &AgentName, filings: &[AcceptedFiling], place: Place) -> bool
-    ensures { result ≡ passes (is_told sight.now.viewer.now sight.now.today sight.now.day agent.now) (sited_at filings.now place) }
+    ensures { result ≡ passes (is_told sight.now.viewer.now sight.now.today sight.now.day agent.now)
+        (sited_at filings.now place) }
 {
     let Some(filing) = filings.get(place.filing) else {
         return false;
@@ -51,7 +52,9 @@ fn last_told(
     filings: &[AcceptedFiling],
     places: &[Place],
 ) -> Option<Place>
-    ensures { result ≡ last_or None (filter (λ p. passes (is_told sight.now.viewer.now sight.now.today sight.now.day agent.now) (sited_at filings.now p)) places.now) }
+    ensures { result ≡ last_or None
+        (filter (λ p. passes (is_told sight.now.viewer.now sight.now.today sight.now.day agent.now)
+        (sited_at filings.now p)) places.now) }
 {
     let mut next = places.len();
     while next > 0 {
@@ -66,7 +69,8 @@ fn last_told(
 
 /// The statement at a place.
 pub(crate) fn statement_at<'a>(filings: &'a [AcceptedFiling], place: Place) -> Option<&'a Statement>
-    ensures { option_map (λ s. s.now) result ≡ option_map (λ x. x.statement) (sited_at filings.now place) }
+    ensures { option_map (λ s. s.now) result
+        ≡ option_map (λ x. x.statement) (sited_at filings.now place) }
 {
     match filings.get(place.filing) {
         Some(filing) => filing.statements.as_slice().get(place.statement),
@@ -87,7 +91,8 @@ fn unless_closed<'a>(statement: &'a Statement) -> Option<&'a Statement>
 // The latest statement of a record that the viewer sees.
 fn latest<'a>(sight: &Sight<'a>, node: &Node) -> Option<&'a Statement>
     requires { IsIndexed sight.now }
-    ensures { option_and_then unless_closed (option_map (λ s. s.now) result) ≡ statement_open sight.now node.now }
+    ensures { option_and_then unless_closed (option_map (λ s. s.now) result)
+        ≡ statement_open sight.now node.now }
 {
     let filings = own_filings(sight.members, &node.agent);
     let places = sight.index.places_of(node);
@@ -199,7 +204,8 @@ pub(crate) fn node_in(sight: &Sight, node: &Node) -> Result<Option<OpenNode>, Al
     }
 }
 
-// The link between two records into an open entity: where that is the subject, and the party is open.
+// The link between two records into an open entity: where that is the subject, and the party is
+// open.
 fn link_between(
     sight: &Sight,
     node: &Node,
@@ -209,7 +215,9 @@ fn link_between(
 ) -> Option<Link>
     requires { IsIndexed sight.now }
     ensures { is_entity_info (info_of (in_sight sight.now) node.now) ≡ true
-        → result ≡ only_into node.now (link_between sight.now.day (nodes_of sight.now.day (rows_in_sight sight.now)) party subject interests.now) }
+        → result ≡ only_into node.now
+        (link_between sight.now.day
+        (nodes_of sight.now.day (rows_in_sight sight.now)) party subject interests.now) }
 {
     if subject != *node {
         return None;
@@ -234,7 +242,8 @@ fn link_stated(
 ) -> Result<Option<Link>, AllocError>
     requires { IsIndexed sight.now }
     ensures { IfOk result (λ link. is_entity_info (info_of (in_sight sight.now) node.now) ≡ true
-        → link ≡ link_into sight.now.day (rows_in_sight sight.now) node.now (as_row agent.now statement.now)) }
+        → link ≡ link_into sight.now.day (rows_in_sight sight.now) node.now
+        (as_row agent.now statement.now)) }
 {
     match &statement.details {
         Details::Relationship {
@@ -276,7 +285,8 @@ fn push_some(links: &mut Vec<Link>, link: Option<Link>) -> Result<(), AllocError
 fn links_of(sight: &Sight, node: &Node, records: &[Node]) -> Result<Vec<Link>, AllocError>
     requires { IsIndexed sight.now }
     ensures { IfOk result (λ links. is_entity_info (info_of (in_sight sight.now) node.now) ≡ true
-        → links.items ≡ filter_map (link_at sight.now.day (rows_in_sight sight.now) node.now) records.now) }
+        → links.items
+        ≡ filter_map (link_at sight.now.day (rows_in_sight sight.now) node.now) records.now) }
 {
     let mut links = Vec::new(sight.alloc);
     for one in records {

@@ -16,7 +16,8 @@ use bor_records::links::Node;
 
 // What is known of the statement at a place.
 fn known_at(filings: &[AcceptedFiling], place: Place) -> Option<Last>
-    ensures { result ≡ option_map (λ x. known_of (as_live x.filing.due x.statement)) (sited_at filings.now place) }
+    ensures { result ≡ option_map (λ x. known_of (as_live x.filing.due x.statement))
+        (sited_at filings.now place) }
 {
     let Some(filing) = filings.get(place.filing) else {
         return None;
@@ -39,7 +40,8 @@ fn stands(filings: &[AcceptedFiling], place: Place) -> bool
 
 // The last of the places at which a statement stands.
 fn last_standing(filings: &[AcceptedFiling], places: &[Place]) -> Option<Place>
-    ensures { result ≡ last_or None (filter (λ p. passes (λ x. true) (sited_at filings.now p)) places.now) }
+    ensures { result ≡ last_or None
+        (filter (λ p. passes (λ x. true) (sited_at filings.now p)) places.now) }
 {
     let mut next = places.len();
     while next > 0 {

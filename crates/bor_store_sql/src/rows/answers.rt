@@ -29,7 +29,8 @@ pub fn first_row<T: TableRow>(alloc: Global, rows: &[Row]) -> Result<Option<T>, 
 
 /// The truth value that the first row has; false where there is none.
 pub fn first_flag(rows: &[Row]) -> Result<bool, RowFault>
-    ensures { (bs : List Bool) → rows.now ≡ map (λ b. truth b ∷ []) bs → result ≡ Ok (unwrap_or (slice_get bs 0) false) }
+    ensures { (bs : List Bool) → rows.now ≡ map (λ b. truth b ∷ []) bs
+        → result ≡ Ok (unwrap_or (slice_get bs 0) false) }
 {
     match rows.first() {
         Some(row) => flag(value_at(row, 0)),

@@ -10,7 +10,8 @@ use std::alloc::AllocError;
 pub enum RowFault {
     /// Memory was wanting.
     Memory,
-    /// The row is none that a register has: a column is missing, of another type or out of its form.
+    /// The row is none that a register has: a column is missing, of another type or out of its
+    /// form.
     Damaged,
 }
 

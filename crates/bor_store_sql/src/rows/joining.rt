@@ -16,7 +16,8 @@ pub fn joined(
     identifiers_sorted: &[IdentifierRow],
 ) -> Result<Vec<Placed>, AllocError>
     ensures { IfOk result (λ placed. (ps : _) → AreApart ps → statements.items ≡ map bare ps
-        → interests_sorted.now ≡ flat_map interest_rows ps → identifiers_sorted.now ≡ flat_map identifier_rows ps → placed.items ≡ ps) }
+        → interests_sorted.now ≡ flat_map interest_rows ps
+        → identifiers_sorted.now ≡ flat_map identifier_rows ps → placed.items ≡ ps) }
 {
     let mut placed = Vec::new(alloc);
     let mut interests_left = interests_sorted;

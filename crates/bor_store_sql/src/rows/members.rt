@@ -20,8 +20,10 @@ pub fn members_of(
     filings: &[FilingRow],
     statements: &[Placed],
 ) -> Result<Vec<Member>, AllocError>
-    ensures { IfOk result (λ members. (ms : List Member) → IsOrdered ms → AllNumbered ms → agents.now ≡ map agent_row ms
-        → filings.now ≡ filing_lines ms → statements.now ≡ placed ms → members.items ≡ without_files ms) }
+    ensures { IfOk result (λ members.
+        (ms : List Member) → IsOrdered ms → AllNumbered ms → agents.now ≡ map agent_row ms
+        → filings.now ≡ filing_lines ms → statements.now ≡ placed ms
+        → members.items ≡ without_files ms) }
 {
     let mut members = Vec::new(alloc);
     let mut filings_left = filings;
@@ -43,8 +45,10 @@ fn member(
     filings: &[FilingRow],
     statements: &[Placed],
 ) -> Result<Member, AllocError>
-    ensures { IfOk result (λ member. (m : Member) → AreNumbered 1 m.filings → agent.now ≡ agent_row m
-        → filings.now ≡ map (filing_row m.name) m.filings → statements.now ≡ placed_by m.name m.filings
+    ensures { IfOk result (λ member.
+        (m : Member) → AreNumbered 1 m.filings → agent.now ≡ agent_row m
+        → filings.now ≡ map (filing_row m.name) m.filings
+        → statements.now ≡ placed_by m.name m.filings
         → member ≡ member_without_files m) }
 {
     Ok(Member {
@@ -61,7 +65,8 @@ fn filings_of(
     statements: &[Placed],
 ) -> Result<Vec<AcceptedFiling>, AllocError>
     ensures { IfOk result (λ own. (agent : List ℕ) (fs : List AcceptedFiling) → AreNumbered 1 fs
-        → filings.now ≡ map (filing_row agent) fs → statements.now ≡ placed_by agent fs → own.items ≡ map without_file fs) }
+        → filings.now ≡ map (filing_row agent) fs → statements.now ≡ placed_by agent fs
+        → own.items ≡ map without_file fs) }
 {
     let mut own = Vec::new(alloc);
     let mut statements_left = statements;
@@ -109,8 +114,10 @@ fn copied(alloc: Global, statements: &[Placed]) -> Result<Vec<Statement>, AllocE
 }
 
 fn split_filings<'a>(rows: &'a [FilingRow], agent: &AgentName) -> (&'a [FilingRow], &'a [FilingRow])
-    ensures { (mine more : _) → rows.now ≡ mine ++ more → AllByRecursion (λ row. is_same row.agent agent.now ≡ true) mine
-        → AllByRecursion (λ row. is_same row.agent agent.now ≡ false) more → (result.0.now ≡ mine) × (result.1.now ≡ more) }
+    ensures { (mine more : _) → rows.now ≡ mine ++ more
+        → AllByRecursion (λ row. is_same row.agent agent.now ≡ true) mine
+        → AllByRecursion (λ row. is_same row.agent agent.now ≡ false) more
+        → (result.0.now ≡ mine) × (result.1.now ≡ more) }
 {
     match other_filings(rows, agent) {
         Some(count) => rows.split_at(count),
@@ -126,8 +133,10 @@ fn other_filings(rows: &[FilingRow], agent: &AgentName) -> Option<usize>
 }
 
 fn split_agent<'a>(rows: &'a [Placed], agent: &AgentName) -> (&'a [Placed], &'a [Placed])
-    ensures { (mine more : _) → rows.now ≡ mine ++ more → AllByRecursion (λ row. is_same row.at.agent agent.now ≡ true) mine
-        → AllByRecursion (λ row. is_same row.at.agent agent.now ≡ false) more → (result.0.now ≡ mine) × (result.1.now ≡ more) }
+    ensures { (mine more : _) → rows.now ≡ mine ++ more
+        → AllByRecursion (λ row. is_same row.at.agent agent.now ≡ true) mine
+        → AllByRecursion (λ row. is_same row.at.agent agent.now ≡ false) more
+        → (result.0.now ≡ mine) × (result.1.now ≡ more) }
 {
     match other_agent(rows, agent) {
         Some(count) => rows.split_at(count),
@@ -136,15 +145,18 @@ fn split_agent<'a>(rows: &'a [Placed], agent: &AgentName) -> (&'a [Placed], &'a 
 }
 
 fn other_agent(rows: &[Placed], agent: &AgentName) -> Option<usize>
-    ensures found { result ≡ position_from (λ row. not (is_same row.at.agent agent.now)) 0 rows.now }
+    ensures found { result ≡ position_from
+        (λ row. not (is_same row.at.agent agent.now)) 0 rows.now }
     ensures bound { IfSome result (λ n. n < length rows.now) }
 {
     rows.iter().position(|row| row.at.agent != *agent)
 }
 
 fn split_filing<'a>(rows: &'a [Placed], number: u32) -> (&'a [Placed], &'a [Placed])
-    ensures { (mine more : _) → rows.now ≡ mine ++ more → AllByRecursion (λ row. (row.at.filing == number) ≡ true) mine
-        → AllByRecursion (λ row. (row.at.filing == number) ≡ false) more → (result.0.now ≡ mine) × (result.1.now ≡ more) }
+    ensures { (mine more : _) → rows.now ≡ mine ++ more
+        → AllByRecursion (λ row. (row.at.filing == number) ≡ true) mine
+        → AllByRecursion (λ row. (row.at.filing == number) ≡ false) more
+        → (result.0.now ≡ mine) × (result.1.now ≡ more) }
 {
     match other_filing(rows, number) {
         Some(count) => rows.split_at(count),

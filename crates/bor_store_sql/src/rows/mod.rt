@@ -1,9 +1,10 @@
 //! A register as rows of seven tables, and back.
 //!
-//! `specs/Rows/Encoding` says what rows the tables have of a register, column by column. [`TableRow`] reads
-//! a row of SQL as the value whose columns it has. [`with_periods`] puts interests together from the rows
-//! of both their tables, [`joined`] statements from theirs, and [`members_of`] the members of a register
-//! from agents, filings and statements, without the files of the filings. Nothing here speaks to a store.
+//! `specs/Rows/Encoding` says what rows the tables have of a register, column by column.
+//! [`TableRow`] reads a row of SQL as the value whose columns it has. [`with_periods`] puts
+//! interests together from the rows of both their tables, [`joined`] statements from theirs, and
+//! [`members_of`] the members of a register from agents, filings and statements, without the files
+//! of the filings. Nothing here speaks to a store.
 
 mod answers;
 mod fault;

@@ -21,9 +21,12 @@ use std::alloc::Global;
 
 #[tactic(auto, using(crate::proofs::OnRows::Utf8::free_utf8))]
 fn entity(alloc: Global, row: &Row) -> Result<Part, RowFault>
-    ensures reads { (kind : EntityKind) (name : Option (List ℕ)) → HasFour row.now 9 (part_columns (part.Entity kind name)) → IfSome name IsFreeText
+    ensures reads { (kind : EntityKind) (name : Option (List ℕ))
+        → HasFour row.now 9 (part_columns (part.Entity kind name)) → IfSome name IsFreeText
         → IsRead result (part.Entity kind name) }
-    ensures exact { IfOk result (λ p. (kind_word p ≡ type_word types.Entity) × HasFour row.now 9 (part_columns p) × IsFormedPart p) }
+    ensures exact { IfOk result (λ p.
+        (kind_word p ≡ type_word types.Entity) × HasFour row.now 9 (part_columns p)
+        × IsFormedPart p) }
 {
     let kind: EntityKind = by_word(value_at(row, 9))?;
     let name = text_or_null(alloc, value_at(row, 10))?;
@@ -33,9 +36,12 @@ fn entity(alloc: Global, row: &Row) -> Result<Part, RowFault>
 
 #[tactic(auto, using(crate::proofs::OnRows::Utf8::free_utf8))]
 fn person(alloc: Global, row: &Row) -> Result<Part, RowFault>
-    ensures reads { (kind : PersonKind) (name : Option (List ℕ)) → HasFour row.now 9 (part_columns (part.Person kind name)) → IfSome name IsFreeText
+    ensures reads { (kind : PersonKind) (name : Option (List ℕ))
+        → HasFour row.now 9 (part_columns (part.Person kind name)) → IfSome name IsFreeText
         → IsRead result (part.Person kind name) }
-    ensures exact { IfOk result (λ p. (kind_word p ≡ type_word types.Person) × HasFour row.now 9 (part_columns p) × IsFormedPart p) }
+    ensures exact { IfOk result (λ p.
+        (kind_word p ≡ type_word types.Person) × HasFour row.now 9 (part_columns p)
+        × IsFormedPart p) }
 {
     let kind: PersonKind = by_word(value_at(row, 9))?;
     let name = text_or_null(alloc, value_at(row, 10))?;
@@ -45,9 +51,13 @@ fn person(alloc: Global, row: &Row) -> Result<Part, RowFault>
 
 #[tactic(auto, using(crate::proofs::OnRows::Utf8::ident_utf8))]
 fn relationship(alloc: Global, row: &Row) -> Result<Part, RowFault>
-    ensures reads { (subject party : Option (List ℕ)) → HasFour row.now 9 (part_columns (part.Relationship subject party)) → IfSome subject IsIdent → IfSome party IsIdent
+    ensures reads { (subject party : Option (List ℕ))
+        → HasFour row.now 9 (part_columns (part.Relationship subject party))
+        → IfSome subject IsIdent → IfSome party IsIdent
         → IsRead result (part.Relationship subject party) }
-    ensures exact { IfOk result (λ p. (kind_word p ≡ type_word types.Relationship) × HasFour row.now 9 (part_columns p) × IsFormedPart p) }
+    ensures exact { IfOk result (λ p.
+        (kind_word p ≡ type_word types.Relationship) × HasFour row.now 9 (part_columns p)
+        × IsFormedPart p) }
 {
     are_null(value_at(row, 9), value_at(row, 10))?;
     let subject = text_or_null(alloc, value_at(row, 11))?;
@@ -57,8 +67,11 @@ fn relationship(alloc: Global, row: &Row) -> Result<Part, RowFault>
 
 /// The part of a statement, by the columns from `kind` on.
 pub(crate) fn part_of(alloc: Global, row: &Row) -> Result<Part, RowFault>
-    ensures reads { (p : Part) → column row.now 7 ≡ Text (kind_word p) → HasFour row.now 9 (part_columns p) → IsFormedPart p → IsRead result p }
-    ensures exact { IfOk result (λ p. (column row.now 7 ≡ Text (kind_word p)) × HasFour row.now 9 (part_columns p) × IsFormedPart p) }
+    ensures reads { (p : Part) → column row.now 7 ≡ Text (kind_word p)
+        → HasFour row.now 9 (part_columns p) → IsFormedPart p → IsRead result p }
+    ensures exact { IfOk result (λ p.
+        (column row.now 7 ≡ Text (kind_word p)) × HasFour row.now 9 (part_columns p)
+        × IsFormedPart p) }
 {
     let kind: RecordType = by_word(value_at(row, 7))?;
     match kind {

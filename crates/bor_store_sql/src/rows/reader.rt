@@ -39,7 +39,8 @@ pub trait TableRow: Sized {
 
     ghost is_formed: { Self → Type 0 };
 
-    /// The value whose columns these are. `Damaged` comes of a row that is no value's, and of no other.
+    /// The value whose columns these are. `Damaged` comes of a row that is no value's, and of no
+    /// other.
     fn read(alloc: Global, row: &Row) -> Result<Self, RowFault>
         ensures reads { (x : Self) → row.now ≡ columns x → is_formed x → IsRead result x }
         ensures exact { IfOk result (λ x. (row.now ≡ columns x) × is_formed x) };
@@ -151,9 +152,12 @@ impl TableRow for IdentifierRow {
 /// Where a statement stands, by the first three columns.
 #[tactic(auto, using(crate::proofs::OnRows::Utf8::name_utf8))]
 fn place_at(alloc: Global, row: &Row) -> Result<At, RowFault>
-    ensures reads { (at : At) → column row.now 0 ≡ Text at.agent → column row.now 1 ≡ Int (pos at.filing) → column row.now 2 ≡ Int (pos at.place)
+    ensures reads { (at : At) → column row.now 0 ≡ Text at.agent
+        → column row.now 1 ≡ Int (pos at.filing) → column row.now 2 ≡ Int (pos at.place)
         → IsFormedAt at → IsRead result at }
-    ensures exact { IfOk result (λ at. (column row.now 0 ≡ Text at.agent) × (column row.now 1 ≡ Int (pos at.filing)) × (column row.now 2 ≡ Int (pos at.place)) × IsFormedAt at) }
+    ensures exact { IfOk result (λ at.
+        (column row.now 0 ≡ Text at.agent) × (column row.now 1 ≡ Int (pos at.filing))
+        × (column row.now 2 ≡ Int (pos at.place)) × IsFormedAt at) }
 {
     Ok(At {
         agent: text(alloc, value_at(row, 0))?,
@@ -165,7 +169,8 @@ fn place_at(alloc: Global, row: &Row) -> Result<At, RowFault>
 /// A share, by the last four columns of an interest.
 #[tactic(auto, using(crate::proofs::OnRows::Shares::low_small))]
 fn span_of(row: &Row) -> Result<Span, RowFault>
-    ensures reads { (s : Range) → HasFour row.now 6 (share_columns (Some s)) → IsShare s → result ≡ Ok s }
+    ensures reads { (s : Range) → HasFour row.now 6 (share_columns (Some s)) → IsShare s
+        → result ≡ Ok s }
     ensures exact { IfOk result (λ s. HasFour row.now 6 (share_columns (Some s)) × IsShare s) }
 {
     let low = percent(value_at(row, 6))?;
@@ -180,7 +185,8 @@ fn span_of(row: &Row) -> Result<Span, RowFault>
 
 /// The share of an interest; none where its columns are null.
 fn share_of(row: &Row) -> Result<Option<Span>, RowFault>
-    ensures reads { (o : Option Range) → HasFour row.now 6 (share_columns o) → IfSome o IsShare → result ≡ Ok o }
+    ensures reads { (o : Option Range) → HasFour row.now 6 (share_columns o) → IfSome o IsShare
+        → result ≡ Ok o }
     ensures exact { IfOk result (λ o. HasFour row.now 6 (share_columns o) × IfSome o IsShare) }
 {
     match (
@@ -261,7 +267,8 @@ impl TableRow for StatementRow {
 
 /// The status of a statement; none where it is null.
 fn status_of(row: &Row) -> Result<Option<Status>, RowFault>
-    ensures reads { (o : Option Status) → column row.now 8 ≡ or_null (option_map status_word o) → result ≡ Ok o }
+    ensures reads { (o : Option Status) → column row.now 8 ≡ or_null (option_map status_word o)
+        → result ≡ Ok o }
     ensures exact { IfOk result (λ o. column row.now 8 ≡ or_null (option_map status_word o)) }
 {
     match value_at(row, 8) {
@@ -272,7 +279,8 @@ fn status_of(row: &Row) -> Result<Option<Status>, RowFault>
 
 /// The values whose columns these rows are, in order.
 pub fn read_rows<T: TableRow + Drop>(alloc: Global, rows: &[Row]) -> Result<Vec<T>, RowFault>
-    ensures { (xs : List T) → rows.now ≡ map T.columns xs → All T.is_formed xs → MatchResult result (λ read. read.items ≡ xs) (λ fault. fault ≡ Memory) }
+    ensures { (xs : List T) → rows.now ≡ map T.columns xs → All T.is_formed xs
+        → MatchResult result (λ read. read.items ≡ xs) (λ fault. fault ≡ Memory) }
 {
     let mut read = Vec::new(alloc);
     for row in rows {

@@ -14,8 +14,10 @@ pub(crate) fn split_interests<'a>(
     rows: &'a [InterestRow],
     at: &At,
 ) -> (&'a [InterestRow], &'a [InterestRow])
-    ensures { (mine more : _) → rows.now ≡ mine ++ more → AllByRecursion (λ row. same_place row.at at.now ≡ true) mine
-        → AllByRecursion (λ row. same_place row.at at.now ≡ false) more → (result.0.now ≡ mine) × (result.1.now ≡ more) }
+    ensures { (mine more : _) → rows.now ≡ mine ++ more
+        → AllByRecursion (λ row. same_place row.at at.now ≡ true) mine
+        → AllByRecursion (λ row. same_place row.at at.now ≡ false) more
+        → (result.0.now ≡ mine) × (result.1.now ≡ more) }
 {
     match other_interests(rows, at) {
         Some(count) => rows.split_at(count),
@@ -28,8 +30,10 @@ pub(crate) fn split_identifiers<'a>(
     rows: &'a [IdentifierRow],
     at: &At,
 ) -> (&'a [IdentifierRow], &'a [IdentifierRow])
-    ensures { (mine more : _) → rows.now ≡ mine ++ more → AllByRecursion (λ row. same_place row.at at.now ≡ true) mine
-        → AllByRecursion (λ row. same_place row.at at.now ≡ false) more → (result.0.now ≡ mine) × (result.1.now ≡ more) }
+    ensures { (mine more : _) → rows.now ≡ mine ++ more
+        → AllByRecursion (λ row. same_place row.at at.now ≡ true) mine
+        → AllByRecursion (λ row. same_place row.at at.now ≡ false) more
+        → (result.0.now ≡ mine) × (result.1.now ≡ more) }
 {
     match other_identifiers(rows, at) {
         Some(count) => rows.split_at(count),
@@ -49,7 +53,8 @@ pub(crate) fn identifiers(
     alloc: Global,
     rows: &[IdentifierRow],
 ) -> Result<Vec<Identifier>, AllocError>
-    ensures { IfOk result (λ identifiers. identifiers.items ≡ map (λ row. row.identifier) rows.now) }
+    ensures { IfOk result (λ identifiers.
+        identifiers.items ≡ map (λ row. row.identifier) rows.now) }
 {
     let mut identifiers = Vec::new(alloc);
     for row in rows {

@@ -17,7 +17,8 @@ fn is_of(period: &PeriodRow, line: &InterestLine) -> bool
 
 // The days of the interest: those of the first row where it is the interest's, else none.
 fn days_of(periods: &[PeriodRow], line: &InterestLine) -> (Option<Day>, Option<Day>)
-    ensures { OfNext line.now periods.now (λ i others. (result.0 ≡ i.interest.starts) × (result.1 ≡ i.interest.ends)) }
+    ensures { OfNext line.now periods.now (λ i others.
+        (result.0 ≡ i.interest.starts) × (result.1 ≡ i.interest.ends)) }
 {
     match periods.first() {
         Some(first) if is_of(first, line) => (first.starts, first.ends),
@@ -35,8 +36,8 @@ fn beyond<'a>(periods: &'a [PeriodRow], line: &InterestLine) -> &'a [PeriodRow]
     }
 }
 
-/// The interests whose rows in both tables these are, all sorted by place and item. An interest without a
-/// row among the periods has no days.
+/// The interests whose rows in both tables these are, all sorted by place and item. An interest
+/// without a row among the periods has no days.
 pub fn with_periods(
     alloc: Global,
     lines: Vec<InterestLine>,

@@ -92,8 +92,8 @@ pub struct PeriodRow {
     pub ends: Option<Day>,
 }
 
-/// An interest with where it stands. It has a row of the table `interest`, and one of the table `period`
-/// where it has a day.
+/// An interest with where it stands. It has a row of the table `interest`, and one of the table
+/// `period` where it has a day.
 #[derive(Debug, Drop)]
 pub struct InterestRow {
     pub at: At,

@@ -38,8 +38,10 @@ pub fn value_at<'a>(row: &'a Row, at: usize) -> ValueRef<'a>
 
 /// A text.
 pub(crate) fn word<'a>(value: ValueRef<'a>) -> Result<&'a str, RowFault>
-    ensures reads { (t : List ℕ) → owned value.entry ≡ sql.Text t → IsUtf8 t → MatchResult result (λ word. word.now ≡ t) (λ _. ⊥) }
-    ensures exact { IfOk result (λ word. (owned value.entry ≡ sql.Text word.now) × (is_utf8 word.now ≡ true)) }
+    ensures reads { (t : List ℕ) → owned value.entry ≡ sql.Text t → IsUtf8 t
+        → MatchResult result (λ word. word.now ≡ t) (λ _. ⊥) }
+    ensures exact { IfOk result (λ word.
+        (owned value.entry ≡ sql.Text word.now) × (is_utf8 word.now ≡ true)) }
 {
     match value {
         ValueRef::Text(bytes) => match std::str::from_utf8(bytes) {
@@ -52,8 +54,10 @@ pub(crate) fn word<'a>(value: ValueRef<'a>) -> Result<&'a str, RowFault>
 
 /// A text of the form.
 pub(crate) fn text<F: Form>(alloc: Global, value: ValueRef<'_>) -> Result<Text<F>, RowFault>
-    ensures reads { (t : List ℕ) → owned value.entry ≡ sql.Text t → IsUtf8 t → F.is_form t ≡ true → IsRead result t }
-    ensures exact { IfOk result (λ t. (owned value.entry ≡ sql.Text t) × (is_utf8 t ≡ true) × (F.is_form t ≡ true)) }
+    ensures reads { (t : List ℕ) → owned value.entry ≡ sql.Text t → IsUtf8 t → F.is_form t ≡ true
+        → IsRead result t }
+    ensures exact { IfOk result (λ t.
+        (owned value.entry ≡ sql.Text t) × (is_utf8 t ≡ true) × (F.is_form t ≡ true)) }
 {
     match Text::read(alloc, word(value)?)? {
         Some(text) => Ok(text),
@@ -66,8 +70,11 @@ pub(crate) fn text_or_null<F: Form>(
     alloc: Global,
     value: ValueRef<'_>,
 ) -> Result<Option<Text<F>>, RowFault>
-    ensures reads { (o : Option (List ℕ)) → owned value.entry ≡ or_null o → IfSome o (λ t. IsUtf8 t × (F.is_form t ≡ true)) → IsRead result o }
-    ensures exact { IfOk result (λ o. (owned value.entry ≡ or_null o) × IfSome o (λ t. (is_utf8 t ≡ true) × (F.is_form t ≡ true))) }
+    ensures reads { (o : Option (List ℕ)) → owned value.entry ≡ or_null o
+        → IfSome o (λ t. IsUtf8 t × (F.is_form t ≡ true)) → IsRead result o }
+    ensures exact { IfOk result (λ o.
+        (owned value.entry ≡ or_null o)
+        × IfSome o (λ t. (is_utf8 t ≡ true) × (F.is_form t ≡ true))) }
 {
     match value {
         ValueRef::Null => Ok(None),
@@ -122,7 +129,8 @@ pub(crate) fn day(value: ValueRef<'_>) -> Result<Day, RowFault>
 
 /// A day, or null.
 pub(crate) fn day_or_null(value: ValueRef<'_>) -> Result<Option<Day>, RowFault>
-    ensures reads { (o : Option ℤ) → owned value.entry ≡ day_or_null o → IfSome o IsDay → result ≡ Ok o }
+    ensures reads { (o : Option ℤ) → owned value.entry ≡ day_or_null o → IfSome o IsDay
+        → result ≡ Ok o }
     ensures exact { IfOk result (λ o. (owned value.entry ≡ day_or_null o) × IfSome o IsDay) }
 {
     match value {
@@ -133,7 +141,8 @@ pub(crate) fn day_or_null(value: ValueRef<'_>) -> Result<Option<Day>, RowFault>
 
 /// Whether it is this number; every other value is `Damaged`.
 pub(crate) fn is_number(value: ValueRef<'_>, number: i64) -> Result<(), RowFault>
-    ensures { MatchResult result (λ _. owned value.entry ≡ sql.Int number) (λ _. owned value.entry ≢ sql.Int number) }
+    ensures { MatchResult result (λ _. owned value.entry ≡ sql.Int number) (λ _.
+        owned value.entry ≢ sql.Int number) }
 {
     match value {
         ValueRef::Int(n) if n == number => Ok(()),
@@ -143,7 +152,8 @@ pub(crate) fn is_number(value: ValueRef<'_>, number: i64) -> Result<(), RowFault
 
 /// Whether two values are null; else they are `Damaged`.
 pub(crate) fn are_null(first: ValueRef<'_>, second: ValueRef<'_>) -> Result<(), RowFault>
-    ensures { MatchResult result (λ _. AreNull (owned first.entry) (owned second.entry)) (λ _. AreNull (owned first.entry) (owned second.entry) → ⊥) }
+    ensures { MatchResult result (λ _. AreNull (owned first.entry) (owned second.entry)) (λ _.
+        AreNull (owned first.entry) (owned second.entry) → ⊥) }
 {
     match (first, second) {
         (ValueRef::Null, ValueRef::Null) => Ok(()),

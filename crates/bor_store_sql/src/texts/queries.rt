@@ -1,7 +1,7 @@
 //! What is asked of the tables.
 //!
-//! Each query is over one table. Those with a condition find their rows by an index; what they show is
-//! sorted by the table's primary key, or is the last row by it, or is the same in each row.
+//! Each query is over one table. Those with a condition find their rows by an index; what they show
+//! is sorted by the table's primary key, or is the last row by it, or is the same in each row.
 
 /// The register's one row.
 pub const ALL_REGISTER: &str = "SELECT one, version, day, registrar FROM register ORDER BY one";
@@ -92,7 +92,8 @@ pub const IDENTIFIERS_OF_STATEMENT: &str = "SELECT agent, filing, place, item, s
 
 /// Whether there are more statements than a number: one row where there are.
 ///
-/// Each row shows the same, so no order is asked for, and no more rows are passed over than the number says.
+/// Each row shows the same, so no order is asked for, and no more rows are passed over than the
+/// number says.
 pub const MORE_STATEMENTS: &str = "SELECT 1 FROM statement LIMIT 1 OFFSET ?1";
 
 /// The statements of a record of a declaration of an agent.

@@ -1,7 +1,7 @@
 //! The seven tables and their indexes, as SQL makes them.
 
-/// One row: the version of the tables, the register's day as its day number from 1970-01-01, and the
-/// registrar's token.
+/// One row: the version of the tables, the register's day as its day number from 1970-01-01, and
+/// the registrar's token.
 pub const REGISTER_TABLE: &str = "CREATE TABLE register (
     one INT NOT NULL,
     version INTEGER NOT NULL,
@@ -51,8 +51,8 @@ pub const STATEMENT_TABLE: &str = "CREATE TABLE statement (
     FOREIGN KEY (agent, filing) REFERENCES filing (agent, number)
 ) STRICT";
 
-/// An interest of a live relationship statement, by its place in the statement, from 1. The last four
-/// columns are null where it has no share.
+/// An interest of a live relationship statement, by its place in the statement, from 1. The last
+/// four columns are null where it has no share.
 pub const INTEREST_TABLE: &str = "CREATE TABLE interest (
     agent TEXT NOT NULL,
     filing INTEGER NOT NULL,
@@ -80,8 +80,9 @@ pub const IDENTIFIER_TABLE: &str = "CREATE TABLE identifier (
     FOREIGN KEY (agent, filing, place) REFERENCES statement (agent, filing, place)
 ) STRICT";
 
-/// The first and the last day on which an interest counts, by its place in the statement: a row only where
-/// one of them is there. It is made last, since tables of version 1 are those without it.
+/// The first and the last day on which an interest counts, by its place in the statement: a row
+/// only where one of them is there. It is made last, since tables of version 1 are those without
+/// it.
 pub const PERIOD_TABLE: &str = "CREATE TABLE period (
     agent TEXT NOT NULL,
     filing INTEGER NOT NULL,

@@ -9,8 +9,8 @@ pub fn unavailable_is_a_reply()
     ensures { IsUnavailable UNAVAILABLE.now }
 {}
 
-/// Of each reply the body stands behind the first empty line, and `Content-Length` tells in decimal how
-/// many bytes that are.
+/// Of each reply the body stands behind the first empty line, and `Content-Length` tells in decimal
+/// how many bytes that are.
 pub fn length_is_told()
     ensures { LengthIsTold }
 {}

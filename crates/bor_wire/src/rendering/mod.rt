@@ -1,9 +1,9 @@
-//! The bytes of every reply (HTTP/1.1, RFC 9112): a status line, the fields, and compact JSON with the
-//! keys of each object in byte order.
+//! The bytes of every reply (HTTP/1.1, RFC 9112): a status line, the fields, and compact JSON with
+//! the keys of each object in byte order.
 //!
-//! [`render`] gives the reply to what the desk answers, in memory of its own. What follows a change, and
-//! what refuses bytes that are no request, is written into room that was reserved before
-//! ([`RESERVED`] bytes), by [`render_short`] and [`render_refusal`], which can't fail:
+//! [`render`] gives the reply to what the desk answers, in memory of its own. What follows a
+//! change, and what refuses bytes that are no request, is written into room that was reserved
+//! before ([`RESERVED`] bytes), by [`render_short`] and [`render_refusal`], which can't fail:
 //!
 //! ```
 //! let mut out = Vec::with_capacity(alloc, RESERVED)?;
@@ -11,8 +11,8 @@
 //! assert!(rt; out.as_slice().starts_with(b"HTTP/1.1 405 Method Not Allowed\r\n"));
 //! ```
 //!
-//! What is published, shown or listed goes filing by filing, record by record, into one buffer. Where
-//! the store failed or memory was wanting, the reply is [`UNAVAILABLE`].
+//! What is published, shown or listed goes filing by filing, record by record, into one buffer.
+//! Where the store failed or memory was wanting, the reply is [`UNAVAILABLE`].
 //!
 //! Nothing is read, asked or sent here.
 

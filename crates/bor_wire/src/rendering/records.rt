@@ -66,7 +66,8 @@ fn write_entity(
     name: &Option<FreeText>,
     identifiers: &[Identifier],
 ) -> Result<(), AllocError>
-    ensures { Adds result out.old out.new (data_tokens (details_data (Details.Entity kind name.now identifiers.now))) }
+    ensures { Adds result out.old out.new
+        (data_tokens (details_data (Details.Entity kind name.now identifiers.now))) }
 {
     out.begin_object()?;
     out.key("identifiers")?;
@@ -82,7 +83,8 @@ fn write_person(
     kind: PersonKind,
     name: &Option<FreeText>,
 ) -> Result<(), AllocError>
-    ensures { Adds result out.old out.new (data_tokens (details_data (Details.Person kind name.now))) }
+    ensures { Adds result out.old out.new
+        (data_tokens (details_data (Details.Person kind name.now))) }
 {
     out.begin_object()?;
     write_text(out, "kind", kind.as_str())?;

@@ -49,8 +49,8 @@ pub fn render(alloc: Global, reply: &DeskReply) -> Result<Vec<u8>, AllocError>
     Ok(out)
 }
 
-/// Writes the bytes of what the desk replies to a change, or refuses, into room that was reserved. It
-/// takes no memory, so it can't fail.
+/// Writes the bytes of what the desk replies to a change, or refuses, into room that was reserved.
+/// It takes no memory, so it can't fail.
 pub fn render_short(out: &mut Vec<u8>, reply: &DeskReply)
     requires room { reserved ≤ vec_capacity out.old }
     requires empty { out.old.items ≡ [] }
@@ -70,8 +70,8 @@ fn wrong_method(refusal: Refusal) -> Option<Path>
     }
 }
 
-/// Writes the bytes of the reply to bytes that spell no request into room that was reserved. It takes
-/// no memory, so it can't fail.
+/// Writes the bytes of the reply to bytes that spell no request into room that was reserved. It
+/// takes no memory, so it can't fail.
 pub fn render_refusal(out: &mut Vec<u8>, refusal: Refusal)
     requires room { reserved ≤ vec_capacity out.old }
     requires empty { out.old.items ≡ [] }

@@ -60,7 +60,8 @@ fn put_enrolled(out: &mut Vec<u8>, name: &AgentName)
 fn put_field(out: &mut Vec<u8>, field: Option<&str>)
     requires room { vec_len out.old + 120 ≤ vec_capacity out.old }
     requires short { IfSome field (λ field. length field.now ≤ 18) }
-    ensures items { out.new.items ≡ out.old.items ++ field_part (option_map (λ s. s.now) field.entry) }
+    ensures items { out.new.items
+        ≡ out.old.items ++ field_part (option_map (λ s. s.now) field.entry) }
     ensures len { vec_len out.new ≤ vec_len out.old + 120 }
     ensures capacity { vec_capacity out.old ≤ vec_capacity out.new }
 {
@@ -84,7 +85,8 @@ fn put_place(out: &mut Vec<u8>, place: Option<u32>)
     }
 }
 
-// Writes a refusal by its name, of 15 bytes at most, with its field and its place where it has them.
+// Writes a refusal by its name, of 15 bytes at most, with its field and its place where it has
+// them.
 fn put_refusal(out: &mut Vec<u8>, name: &str, place: Option<u32>, field: Option<&str>)
     requires room { vec_len out.old + short_room ≤ vec_capacity out.old }
     requires name { length name.now ≤ 15 }
@@ -105,7 +107,8 @@ fn put_refusal(out: &mut Vec<u8>, name: &str, place: Option<u32>, field: Option<
 // The name of the field that a refusal of the desk is about.
 #[tactic(auto, using(crate::proofs::OnRendering::ShortTexts::field_short))]
 fn field_of(refusal: Refusal) -> Option<&'static str>
-    ensures value { option_map (λ s. s.now) result ≡ option_map field_word (desk.refusal_field refusal) }
+    ensures value { option_map (λ s. s.now) result
+        ≡ option_map field_word (desk.refusal_field refusal) }
     ensures short { IfSome result (λ field. length field.now ≤ 18) }
 {
     match refusal.field() {
