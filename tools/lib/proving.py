@@ -9,6 +9,7 @@ import ctypes
 import importlib.machinery
 import importlib.util
 import os
+import re
 import shutil
 import signal
 import sys
@@ -18,9 +19,10 @@ from pathlib import Path
 
 TOP = Path(__file__).resolve().parent.parent.parent
 MEMORY = 2_500_000_000  # that a check takes, in bytes; with each job more, 0.6 of it
-# The seconds of processor time that a crate was seen to take: each, for a line of its src, for such a line where
-# it stands on SQLite, and for linking the program. An earlier check saves two thirds.
+# The seconds of processor time that a crate takes of which none were measured: each, for a line of its src, for such
+# a line where it stands on SQLite, and for linking the program. An earlier check saves two thirds.
 ANY, LINE, SQL_LINE, LINK = 30, 0.11, 0.09, 200
+MEASURED = re.compile(r"\| `(\w+)` \| (\d+)")
 ERRORS = sys.stderr
 
 
@@ -66,10 +68,17 @@ def listed():
 # ---- how long it takes
 
 
-def seconds(crate, lib):
-    """About how long a crate takes."""
+def measured():
+    """The seconds of processor time that each crate took where that was measured, by the table of ARCHITECTURE.md."""
+    rows = (TOP / "docs" / "ARCHITECTURE.md").read_text().splitlines()
+    return {found[1]: int(found[2]) for found in map(MEASURED.match, rows) if found}
+
+
+def seconds(crate, lib, took):
+    """About how long a crate takes, where earlier ones took so long."""
     lines = sum((lib.text_of(file) or "").count("\n") for file in lib.files_of(crate.folder) if file.endswith(".rt"))
-    whole = ANY + (LINE + SQL_LINE * ("sqlite" in crate.of_kit)) * lines + LINK * crate.is_program
+    guess = ANY + (LINE + SQL_LINE * ("sqlite" in crate.of_kit)) * lines + LINK * crate.is_program
+    whole = took.get(crate.name, guess)
     return whole / 3 if os.path.isdir(f"{crate.folder}/out/incremental") else whole
 
 
@@ -78,7 +87,8 @@ class Progress:
 
     def __init__(self, rt, crates):
         self.lanes = lanes_of(rt)
-        self.expected = {it.name: seconds(it, rt.rtlib) for it in crates}
+        took = measured()
+        self.expected = {it.name: seconds(it, rt.rtlib, took) for it in crates}
         self.waits = {it.name: [below.name for below in it.below() if below in crates] for it in crates}
         self.began, self.took, self.failed, self.minutes, self.told = {}, {}, set(), 0, ""
         self.turn, self.is_over = threading.RLock(), threading.Event()
