@@ -1,5 +1,6 @@
 //! The baseline over a file: lodgings into the tables of a register that is there, through SQLite's own library in C, each in one
-//! transaction that is flushed. Each statement of SQL is prepared once. It answers no other request.
+//! transaction that is flushed. Each statement of SQL is prepared once. It refuses what the register does, but answers no other request
+//! than lodgings.
 
 use super::*;
 use std::{ffi::{c_char, c_int, c_void, CString}, ops::Range, ptr, slice};
@@ -79,7 +80,7 @@ fn text_of(number: i64) -> String {
 
 struct Db {
     db: Handle, begin: Query, commit: Query, agent: Query, day: Query, line: Query, count: Query, id: Query, last: Query,
-    filing: Query, statement: Query, interest: Query, identifier: Query,
+    filing: Query, statement: Query, interest: Query, identifier: Query, period: Query, registrar: Query,
 }
 impl Db {
     fn open(path: &str) -> Db {
@@ -105,10 +106,14 @@ impl Db {
             interest: query("INSERT INTO interest (agent, filing, place, item, kind, directness, low, low_open, high, high_open)
                 VALUES (?1, ?2, ?3, ?4, ?5, ?6, ?7, ?8, ?9, ?10)"),
             identifier: query("INSERT INTO identifier (agent, filing, place, item, scheme, id) VALUES (?1, ?2, ?3, ?4, ?5, ?6)"),
+            period: query("INSERT INTO period (agent, filing, place, item, starts, ends) VALUES (?1, ?2, ?3, ?4, ?5, ?6)"),
+            registrar: query("SELECT 1 FROM register WHERE registrar = ?1"),
         }
     }
     fn last_of(&self, agent: &str, (declaration, record): &Series) -> Option<Last> {
-        self.last.first(&[Text(agent), Text(declaration), Text(record)], |row| (row.text(0), row.text(1), text_of(row.number(2)), text_of(row.number(3))))
+        let word = |text: String, words| read::worded(&text, words).unwrap_or("");
+        let told = |row: &Query| (word(row.text(0), &read::TYPES), word(row.text(1), &read::STATUSES), text_of(row.number(2)), text_of(row.number(3)));
+        self.last.first(&[Text(agent), Text(declaration), Text(record)], told)
     }
     fn add(&self, agent: &str, filing: i64, place: i64, s: &Statement) {
         let (sub_kind, name, subject, party) = match &s.details {
@@ -124,7 +129,9 @@ impl Db {
             },
             Details::Relationship { interests, .. } => for (item, it) in (1..).zip(interests) {
                 let share = it.share.as_ref().map_or([Null, Null, Null, Null], |s| [s.low, s.low_open.into(), s.high, s.high_open.into()].map(|n: u64| Number(n as i64)));
-                self.interest.run(&at(item).into_iter().chain([Text(&it.kind), Text(&it.directness)]).chain(share).collect::<Vec<_>>());
+                self.interest.run(&at(item).into_iter().chain([Text(it.kind), Text(it.directness)]).chain(share).collect::<Vec<_>>());
+                let day = |day: &Option<String>| day.as_ref().map_or(Null, |day| Number(number(day)));
+                if it.starts.is_some() || it.ends.is_some() { self.period.run(&at(item).into_iter().chain([day(&it.starts), day(&it.ends)]).collect::<Vec<_>>()); }
             },
             _ => {}
         }
@@ -133,14 +140,14 @@ impl Db {
         let day = self.day.first(&[], |row| row.number(0)).map_or(String::new(), text_of);
         let line = |status, filing| json(status, &Line { due, filing, key: None, state: if due <= day.as_str() { "published" } else { "draft" } });
         if let Some((number, same)) = self.line.first(&[Text(agent), Text(key), Bytes(body)], |row| (row.number(0), row.number(3) == 1 && row.number(1) == number(due))) {
-            return if same { line(200, number as usize) } else { No(409, "KeyReused", None) };
+            return if same { line(200, number as usize) } else { No(no(409, "KeyReused")) };
         }
         let count = self.count.first(&[Text(agent)], |row| row.number(0)).unwrap_or(0);
-        if count >= 999 { return No(409, "FilingsFull", None); }
-        if due < day.as_str() { return No(422, "DuePast", None); }
-        let mut statements = match read(body) { Ok(statements) => statements, Err(fault) => return No(422, fault, None) };
+        if count >= 999 { return No(no(409, "FilingsFull")); }
+        if due < day.as_str() { return No(no(422, "DuePast")); }
+        let mut statements = match read::read(body) { Ok(statements) => statements, Err(refusal) => return No(refusal) };
         let has_id = |id: &str| self.id.first(&[Text(agent), Text(id)], |_| ()).is_some();
-        if let Err((place, rule)) = settle(due, &mut statements, has_id, |series| self.last_of(agent, series)) { return No(422, rule, Some(place)); }
+        if let Err(refusal) = settle(due, &mut statements, has_id, |series| self.last_of(agent, series)) { return No(refusal); }
         self.begin.run(&[]);
         self.filing.run(&[Text(agent), Number(count + 1), Text(key), Number(number(due)), Bytes(body)]);
         for (place, s) in (1..).zip(&statements) { self.add(agent, count + 1, place, s); }
@@ -148,12 +155,13 @@ impl Db {
         line(201, count as usize + 1)
     }
     fn answer(&self, input: &[u8]) -> Reply {
-        let Asked { method, path, query, token, body } = match asked(input) { Ok(asked) => asked, Err(refusal) => return refusal };
-        let Some(token) = token else { return No(401, "NoToken", None) };
-        let Some(agent) = self.agent.first(&[Text(token)], |row| row.text(0)) else { return No(401, "NoAgent", None) };
-        match (method, path.as_slice()) {
-            ("PUT", ["filings", key]) => self.lodge(&agent, key, query.get("due").map_or("", String::as_str), body),
-            _ => No(404, "NoPath", None),
+        let asking = match asked::spelled(input) { Ok(asking) => asking, Err(refusal) => return No(refusal) };
+        let agent = self.agent.first(&[Text(asking.token)], |row| row.text(0));
+        match (agent, asking.request) {
+            (Some(agent), Request::Lodge(key, due, body)) => self.lodge(&agent, key, &due, body),
+            (Some(_), _) => No(no(404, "NoPath")),
+            _ if self.registrar.first(&[Text(asking.token)], |_| ()).is_some() => No(no(403, "NotAgent")),
+            _ => No(no(401, "NoAgent")),
         }
     }
 }
@@ -162,7 +170,7 @@ pub fn answer_all(path: &str, files: &[String]) -> io::Result<()> {
     let db = Db::open(path);
     let mut replies = Vec::new();
     for file in files { replies.extend(bytes_of(db.answer(&fs::read(file)?))); }
-    for query in [db.begin, db.commit, db.agent, db.day, db.line, db.count, db.id, db.last, db.filing, db.statement, db.interest, db.identifier] { unsafe { sqlite3_finalize(query.0) }; }
+    for query in [db.begin, db.commit, db.agent, db.day, db.line, db.count, db.id, db.last, db.filing, db.statement, db.interest, db.identifier, db.period, db.registrar] { unsafe { sqlite3_finalize(query.0) }; }
     assert_eq!(unsafe { sqlite3_close(db.db) }, 0);
     io::stdout().write_all(&replies)
 }

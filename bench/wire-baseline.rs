@@ -1,25 +1,34 @@
-//! The baseline of `bench/wire`: a register in memory with hash maps and `serde_json`, with no proofs. It answers what the mix asks
-//! and takes what is well formed: not every refusal is here, and no value is escaped. Usage: wire-baseline TIMES SETUP ASKED OUT,
-//! or wire-baseline exchange REQUEST.. for a run over files of requests. With the feature `file`, wire-baseline file PATH REQUEST..
-//! keeps the register in a file: `bench/file-baseline.rs`.
+//! The baseline: a register in memory with hash maps, `serde_json` and `httparse`, with no proofs. It checks and refuses what the
+//! register does, and tells the same replies. Usage: wire-baseline TIMES SETUP ASKED OUT for `bench/wire`; wire-baseline exchange
+//! REQUEST.. for a run over files of requests; wire-baseline check FILE; wire-baseline serve PORT CONNECTIONS REQUEST.. serves the
+//! register that these requests leave (`bench/serve-baseline.rs`). With the feature `file`, wire-baseline file PATH REQUEST.. keeps the
+//! register in a file: `bench/file-baseline.rs`.
 
 use serde::Serialize;
 use serde_json::Value;
 use std::{collections::{BTreeMap, BTreeSet, HashMap, HashSet}, env, fs, io::{self, Write}};
+mod asked; // bench/asked-baseline.rs
 #[cfg(feature = "file")] mod file;
+mod read; // bench/read-baseline.rs
+mod serve;
+use asked::Request;
 
 #[derive(Serialize)] #[serde(rename_all = "camelCase")]
 struct Share { high: u64, high_open: bool, low: u64, low_open: bool }
-#[derive(Serialize)] struct Interest { directness: String, share: Option<Share>, #[serde(rename = "type")] kind: String }
+#[derive(Serialize)]
+struct Interest {
+    directness: &'static str, share: Option<Share>, #[serde(rename = "type")] kind: &'static str,
+    #[serde(skip)] starts: Option<String>, #[serde(skip)] ends: Option<String>,
+}
 #[derive(Serialize)] struct Identifier { id: String, scheme: String }
 #[derive(Serialize)] #[serde(untagged)]
 enum Details {
-    Entity { identifiers: Vec<Identifier>, kind: String, name: Option<String> },
-    Person { kind: String, name: Option<String> },
+    Entity { identifiers: Vec<Identifier>, kind: &'static str, name: Option<String> },
+    Person { kind: &'static str, name: Option<String> },
     #[serde(rename_all = "camelCase")]
     Relationship { interested_party: Option<String>, interests: Vec<Interest>, subject: Option<String> },
 }
-struct Statement { id: String, date: String, declaration: String, record: String, status: String, kind: String, details: Details }
+struct Statement { id: String, date: String, declaration: String, record: String, status: &'static str, kind: &'static str, details: Details }
 struct Filing { key: String, due: String, withdrawn: bool, bytes: Vec<u8>, statements: Vec<Statement> }
 type Series = (String, String); // declaration and record
 type Node = (String, String, String); // agent, declaration and record
@@ -36,8 +45,15 @@ struct Register {
     day: String, registrar: String, tokens: HashMap<String, String>, agents: BTreeMap<String, Agent>,
     signs: HashMap<(String, String), BTreeSet<Node>>, // the entities that had an identifier
 }
-enum Reply { Yes(u16, Vec<u8>), No(u16, &'static str, Option<usize>) }
+/// A refusal: its status and name, the statement's place and the member or name that it is about, and the methods that a path has.
+#[derive(Clone, Copy)] struct Refusal { status: u16, name: &'static str, place: Option<usize>, field: Option<&'static str>, allow: &'static [&'static str] }
+fn no(status: u16, name: &'static str) -> Refusal { Refusal { status, name, place: None, field: None, allow: &[] } }
+enum Reply { Yes(u16, Vec<u8>), No(Refusal) }
 use Reply::{No, Yes};
+#[derive(Serialize)] struct Refused {
+    #[serde(skip_serializing_if = "Option::is_none")] field: Option<&'static str>, #[serde(skip_serializing_if = "Option::is_none")] place: Option<usize>,
+    refusal: &'static str,
+}
 #[derive(Serialize)] struct Line<'a> { due: &'a str, filing: usize, #[serde(skip_serializing_if = "Option::is_none")] key: Option<&'a str>, state: &'a str }
 #[derive(Serialize)] struct Shown<'a> {
     date: &'a str, #[serde(skip_serializing_if = "Option::is_none")] declaration: Option<&'a str>,
@@ -50,44 +66,10 @@ use Reply::{No, Yes};
 #[derive(Serialize)] struct Chains<'a> { agent: &'a str, date: &'a str, declaration: &'a str, persons: Vec<Person<'a>>, record: &'a str }
 
 fn json<T: Serialize>(status: u16, value: &T) -> Reply { Yes(status, serde_json::to_vec(value).unwrap()) }
-fn text(value: &Value, name: &str) -> Option<String> { value[name].as_str().map(str::to_string) }
-fn word(value: &Value, other: &str) -> String { value.as_str().unwrap_or(other).to_string() }
-fn share(value: &Value) -> Option<Share> {
-    let share = value.as_object()?;
-    let bound = |name: &str, open: &str, end: u64| {
-        let number = share.get("exact").or(share.get(name)).and_then(Value::as_u64);
-        (number.unwrap_or(end), number.is_some() && share.get(open) == Some(&Value::Bool(true)))
-    };
-    let ((high, high_open), (low, low_open)) = (bound("maximum", "exclusiveMaximum", 100), bound("minimum", "exclusiveMinimum", 0));
-    Some(Share { high, high_open, low, low_open })
-}
-fn interest(value: &Value) -> Interest {
-    Interest { directness: word(&value["directOrIndirect"], "unknown"), share: share(&value["share"]), kind: word(&value["type"], "other") }
-}
-fn items(value: &Value) -> &[Value] { value.as_array().map_or(&[], Vec::as_slice) }
-fn details(kind: &str, value: &Value) -> Details {
-    let identifier = |i: &Value| Some(Identifier { id: text(i, "id")?, scheme: text(i, "scheme")? });
-    match kind {
-        "entity" => Details::Entity {
-            identifiers: items(&value["identifiers"]).iter().filter_map(identifier).collect(), kind: word(&value["entityType"]["type"], "other"), name: text(value, "name"),
-        },
-        "person" => Details::Person { kind: word(&value["personType"], "other"), name: text(&value["names"][0], "fullName") },
-        _ => Details::Relationship {
-            interested_party: text(value, "interestedParty"), interests: items(&value["interests"]).iter().map(interest).collect(), subject: text(value, "subject"),
-        },
-    }
-}
-fn statement(value: &Value) -> Option<Statement> {
-    let kind = text(value, "recordType")?;
-    Some(Statement {
-        id: text(value, "statementId")?, date: text(value, "statementDate")?.get(..10)?.to_string(), declaration: text(value, "declarationSubject")?,
-        record: text(value, "recordId")?, status: text(value, "recordStatus").unwrap_or_default(), details: details(&kind, &value["recordDetails"]), kind,
-    })
-}
 impl Statement {
     fn series(&self) -> Series { (self.declaration.clone(), self.record.clone()) }
     fn shown<'a>(&'a self, declaration: Option<&'a str>, details: Option<&'a Details>) -> Shown<'a> {
-        Shown { date: &self.date, declaration, details, id: &self.id, record: &self.record, status: &self.status, kind: &self.kind }
+        Shown { date: &self.date, declaration, details, id: &self.id, record: &self.record, status: self.status, kind: self.kind }
     }
 }
 impl Filing {
@@ -99,85 +81,66 @@ impl Filing {
     }
 }
 /// What is known of a record's last live statement: its type, status and date, and when its filing is due.
-type Last = (String, String, String, String);
+type Last = (&'static str, &'static str, String, String);
 /// Settles the statements of a file after those that are there, or tells the place and the rule that is broken.
-fn settle(due: &str, statements: &mut [Statement], has_id: impl Fn(&str) -> bool, last_of: impl Fn(&Series) -> Option<Last>) -> Result<(), (usize, &'static str)> {
+fn settle(due: &str, statements: &mut [Statement], has_id: impl Fn(&str) -> bool, last_of: impl Fn(&Series) -> Option<Last>) -> Result<(), Refusal> {
+    let at = |i, name| Err(Refusal { place: Some(i + 1), ..no(422, name) });
     let mut ids = HashSet::new();
     let mut last: HashMap<Series, Last> = HashMap::new();
     for (i, new) in statements.iter_mut().enumerate() {
-        if has_id(&new.id) || !ids.insert(new.id.clone()) { return Err((i + 1, "StatementTwice")); }
+        if has_id(&new.id) || !ids.insert(new.id.clone()) { return at(i, "StatementTwice"); }
         let series = new.series();
         let before = last.get(&series).cloned().or_else(|| last_of(&series));
         let rules = match &before {
-            Some((kind, status, date, day)) => [(*kind != new.kind, "TypeChanged"), (new.status == "new", "RecordExists"), (status == "closed", "RecordClosed"),
+            Some((kind, status, date, day)) => [(*kind != new.kind, "TypeChanged"), (new.status == "new", "RecordExists"), (*status == "closed", "RecordClosed"),
                 (new.date < *date, "DateBack"), (due < day.as_str(), "DueBeforeRecord")],
             None => [(new.status == "updated" || new.status == "closed", "RecordUnknown"); 5],
         };
-        if let Some((_, rule)) = rules.into_iter().find(|(broken, _)| *broken) { return Err((i + 1, rule)); }
-        if new.status.is_empty() { new.status = if before.is_some() { "updated" } else { "new" }.to_string(); }
-        last.insert(series, (new.kind.clone(), new.status.clone(), new.date.clone(), due.to_string()));
+        if let Some((_, rule)) = rules.into_iter().find(|(broken, _)| *broken) { return at(i, rule); }
+        if new.status.is_empty() { new.status = if before.is_some() { "updated" } else { "new" }; }
+        last.insert(series, (new.kind, new.status, new.date.clone(), due.to_string()));
     }
     Ok(())
-}
-/// The statements of a file, or why it isn't read.
-fn read(body: &[u8]) -> Result<Vec<Statement>, &'static str> {
-    let file = serde_json::from_slice::<Value>(body).map_err(|_| "NotJson")?;
-    let Value::Array(list) = &file else { return Err("NotAList") };
-    list.iter().map(statement).collect::<Option<Vec<_>>>().ok_or("Missing")
 }
 impl Agent {
     fn last(&self, series: &Series) -> Option<Last> {
         let (f, p) = *self.series.get(series)?.last()?;
         let s = &self.filings[f].statements[p];
-        Some((s.kind.clone(), s.status.clone(), s.date.clone(), self.filings[f].due.clone()))
+        Some((s.kind, s.status, s.date.clone(), self.filings[f].due.clone()))
     }
 }
-fn is_counting(i: &Interest) -> bool { i.kind != "other" && i.directness != "indirect" }
+fn is_counting(i: &Interest, date: &str) -> bool {
+    let is_on = i.starts.as_ref().map_or(true, |day| day.as_str() <= date) && i.ends.as_ref().map_or(true, |day| date <= day.as_str());
+    is_on && i.kind != "other" && i.directness != "indirect"
+}
 fn is_some(i: &Interest) -> bool { i.share.as_ref().map_or(true, |s| s.high > 0) }
 fn is_most(s: &Share) -> bool { s.low > 50 || s.low == 50 && s.low_open }
-fn is_stake(interests: &[Interest]) -> bool {
-    let held = interests.iter().any(|i| is_counting(i) && i.kind != "appointmentOfBoard" && is_some(i));
-    interests.iter().any(|i| is_counting(i) && (i.kind == "votingRights" && i.share.as_ref().is_some_and(is_most)
+fn is_holding(interests: &[Interest], date: &str) -> bool { interests.iter().any(|i| is_counting(i, date) && is_some(i)) }
+fn is_stake(interests: &[Interest], date: &str) -> bool {
+    let held = interests.iter().any(|i| is_counting(i, date) && i.kind != "appointmentOfBoard" && is_some(i));
+    interests.iter().any(|i| is_counting(i, date) && (i.kind == "votingRights" && i.share.as_ref().is_some_and(is_most)
         || i.kind == "appointmentOfBoard" && held && i.share.as_ref().map_or(true, is_most)))
 }
-struct Asked<'a> { method: &'a str, path: Vec<&'a str>, query: HashMap<&'a str, String>, token: Option<&'a str>, body: &'a [u8] }
-/// What an input asks for, or why it asks nothing.
-fn asked(input: &[u8]) -> Result<Asked<'_>, Reply> {
-    let Some(end) = input.windows(4).position(|w| w == b"\r\n\r\n") else { return Err(No(400, "CutShort", None)) };
-    let Ok(head) = std::str::from_utf8(&input[..end]) else { return Err(No(400, "BadHead", None)) };
-    let mut lines = head.split("\r\n");
-    let mut first = lines.next().unwrap_or("").split(' ');
-    let (method, target) = (first.next().unwrap_or(""), first.next().unwrap_or(""));
-    let (mut token, mut length) = (None, 0);
-    for (name, value) in lines.filter_map(|line| line.split_once(':')) {
-        if name.eq_ignore_ascii_case("authorization") { token = value.trim().strip_prefix("Bearer "); }
-        if name.eq_ignore_ascii_case("content-length") { length = value.trim().parse().unwrap_or(0); }
-    }
-    let Some(body) = input.get(end + 4..end + 4 + length) else { return Err(No(400, "CutShort", None)) };
-    let (path, query) = target.split_once('?').unwrap_or((target, ""));
-    let query = query.split('&').filter_map(|p| p.split_once('=')).map(|(n, v)| (n, v.to_string())).collect();
-    Ok(Asked { method, path: path.split('/').skip(1).collect(), query, token, body })
-}
 impl Register {
-    fn new() -> Register {
-        Register { day: "2024-02-01".to_string(), registrar: "registrar-token-0001".to_string(), tokens: HashMap::new(), agents: BTreeMap::new(), signs: HashMap::new() }
+    fn new(day: &str) -> Register {
+        Register { day: day.to_string(), registrar: "registrar-token-0001".to_string(), tokens: HashMap::new(), agents: BTreeMap::new(), signs: HashMap::new() }
     }
     fn latest(&self, viewer: &str, (agent, declaration, record): &Node, date: &str) -> Option<&Statement> {
         let own = self.agents.get(agent)?;
         let seen = own.series.get(&(declaration.clone(), record.clone()))?.iter().rev().filter(|(f, _)| agent == viewer || own.filings[*f].due <= self.day);
         seen.map(|(f, p)| &own.filings[*f].statements[*p]).find(|s| s.date.as_str() <= date).filter(|s| s.status != "closed")
     }
-    fn lodge(&mut self, name: &str, key: &str, due: &str, body: &[u8]) -> Reply {
+    /// The place of the filing that is lodged, and whether it is fresh.
+    fn lodge(&mut self, name: &str, key: &str, due: &str, body: &[u8]) -> Result<(usize, bool), Refusal> {
         let agent = self.agents.get_mut(name).unwrap();
         if let Some(&at) = agent.keys.get(key) {
             let filing = &agent.filings[at];
-            if filing.due != due || filing.bytes != body { return No(409, "KeyReused", None); }
-            return json(200, &filing.line(at + 1, &self.day, false));
+            return if filing.due == due && filing.bytes == body { Ok((at, false)) } else { Err(no(409, "KeyReused")) };
         }
-        if agent.filings.len() >= 999 { return No(409, "FilingsFull", None); }
-        if due < self.day.as_str() { return No(422, "DuePast", None); }
-        let mut statements = match read(body) { Ok(statements) => statements, Err(fault) => return No(422, fault, None) };
-        if let Err((place, rule)) = settle(due, &mut statements, |id| agent.ids.contains(id), |series| agent.last(series)) { return No(422, rule, Some(place)); }
+        if agent.filings.len() >= 999 { return Err(no(409, "FilingsFull")); }
+        if due < self.day.as_str() { return Err(no(422, "DuePast")); }
+        let mut statements = read::read(body)?;
+        settle(due, &mut statements, |id| agent.ids.contains(id), |series| agent.last(series))?;
         let at = agent.filings.len();
         for (i, s) in statements.iter().enumerate() {
             agent.ids.insert(s.id.clone());
@@ -195,13 +158,13 @@ impl Register {
         }
         agent.keys.insert(key.to_string(), at);
         agent.filings.push(Filing { key: key.to_string(), due: due.to_string(), withdrawn: false, bytes: body.to_vec(), statements });
-        json(201, &agent.filings[at].line(at + 1, &self.day, false))
+        Ok((at, true))
     }
     fn withdraw(&mut self, name: &str, key: &str) -> Reply {
         let agent = self.agents.get_mut(name).unwrap();
-        let Some(&at) = agent.keys.get(key) else { return No(404, "NoSuchFiling", None) };
-        if agent.filings[at].state(&self.day) == "published" { return No(409, "Published", None); }
-        if agent.filings[at].statements.iter().any(|s| agent.series[&s.series()].last().unwrap().0 > at) { return No(409, "HasSuccessor", None); }
+        let Some(&at) = agent.keys.get(key) else { return No(no(404, "NoSuchFiling")) };
+        if agent.filings[at].state(&self.day) == "published" { return No(no(409, "Published")); }
+        if agent.filings[at].statements.iter().any(|s| agent.series[&s.series()].last().unwrap().0 > at) { return No(no(409, "HasSuccessor")); }
         for s in std::mem::take(&mut agent.filings[at].statements) {
             agent.ids.remove(&s.id);
             if let Some(places) = agent.series.get_mut(&s.series()) { places.retain(|(f, _)| *f != at); }
@@ -230,7 +193,7 @@ impl Register {
         alike.cloned().chain(named).collect()
     }
     fn chains(&self, viewer: &str, entity: Node, date: &str) -> Reply {
-        if !matches!(self.latest(viewer, &entity, date), Some(s) if s.kind == "entity") { return No(404, "NoEntity", None); }
+        if !matches!(self.latest(viewer, &entity, date), Some(s) if s.kind == "entity") { return No(no(404, "NoEntity")); }
         let (mut seen, mut persons, mut wave, mut links) = (HashSet::new(), BTreeMap::new(), vec![entity.clone()], 0);
         while !wave.is_empty() {
             let is_first = links == 0;
@@ -246,12 +209,12 @@ impl Register {
             for node in &class {
                 for record in self.agents[&node.0].into.get(&(node.1.clone(), node.2.clone())).into_iter().flatten() {
                     let Some(Statement { details: Details::Relationship { subject, interested_party: Some(party), interests }, .. }) = self.latest(viewer, &(node.0.clone(), node.1.clone(), record.clone()), date) else { continue };
-                    let counts = if is_first { interests.iter().any(|i| is_counting(i) && is_some(i)) } else { is_stake(interests) };
+                    let counts = if is_first { is_holding(interests, date) } else { is_stake(interests, date) };
                     if subject.as_ref() != Some(&node.2) || !counts { continue; }
                     let party = (node.0.clone(), node.1.clone(), party.clone());
                     match self.latest(viewer, &party, date).map(|s| &s.details) {
                         Some(Details::Person { name, .. }) => { persons.entry(party).or_insert((links, name.as_deref())); }
-                        Some(Details::Entity { kind, .. }) if kind == "registeredEntity" || kind == "legalEntity" => wave.push(party),
+                        Some(Details::Entity { kind, .. }) if *kind == "registeredEntity" || *kind == "legalEntity" => wave.push(party),
                         _ => {}
                     }
                 }
@@ -260,41 +223,78 @@ impl Register {
         let persons = persons.iter().map(|((agent, declaration, record), (links, name))| Person { agent, declaration, links: *links, name: *name, record }).collect();
         json(200, &Chains { agent: &entity.0, date, declaration: &entity.1, persons, record: &entity.2 })
     }
+    fn answer_agent(&mut self, name: &str, request: Request) -> Reply {
+        let own = &self.agents[name];
+        match request {
+            Request::Lodge(key, due, body) => match self.lodge(name, key, &due, body) {
+                Ok((at, is_fresh)) => json(if is_fresh { 201 } else { 200 }, &self.agents[name].filings[at].line(at + 1, &self.day, false)),
+                Err(refusal) => No(refusal),
+            },
+            Request::Withdraw(key) => self.withdraw(name, key),
+            Request::Filings => json(200, &own.filings.iter().enumerate().map(|(i, f)| f.line(i + 1, &self.day, true)).collect::<Vec<_>>()),
+            Request::File(key) => own.keys.get(key).map_or(No(no(404, "NoSuchFiling")), |&at| Yes(200, own.filings[at].bytes.clone())),
+            Request::Published => self.published(),
+            Request::Snapshot(agent, declaration, date) => self.snapshot(name, &agent, &declaration, date.as_ref().unwrap_or(&self.day)),
+            Request::Chains(entity, date) => self.chains(name, entity, date.as_ref().unwrap_or(&self.day)),
+            Request::Day(_) | Request::Enrol(..) => No(no(403, "NotRegistrar")),
+        }
+    }
+    fn answer_registrar(&mut self, request: Request) -> Reply {
+        match request {
+            Request::Day(date) if date < self.day => No(no(409, "DayBack")),
+            Request::Day(date) => { self.day = date; json(200, &HashMap::from([("day", &self.day)])) }
+            Request::Enrol(name, _) if self.agents.contains_key(&name) => No(no(409, "NameTaken")),
+            Request::Enrol(_, token) if self.tokens.contains_key(token) || token == self.registrar => No(no(409, "TokenTaken")),
+            Request::Enrol(name, token) => {
+                self.agents.insert(name.clone(), Agent::default());
+                self.tokens.insert(token.to_string(), name.clone());
+                json(201, &HashMap::from([("agent", name)]))
+            }
+            _ => No(no(403, "NotAgent")),
+        }
+    }
     fn answer(&mut self, input: &[u8]) -> Reply {
-        let Asked { method, path, query, token, body } = match asked(input) { Ok(asked) => asked, Err(refusal) => return refusal };
-        let get = |name: &str| query.get(name).cloned().unwrap_or_default();
-        let date = query.get("date").cloned().unwrap_or_else(|| self.day.clone());
-        let Some(token) = token else { return No(401, "NoToken", None) };
-        if token == self.registrar {
-            let (name, token) = (get("name"), String::from_utf8_lossy(body).to_string());
-            self.agents.insert(name.clone(), Agent::default());
-            self.tokens.insert(token, name.clone());
-            return Yes(201, format!("{{\"agent\":\"{name}\"}}").into_bytes());
-        }
-        let Some(name) = self.tokens.get(token).cloned() else { return No(401, "NoAgent", None) };
-        let own = &self.agents[&name];
-        match (method, path.as_slice()) {
-            ("PUT", ["filings", key]) => self.lodge(&name, key, &get("due"), body),
-            ("DELETE", ["filings", key]) => self.withdraw(&name, key),
-            ("GET", ["filings"]) => json(200, &own.filings.iter().enumerate().map(|(i, f)| f.line(i + 1, &self.day, true)).collect::<Vec<_>>()),
-            ("GET", ["filings", key, "file"]) => own.keys.get(*key).map_or(No(404, "NoSuchFiling", None), |&at| Yes(200, own.filings[at].bytes.clone())),
-            ("GET", ["published"]) => self.published(),
-            ("GET", ["snapshot"]) => self.snapshot(&name, &get("agent"), &get("declaration"), &date),
-            ("GET", ["chains"]) => self.chains(&name, (get("agent"), get("declaration"), get("record")), &date),
-            _ => No(404, "NoPath", None),
-        }
+        let asking = match asked::spelled(input) { Ok(asking) => asking, Err(refusal) => return No(refusal) };
+        if asking.token == self.registrar { return self.answer_registrar(asking.request); }
+        match self.tokens.get(asking.token).cloned() { Some(name) => self.answer_agent(&name, asking.request), None => No(no(401, "NoAgent")) }
+    }
+}
+fn phrase(status: u16) -> &'static str {
+    match status {
+        200 => "OK", 201 => "Created", 400 => "Bad Request", 401 => "Unauthorized", 403 => "Forbidden", 404 => "Not Found", 405 => "Method Not Allowed",
+        409 => "Conflict", 413 => "Payload Too Large", 422 => "Unprocessable Entity", _ => "Request Header Fields Too Large",
     }
 }
 fn bytes_of(reply: Reply) -> Vec<u8> {
-    let (status, body) = match reply {
-        Yes(status, body) => (status, body),
-        No(status, name, place) => (status, format!("{{{}\"refusal\":\"{name}\"}}", place.map_or(String::new(), |p| format!("\"place\":{p},"))).into_bytes()),
+    let (status, body, own) = match reply {
+        Yes(status, body) => (status, body, String::new()),
+        No(Refusal { status, name, place, field, allow }) => {
+            let own = match status { 401 => "WWW-Authenticate: Bearer\r\n".to_string(), 405 => format!("Allow: {}\r\n", allow.join(", ")), _ => String::new() };
+            (status, serde_json::to_vec(&Refused { field, place, refusal: name }).unwrap(), own)
+        }
     };
-    let own = if status == 401 { "WWW-Authenticate: Bearer\r\n" } else { "" };
-    let phrase = match status { 200 => "OK", 201 => "Created", 400 => "Bad Request", 401 => "Unauthorized", 404 => "Not Found", 409 => "Conflict", _ => "Unprocessable Entity" };
-    let mut out = format!("HTTP/1.1 {status} {phrase}\r\nContent-Type: application/json\r\nContent-Length: {}\r\n{own}Connection: close\r\n\r\n", body.len()).into_bytes();
+    let mut out = Vec::with_capacity(body.len() + 192);
+    write!(out, "HTTP/1.1 {status} {}\r\nContent-Type: application/json\r\nContent-Length: {}\r\n{own}Connection: close\r\n\r\n", phrase(status), body.len()).unwrap();
     out.extend(body);
     out
+}
+/// What `bor check` prints of a file: its lodging in a new register, and what is published then.
+fn check(path: &str) -> io::Result<String> {
+    let body = fs::read(path)?;
+    if body.len() > 1_048_576 { return Ok("refused BodyTooLarge\n".to_string()); }
+    let mut register = Register::new("2000-01-01");
+    register.agents.insert("check".to_string(), Agent::default());
+    Ok(match register.lodge("check", "check", "2000-01-01", &body) {
+        Ok((at, _)) => {
+            let filing = &register.agents["check"].filings[at];
+            let lines = (1..).zip(&filing.statements).map(|(place, s)| format!("{place}\t{}\t{}\t{}\t{}\n", s.kind, s.status, s.declaration, s.record));
+            format!("filing {} {}\n{}", at + 1, filing.state(&register.day), lines.collect::<String>())
+        }
+        Err(Refusal { name, place, field, .. }) => {
+            let (place, field) = (place.map_or(String::new(), |place| format!(" at {place}")), field.map_or(String::new(), |field| format!(" in {field}")));
+            format!("refused {name}{place}{field}\n")
+        }
+    })
 }
 fn tell_time(word: &str) {
     extern "C" { fn clock_gettime(clock: i32, time: *mut [i64; 2]) -> i32; }
@@ -302,26 +302,41 @@ fn tell_time(word: &str) {
     unsafe { clock_gettime(2, &mut time) }; // CLOCK_PROCESS_CPUTIME_ID
     println!("{word} {}", time[0] * 1_000_000_000 + time[1]);
 }
+const DAY: &str = "2024-02-01";
 /// Answers the requests in these files, and writes the replies.
 fn exchange(files: &[String]) -> io::Result<()> {
     let inputs = files.iter().map(fs::read).collect::<io::Result<Vec<_>>>()?;
-    let mut register = Register::new();
+    let mut register = Register::new(DAY);
     let replies = inputs.iter().fold(Vec::new(), |mut all, input| { all.extend(bytes_of(register.answer(input))); all });
     io::stdout().write_all(&replies)
 }
-fn main() -> io::Result<()> {
-    let words: Vec<String> = env::args().collect();
-    #[cfg(feature = "file")] if words[1] == "file" { return file::answer_all(&words[2], &words[3..]); }
-    if words[1] == "exchange" { return exchange(&words[2..]); }
+/// Serves so many connections of a port, after the requests in these files.
+fn serve_after(port: &str, connections: &str, files: &[String]) -> io::Result<()> {
+    let mut register = Register::new(DAY);
+    for file in files { register.answer(&fs::read(file)?); }
+    serve::serve(port.parse().unwrap_or(0), connections.parse().unwrap_or(0), |input| bytes_of(register.answer(input)))
+}
+/// Times the requests of a file in so many new registers, after those of another file.
+fn replay(times: &str, setup: &str, asked: &str, out: &str) -> io::Result<()> {
     let read = |path: &str| -> io::Result<Vec<Vec<u8>>> { Ok(fs::read(path)?.split(|b| *b == 30).map(<[u8]>::to_vec).collect()) };
-    let (setup, asked) = (read(&words[2])?, read(&words[3])?);
-    for _ in 0..words[1].parse().unwrap_or(1) {
-        let mut register = Register::new();
+    let (setup, asked) = (read(setup)?, read(asked)?);
+    for _ in 0..times.parse().unwrap_or(1) {
+        let mut register = Register::new(DAY);
         for input in &setup { register.answer(input); }
         tell_time("from");
         let replies: Vec<Vec<u8>> = asked.iter().map(|input| bytes_of(register.answer(input))).collect();
         tell_time("to");
-        fs::write(&words[4], replies.iter().fold(Vec::new(), |mut all, r| { all.extend(r); all.push(30); all }))?;
+        fs::write(out, replies.iter().fold(Vec::new(), |mut all, r| { all.extend(r); all.push(30); all }))?;
     }
     Ok(())
+}
+fn main() -> io::Result<()> {
+    let words: Vec<String> = env::args().collect();
+    match words[1].as_str() {
+        #[cfg(feature = "file")] "file" => file::answer_all(&words[2], &words[3..]),
+        "exchange" => exchange(&words[2..]),
+        "serve" => serve_after(&words[2], &words[3], &words[4..]),
+        "check" => io::stdout().write_all(check(&words[2])?.as_bytes()),
+        times => replay(times, &words[2], &words[3], &words[4]),
+    }
 }

@@ -1,4 +1,8 @@
-"""The baseline: a Rust program with hash maps and serde_json, which over a file writes through SQLite's library in C."""
+"""The baseline: a Rust program with hash maps, serde_json and httparse, which over a file writes through SQLite's library in C.
+
+It is built over Debian's packages where they are installed: librust-serde-json-dev, librust-serde-derive-dev,
+librust-httparse-dev and librust-form-urlencoded-dev; else over cargo's registry.
+"""
 import shutil
 import subprocess
 from pathlib import Path
@@ -6,6 +10,7 @@ from pathlib import Path
 from lib.programs import TOP
 
 PACKAGES = Path("/usr/share/cargo/registry")
+MODULES = ("asked", "file", "read", "serve")
 
 CARGO = """[package]
 name = "wire-baseline"
@@ -18,6 +23,8 @@ file = []
 [dependencies]
 serde = { version = "1", features = ["derive"] }
 serde_json = "1"
+httparse = "1"
+form_urlencoded = "1"
 
 [profile.release]
 debug = "line-tables-only"
@@ -32,16 +39,18 @@ directory = "{PACKAGES}"
 
 
 def built_baseline(folder, features=()):
-    """Builds the baseline, with the feature `file` where SQLite's library is to be linked; nothing where that can't be done here."""
+    """Builds the baseline, with the feature `file` where SQLite's library is to be linked; nothing where it can't be."""
     (folder / "src").mkdir(parents=True)
     (folder / ".cargo").mkdir()
     shutil.copy(TOP / "bench" / "wire-baseline.rs", folder / "src" / "main.rs")
-    shutil.copy(TOP / "bench" / "file-baseline.rs", folder / "src" / "file.rs")
+    for module in MODULES:
+        shutil.copy(TOP / "bench" / f"{module}-baseline.rs", folder / "src" / f"{module}.rs")
     (folder / "Cargo.toml").write_text(CARGO)
-    # Debian's packages are taken where they are installed, else those of cargo's own registry.
     if PACKAGES.exists():
         (folder / ".cargo" / "config.toml").write_text(SOURCES)
-    words = ["cargo", "build", "--release", "--features", ",".join(features)]
+    # (what it stands on is compiled once for all that are built beside each other)
+    target = folder.parent / "target"
+    words = ["cargo", "build", "--release", "--features", ",".join(features), "--target-dir", str(target)]
     try:
         ran = subprocess.run(words, cwd=folder, capture_output=True, text=True)
     except OSError:
@@ -50,4 +59,4 @@ def built_baseline(folder, features=()):
     if ran.returncode:
         print("the baseline can't be built here:", ran.stderr.strip().splitlines()[-1])
         return None
-    return str(folder / "target" / "release" / "wire-baseline")
+    return shutil.copy(target / "release" / "wire-baseline", folder / "program")

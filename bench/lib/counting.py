@@ -10,13 +10,35 @@ LINE = re.compile(r"^\s*([\d,]+) \(\s*[\d.]+%\)\s+(\S.*)$")
 FUNCTION = re.compile(r"^(?:\S*?:)?(.*?)(?: \[\S+\])?$")
 
 
+# What functions are for, by their names: the first that fits.
+GROUPS = [
+    ("checksums of pages", r"digest_of|sqlite_disk.*(sum|digest|hash)"),
+    ("giving and taking memory", r"malloc|calloc|realloc|\bfree\b|_int_free|unlink_chunk|tcache|alloc::(alloc|dealloc)"),
+    ("copying, comparing and clearing bytes", r"mem(cpy|move|cmp|set|chr)"),
+    ("reading JSON", r"serde_json"),
+    ("writing JSON", r"\bjson::|bor_wire::rendering"),
+    ("reading a request", r"httparse|bor_http|matchit|form_urlencoded|\bhttp::"),
+    ("the database: pages, its log and commits", r"sqlite_(disk|wal|pager|btree|file)|sqlite::(file|pager|wal|commit)"),
+    ("the database: statements of SQL", r"sqlite"),
+    ("the register's own tables", r"bor_store"),
+    ("reading statements", r"bods_read|bor_terms"),
+    ("rules, lists and chains", r"bor_(records|register|desk|chains)"),
+    ("the server's clients", r"bor_program|^bor::|mio"),
+]
+
+
 def can_count():
     return bool(shutil.which("valgrind") and shutil.which("callgrind_annotate"))
 
 
-def counter(file):
+def counter(file, *options):
     """What stands before the words of a run whose instructions are counted into the file."""
-    return ["valgrind", "--tool=callgrind", f"--callgrind-out-file={file}"]
+    return ["valgrind", "--tool=callgrind", f"--callgrind-out-file={file}", *options]
+
+
+def switched(server, how):
+    """Begins or ends the counting of a server that runs."""
+    subprocess.run(["callgrind_control", f"--instr={how}", str(server.process.pid)], stdout=subprocess.DEVNULL, check=True)
 
 
 def counted(file, inclusive=False):
@@ -40,3 +62,11 @@ def number_of(text):
 def removed(file):
     for path in Path(file.parent).glob(f"{file.name}*"):
         path.unlink()
+
+
+def grouped(functions):
+    """The instructions of functions by what they are for."""
+    groups = Counter()
+    for name, count in functions.items():
+        groups[next((group for group, form in GROUPS if re.search(form, name)), "all else")] += count
+    return groups
