@@ -54,6 +54,8 @@ fn head(bytes: &[u8]) -> Result<Head<'_>, Refusal> {
     let mut request = httparse::Request::new(&mut fields);
     if !matches!(request.parse(bytes), Ok(Status::Complete(all)) if all == bytes.len()) { return Err(no(400, "BadHead")); }
     let (method, target, count) = (request.method.unwrap_or(""), request.path.unwrap_or(""), request.headers.len());
+    // (the version of Debian takes an @ in a method)
+    if method.contains('@') { return Err(no(400, "BadHead")); }
     let body = body_length(&fields[..count])?;
     Ok(Head { method, target, fields, count, body })
 }

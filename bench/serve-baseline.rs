@@ -101,7 +101,10 @@ impl<A: FnMut(&[u8]) -> Vec<u8>> Server<A> {
         let mut events = [Event { events: 0, number: 0 }; PLACES];
         let mut wait = -1;
         while self.left > 0 || self.clients.iter().any(Option::is_some) {
-            let count = told(unsafe { epoll_wait(self.epoll, events.as_mut_ptr(), PLACES as i32, wait) })?;
+            let count = match told(unsafe { epoll_wait(self.epoll, events.as_mut_ptr(), PLACES as i32, wait) }) {
+                Err(error) if error.kind() == ErrorKind::Interrupted => continue,
+                count => count?,
+            };
             let now = Instant::now();
             for event in &events[..count as usize] {
                 let number = event.number as usize;

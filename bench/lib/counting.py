@@ -12,18 +12,20 @@ FUNCTION = re.compile(r"^(?:\S*?:)?(.*?)(?: \[\S+\])?$")
 
 # What functions are for, by their names: the first that fits.
 GROUPS = [
-    ("checksums of pages", r"digest_of|sqlite_disk.*(sum|digest|hash)"),
-    ("giving and taking memory", r"malloc|calloc|realloc|\bfree\b|_int_free|unlink_chunk|tcache|alloc::(alloc|dealloc)"),
+    ("checksums of pages", r"digest_of|checksum"),
+    ("giving and taking memory", r"malloc|calloc|realloc|^free$|_int_free|unlink_chunk|tcache|rattle_(de|re)?alloc"),
     ("copying, comparing and clearing bytes", r"mem(cpy|move|cmp|set|chr)"),
     ("reading JSON", r"serde_json"),
-    ("writing JSON", r"\bjson::|bor_wire::rendering"),
-    ("reading a request", r"httparse|bor_http|matchit|form_urlencoded|\bhttp::"),
-    ("the database: pages, its log and commits", r"sqlite_(disk|wal|pager|btree|file)|sqlite::(file|pager|wal|commit)"),
+    ("writing JSON", r"^json::|bor_wire::rendering"),
+    ("reading a request", r"httparse|bor_http|matchit|form_urlencoded|^http::"),
+    ("the database: pages, its log and commits", r"sqlite_(disk|wal|pager|btree|store|file)"),
+    ("the database: opening and auditing", r"sqlite::file|audit"),
     ("the database: statements of SQL", r"sqlite"),
     ("the register's own tables", r"bor_store"),
-    ("reading statements", r"bods_read|bor_terms"),
+    ("reading statements", r"bods_read|bor_terms|jiff"),
     ("rules, lists and chains", r"bor_(records|register|desk|chains)"),
     ("the server's clients", r"bor_program|^bor::|mio"),
+    ("vectors, maps and texts of the library", r"^(std|core|alloc|std_alloc|hashbrown|btree)"),
 ]
 
 
@@ -38,7 +40,8 @@ def counter(file, *options):
 
 def switched(server, how):
     """Begins or ends the counting of a server that runs."""
-    subprocess.run(["callgrind_control", f"--instr={how}", str(server.process.pid)], stdout=subprocess.DEVNULL, check=True)
+    words = ["callgrind_control", f"--instr={how}", str(server.process.pid)]
+    subprocess.run(words, stdout=subprocess.DEVNULL, stderr=subprocess.DEVNULL, check=True)
 
 
 def counted(file, inclusive=False):
