@@ -22,16 +22,16 @@ fn told(status: i32) -> io::Result<i32> { if status < 0 { Err(io::Error::last_os
 
 enum Phase { Reading(Vec<u8>, Progress), Writing(Vec<u8>, usize), Draining(usize, bool) }
 struct Client { stream: TcpStream, phase: Phase, until: Instant, idle: Instant }
-struct Server<A> { epoll: i32, listener: TcpListener, clients: Vec<Option<Client>>, left: usize, answer: A }
+struct Server<A> { epoll: i32, listener: TcpListener, clients: Vec<Option<Client>>, left: usize, part: Vec<u8>, answer: A }
 
 /// Whether a reply may be written before its request is read to its end.
 fn may_be_unread(reply: &[u8]) -> bool { matches!(&reply[9..12], b"400" | b"413" | b"431") }
 
 impl Client {
     /// Reads, answers and writes until nothing more can be read or written; false once it is over.
-    fn go_on(&mut self, now: Instant, answer: &mut impl FnMut(&[u8]) -> Vec<u8>) -> bool {
+    fn go_on(&mut self, now: Instant, part: &mut [u8], answer: &mut impl FnMut(&[u8]) -> Vec<u8>) -> bool {
         loop {
-            match self.step(now, answer) {
+            match self.step(now, part, answer) {
                 Ok(true) => self.idle = now,
                 Ok(false) => return false,
                 Err(error) if error.kind() == ErrorKind::Interrupted => {}
@@ -39,8 +39,7 @@ impl Client {
             }
         }
     }
-    fn step(&mut self, now: Instant, answer: &mut impl FnMut(&[u8]) -> Vec<u8>) -> io::Result<bool> {
-        let mut part = [0; PART];
+    fn step(&mut self, now: Instant, part: &mut [u8], answer: &mut impl FnMut(&[u8]) -> Vec<u8>) -> io::Result<bool> {
         match &mut self.phase {
             Phase::Reading(request, progress) => {
                 let room = progress.wanted(request.len()).min(PART);
@@ -75,9 +74,12 @@ impl<A: FnMut(&[u8]) -> Vec<u8>> Server<A> {
         told(unsafe { epoll_ctl(self.epoll, 1, file, &mut Event { events, number: number as u64 }) }).map(|_| ())
     }
     /// A free place; where there is none, that of the client that was idle for the longest.
-    fn place(&self) -> usize {
+    fn place(&mut self) -> usize {
+        if let Some(free) = self.clients.iter().position(Option::is_none) { return free; }
         let idle = |at: &usize| self.clients[*at].as_ref().map(|client| client.idle);
-        (0..PLACES).find(|at| self.clients[*at].is_none()).or_else(|| (0..PLACES).min_by_key(idle)).unwrap_or(0)
+        if self.clients.len() == PLACES { return (0..PLACES).min_by_key(idle).unwrap_or(0); }
+        self.clients.push(None);
+        self.clients.len() - 1
     }
     fn let_in(&mut self, now: Instant) -> io::Result<()> {
         while self.left > 0 {
@@ -109,7 +111,7 @@ impl<A: FnMut(&[u8]) -> Vec<u8>> Server<A> {
             for event in &events[..count as usize] {
                 let number = event.number as usize;
                 if number == PLACES { self.let_in(now)?; continue; }
-                let is_over = self.clients[number].as_mut().is_some_and(|client| !client.go_on(now, &mut self.answer));
+                let is_over = self.clients[number].as_mut().is_some_and(|client| !client.go_on(now, &mut self.part, &mut self.answer));
                 if is_over { self.clients[number] = None; }
             }
             wait = self.give_up(now);
@@ -122,7 +124,7 @@ pub fn serve(port: u16, connections: usize, answer: impl FnMut(&[u8]) -> Vec<u8>
     let listener = TcpListener::bind(("127.0.0.1", port))?;
     listener.set_nonblocking(true)?;
     let epoll = told(unsafe { epoll_create1(0) })?;
-    let mut server = Server { epoll, listener, clients: (0..PLACES).map(|_| None).collect(), left: connections, answer };
+    let mut server = Server { epoll, listener, clients: Vec::new(), left: connections, part: vec![0; PART], answer };
     server.watch(server.listener.as_raw_fd(), PLACES, READABLE | EDGE)?;
     println!("listening {}", server.listener.local_addr()?);
     server.run()

@@ -46,7 +46,7 @@ def switched(server, how):
 
 def counted(file, inclusive=False):
     """The instructions of each function of a run, and of all of them."""
-    words = ["callgrind_annotate", "--threshold=100", f"--inclusive={'yes' if inclusive else 'no'}", str(file)]
+    words = ["callgrind_annotate", "--auto=no", "--threshold=100", f"--inclusive={'yes' if inclusive else 'no'}", str(file)]
     text = subprocess.run(words, capture_output=True, text=True, check=True).stdout
     functions, total = Counter(), 0
     for line in text.splitlines():
