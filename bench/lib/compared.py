@@ -38,7 +38,7 @@ class Rows:
         return not self.parts or any(part in name for part in self.parts)
 
     def all(self):
-        for group in (self.over_memory, self.checks, self.over_a_file, self.served, self.reports):
+        for group in (self.served, self.reports, self.checks, self.over_a_file, self.over_memory):
             for name, make in group():
                 if self.is_asked(name):
                     yield make(name)
