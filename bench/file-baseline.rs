@@ -1,6 +1,6 @@
 //! The baseline over a file: lodgings into the tables of a register that is there, through SQLite's own library in C, each in one
-//! transaction that is flushed. Each statement of SQL is prepared once. It refuses what the register does, but answers no other request
-//! than lodgings.
+//! transaction that is flushed; lists of filings and files from them. Each statement of SQL is prepared once. It refuses what the
+//! register does, but answers no other request.
 
 use super::*;
 use std::{ffi::{c_char, c_int, c_void, CString}, ops::Range, ptr, slice};
@@ -20,6 +20,7 @@ extern "C" {
     fn sqlite3_finalize(query: Handle) -> c_int;
     fn sqlite3_column_int64(query: Handle, at: c_int) -> i64;
     fn sqlite3_column_text(query: Handle, at: c_int) -> *const u8;
+    fn sqlite3_column_blob(query: Handle, at: c_int) -> *const u8;
     fn sqlite3_column_bytes(query: Handle, at: c_int) -> c_int;
 }
 const ROW: c_int = 100;
@@ -37,8 +38,7 @@ impl Query {
         assert_eq!(status, 0, "{text}");
         Query(made)
     }
-    /// Runs it, and tells what the first row has, if there is one.
-    fn first<T>(&self, cells: &[Cell], told: impl Fn(&Query) -> T) -> Option<T> {
+    fn bind(&self, cells: &[Cell]) {
         for (at, cell) in (1..).zip(cells) {
             unsafe { match cell {
                 Text(text) => sqlite3_bind_text(self.0, at, text.as_ptr(), text.len() as c_int, ptr::null_mut()),
@@ -47,9 +47,25 @@ impl Query {
                 Null => sqlite3_bind_null(self.0, at),
             } };
         }
+    }
+    /// Goes on to the next row, if there is one.
+    fn next(&self) -> bool {
         let status = unsafe { sqlite3_step(self.0) };
         assert!(status == ROW || status == DONE, "SQLite tells {status}");
-        let told = (status == ROW).then(|| told(self));
+        status == ROW
+    }
+    /// Runs it, and tells what each row has.
+    fn all<T>(&self, cells: &[Cell], told: impl Fn(&Query) -> T) -> Vec<T> {
+        self.bind(cells);
+        let mut found = Vec::new();
+        while self.next() { found.push(told(self)); }
+        unsafe { sqlite3_reset(self.0) };
+        found
+    }
+    /// Runs it, and tells what the first row has, if there is one.
+    fn first<T>(&self, cells: &[Cell], told: impl Fn(&Query) -> T) -> Option<T> {
+        self.bind(cells);
+        let told = self.next().then(|| told(self));
         unsafe { sqlite3_reset(self.0) };
         told
     }
@@ -58,6 +74,9 @@ impl Query {
     fn text(&self, at: c_int) -> String {
         let bytes = unsafe { slice::from_raw_parts(sqlite3_column_text(self.0, at), sqlite3_column_bytes(self.0, at) as usize) };
         String::from_utf8_lossy(bytes).to_string()
+    }
+    fn blob(&self, at: c_int) -> Vec<u8> {
+        unsafe { slice::from_raw_parts(sqlite3_column_blob(self.0, at), sqlite3_column_bytes(self.0, at) as usize) }.to_vec()
     }
 }
 
@@ -80,7 +99,7 @@ fn text_of(number: i64) -> String {
 
 struct Db {
     db: Handle, begin: Query, commit: Query, agent: Query, day: Query, line: Query, count: Query, id: Query, last: Query,
-    filing: Query, statement: Query, interest: Query, identifier: Query, period: Query, registrar: Query,
+    filing: Query, statement: Query, interest: Query, identifier: Query, period: Query, registrar: Query, lines: Query, bytes: Query,
 }
 impl Db {
     fn open(path: &str) -> Db {
@@ -108,7 +127,15 @@ impl Db {
             identifier: query("INSERT INTO identifier (agent, filing, place, item, scheme, id) VALUES (?1, ?2, ?3, ?4, ?5, ?6)"),
             period: query("INSERT INTO period (agent, filing, place, item, starts, ends) VALUES (?1, ?2, ?3, ?4, ?5, ?6)"),
             registrar: query("SELECT 1 FROM register WHERE registrar = ?1"),
+            lines: query("SELECT number, lodge_key, due, withdrawn FROM filing WHERE agent = ?1 ORDER BY agent, number"),
+            bytes: query("SELECT bytes FROM filing WHERE agent = ?1 AND lodge_key = ?2"),
         }
+    }
+    fn close(self) {
+        let asked = [self.begin, self.commit, self.agent, self.day, self.line, self.count, self.id, self.last, self.lines, self.bytes, self.registrar];
+        let added = [self.filing, self.statement, self.interest, self.identifier, self.period];
+        for query in asked.into_iter().chain(added) { unsafe { sqlite3_finalize(query.0) }; }
+        assert_eq!(unsafe { sqlite3_close(self.db) }, 0);
     }
     fn last_of(&self, agent: &str, (declaration, record): &Series) -> Option<Last> {
         let word = |text: String, words| read::worded(&text, words).unwrap_or("");
@@ -136,8 +163,15 @@ impl Db {
             _ => {}
         }
     }
+    fn today(&self) -> String { self.day.first(&[], |row| row.number(0)).map_or(String::new(), text_of) }
+    fn filings(&self, agent: &str) -> Reply {
+        let day = self.today();
+        let filing = |row: &Query| Filing { key: row.text(1), due: text_of(row.number(2)), withdrawn: row.number(3) == 1, bytes: Vec::new(), statements: Vec::new() };
+        let rows = self.lines.all(&[Text(agent)], |row| (row.number(0) as usize, filing(row)));
+        json(200, &rows.iter().map(|(number, filing)| filing.line(*number, &day, true)).collect::<Vec<_>>())
+    }
     fn lodge(&self, agent: &str, key: &str, due: &str, body: &[u8]) -> Reply {
-        let day = self.day.first(&[], |row| row.number(0)).map_or(String::new(), text_of);
+        let day = self.today();
         let line = |status, filing| json(status, &Line { due, filing, key: None, state: if due <= day.as_str() { "published" } else { "draft" } });
         if let Some((number, same)) = self.line.first(&[Text(agent), Text(key), Bytes(body)], |row| (row.number(0), row.number(3) == 1 && row.number(1) == number(due))) {
             return if same { line(200, number as usize) } else { No(no(409, "KeyReused")) };
@@ -159,6 +193,8 @@ impl Db {
         let agent = self.agent.first(&[Text(asking.token)], |row| row.text(0));
         match (agent, asking.request) {
             (Some(agent), Request::Lodge(key, due, body)) => self.lodge(&agent, key, &due, body),
+            (Some(agent), Request::Filings) => self.filings(&agent),
+            (Some(agent), Request::File(key)) => self.bytes.first(&[Text(&agent), Text(key)], |row| row.blob(0)).map_or(No(no(404, "NoSuchFiling")), |bytes| Yes(200, bytes)),
             (Some(_), _) => No(no(404, "NoPath")),
             _ if self.registrar.first(&[Text(asking.token)], |_| ()).is_some() => No(no(403, "NotAgent")),
             _ => No(no(401, "NoAgent")),
@@ -170,7 +206,13 @@ pub fn answer_all(path: &str, files: &[String]) -> io::Result<()> {
     let db = Db::open(path);
     let mut replies = Vec::new();
     for file in files { replies.extend(bytes_of(db.answer(&fs::read(file)?))); }
-    for query in [db.begin, db.commit, db.agent, db.day, db.line, db.count, db.id, db.last, db.filing, db.statement, db.interest, db.identifier, db.period, db.registrar] { unsafe { sqlite3_finalize(query.0) }; }
-    assert_eq!(unsafe { sqlite3_close(db.db) }, 0);
+    db.close();
     io::stdout().write_all(&replies)
+}
+/// Serves so many connections of a port over the register in a file.
+pub fn serve(path: &str, port: &str, connections: &str) -> io::Result<()> {
+    let db = Db::open(path);
+    serve::serve(port.parse().unwrap_or(0), connections.parse().unwrap_or(0), |input| bytes_of(db.answer(input)))?;
+    db.close();
+    Ok(())
 }

@@ -2,7 +2,7 @@
 //! register does, and tells the same replies. Usage: wire-baseline TIMES SETUP ASKED OUT for `bench/wire`; wire-baseline exchange
 //! REQUEST.. for a run over files of requests; wire-baseline check FILE; wire-baseline serve PORT CONNECTIONS REQUEST.. serves the
 //! register that these requests leave (`bench/serve-baseline.rs`). With the feature `file`, wire-baseline file PATH REQUEST.. keeps the
-//! register in a file: `bench/file-baseline.rs`.
+//! register in a file, and wire-baseline serve-file PATH PORT CONNECTIONS serves it: `bench/file-baseline.rs`.
 
 use serde::Serialize;
 use serde_json::Value;
@@ -334,6 +334,7 @@ fn main() -> io::Result<()> {
     let words: Vec<String> = env::args().collect();
     match words[1].as_str() {
         #[cfg(feature = "file")] "file" => file::answer_all(&words[2], &words[3..]),
+        #[cfg(feature = "file")] "serve-file" => file::serve(&words[2], &words[3], &words[4]),
         "exchange" => exchange(&words[2..]),
         "serve" => serve_after(&words[2], &words[3], &words[4..]),
         "check" => io::stdout().write_all(check(&words[2])?.as_bytes()),

@@ -33,6 +33,7 @@ class Rows:
     def __init__(self, folder, parts):
         self.folder, self.parts = folder, parts
         self.baseline = built_baseline(folder / "baseline")
+        self.over_files = built_baseline(folder / "file-baseline", ["file"])
 
     def is_asked(self, name):
         return not self.parts or any(part in name for part in self.parts)
@@ -102,8 +103,8 @@ class Rows:
         out, told = folder / "ours.out", folder / "baseline.out"
         words = [BUILT, "exchange", "--db", file, "--registrar", REGISTRAR, "--day", DAY]
         programs = [[Command([*words, *list_of], lambda: cleared(file, start), out) for list_of in paths]]
-        if program := built_baseline(folder / "file-baseline", ["file"]):
-            words = [program, "file", other]
+        if self.over_files:
+            words = [self.over_files, "file", other]
             programs.append([Command([*words, *list_of], lambda: cleared(other, start), told) for list_of in paths])
 
         def compare():
@@ -142,6 +143,9 @@ class Rows:
         for name, words in listed.items():
             clients = 16 if "16 clients" in name else 1
             yield f"serve: {name}", lambda name, words=words, clients=clients: self.serving(name, 800, *words, clients)
+        for name in ("GET filings", "GET a file", "refused: NoAgent"):
+            words = *listed[name][:2], None, 1, self.over_the_file
+            yield f"serve: {name}, by SQLite", lambda name, words=words: self.serving(name, 800, *words)
 
     def reports(self):
         asked = request("birch", "GET", "/chains?agent=alder&declaration=c1&record=all")
@@ -150,18 +154,30 @@ class Rows:
             count = 20_000 // records + 1
             yield f"report: all of {records:,} records", lambda name, words=(count, kept, asked, 1.0): self.serving(name, *words)
 
-    def serving(self, name, count, kept, asked, goal, clients=1):
-        """One request of servers, ours over a copy of a file, the baseline in memory, after the same requests."""
+    def serving(self, name, count, kept, asked, goal, clients=1, plain=None):
+        """One request of servers, ours over a copy of a file, the baseline after the same requests, in memory unless said."""
         file, paths = self.kept(*kept)
 
         def ours(connections):
             cleared(self.folder / "served.db", file)
             return bor_serve(self.folder / "served.db", connections)
 
-        def plain(connections):
-            return [self.baseline, "serve", free_port(), connections, *paths]
+        other = (plain or self.in_memory)(file, paths)
+        return Serving(name, count, goal, [ours, other], asked, clients)
 
-        return Serving(name, count, goal, [ours, self.baseline and plain], asked, clients)
+    def in_memory(self, _, paths):
+        """What starts the baseline's server of these requests, where there is one."""
+        return self.baseline and (lambda connections: [self.baseline, "serve", free_port(), connections, *paths])
+
+    def over_the_file(self, file, _):
+        """What starts the baseline's server over a copy of the file, where there is one."""
+        copy = self.folder / "plain.db"
+
+        def start(connections):
+            cleared(copy, file)
+            return [self.over_files, "serve-file", copy, free_port(), connections]
+
+        return self.over_files and start
 
     def kept(self, name, requests):
         """The file of a register that these requests make, and the files of the requests."""
