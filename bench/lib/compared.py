@@ -151,8 +151,8 @@ class Rows:
         asked = request("birch", "GET", "/chains?agent=alder&declaration=c1&record=all")
         for records in (2_000, 10_000, 50_000):
             kept = f"ladders-{records}", lambda records=records: ladders(records)
-            count = 20_000 // records + 1
-            yield f"report: all of {records:,} records", lambda name, words=(count, kept, asked, 1.0): self.serving(name, *words)
+            words = 20_000 // records + 1, kept, asked, 1.0
+            yield f"report: all of {records:,} records", lambda name, words=words: self.serving(name, *words)
 
     def serving(self, name, count, kept, asked, goal, clients=1, plain=None):
         """One request of servers, ours over a copy of a file, the baseline after the same requests, in memory unless said."""

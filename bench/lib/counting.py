@@ -12,13 +12,13 @@ FUNCTION = re.compile(r"^(?:\S*?:)?(.*?)(?: \[\S+\])?$")
 
 # What functions are for, by their names: the first that fits.
 GROUPS = [
-    ("checksums of pages", r"digest_of|checksum"),
+    ("checksums of pages", r"digest_of|checksum|hash::sip|sqlite_wal::batch::Batch::seal|sqlite_pool::backing::seal"),
     ("giving and taking memory", r"malloc|calloc|realloc|^free$|_int_free|unlink_chunk|tcache|rattle_(de|re)?alloc"),
     ("copying, comparing and clearing bytes", r"mem(cpy|move|cmp|set|chr)"),
     ("reading JSON", r"serde_json"),
     ("writing JSON", r"^json::|bor_wire::rendering"),
     ("reading a request", r"httparse|bor_http|matchit|form_urlencoded|^http::"),
-    ("the database: pages, its log and commits", r"sqlite_(disk|wal|pager|btree|store|file)"),
+    ("the database: pages, its log and commits", r"sqlite_(disk|wal|pager|pool|btree|store|file)"),
     ("the database: opening and auditing", r"sqlite::file|audit"),
     ("the database: statements of SQL", r"sqlite"),
     ("the register's own tables", r"bor_store"),

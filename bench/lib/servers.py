@@ -40,7 +40,8 @@ class Server:
     """A process of one thread that serves so many connections, and one more, which ends it."""
 
     def __init__(self, words):
-        self.process = subprocess.Popen([str(word) for word in words], stdout=subprocess.PIPE, stderr=subprocess.DEVNULL, text=True)
+        words, streams = [str(word) for word in words], {"stdout": subprocess.PIPE, "stderr": subprocess.DEVNULL}
+        self.process = subprocess.Popen(words, text=True, **streams)
         line = self.process.stdout.readline().split()
         if line[:1] != ["listening"]:
             sys.exit(f"{words[0]} doesn't listen")
