@@ -7,7 +7,7 @@ from contextlib import closing
 from pathlib import Path
 
 from lib.check_files import TEXT, VERSIONS, opening
-from lib.checking import DB, begun, changed, check, ended, exchange, failed, is_so, report, rows_of, write
+from lib.checking import DB, LODGED, begun, changed, check, ended, exchange, failed, is_so, report, rows_of, write
 from lib.notation import file_of
 from lib.random_register import inputs_of
 from lib.scripts import loaded
@@ -245,14 +245,15 @@ def interests_count_within_their_dates_once_moved(bor, folder):
 
 @check
 def a_register_that_is_moved_twice_stays(bor, folder):
-    """a second migration changes nothing, and neither does one of a new register"""
+    """a second migration changes nothing, and neither does one of a new register, whatever its files say"""
     made(folder, DATED)
     moved(bor, folder)
     before = dumped(folder)
     moved(bor, folder)
     is_so(dumped(folder) == before, "the tables have changed")
     Path(folder, DB).unlink()
-    begun(bor, folder, ("alder lodge f1 2024-02-01 E s1 e1", "201 F(1, published, 2024-02-01)"))
+    begun(bor, folder, LODGED)
+    changed(folder, "UPDATE filing SET bytes = x'5B5D'; INSERT INTO period VALUES ('alder', 1, 3, 1, 5, NULL)")
     before = dumped(folder)
     moved(bor, folder)
     is_so(dumped(folder) == before, "the tables of a new register have changed")
@@ -303,7 +304,11 @@ DAMAGE = [
     f"UPDATE filing SET bytes = {blob(DATED_FILE.replace('s2', 's9'))} WHERE agent = 'alder' AND number = 1",
     f"UPDATE filing SET bytes = {blob(DATED_FILE.replace('V100', 'V99'))} WHERE agent = 'alder' AND number = 1",
     f"UPDATE filing SET bytes = {blob(DATED_FILE + '; P s8 p8')} WHERE agent = 'alder' AND number = 1",
+    "UPDATE filing SET bytes = x'5B5D' WHERE agent = 'alder' AND number = 1",
+    "UPDATE filing SET bytes = x'FF' WHERE agent = 'alder' AND number = 1",
     "UPDATE filing SET withdrawn = 0",
+    "UPDATE filing SET withdrawn = 7",
+    "UPDATE filing SET due = -99999999",
     f"UPDATE statement SET id = 's9' WHERE {ALDERS} AND place = 2",
     f"UPDATE statement SET day = 19733 WHERE {ALDERS} AND place = 1",
     f"UPDATE statement SET declaration = 'c2' WHERE {ALDERS} AND place = 3",
@@ -338,6 +343,15 @@ def a_file_that_does_not_fit_its_rows_is_damage(bor, folder):
     for sql in DAMAGE:
         refused(bor, folder, f"{DATED}; {sql}", "store failed")
         failed(report(bor, folder), FIRST_VERSION)
+
+
+@check
+def a_status_that_the_file_leaves_out_stays(bor, folder):
+    """a status that a file leaves out stays as the tables have it"""
+    made(folder, f"{DATED}; UPDATE statement SET status = 'updated' WHERE {ALDERS} AND place = 3")
+    moved(bor, folder)
+    rows = rows_of(folder, f"SELECT status FROM statement WHERE {ALDERS} ORDER BY place")
+    is_so(rows == [("new",), ("new",), ("updated",)], f"the statuses are {rows}")
 
 
 @check
