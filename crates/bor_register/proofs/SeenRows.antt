@@ -1,10 +1,12 @@
--- The rows of a filing's statements, one after the other, and those of one agent after the other.
+-- The rows of a filing's statements, one after the other, and what is seen of one agent after the other.
 use Rattle.std.proofs.Common.{◌≡◌, ℕ, ℤ, ◌+◌, ◌<◌, List, [], ◌∷◌, ◌++◌, length, drop, get_or, Option, None, refl, ◌∙◌, sym, ap, append_assoc, true, false, Bool}
 use Rattle.std.specs.Prelude.{if◌then◌else◌}
 use Rattle.std.proofs.lemmas.List.{drop_more}
 use Rattle.bods_read.specs.declared.statement.Statement.{Statement}
 use Rattle.bor_records.specs.declared.row.Row.{Row}
+use Rattle.bor_register.specs.declared.filing.Outward.{Outward}
 use Rattle.bor_register.specs.declared.member.Member.{Member}
+use Rattle.bor_register.specs.Publication.{outwards_of, published}
 use Rattle.bor_register.specs.Rows.{is_asked, asked_rows, row_of, rows_from, visible_in, visible}
 
 -- the rows that are asked for, from the i-th statement on
@@ -43,3 +45,10 @@ agent_added viewer day ms i m front whole lt is h =
     ap (λ rows. (front ++ rows) ++ visible viewer day (drop (i + 1) ms)) (asked_rows-none (visible_in viewer day m.name m.filings))
     ∙ append_assoc front (visible_in viewer day m.name m.filings) (visible viewer day (drop (i + 1) ms))
     ∙ ap (λ ns. front ++ visible viewer day ns) (sym more) ∙ h
+
+pub published_added : (day : ℤ) (ms : List Member) (i : ℕ) (m : Member) (front whole : List Outward) → i < length ms → m ≡ get_or ms i m →
+    front ++ published day (drop i ms) ≡ whole → (front ++ outwards_of day m.name m.filings) ++ published day (drop (i + 1) ms) ≡ whole
+published_added day ms i m front whole lt is h =
+    let more = drop_more ms i m lt ∙ ap (λ n. n ∷ drop (i + 1) ms) (sym is) in
+    append_assoc front (outwards_of day m.name m.filings) (published day (drop (i + 1) ms))
+    ∙ ap (λ ns. front ++ published day ns) (sym more) ∙ h

@@ -75,6 +75,34 @@ pub fn own_filings<'a>(members: &'a [Member], name: &AgentName) -> &'a [Accepted
     &[]
 }
 
+// A filing with this number that is accepted.
+fn accepted_filing(
+    alloc: Global,
+    number: u32,
+    key: &LodgeKey,
+    due: Day,
+    bytes: &[u8],
+    statements: &[Statement],
+) -> Result<AcceptedFiling, AllocError>
+    ensures { IfOk result (λ filing. filing ≡ record {
+      number = number;
+      key = key.now;
+      due = due;
+      withdrawn = false;
+      bytes = bytes.now;
+      statements = statements.now;
+    }) }
+{
+    Ok(AcceptedFiling {
+        number,
+        key: key.copy(alloc)?,
+        due,
+        withdrawn: false,
+        bytes: Listed::new(Vec::from_slice(alloc, bytes)?),
+        statements: copied(alloc, statements)?,
+    })
+}
+
 /// Adds a filing to those of an agent, who is enrolled and has room for one more, and gives its
 /// number.
 pub fn push_filing(
@@ -100,14 +128,8 @@ pub fn push_filing(
     };
     let member = &mut members[at];
     let number = member.filings.as_slice().len() as u32 + 1;
-    member.filings.push(AcceptedFiling {
-        number,
-        key: key.copy(alloc)?,
-        due,
-        withdrawn: false,
-        bytes: Listed::new(Vec::from_slice(alloc, bytes)?),
-        statements: copied(alloc, statements)?,
-    })?;
+    let filing = accepted_filing(alloc, number, key, due, bytes, statements)?;
+    member.filings.push(filing)?;
     Ok(number)
 }
 

@@ -7,7 +7,7 @@ ghost use Rattle.std.proofs.lemmas.Map.Lookups.{CmpEqualImpliesEq};
 ghost use Rattle.bor_records.specs.Links.Nodes.{node_cmp};
 ghost use Rattle.bor_records.specs.Links.Series.{stated};
 ghost use Rattle.bor_records.specs.Links.Signs.{by_identifier, sign_cmp};
-ghost use Rattle.bor_register.specs.Keeping.Indexed.{AreNoted, IsGrown, IsIndex, IsNoted, beside, key_cmp, key_of, signs_of, subjects_of, under};
+ghost use Rattle.bor_register.specs.Keeping.Indexed.{AreNoted, IsGrown, IsIndex, IsNoted, key_cmp, key_of, signs_of, subjects_of, under};
 ghost use Rattle.bor_register.specs.Keeping.Sited.{places_from};
 
 use bods_read::{Details, Identifier, Statement};
@@ -146,6 +146,23 @@ fn put<K: Ord + Drop, V: Drop>(
     Ok(())
 }
 
+/// A record of an agent's declaration.
+pub(crate) fn node_named(
+    alloc: Global,
+    agent: &AgentName,
+    declaration: &Ident,
+    rec: &Ident,
+) -> Result<Node, AllocError>
+    ensures { IfOk result (λ node.
+        node ≡ record { agent = agent.now; declaration = declaration.now; rec = rec.now }) }
+{
+    Ok(Node {
+        agent: agent.copy(alloc)?,
+        declaration: declaration.copy(alloc)?,
+        rec: rec.copy(alloc)?,
+    })
+}
+
 /// The record that an agent's statement is of.
 pub(crate) fn record_of(
     alloc: Global,
@@ -154,23 +171,7 @@ pub(crate) fn record_of(
 ) -> Result<Node, AllocError>
     ensures { IfOk result (λ node. node ≡ stated agent.now statement.now) }
 {
-    record_beside(alloc, agent, statement, &statement.rec)
-}
-
-/// A record of the declaration of an agent's statement.
-pub(crate) fn record_beside(
-    alloc: Global,
-    agent: &AgentName,
-    statement: &Statement,
-    rec: &Ident,
-) -> Result<Node, AllocError>
-    ensures { IfOk result (λ node. node ≡ beside agent.now statement.now rec.now) }
-{
-    Ok(Node {
-        agent: agent.copy(alloc)?,
-        declaration: statement.declaration.copy(alloc)?,
-        rec: rec.copy(alloc)?,
-    })
+    node_named(alloc, agent, &statement.declaration, &statement.rec)
 }
 
 // Puts the places of a filing's statements under their records.
@@ -260,7 +261,7 @@ fn subjects_of(
         ..
     } = &statement.details
     {
-        subjects.push(record_beside(alloc, agent, statement, subject)?)?;
+        subjects.push(node_named(alloc, agent, &statement.declaration, subject)?)?;
     }
     Ok(subjects)
 }

@@ -1,6 +1,6 @@
 //! The nodes and links that were last asked for.
 
-ghost use Rattle.std.specs.Prelude.{◌≡◌, true};
+ghost use Rattle.std.specs.Prelude.{◌≡◌, None, true};
 
 use bor_chains::ListSource;
 use bor_terms::{AgentName, Day};
@@ -20,4 +20,11 @@ impl LastAsked {
     {
         self.day == day && self.viewer == *viewer
     }
+}
+
+/// Lets go of what was last asked.
+pub(crate) fn forget(last: &mut Option<LastAsked>)
+    ensures { last.new ≡ None }
+{
+    *last = None;
 }

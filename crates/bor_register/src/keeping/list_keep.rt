@@ -12,9 +12,9 @@ ghost use Rattle.bor_register.specs.Live.{live_of};
 ghost use Rattle.bor_register.specs.Register.{empty_register, filings_of, is_enrolled, with_filings};
 ghost use Rattle.bor_register.specs.Seen.{seen_at};
 
-use crate::keeping::index::{Index, StatementKey};
+use crate::keeping::index::{Index, StatementKey, node_named};
 use crate::keeping::keep::Keep;
-use crate::keeping::last_asked::LastAsked;
+use crate::keeping::last_asked::{LastAsked, forget};
 use crate::keeping::sames::same_told;
 use crate::keeping::sight::{Sight, links_told, node_told};
 use crate::keeping::standing::{any_stands, last_known};
@@ -290,23 +290,6 @@ impl ListKeep {
     }
 }
 
-// A record of an agent's declaration.
-fn node_named(
-    alloc: Global,
-    agent: &AgentName,
-    declaration: &Ident,
-    rec: &Ident,
-) -> Result<Node, AllocError>
-    ensures { IfOk result (λ node.
-        node ≡ record { agent = agent.now; declaration = declaration.now; rec = rec.now }) }
-{
-    Ok(Node {
-        agent: agent.copy(alloc)?,
-        declaration: declaration.copy(alloc)?,
-        rec: rec.copy(alloc)?,
-    })
-}
-
 // An agent's statement, by its identifier.
 fn key_named(alloc: Global, agent: &AgentName, id: &Ident) -> Result<StatementKey, AllocError>
     ensures { IfOk result (λ key. key ≡ record { id = id.now; agent = agent.now }) }
@@ -467,7 +450,7 @@ impl Keep for ListKeep {
         statements: &[Statement],
     ) -> Result<u32, StoreFault> {
         let index = self.take_index(agent, statements);
-        self.last_asked = None;
+        forget(&mut self.last_asked);
         match push_filing(
             self.alloc,
             &mut self.members,
@@ -486,19 +469,19 @@ impl Keep for ListKeep {
     }
 
     fn withdraw(&mut self, agent: &AgentName, number: u32) -> Result<(), StoreFault> {
-        self.last_asked = None;
+        forget(&mut self.last_asked);
         withdraw_of(self.alloc, &mut self.members, agent, number);
         Ok(())
     }
 
     fn set_day(&mut self, day: Day) -> Result<(), StoreFault> {
-        self.last_asked = None;
+        forget(&mut self.last_asked);
         self.day = day;
         Ok(())
     }
 
     fn add_agent(&mut self, agent: &AgentName, token: &Token) -> Result<(), StoreFault> {
-        self.last_asked = None;
+        forget(&mut self.last_asked);
         match enrol_member(self.alloc, &mut self.members, agent, token) {
             Ok(()) => Ok(()),
             Err(_) => Err(self.want_of_memory()),

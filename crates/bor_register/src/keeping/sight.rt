@@ -11,7 +11,7 @@ ghost use Rattle.bor_register.specs.Keeping.Sited.{is_told, passes, sited_at};
 ghost use Rattle.bor_register.specs.Keeping.Sighted.{IsIndexed, as_row, identifiers_in, in_sight, rows_in_sight, statement_open, unless_closed};
 
 use crate::filing::AcceptedFiling;
-use crate::keeping::index::{Index, Place, record_beside};
+use crate::keeping::index::{Index, Place, node_named};
 use crate::member::{Member, own_filings};
 use bods_read::{Details, Identifier, Interest, Statement, Status};
 use bor_records::links::{Link, Node, NodeInfo, OpenNode, holding_of, info_stated, once, stake_of};
@@ -251,8 +251,9 @@ fn link_stated(
             party: Some(party),
             interests,
         } => {
-            let subject = record_beside(sight.alloc, agent, statement, subject)?;
-            let party = record_beside(sight.alloc, agent, statement, party)?;
+            let declaration = &statement.declaration;
+            let subject = node_named(sight.alloc, agent, declaration, subject)?;
+            let party = node_named(sight.alloc, agent, declaration, party)?;
             Ok(link_between(sight, node, party, subject, interests.as_slice()))
         }
         _ => Ok(None),

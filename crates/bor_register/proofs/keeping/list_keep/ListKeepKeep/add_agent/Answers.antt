@@ -15,8 +15,10 @@ invariant_of-self c =
     let before : List Member = c.self.inside.members.items in
     let fresh : is_enrolled agent before ≡ false =
     subst (λ (ms : List Member). is_enrolled agent ms ≡ false) (sym (ap (λ (h : Holding). h.register.members) c.self.view_is)) (c.requires.new_name c.args.self.now.register refl tt) in
+    rw c.forget.ensures (
     subst (λ (ms : List Member). IsOrdered ms × IfSome c.self.inside.index (λ x. IsIndex ms x) × Unit {0}) (sym c.in-Ok.ensures.ok) (
       ordered-with_member (new_member agent c.args.token.now) before fresh c.self.invariant.0,
       IfSome_then c.self.inside.index c.self.invariant.1 (λ x h. index_enrolled before agent c.args.token.now x fresh h),
       tt,
+    )
     )
