@@ -1,7 +1,8 @@
 //! The check of a file.
 
-ghost use Rattle.std.specs.Prelude.{◌≡◌, ◌++◌, codes, IfOk, IfErr};
+ghost use Rattle.std.specs.Prelude.{◌≡◌, ◌++◌, codes, IfOk, IfErr, OnOk};
 ghost use Rattle.bor_register.specs.declared.fault.StoreFault.TheVariants.{Memory};
+ghost use Rattle.bor_register.specs.Register.{empty_register};
 ghost use Rattle.bor_desk.specs.Texts.{answering, accepted_line, outward_lines};
 ghost use Rattle.bor_desk.specs.CheckReport.{check_day, check_register, check_step, outcome_text, check_report, IsFaultTold};
 
@@ -64,13 +65,14 @@ fn check_day() -> Day
     day
 }
 
-fn check_keep(alloc: Global) -> Result<ListKeep, StoreFault>
-    ensures shown { IfOk result (λ keep. keep.register ≡ check_register) }
+// Enrols the agent that lodges the file, in a new register.
+fn enrol_agent(alloc: Global, keep: &mut ListKeep) -> Result<(), StoreFault>
+    requires { keep.old.register ≡ empty_register (codes "check-registrar-0001") check_day }
+    ensures shown { OnOk result (keep.new.register ≡ check_register) }
     ensures err { IfErr result (λ fault. fault ≡ Memory) }
 {
-    let mut keep = ListKeep::new(alloc, registrar_token(alloc)?, check_day());
     keep.add_agent(&check_agent(alloc)?, &agent_token(alloc)?)?;
-    Ok(keep)
+    Ok(())
 }
 
 fn accepted(alloc: Global, lodged: &Lodged, outwards: &[Outward]) -> Result<Text, AllocError>
@@ -92,17 +94,28 @@ fn fault_text(alloc: Global, fault: DeskFault) -> Result<Text, StoreFault>
     }
 }
 
+// What the lodging of a file by that agent is told, and what is published then.
+fn lodged_in(alloc: Global, keep: &mut ListKeep, bytes: &[u8]) -> Result<Text, StoreFault>
+    requires { keep.old.register ≡ check_register }
+    ensures text { IfOk result (λ text. text ≡ outcome_text (check_step bytes.now)) }
+    ensures err { IfErr result (λ fault. fault ≡ Memory) }
+{
+    let agent = check_agent(alloc)?;
+    let key = check_key(alloc)?;
+    match lodge(alloc, keep, &agent, &key, check_day(), bytes) {
+        Ok(lodged) => Ok(accepted(alloc, &lodged, &keep.published()?)?),
+        Err(fault) => fault_text(alloc, DeskFault::from(fault)),
+    }
+}
+
 fn lodged_text(alloc: Global, bytes: &[u8]) -> Result<Text, StoreFault>
     ensures text { IfOk result (λ text. text ≡ outcome_text (check_step bytes.now)) }
     ensures err { IfErr result (λ fault. fault ≡ Memory) }
 {
-    let mut keep = check_keep(alloc)?;
-    let agent = check_agent(alloc)?;
-    let key = check_key(alloc)?;
-    match lodge(alloc, &mut keep, &agent, &key, check_day(), bytes) {
-        Ok(lodged) => Ok(accepted(alloc, &lodged, &keep.published()?)?),
-        Err(fault) => fault_text(alloc, DeskFault::from(fault)),
-    }
+    let token = registrar_token(alloc)?;
+    let mut keep = ListKeep::new(alloc, token, check_day());
+    enrol_agent(alloc, &mut keep)?;
+    lodged_in(alloc, &mut keep, bytes)
 }
 
 /// The text of `bor check`: what lodging a file in a new register is answered, and the statements
