@@ -1,6 +1,6 @@
 -- What an exchange did, from what went out.
-use Rattle.std.proofs.Common.{◌≡◌, ◌≢◌, ◌≤◌, ℕ, List, [], ◌∷◌, Option, Some, None, take, sym, ap, subst, ◌∙◌, refl}
-use Rattle.std.specs.Io.KnownBytes.{Appends, Keeps}
+use Rattle.std.proofs.Common.{◌≡◌, ◌≢◌, ◌≤◌, ℕ, List, [], ◌∷◌, Option, Some, None, sym, ap, subst, ◌∙◌, refl}
+use Rattle.std.specs.Io.KnownBytes.{Keeps}
 use Rattle.bor_records.specs.Promises.{Promised}
 use Rattle.bor_register.specs.Register.{Register, IsOrdered}
 use Rattle.bor_http.specs.declared.incoming.fault.Refusal.{Refusal}
@@ -144,6 +144,6 @@ pub responded : {K : Type 0} (shows : K → Register → Type 0) (is_clean : K �
     → ByOutgoing (Some out) (Some input) (λ spelled status bytes. Promised shows is_clean old new (λ r. IsOrdered r.members → IsSent (shows new) r spelled status bytes)) (Promised shows is_clean old new (shows new))
     → HasStatus out → Promised shows is_clean old new (λ r. IsOrdered r.members → IsResponse (shows new) r input out)
 responded shows is_clean old new input (outgoing.Full status bytes) h sure = λ r is clean ordered.
-    exchanged (Replied status) (shows new) r (Some input) h.0 status bytes.items (Some []) (Some bytes.items) sure h.1 (h.2 r is clean ordered) (refl, refl)
+    exchanged (Replied status) (shows new) r (Some input) h.0 status bytes.items (Some []) (Some bytes.items) sure.served h.1 (h.2 r is clean ordered) (refl, refl)
 responded shows is_clean old new input outgoing.Unavailable h sure = λ r is clean ordered.
     response_unavailable (shows new) r input (h r is clean)

@@ -1,5 +1,5 @@
 -- What goes out for an input, from what goes out for what it spells.
-use Rattle.std.proofs.Common.{◌≡◌, ◌≢◌, ◌≤◌, ℕ, List, true, Option, Some, None, Result, Ok, Err, refl, sym, subst, ◌∙◌}
+use Rattle.std.proofs.Common.{◌≡◌, ◌≢◌, ◌≤◌, ℕ, List, true, Option, Some, None, Result, Ok, Err, refl, sym, subst, ◌∙◌, arith}
 use Rattle.std.specs.Prelude.{⊤}
 use Rattle.std.specs.Option.{IfSome}
 use Rattle.bor_records.specs.Promises.{Promised}
@@ -14,17 +14,19 @@ use Rattle.bor_desk.specs.Laws.{is_long}
 use Rattle.bor_desk.specs.Runs.{Asked, exchange}
 use Rattle.bor_desk.proofs.Unchanged.{reads}
 use Rattle.bor_http.specs.declared.incoming.fault.Refusal.{Refusal}
+use Rattle.bor_http.specs.declared.incoming.fault.Refusal.TheVariants.{HeadTooLarge, CutShort, BadHead, BadLength, BodyTooLarge, NoPath, WrongMethod, NoToken, BadQuery}
 use Rattle.bor_http.specs.Incoming.Message.{Message}
 use Rattle.bor_http.specs.Incoming.Steps.{◌>>=◌}
 use Rattle.bor_http.specs.Incoming.Refusals.{IsMessage}
 use Rattle.bor_http.specs.Spelling.Spell.{Spelled, spell}
 use Rattle.bor_http.proofs.OnSpelling.Messages.{message_spelled, one_spelling}
-use Rattle.bor_wire.specs.Rendering.Replies.{refused, answered}
-use Rattle.bor_wire.specs.Rendering.Statuses.{desk_status}
+use Rattle.bor_wire.specs.Rendering.Replies.{Said, refused, answered, bytes_of, status_of}
+use Rattle.bor_wire.specs.Rendering.Statuses.{desk_status, wire_refusal_status}
 use Rattle.bor_wire.specs.declared.outgoing.Outgoing.{Outgoing}
 use Rattle.bor_wire.specs.declared.outgoing.Outgoing.TheVariants.{Full, Unavailable}
 use Rattle.bor_wire.specs.Exchanges.{ByOutgoing, GoesOut, HasStatus, IfRefusing, IsFor, IsRefusal, IsRendered, IsSent, IsSpelled, OnRefusal, OnSpelled}
-use Rattle.bor_wire.proofs.RefusalLaws.{refused_leaves}
+use Rattle.bor_wire.specs.Refused.{IsFull}
+use Rattle.bor_wire.proofs.RefusalLaws.{line_first, refused_leaves}
 
 -- what was read is spelled, where the input is known
 pub spelled_known : (known : Option (List ℕ)) (read : Result Message Refusal) → IfSome known (λ input. IsMessage input read) → IsSpelled known (read >>= spell)
@@ -62,9 +64,28 @@ rendered_keeps (Full status bytes) shown r asked reply is told left = λ least.
     subst shown (refused_leaves r (caller_of asked.token r) asked.request reply told (subst (λ n. 400 ≤ n) is.0 least)) left
 rendered_keeps Unavailable shown r asked reply is told left = subst shown (long_leaves r (caller_of asked.token r) asked.request reply told is) left
 
+-- what is said begins with its status
+pub said_full : (said : Said) (status : ℕ) (bytes : List ℕ) → status ≡ status_of said → bytes ≡ bytes_of said → status_of said ≢ 503 → IsFull bytes status
+said_full said status bytes is are sure = record {
+  line = rw (is, are) (line_first said);
+  served = λ e. sure (sym is ∙ e);
+}
+
 pub rendered_status : (o : Outgoing) (reply : DeskReply) → IsRendered o reply → desk_status reply ≢ 503 → HasStatus o
-rendered_status (Full status bytes) reply is sure = λ e. sure (sym is.0 ∙ e)
+rendered_status (Full status bytes) reply is sure = said_full (answered reply) status bytes.items is.0 is.1 sure
 rendered_status Unavailable reply is sure = tt
+
+-- no refusal of bytes has status 503
+pub refusal_served : (why : Refusal) → wire_refusal_status why ≢ 503
+refusal_served HeadTooLarge = λ e. absurd (omega arith)
+refusal_served CutShort = λ e. absurd (omega arith)
+refusal_served BadHead = λ e. absurd (omega arith)
+refusal_served BadLength = λ e. absurd (omega arith)
+refusal_served BodyTooLarge = λ e. absurd (omega arith)
+refusal_served NoPath = λ e. absurd (omega arith)
+refusal_served (WrongMethod _) = λ e. absurd (omega arith)
+refusal_served NoToken = λ e. absurd (omega arith)
+refusal_served (BadQuery _) = λ e. absurd (omega arith)
 
 -- ---- whom it is for
 

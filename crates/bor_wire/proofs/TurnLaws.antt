@@ -2,11 +2,10 @@
 use Rattle.std.proofs.Common.{◌≡◌, ℕ, List, [], ◌∷◌, ◌++◌, Some, refl, sym, subst}
 use Rattle.bor_records.specs.Promises.{Promised}
 use Rattle.bor_register.specs.Register.{Register, IsOrdered}
-use Rattle.bor_desk.specs.Operations.Legality.{IsLegal}
 use Rattle.bor_wire.specs.declared.outcome.Outcome.TheVariants.{Replied}
 use Rattle.bor_wire.specs.declared.outgoing.Outgoing.{Outgoing}
 use Rattle.bor_wire.specs.declared.replies.Reply.{Reply}
-use Rattle.bor_wire.specs.Exchanges.{IsExchanged, IsResponse, bytes_out, status_out}
+use Rattle.bor_wire.specs.Exchanges.{IsResponse, bytes_out, status_out}
 use Rattle.bor_wire.specs.Sequences.{AreExchanged, Exchanged, IsNext, keep_left}
 use Rattle.bor_wire.specs.Turns.{AreTurns, FrontsAreRuns, HasStatusOf, InTurn, IsTurn, TakesTurn, sent_as}
 use Rattle.bor_wire.proofs.SequenceLaws.{a_run}

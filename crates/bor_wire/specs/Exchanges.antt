@@ -20,6 +20,7 @@ use Rattle.bor_wire.specs.declared.outgoing.Response.{Response}
 use Rattle.bor_wire.specs.Inputs.{IsSaid, after}
 use Rattle.bor_wire.specs.Reports.{IsExact}
 use Rattle.bor_wire.specs.Histories.{IsAlone}
+use Rattle.bor_wire.specs.Refused.{IsFull}
 
 -- ---- what an input spells
 
@@ -38,9 +39,9 @@ abbrev pub GoesOut : Outgoing → (Register → Type 0) → Register → Spelled
 GoesOut (outgoing.Full status bytes) shown r spelled = IsSent shown r spelled status bytes.items
 GoesOut outgoing.Unavailable shown r spelled = shown r
 
--- a whole reply has another status than 503
+-- a whole reply begins with its status, which isn't 503
 abbrev pub HasStatus : Outgoing → Type 0
-HasStatus (outgoing.Full status bytes) = status ≢ 503
+HasStatus (outgoing.Full status bytes) = IsFull bytes.items status
 HasStatus outgoing.Unavailable = ⊤
 
 -- a whole reply is the refusal

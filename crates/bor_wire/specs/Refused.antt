@@ -1,5 +1,5 @@
 -- What a refusal leaves.
-use Rattle.std.specs.Prelude.{◌≡◌, ◌≤◌, ℕ, List, [], ◌∷◌, ◌++◌}
+use Rattle.std.specs.Prelude.{◌≡◌, ◌≢◌, ◌≤◌, ℕ, List, [], ◌∷◌, ◌++◌}
 use Rattle.bor_register.specs.Register.{Register}
 use Rattle.bor_http.specs.Spelling.Spell.{Spelled}
 use Rattle.bor_wire.specs.Rendering.Heads.{status_line}
@@ -8,6 +8,11 @@ use Rattle.bor_wire.specs.Inputs.{after}
 -- the bytes begin with the status line of this status
 abbrev pub HasStatus : List ℕ → ℕ → Type 0
 HasStatus bytes status = (rest : List ℕ) × (bytes ≡ status_line status ++ rest)
+
+-- The bytes are those of a full reply with this status: they begin with its line, and it isn't 503.
+pub record IsFull (bytes : List ℕ) (status : ℕ) : Type 0 where
+  pub line : HasStatus bytes status
+  pub served : status ≢ 503
 
 -- of these bytes as the reply to an input: where their status is 400 or more, the register after it is the one before
 abbrev pub LeavesWhereRefused : Register → Spelled → List ℕ → Type 0

@@ -1,5 +1,5 @@
 -- The replies to a list of inputs, as exchanges in turn: with the keep after each.
-use Rattle.std.specs.Prelude.{◌≡◌, ◌≢◌, ℕ, List, [], ◌∷◌, ◌++◌, Some}
+use Rattle.std.specs.Prelude.{◌≡◌, ℕ, List, [], ◌∷◌, ◌++◌, Some}
 use Rattle.bor_records.specs.Promises.{Promised}
 use Rattle.bor_register.specs.Register.{Register}
 use Rattle.bor_desk.specs.Operations.Legality.{IsLegal}
@@ -8,6 +8,7 @@ use Rattle.bor_wire.specs.declared.rendering.reply.TheConstants.{UNAVAILABLE}
 use Rattle.bor_wire.specs.declared.replies.Reply.{Reply}
 use Rattle.bor_wire.specs.declared.replies.Reply.TheVariants.{Full, Unavailable}
 use Rattle.bor_wire.specs.Exchanges.{IsExchanged}
+use Rattle.bor_wire.specs.Refused.{IsFull}
 use Rattle.bor_wire.specs.Sequences.{AreExchanged, Exchanged, IsRun, keep_left}
 
 -- the bytes that a reply is sent as
@@ -15,9 +16,9 @@ abbrev pub sent_as : Reply → List ℕ
 sent_as (Full bytes) = bytes
 sent_as Unavailable = UNAVAILABLE.now
 
--- a full reply has another status than 503, and any other has that
+-- a full reply has the status that its bytes begin with, which isn't 503, and any other has 503
 abbrev pub HasStatusOf : Reply → ℕ → Type 0
-HasStatusOf (Full bytes) status = status ≢ 503
+HasStatusOf (Full bytes) status = IsFull bytes status
 HasStatusOf Unavailable status = status ≡ 503
 
 -- The exchange was over this input, which lay in memory, and the reply is what was written.

@@ -31,4 +31,4 @@ pub use bor_http::incoming::{Counted, Name, Path, RawRequest, Refusal, WireFault
 pub use bor_http::spelling::{Asking, parse};
 pub use outcome::{Outcome, exchange};
 pub use outgoing::{Outgoing, Response, respond};
-pub use replies::{Reply, replay};
+pub use replies::{FullReply, Reply, replay};

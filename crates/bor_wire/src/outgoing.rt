@@ -78,6 +78,7 @@ pub fn respond<K: Keep>(alloc: Global, paths: &Paths, keep: &mut K, input: &[u8]
         IfRefusing result.outgoing (K.shows keep.new r)) }
     ensures agent { Promised K.shows K.is_clean keep.old keep.new (λ r.
         NamesWhoAsks r input.now result) }
+    ensures status { HasStatus result.outgoing }
 {
     let mut reader = Counted::new(input);
     let (agent, outgoing) = read_reply(alloc, paths, keep, &mut reader);

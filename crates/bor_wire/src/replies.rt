@@ -1,4 +1,4 @@
-//! The replies to a list of inputs.
+//! Replies, and those to a list of inputs.
 
 ghost use Rattle.std.specs.Prelude.{◌≡◌, ℕ, List, IfOk, OnErr, length, map};
 ghost use Rattle.bor_records.specs.Promises.{Kept, Promised};
@@ -13,20 +13,82 @@ ghost use Rattle.bor_wire.specs.Histories.{IsAlone};
 ghost use Rattle.bor_wire.specs.Turns.{InTurn, TakesTurn};
 
 use crate::outgoing::{Outgoing, read_reply};
+use crate::rendering::UNAVAILABLE;
 use bor_desk::operations::Keep;
 use bor_http::incoming::Counted;
 use bor_http::spelling::Paths;
-use bor_terms::Listed;
 use std::alloc::{AllocError, Global};
+use std::marker::Model;
+
+/// The bytes of a full reply, and beside them the status that their first line tells. Contracts see
+/// the bytes, which determine the status.
+#[derive(Debug, Drop)]
+pub struct FullReply {
+    status: u16,
+    bytes: Vec<u8>,
+}
+
+impl Model for FullReply {
+    ghost use Rattle.std.specs.Prelude.{ℕ, List};
+    ghost use Rattle.bor_wire.specs.Refused.{IsFull};
+
+    ghost Value = { List ℕ };
+
+    ghost view = { λ a. a.bytes.items };
+
+    ghost invariant = { λ a. IsFull a.bytes.items a.status };
+}
+
+impl FullReply {
+    ghost use Rattle.bor_wire.specs.Refused.{IsFull};
+
+    /// The status that the bytes begin with. It isn't 503.
+    pub fn status(&self) -> u16
+        ensures { IsFull self.now result }
+    {
+        self.status
+    }
+
+    /// The bytes.
+    pub fn as_slice(&self) -> &[u8]
+        ensures { result.now ≡ self.now }
+    {
+        self.bytes.as_slice()
+    }
+}
 
 /// The reply to an input.
 #[derive(Debug, Drop)]
 pub enum Reply {
-    /// The bytes of the whole reply.
-    Full(Listed<u8>),
+    /// The whole reply, with its status.
+    Full(FullReply),
     /// Memory was wanting, or the keep failed. Nothing changed. What is sent is
     /// [`UNAVAILABLE`](crate::rendering::UNAVAILABLE).
     Unavailable,
+}
+
+impl Reply {
+    ghost use Rattle.bor_wire.specs.Turns.{HasStatusOf, sent_as};
+
+    /// The status: of a full reply the one that its bytes begin with, and 503 of any other.
+    pub fn status(&self) -> u16
+        ensures { HasStatusOf self.now result }
+    {
+        match self {
+            Reply::Full(reply) => reply.status(),
+            Reply::Unavailable => 503,
+        }
+    }
+
+    /// The bytes, as they are sent.
+    pub fn bytes(&self) -> &[u8]
+        ensures { result.now ≡ sent_as self.now }
+    {
+        match self {
+            Reply::Full(reply) => reply.as_slice(),
+            Reply::Unavailable => UNAVAILABLE,
+        }
+    }
 }
 
 // The reply to one input.
@@ -41,7 +103,7 @@ fn reply_to<K: Keep>(alloc: Global, paths: &Paths, keep: &mut K, input: &[u8]) -
     let mut reader = Counted::new(input);
     let (_, outgoing) = read_reply(alloc, paths, keep, &mut reader);
     match outgoing {
-        Some(Outgoing::Full(_, bytes)) => Reply::Full(Listed::new(bytes)),
+        Some(Outgoing::Full(status, bytes)) => Reply::Full(FullReply { status, bytes }),
         Some(Outgoing::Unavailable) | None => Reply::Unavailable,
     }
 }

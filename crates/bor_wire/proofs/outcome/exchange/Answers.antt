@@ -7,13 +7,14 @@ returns-in-Some-Full-clause-exchanged g c = λ r is clean ordered.
     let said = rw full.field-0-is at (rw full.is at c.read_reply-outgoing.ensures.reply) in
     let status = rw full.field-0-is at (rw full.is at c.read_reply-outgoing.ensures.status) in
     let written = rw c.deref.ensures.value at c.write_reply-in-Some-Full.ensures.written in
-    exchanged c.write_reply-in-Some-Full.result (g.K.Keep.shows c.read_reply-outgoing.new.keep) r (g.R.Read.remaining c.args.reader.now.inner) said.0 full.status full.bytes.items _ _ status
+    exchanged c.write_reply-in-Some-Full.result (g.K.Keep.shows c.read_reply-outgoing.new.keep) r (g.R.Read.remaining c.args.reader.now.inner) said.0 full.status full.bytes.items _ _ status.served
     said.1 (said.2 r is clean ordered) written
 
 pub returns-in-Some-Full-clause-unavailable : goal.returns-in-Some-Full-clause-unavailable
 returns-in-Some-Full-clause-unavailable g c =
     let full = c.in-Some-Full in
-    available_told c.write_reply-in-Some-Full.result full.status _ _ _ (rw full.field-0-is at (rw full.is at c.read_reply-outgoing.ensures.status)) c.write_reply-in-Some-Full.ensures.written
+    let status = rw full.field-0-is at (rw full.is at c.read_reply-outgoing.ensures.status) in
+    available_told c.write_reply-in-Some-Full.result full.status _ _ _ status.served c.write_reply-in-Some-Full.ensures.written
 
 pub returns-in-Some-Full-clause-refused : goal.returns-in-Some-Full-clause-refused
 returns-in-Some-Full-clause-refused g c =
