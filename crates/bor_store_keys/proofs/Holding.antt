@@ -1,5 +1,5 @@
 -- What was found stays so while what is shown stays.
-use Rattle.std.proofs.Common.{◌≡◌, ◌∙◌, Bool, true, false, cond, Option, Some, None, ℕ, List, sym, ap, refl, subst}
+use Rattle.std.proofs.Common.{◌≡◌, ◌∙◌, Bool, true, false, cond, Option, Some, None, ℕ, List, Result, sym, ap, refl, subst}
 use Rattle.std.specs.declared.cmp.Ordering.{Ordering}
 use Rattle.std.specs.declared.cmp.Ordering.TheVariants.{Less, Equal, Greater}
 use Rattle.std.specs.Ordering.{is_eq, nat_cmp, ordering_then}
@@ -7,7 +7,10 @@ use Rattle.std.proofs.lemmas.Map.Lookups.{CmpEqualImpliesEq, exact_bytes, exact_
 use Rattle.std.proofs.lemmas.Option.{same_Some}
 use Rattle.sqlite.specs.State.{State}
 use Rattle.bor_records.specs.Links.Nodes.{text_cmp}
+use Rattle.bor_register.specs.Register.{Register}
 use Rattle.bor_store_sql.specs.Shown.{IsClean}
+use Rattle.bor_store_reads.specs.declared.fault.ReadError.{ReadError}
+use Rattle.bor_store_reads.specs.Answering.{Answers, ReadsAs, ReadsOnly}
 use Rattle.bor_store_reads.proofs.Found.{still_shows}
 use Rattle.bor_store_keys.specs.declared.found.FilingKey.{FilingKey}
 use Rattle.bor_store_keys.specs.declared.found.Found.{Found}
@@ -15,9 +18,24 @@ use Rattle.bor_store_keys.specs.declared.found.PlaceKey.{PlaceKey}
 use Rattle.bor_store_keys.specs.Finding.{AreOf, AreFound, Holds, filing_cmp, place_cmp}
 
 -- a read leaves it
-pub still_found : (found : Option Found) (old new : State) → (IsClean new → IsClean old) → (IsClean new → new.committed ≡ old.committed) → AreFound old found → AreFound new found
-still_found None old new began kept h = tt
-still_found (Some f) old new began kept h = λ clean r shows. h (began clean) r (still_shows r new old (sym (kept clean)) shows)
+pub still_found : (found : Option Found) (old new : State) → ReadsOnly old new → AreFound old found → AreFound new found
+still_found None old new reads h = tt
+still_found (Some f) old new reads h = λ clean r shows. h (reads.began clean) r (still_shows r new old (sym (reads.kept clean)) shows)
+
+-- what is read of the connection within is read of the lookup
+pub read_within : {X K : Type 0} (state_of : K → State) {inside seen : K} {new : State} {result : Result X ReadError} {P : Register → X → Type 0} → inside ≡ seen → ReadsAs (state_of inside) new result P → ReadsAs (state_of seen) new result P
+read_within state_of {new = new} {result = result} {P = P} same was = subst (λ k. ReadsAs (state_of k) new result P) same was
+
+-- what is noted leaves what was read
+pub read_noted : {X K : Type 0} (state_of : K → State) {old : State} {read noted : K} {result : Result X ReadError} {P : Register → X → Type 0} → noted ≡ read → ReadsAs old (state_of read) result P → ReadsAs old (state_of noted) result P
+read_noted state_of {old = old} {result = result} {P = P} same was = subst (λ k. ReadsAs old (state_of k) result P) (sym same) was
+
+-- lists in memory answer after what was read
+pub read_listed : {X K : Type 0} (state_of : K → State) {old : State} {read left : K} {result : Result X ReadError} {P : Register → X → Type 0} → ReadsOnly old (state_of read) → left ≡ read → Answers (state_of read) (state_of left) result P → ReadsAs old (state_of left) result P
+read_listed state_of {old} {read} reads same answer = record {
+  reads = subst (λ k. ReadsOnly old (state_of k)) (sym same) reads;
+  answer = λ clean r shows. answer clean r (still_shows r old (state_of read) (reads.kept (subst (λ k. IsClean (state_of k)) same clean)) shows);
+}
 
 -- what was found is what is told of each register that is shown
 pub of_found : (found : Option Found) (f : Found) (s t : State) → s ≡ t → found ≡ Some f → AreFound s found → Holds t (λ r. AreOf r f)

@@ -4,6 +4,5 @@ pub mod OpenAt
 pub mod Placing
 pub mod Told
 pub mod Infos
-pub mod Answered
 pub mod Recording
 pub mod Signing

@@ -10,7 +10,7 @@ ghost use Rattle.bor_records.specs.Links.Shown.{is_like};
 ghost use Rattle.bor_records.specs.Links.Signs.{by_identifier, sign_cmp, signs};
 ghost use Rattle.bor_chains.specs.Candidates.{IsAlike, IsAlikeIn};
 ghost use Rattle.bor_register.specs.Seen.{seen_at};
-ghost use Rattle.bor_store_reads.specs.Answering.{Answers, ReadsOnly};
+ghost use Rattle.bor_store_reads.specs.Answering.{ReadsAs};
 ghost use Rattle.bor_chains.specs.Alike.{Expands, Follows};
 ghost use Rattle.bor_store_keys.specs.Viewed.{rows_seen, seen};
 
@@ -37,8 +37,7 @@ fn is_alike<S: Alter + Drop>(
     candidate: &Node,
 ) -> Result<bool, ReadError>
     requires { lookup.old.in_transaction ≡ false }
-    ensures reads { ReadsOnly (state S.Store lookup.old) (state S.Store lookup.new) }
-    ensures answer { Answers (state S.Store lookup.old)
+    ensures { ReadsAs (state S.Store lookup.old)
         (state S.Store lookup.new) result (λ r alike.
         alike ≡ is_like one.now (node_at view.now.day candidate.now (rows_seen view.now r))) }
 {
@@ -58,8 +57,7 @@ fn add_if_alike<S: Alter + Drop>(
     candidate: &Node,
 ) -> Result<(), ReadError>
     requires { lookup.old.in_transaction ≡ false }
-    ensures reads { ReadsOnly (state S.Store lookup.old) (state S.Store lookup.new) }
-    ensures answer { Answers (state S.Store lookup.old) (state S.Store lookup.new) result (λ r _.
+    ensures { ReadsAs (state S.Store lookup.old) (state S.Store lookup.new) result (λ r _.
         Grown (IsAlike view.now.day (rows_seen view.now r) one.now candidate.now)
         class.old class.new) }
 {
@@ -83,8 +81,7 @@ fn add_alike<S: Alter + Drop>(
     candidates: &[Node],
 ) -> Result<(), ReadError>
     requires { lookup.old.in_transaction ≡ false }
-    ensures reads { ReadsOnly (state S.Store lookup.old) (state S.Store lookup.new) }
-    ensures answer { Answers (state S.Store lookup.old) (state S.Store lookup.new) result (λ r _.
+    ensures { ReadsAs (state S.Store lookup.old) (state S.Store lookup.new) result (λ r _.
         Grown (IsAlikeIn view.now.day (rows_seen view.now r) one.now candidates.now)
         class.old class.new) }
 {
@@ -105,8 +102,7 @@ fn add_signed<S: Alter + Drop>(
     sign: Sign,
 ) -> Result<(), ReadError>
     requires { lookup.old.in_transaction ≡ false }
-    ensures reads { ReadsOnly (state S.Store lookup.old) (state S.Store lookup.new) }
-    ensures answer { Answers (state S.Store lookup.old) (state S.Store lookup.new) result (λ r _.
+    ensures { ReadsAs (state S.Store lookup.old) (state S.Store lookup.new) result (λ r _.
         Expands view.now.day (rows_seen view.now r) one.now (sign ∷ []) class.old class.new
         (λ k. contains sign_cmp looked.old k) (λ k. contains sign_cmp looked.new k)) }
 {
@@ -130,8 +126,7 @@ fn add_identified<S: Alter + Drop>(
     identifiers: &[Identifier],
 ) -> Result<(), ReadError>
     requires { lookup.old.in_transaction ≡ false }
-    ensures reads { ReadsOnly (state S.Store lookup.old) (state S.Store lookup.new) }
-    ensures answer { Answers (state S.Store lookup.old) (state S.Store lookup.new) result (λ r _.
+    ensures { ReadsAs (state S.Store lookup.old) (state S.Store lookup.new) result (λ r _.
         Expands view.now.day (rows_seen view.now r) one.now
         (map by_identifier identifiers.now) class.old class.new
         (λ k. contains sign_cmp looked.old k) (λ k. contains sign_cmp looked.new k)) }
@@ -153,8 +148,7 @@ fn add_signs<S: Alter + Drop>(
     one: &OpenNode,
 ) -> Result<(), ReadError>
     requires { lookup.old.in_transaction ≡ false }
-    ensures reads { ReadsOnly (state S.Store lookup.old) (state S.Store lookup.new) }
-    ensures answer { Answers (state S.Store lookup.old) (state S.Store lookup.new) result (λ r _.
+    ensures { ReadsAs (state S.Store lookup.old) (state S.Store lookup.new) result (λ r _.
         Expands view.now.day (rows_seen view.now r) one.now (signs one.now) class.old class.new
         (λ k. contains sign_cmp looked.old k) (λ k. contains sign_cmp looked.new k)) }
 {
@@ -181,8 +175,7 @@ fn add_aliases<S: Alter + Drop>(
     node: &Node,
 ) -> Result<(), ReadError>
     requires { lookup.old.in_transaction ≡ false }
-    ensures reads { ReadsOnly (state S.Store lookup.old) (state S.Store lookup.new) }
-    ensures answer { Answers (state S.Store lookup.old) (state S.Store lookup.new) result (λ r _.
+    ensures { ReadsAs (state S.Store lookup.old) (state S.Store lookup.new) result (λ r _.
         Follows (seen view.now r) node.now class.old class.new (λ k. contains sign_cmp looked.old k)
         (λ k. contains sign_cmp looked.new k)) }
 {
@@ -203,8 +196,7 @@ fn same_in<S: Alter + Drop>(
     node: &Node,
 ) -> Result<Vec<Node>, ReadError>
     requires { lookup.old.in_transaction ≡ false }
-    ensures reads { ReadsOnly (state S.Store lookup.old) (state S.Store lookup.new) }
-    ensures answer { Answers (state S.Store lookup.old)
+    ensures { ReadsAs (state S.Store lookup.old)
         (state S.Store lookup.new) result (λ r nodes.
         AreSame (seen view.now r) node.now nodes.items) }
 {
@@ -228,8 +220,7 @@ fn same_told<S: Alter + Drop>(
     node: &Node,
 ) -> Result<Vec<Node>, ReadError>
     requires { lookup.old.in_transaction ≡ false }
-    ensures reads { ReadsOnly (state S.Store lookup.old) (state S.Store lookup.new) }
-    ensures answer { Answers (state S.Store lookup.old)
+    ensures { ReadsAs (state S.Store lookup.old)
         (state S.Store lookup.new) result (λ r nodes.
         AreSame (seen view.now r) node.now nodes.items) }
 {
@@ -251,8 +242,7 @@ pub fn read_same<S: Alter + Drop>(
     node: &Node,
 ) -> Result<Vec<Node>, ReadError>
     requires { lookup.old.in_transaction ≡ false }
-    ensures reads { ReadsOnly (state S.Store lookup.old) (state S.Store lookup.new) }
-    ensures answer { Answers (state S.Store lookup.old)
+    ensures { ReadsAs (state S.Store lookup.old)
         (state S.Store lookup.new) result (λ r nodes.
         AreSame (seen_at viewer.now day r) node.now nodes.items) }
 {

@@ -5,7 +5,7 @@ ghost use Rattle.std.specs.List.{last_or};
 ghost use Rattle.sqlite.specs.Held.{state};
 ghost use Rattle.bor_records.specs.Links.Series.{open_at};
 ghost use Rattle.bor_register.specs.Register.{filings_of};
-ghost use Rattle.bor_store_reads.specs.Answering.{Answers, ReadsOnly};
+ghost use Rattle.bor_store_reads.specs.Answering.{ReadsAs};
 ghost use Rattle.bor_store_keys.specs.Latest.{bare_row, is_told, unless_closed};
 ghost use Rattle.bor_store_keys.specs.Viewed.{rows_seen};
 
@@ -29,8 +29,7 @@ fn is_told<S: Alter + Drop>(
     row: &StatementRow,
 ) -> Result<bool, ReadError>
     requires { lookup.old.in_transaction ≡ false }
-    ensures reads { ReadsOnly (state S.Store lookup.old) (state S.Store lookup.new) }
-    ensures answer { Answers (state S.Store lookup.old) (state S.Store lookup.new) result (λ r told.
+    ensures { ReadsAs (state S.Store lookup.old) (state S.Store lookup.new) result (λ r told.
         told ≡ is_told view.now agent.now (filings_of agent.now r.members) row.now) }
 {
     if view.day < row.day {
@@ -48,8 +47,7 @@ fn last_told<S: Alter + Drop>(
     mut rows: Vec<StatementRow>,
 ) -> Result<Option<StatementRow>, ReadError>
     requires { lookup.old.in_transaction ≡ false }
-    ensures reads { ReadsOnly (state S.Store lookup.old) (state S.Store lookup.new) }
-    ensures answer { Answers (state S.Store lookup.old) (state S.Store lookup.new) result (λ r last.
+    ensures { ReadsAs (state S.Store lookup.old) (state S.Store lookup.new) result (λ r last.
         last ≡ last_or None
         (filter (is_told view.now agent.now (filings_of agent.now r.members)) rows.items)) }
 {
@@ -79,8 +77,7 @@ pub(crate) fn open_statement<S: Alter + Drop>(
     node: &Node,
 ) -> Result<Option<StatementRow>, ReadError>
     requires { lookup.old.in_transaction ≡ false }
-    ensures reads { ReadsOnly (state S.Store lookup.old) (state S.Store lookup.new) }
-    ensures answer { Answers (state S.Store lookup.old) (state S.Store lookup.new) result (λ r row.
+    ensures { ReadsAs (state S.Store lookup.old) (state S.Store lookup.new) result (λ r row.
         row ≡ option_map bare_row (open_at view.now.day node.now (rows_seen view.now r))) }
 {
     let rows = lookup.series(alloc, node)?;

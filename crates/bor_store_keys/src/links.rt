@@ -8,7 +8,7 @@ ghost use Rattle.bor_records.specs.Links.Rows.{is_entity_info, link_between, nod
 ghost use Rattle.bor_records.specs.Links.Shown.{info_of};
 ghost use Rattle.bor_chains.specs.Candidates.{link_at, link_into};
 ghost use Rattle.bor_register.specs.Seen.{seen_at};
-ghost use Rattle.bor_store_reads.specs.Answering.{Answers, ReadsOnly};
+ghost use Rattle.bor_store_reads.specs.Answering.{ReadsAs};
 ghost use Rattle.bor_store_keys.specs.Viewed.{rows_seen, seen};
 
 use crate::list::push_some;
@@ -39,8 +39,7 @@ fn link_between<S: Alter + Drop>(
     interests: &[Interest],
 ) -> Result<Option<Link>, ReadError>
     requires { lookup.old.in_transaction ≡ false }
-    ensures reads { ReadsOnly (state S.Store lookup.old) (state S.Store lookup.new) }
-    ensures answer { Answers (state S.Store lookup.old) (state S.Store lookup.new) result (λ r link.
+    ensures { ReadsAs (state S.Store lookup.old) (state S.Store lookup.new) result (λ r link.
         is_entity_info (info_of (seen view.now r) node.now) ≡ true
         → link ≡ only_into node.now
         (link_between view.now.day
@@ -69,8 +68,7 @@ fn link_into<S: Alter + Drop>(
     row: &Row,
 ) -> Result<Option<Link>, ReadError>
     requires { lookup.old.in_transaction ≡ false }
-    ensures reads { ReadsOnly (state S.Store lookup.old) (state S.Store lookup.new) }
-    ensures answer { Answers (state S.Store lookup.old) (state S.Store lookup.new) result (λ r link.
+    ensures { ReadsAs (state S.Store lookup.old) (state S.Store lookup.new) result (λ r link.
         is_entity_info (info_of (seen view.now r) node.now) ≡ true
         → link ≡ link_into view.now.day (rows_seen view.now r) node.now row.now) }
 {
@@ -105,8 +103,7 @@ fn link_at<S: Alter + Drop>(
     rec: &Node,
 ) -> Result<Option<Link>, ReadError>
     requires { lookup.old.in_transaction ≡ false }
-    ensures reads { ReadsOnly (state S.Store lookup.old) (state S.Store lookup.new) }
-    ensures answer { Answers (state S.Store lookup.old) (state S.Store lookup.new) result (λ r link.
+    ensures { ReadsAs (state S.Store lookup.old) (state S.Store lookup.new) result (λ r link.
         is_entity_info (info_of (seen view.now r) node.now) ≡ true
         → link ≡ link_at view.now.day (rows_seen view.now r) node.now rec.now) }
 {
@@ -125,8 +122,7 @@ fn links_of<S: Alter + Drop>(
     records: &[Node],
 ) -> Result<Vec<Link>, ReadError>
     requires { lookup.old.in_transaction ≡ false }
-    ensures reads { ReadsOnly (state S.Store lookup.old) (state S.Store lookup.new) }
-    ensures answer { Answers (state S.Store lookup.old)
+    ensures { ReadsAs (state S.Store lookup.old)
         (state S.Store lookup.new) result (λ r links.
         is_entity_info (info_of (seen view.now r) node.now) ≡ true
         → links.items
@@ -148,8 +144,7 @@ fn links_into<S: Alter + Drop>(
     node: &Node,
 ) -> Result<Vec<Link>, ReadError>
     requires { lookup.old.in_transaction ≡ false }
-    ensures reads { ReadsOnly (state S.Store lookup.old) (state S.Store lookup.new) }
-    ensures answer { Answers (state S.Store lookup.old)
+    ensures { ReadsAs (state S.Store lookup.old)
         (state S.Store lookup.new) result (λ r links.
         AreLinksInto (seen view.now r) node.now links.items) }
 {
@@ -168,8 +163,7 @@ fn links_told<S: Alter + Drop>(
     node: &Node,
 ) -> Result<Vec<Link>, ReadError>
     requires { lookup.old.in_transaction ≡ false }
-    ensures reads { ReadsOnly (state S.Store lookup.old) (state S.Store lookup.new) }
-    ensures answer { Answers (state S.Store lookup.old)
+    ensures { ReadsAs (state S.Store lookup.old)
         (state S.Store lookup.new) result (λ r links.
         AreLinksInto (seen view.now r) node.now links.items) }
 {
@@ -190,8 +184,7 @@ pub fn read_links_into<S: Alter + Drop>(
     node: &Node,
 ) -> Result<Vec<Link>, ReadError>
     requires { lookup.old.in_transaction ≡ false }
-    ensures reads { ReadsOnly (state S.Store lookup.old) (state S.Store lookup.new) }
-    ensures answer { Answers (state S.Store lookup.old)
+    ensures { ReadsAs (state S.Store lookup.old)
         (state S.Store lookup.new) result (λ r links.
         AreLinksInto (seen_at viewer.now day r) node.now links.items) }
 {

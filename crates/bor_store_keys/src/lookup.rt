@@ -12,7 +12,7 @@ ghost use Rattle.bor_register.specs.Register.{filings_of};
 ghost use Rattle.bor_register.specs.Rows.{visible};
 ghost use Rattle.bor_store_sql.specs.Rows.Placed.{bare, placed};
 ghost use Rattle.bor_store_sql.specs.Selected.{identified_by, identifiers_at, in_record, in_series, interests_at, placed_of, standing_at, with_subject};
-ghost use Rattle.bor_store_reads.specs.Answering.{Answers, ReadsOnly};
+ghost use Rattle.bor_store_reads.specs.Answering.{ReadsAs};
 ghost use Rattle.bor_store_reads.specs.Asking.{is_number_seen};
 ghost use Rattle.bor_store_keys.specs.Finding.{Holds};
 ghost use Rattle.bor_store_keys.specs.Signed.{record_standing};
@@ -96,8 +96,7 @@ impl<S: Alter + Drop> Lookup<S> {
     /// The register's day, as it is read.
     pub(crate) fn read_today(&mut self, alloc: Global) -> Result<Day, ReadError>
         requires { self.old.in_transaction ≡ false }
-        ensures reads { ReadsOnly (state S.Store self.old) (state S.Store self.new) }
-        ensures answer { Answers (state S.Store self.old) (state S.Store self.new) result (λ r day.
+        ensures { ReadsAs (state S.Store self.old) (state S.Store self.new) result (λ r day.
             day ≡ r.day) }
     {
         read_day(&mut self.conn, alloc)
@@ -112,8 +111,7 @@ impl<S: Alter + Drop> Lookup<S> {
         number: u32,
     ) -> Result<bool, ReadError>
         requires { self.old.in_transaction ≡ false }
-        ensures reads { ReadsOnly (state S.Store self.old) (state S.Store self.new) }
-        ensures answer { Answers (state S.Store self.old) (state S.Store self.new) result (λ r seen.
+        ensures { ReadsAs (state S.Store self.old) (state S.Store self.new) result (λ r seen.
             seen ≡ is_number_seen view.now.viewer view.now.today agent.now
             (filings_of agent.now r.members) number) }
     {
@@ -134,8 +132,7 @@ impl<S: Alter + Drop> Lookup<S> {
         node: &Node,
     ) -> Result<Vec<StatementRow>, ReadError>
         requires { self.old.in_transaction ≡ false }
-        ensures reads { ReadsOnly (state S.Store self.old) (state S.Store self.new) }
-        ensures answer { Answers (state S.Store self.old) (state S.Store self.new) result (λ r rows.
+        ensures { ReadsAs (state S.Store self.old) (state S.Store self.new) result (λ r rows.
             rows.items
             ≡ map bare (in_series node.now.declaration node.now.rec (placed_of node.now.agent r))) }
     {
@@ -155,8 +152,7 @@ impl<S: Alter + Drop> Lookup<S> {
         node: &Node,
     ) -> Result<Vec<StatementRow>, ReadError>
         requires { self.old.in_transaction ≡ false }
-        ensures reads { ReadsOnly (state S.Store self.old) (state S.Store self.new) }
-        ensures answer { Answers (state S.Store self.old) (state S.Store self.new) result (λ r rows.
+        ensures { ReadsAs (state S.Store self.old) (state S.Store self.new) result (λ r rows.
             rows.items
             ≡ map bare
             (with_subject node.now.declaration node.now.rec (placed_of node.now.agent r))) }
@@ -179,8 +175,7 @@ impl<S: Alter + Drop> Lookup<S> {
         rec: &str,
     ) -> Result<Vec<StatementRow>, ReadError>
         requires { self.old.in_transaction ≡ false }
-        ensures reads { ReadsOnly (state S.Store self.old) (state S.Store self.new) }
-        ensures answer { Answers (state S.Store self.old) (state S.Store self.new) result (λ r rows.
+        ensures { ReadsAs (state S.Store self.old) (state S.Store self.new) result (λ r rows.
             rows.items ≡ map bare (in_record rec.now (placed_of agent.now r))) }
     {
         read_record(&mut self.conn, alloc, agent, rec)
@@ -194,8 +189,7 @@ impl<S: Alter + Drop> Lookup<S> {
         id: &str,
     ) -> Result<Vec<IdentifierRow>, ReadError>
         requires { self.old.in_transaction ≡ false }
-        ensures reads { ReadsOnly (state S.Store self.old) (state S.Store self.new) }
-        ensures answer { Answers (state S.Store self.old) (state S.Store self.new) result (λ r rows.
+        ensures { ReadsAs (state S.Store self.old) (state S.Store self.new) result (λ r rows.
             rows.items ≡ identified_by scheme.now id.now r.members) }
     {
         read_identified(&mut self.conn, alloc, scheme, id)
@@ -208,8 +202,7 @@ impl<S: Alter + Drop> Lookup<S> {
         at: &At,
     ) -> Result<Option<StatementRow>, ReadError>
         requires { self.old.in_transaction ≡ false }
-        ensures reads { ReadsOnly (state S.Store self.old) (state S.Store self.new) }
-        ensures answer { Answers (state S.Store self.old) (state S.Store self.new) result (λ r row.
+        ensures { ReadsAs (state S.Store self.old) (state S.Store self.new) result (λ r row.
             row ≡ option_map bare (slice_get (standing_at at.now r.members) 0)) }
     {
         read_place(&mut self.conn, alloc, at)
@@ -222,8 +215,7 @@ impl<S: Alter + Drop> Lookup<S> {
         at: &At,
     ) -> Result<Vec<InterestRow>, ReadError>
         requires { self.old.in_transaction ≡ false }
-        ensures reads { ReadsOnly (state S.Store self.old) (state S.Store self.new) }
-        ensures answer { Answers (state S.Store self.old) (state S.Store self.new) result (λ r rows.
+        ensures { ReadsAs (state S.Store self.old) (state S.Store self.new) result (λ r rows.
             rows.items ≡ interests_at at.now r.members) }
     {
         interests_of_one(&mut self.conn, alloc, at)
@@ -236,8 +228,7 @@ impl<S: Alter + Drop> Lookup<S> {
         at: &At,
     ) -> Result<Vec<IdentifierRow>, ReadError>
         requires { self.old.in_transaction ≡ false }
-        ensures reads { ReadsOnly (state S.Store self.old) (state S.Store self.new) }
-        ensures answer { Answers (state S.Store self.old) (state S.Store self.new) result (λ r rows.
+        ensures { ReadsAs (state S.Store self.old) (state S.Store self.new) result (λ r rows.
             rows.items ≡ identifiers_at at.now r.members) }
     {
         identifiers_of_one(&mut self.conn, alloc, at)
@@ -246,8 +237,7 @@ impl<S: Alter + Drop> Lookup<S> {
     // Whether there are more live statements than so many.
     fn has_more(&mut self, most: u32) -> Result<bool, ReadError>
         requires { self.old.in_transaction ≡ false }
-        ensures reads { ReadsOnly (state S.Store self.old) (state S.Store self.new) }
-        ensures answer { Answers (state S.Store self.old) (state S.Store self.new) result (λ r more.
+        ensures { ReadsAs (state S.Store self.old) (state S.Store self.new) result (λ r more.
             more ≡ not (nat_le (length (placed r.members)) most)) }
     {
         has_more(&mut self.conn, most)
@@ -256,8 +246,7 @@ impl<S: Alter + Drop> Lookup<S> {
     // All rows that the viewer sees on the register's day.
     fn visible(&mut self, alloc: Global, viewer: &AgentName) -> Result<Vec<Row>, ReadError>
         requires { self.old.in_transaction ≡ false }
-        ensures reads { ReadsOnly (state S.Store self.old) (state S.Store self.new) }
-        ensures answer { Answers (state S.Store self.old) (state S.Store self.new) result (λ r rows.
+        ensures { ReadsAs (state S.Store self.old) (state S.Store self.new) result (λ r rows.
             rows.items ≡ visible viewer.now r.day r.members) }
     {
         read_visible(&mut self.conn, alloc, viewer)
@@ -441,8 +430,7 @@ impl<S: Alter + Drop> Lookup<S> {
     fn list(&mut self, alloc: Global, view: &View, most: u32) -> Result<(), ReadError>
         requires mode { self.old.in_transaction ≡ false }
         requires today { Holds (state S.Store self.old) (λ r. view.now.today ≡ r.day) }
-        ensures reads { ReadsOnly (state S.Store self.old) (state S.Store self.new) }
-        ensures answer { Answers (state S.Store self.old) (state S.Store self.new) result
+        ensures { ReadsAs (state S.Store self.old) (state S.Store self.new) result
             (λ r _. Unit {0}) }
     {
         if self.has_more(most)? {
@@ -458,8 +446,7 @@ impl<S: Alter + Drop> Lookup<S> {
     /// before.
     pub(crate) fn list_where_many(&mut self, alloc: Global, view: &View) -> Result<(), ReadError>
         requires { self.old.in_transaction ≡ false }
-        ensures reads { ReadsOnly (state S.Store self.old) (state S.Store self.new) }
-        ensures answer { Answers (state S.Store self.old) (state S.Store self.new) result
+        ensures { ReadsAs (state S.Store self.old) (state S.Store self.new) result
             (λ r _. Unit {0}) }
     {
         let Some(most) = self.most(view) else {

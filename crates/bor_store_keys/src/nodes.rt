@@ -6,7 +6,7 @@ ghost use Rattle.bor_records.specs.Links.ByKey.{node_at};
 ghost use Rattle.bor_records.specs.Links.Rows.{is_entity_info, is_some_info, node_in};
 ghost use Rattle.bor_records.specs.Links.Shown.{info_of};
 ghost use Rattle.bor_register.specs.Seen.{seen_at};
-ghost use Rattle.bor_store_reads.specs.Answering.{Answers, ReadsOnly};
+ghost use Rattle.bor_store_reads.specs.Answering.{ReadsAs};
 ghost use Rattle.bor_store_keys.specs.Viewed.{rows_seen, seen};
 
 use crate::listed::node_listed;
@@ -39,8 +39,7 @@ fn node_read<S: Alter + Drop>(
     node: &Node,
 ) -> Result<Option<OpenNode>, ReadError>
     requires { lookup.old.in_transaction ≡ false }
-    ensures reads { ReadsOnly (state S.Store lookup.old) (state S.Store lookup.new) }
-    ensures answer { Answers (state S.Store lookup.old) (state S.Store lookup.new) result (λ r one.
+    ensures { ReadsAs (state S.Store lookup.old) (state S.Store lookup.new) result (λ r one.
         one ≡ node_at view.now.day node.now (rows_seen view.now r)) }
 {
     let row = open_row(lookup, alloc, view, node)?;
@@ -57,8 +56,7 @@ pub(crate) fn node_in<S: Alter + Drop>(
     node: &Node,
 ) -> Result<Option<OpenNode>, ReadError>
     requires { lookup.old.in_transaction ≡ false }
-    ensures reads { ReadsOnly (state S.Store lookup.old) (state S.Store lookup.new) }
-    ensures answer { Answers (state S.Store lookup.old) (state S.Store lookup.new) result (λ r one.
+    ensures { ReadsAs (state S.Store lookup.old) (state S.Store lookup.new) result (λ r one.
         one ≡ node_at view.now.day node.now (rows_seen view.now r)) }
 {
     match lookup.node(alloc, view, node)? {
@@ -75,8 +73,7 @@ fn info_read<S: Alter + Drop>(
     node: &Node,
 ) -> Result<Option<NodeInfo>, ReadError>
     requires { lookup.old.in_transaction ≡ false }
-    ensures reads { ReadsOnly (state S.Store lookup.old) (state S.Store lookup.new) }
-    ensures answer { Answers (state S.Store lookup.old) (state S.Store lookup.new) result (λ r info.
+    ensures { ReadsAs (state S.Store lookup.old) (state S.Store lookup.new) result (λ r info.
         info ≡ info_of (seen view.now r) node.now) }
 {
     match node_read(lookup, alloc, view, node)? {
@@ -93,8 +90,7 @@ fn info_in<S: Alter + Drop>(
     node: &Node,
 ) -> Result<Option<NodeInfo>, ReadError>
     requires { lookup.old.in_transaction ≡ false }
-    ensures reads { ReadsOnly (state S.Store lookup.old) (state S.Store lookup.new) }
-    ensures answer { Answers (state S.Store lookup.old) (state S.Store lookup.new) result (λ r info.
+    ensures { ReadsAs (state S.Store lookup.old) (state S.Store lookup.new) result (λ r info.
         info ≡ info_of (seen view.now r) node.now) }
 {
     match lookup.info(alloc, view, node)? {
@@ -111,8 +107,7 @@ pub(crate) fn is_entity<S: Alter + Drop>(
     node: &Node,
 ) -> Result<bool, ReadError>
     requires { lookup.old.in_transaction ≡ false }
-    ensures reads { ReadsOnly (state S.Store lookup.old) (state S.Store lookup.new) }
-    ensures answer { Answers (state S.Store lookup.old) (state S.Store lookup.new) result (λ r is.
+    ensures { ReadsAs (state S.Store lookup.old) (state S.Store lookup.new) result (λ r is.
         is ≡ is_entity_info (info_of (seen view.now r) node.now)) }
 {
     match info_in(lookup, alloc, view, node)? {
@@ -129,8 +124,7 @@ pub(crate) fn is_node<S: Alter + Drop>(
     node: &Node,
 ) -> Result<bool, ReadError>
     requires { lookup.old.in_transaction ≡ false }
-    ensures reads { ReadsOnly (state S.Store lookup.old) (state S.Store lookup.new) }
-    ensures answer { Answers (state S.Store lookup.old) (state S.Store lookup.new) result (λ r is.
+    ensures { ReadsAs (state S.Store lookup.old) (state S.Store lookup.new) result (λ r is.
         is ≡ is_some_info (info_of (seen view.now r) node.now)) }
 {
     Ok(info_in(lookup, alloc, view, node)?.is_some())
@@ -145,8 +139,7 @@ fn info_told<S: Alter + Drop>(
     node: &Node,
 ) -> Result<Option<NodeInfo>, ReadError>
     requires { lookup.old.in_transaction ≡ false }
-    ensures reads { ReadsOnly (state S.Store lookup.old) (state S.Store lookup.new) }
-    ensures answer { Answers (state S.Store lookup.old) (state S.Store lookup.new) result (λ r info.
+    ensures { ReadsAs (state S.Store lookup.old) (state S.Store lookup.new) result (λ r info.
         info ≡ info_of (seen view.now r) node.now) }
 {
     if let Some(info) = lookup.info(alloc, view, node)? {
@@ -169,8 +162,7 @@ pub fn read_node<S: Alter + Drop>(
     node: &Node,
 ) -> Result<Option<NodeInfo>, ReadError>
     requires { lookup.old.in_transaction ≡ false }
-    ensures reads { ReadsOnly (state S.Store lookup.old) (state S.Store lookup.new) }
-    ensures answer { Answers (state S.Store lookup.old) (state S.Store lookup.new) result (λ r info.
+    ensures { ReadsAs (state S.Store lookup.old) (state S.Store lookup.new) result (λ r info.
         info ≡ info_of (seen_at viewer.now day r) node.now) }
 {
     let view = view_of(lookup, alloc, viewer, day)?;

@@ -4,7 +4,7 @@ ghost use Rattle.std.specs.Prelude.{◌≡◌, false, map};
 ghost use Rattle.sqlite.specs.Held.{state};
 ghost use Rattle.bor_records.specs.Links.Series.{open_at};
 ghost use Rattle.bor_store_sql.specs.Selected.{identifiers_at, interests_at};
-ghost use Rattle.bor_store_reads.specs.Answering.{Answers, ReadsOnly};
+ghost use Rattle.bor_store_reads.specs.Answering.{ReadsAs};
 ghost use Rattle.bor_store_keys.specs.Latest.{listed_row};
 ghost use Rattle.bor_store_keys.specs.Viewed.{rows_seen};
 
@@ -26,8 +26,7 @@ fn interests<S: Alter + Drop>(
     at: &At,
 ) -> Result<Vec<Interest>, ReadError>
     requires { lookup.old.in_transaction ≡ false }
-    ensures reads { ReadsOnly (state S.Store lookup.old) (state S.Store lookup.new) }
-    ensures answer { Answers (state S.Store lookup.old) (state S.Store lookup.new) result
+    ensures { ReadsAs (state S.Store lookup.old) (state S.Store lookup.new) result
         (λ r interests.
         interests.items ≡ map (λ row. row.interest) (interests_at at.now r.members)) }
 {
@@ -42,8 +41,7 @@ fn identifiers<S: Alter + Drop>(
     at: &At,
 ) -> Result<Vec<Identifier>, ReadError>
     requires { lookup.old.in_transaction ≡ false }
-    ensures reads { ReadsOnly (state S.Store lookup.old) (state S.Store lookup.new) }
-    ensures answer { Answers (state S.Store lookup.old) (state S.Store lookup.new) result
+    ensures { ReadsAs (state S.Store lookup.old) (state S.Store lookup.new) result
         (λ r identifiers.
         identifiers.items ≡ map (λ row. row.identifier) (identifiers_at at.now r.members)) }
 {
@@ -58,8 +56,7 @@ fn with_lists<S: Alter + Drop>(
     row: StatementRow,
 ) -> Result<Row, ReadError>
     requires { lookup.old.in_transaction ≡ false }
-    ensures reads { ReadsOnly (state S.Store lookup.old) (state S.Store lookup.new) }
-    ensures answer { Answers (state S.Store lookup.old) (state S.Store lookup.new) result
+    ensures { ReadsAs (state S.Store lookup.old) (state S.Store lookup.new) result
         (λ r listed.
         listed ≡ listed_row r.members row) }
 {
@@ -84,8 +81,7 @@ pub(crate) fn open_row<S: Alter + Drop>(
     node: &Node,
 ) -> Result<Option<Row>, ReadError>
     requires { lookup.old.in_transaction ≡ false }
-    ensures reads { ReadsOnly (state S.Store lookup.old) (state S.Store lookup.new) }
-    ensures answer { Answers (state S.Store lookup.old) (state S.Store lookup.new) result (λ r row.
+    ensures { ReadsAs (state S.Store lookup.old) (state S.Store lookup.new) result (λ r row.
         row ≡ open_at view.now.day node.now (rows_seen view.now r)) }
 {
     match open_statement(lookup, alloc, view, node)? {

@@ -5,7 +5,7 @@ ghost use Rattle.std.specs.List.{filter_map};
 ghost use Rattle.sqlite.specs.Held.{state};
 ghost use Rattle.bor_store_sql.specs.Rows.Placed.{placed};
 ghost use Rattle.bor_store_sql.specs.Selected.{in_record, placed_of, with_subject};
-ghost use Rattle.bor_store_reads.specs.Answering.{Answers, ReadsOnly};
+ghost use Rattle.bor_store_reads.specs.Answering.{ReadsAs};
 ghost use Rattle.bor_store_keys.specs.Recorded.{CoverRecords, record_at};
 ghost use Rattle.bor_store_keys.specs.Signed.{record_standing, with_identifier, with_sign};
 
@@ -42,8 +42,7 @@ pub(crate) fn records_into<S: Alter + Drop>(
     node: &Node,
 ) -> Result<Vec<Node>, ReadError>
     requires { lookup.old.in_transaction ≡ false }
-    ensures reads { ReadsOnly (state S.Store lookup.old) (state S.Store lookup.new) }
-    ensures answer { Answers (state S.Store lookup.old) (state S.Store lookup.new) result
+    ensures { ReadsAs (state S.Store lookup.old) (state S.Store lookup.new) result
         (λ r records.
         CoverRecords (with_subject node.now.declaration node.now.rec (placed_of node.now.agent r))
         records.items) }
@@ -60,8 +59,7 @@ fn record_read<S: Alter + Drop>(
     at: &At,
 ) -> Result<Option<Node>, ReadError>
     requires { lookup.old.in_transaction ≡ false }
-    ensures reads { ReadsOnly (state S.Store lookup.old) (state S.Store lookup.new) }
-    ensures answer { Answers (state S.Store lookup.old) (state S.Store lookup.new) result (λ r one.
+    ensures { ReadsAs (state S.Store lookup.old) (state S.Store lookup.new) result (λ r one.
         one ≡ record_standing r.members at.now) }
 {
     match lookup.standing(alloc, at)? {
@@ -77,8 +75,7 @@ fn record_standing<S: Alter + Drop>(
     at: &At,
 ) -> Result<Option<Node>, ReadError>
     requires { lookup.old.in_transaction ≡ false }
-    ensures reads { ReadsOnly (state S.Store lookup.old) (state S.Store lookup.new) }
-    ensures answer { Answers (state S.Store lookup.old) (state S.Store lookup.new) result (λ r one.
+    ensures { ReadsAs (state S.Store lookup.old) (state S.Store lookup.new) result (λ r one.
         one ≡ record_standing r.members at.now) }
 {
     match lookup.placed(alloc, at)? {
@@ -94,8 +91,7 @@ fn records_standing<S: Alter + Drop>(
     rows: &[IdentifierRow],
 ) -> Result<Vec<Node>, ReadError>
     requires { lookup.old.in_transaction ≡ false }
-    ensures reads { ReadsOnly (state S.Store lookup.old) (state S.Store lookup.new) }
-    ensures answer { Answers (state S.Store lookup.old) (state S.Store lookup.new) result
+    ensures { ReadsAs (state S.Store lookup.old) (state S.Store lookup.new) result
         (λ r records.
         records.items ≡ filter_map (λ row. record_standing r.members row.at) rows.now) }
 {
@@ -115,8 +111,7 @@ fn records_identified<S: Alter + Drop>(
     id: &str,
 ) -> Result<Vec<Node>, ReadError>
     requires { lookup.old.in_transaction ≡ false }
-    ensures reads { ReadsOnly (state S.Store lookup.old) (state S.Store lookup.new) }
-    ensures answer { Answers (state S.Store lookup.old) (state S.Store lookup.new) result
+    ensures { ReadsAs (state S.Store lookup.old) (state S.Store lookup.new) result
         (λ r records.
         CoverRecords (with_identifier scheme.now id.now (placed r.members)) records.items) }
 {
@@ -133,8 +128,7 @@ fn records_named<S: Alter + Drop>(
     rec: &str,
 ) -> Result<Vec<Node>, ReadError>
     requires { lookup.old.in_transaction ≡ false }
-    ensures reads { ReadsOnly (state S.Store lookup.old) (state S.Store lookup.new) }
-    ensures answer { Answers (state S.Store lookup.old) (state S.Store lookup.new) result
+    ensures { ReadsAs (state S.Store lookup.old) (state S.Store lookup.new) result
         (λ r records.
         CoverRecords (in_record rec.now (placed_of agent.now r)) records.items) }
 {
@@ -150,8 +144,7 @@ pub(crate) fn records_with<S: Alter + Drop>(
     sign: &Sign,
 ) -> Result<Vec<Node>, ReadError>
     requires { lookup.old.in_transaction ≡ false }
-    ensures reads { ReadsOnly (state S.Store lookup.old) (state S.Store lookup.new) }
-    ensures answer { Answers (state S.Store lookup.old) (state S.Store lookup.new) result
+    ensures { ReadsAs (state S.Store lookup.old) (state S.Store lookup.new) result
         (λ r records.
         CoverRecords (with_sign sign.now r) records.items) }
 {

@@ -3,7 +3,7 @@
 ghost use Rattle.std.specs.Prelude.{◌≡◌, false};
 ghost use Rattle.sqlite.specs.Held.{state};
 ghost use Rattle.bor_register.specs.Register.{filings_of};
-ghost use Rattle.bor_store_reads.specs.Answering.{Answers, ReadsOnly};
+ghost use Rattle.bor_store_reads.specs.Answering.{ReadsAs};
 ghost use Rattle.bor_store_reads.specs.Asking.{is_number_seen};
 
 use crate::found::FilingKey;
@@ -22,8 +22,7 @@ fn view_read<S: Alter + Drop>(
     day: Day,
 ) -> Result<View, ReadError>
     requires { lookup.old.in_transaction ≡ false }
-    ensures reads { ReadsOnly (state S.Store lookup.old) (state S.Store lookup.new) }
-    ensures answer { Answers (state S.Store lookup.old) (state S.Store lookup.new) result (λ r view.
+    ensures { ReadsAs (state S.Store lookup.old) (state S.Store lookup.new) result (λ r view.
         view ≡ record { viewer = viewer.now; today = r.day; day = day }) }
 {
     let today = lookup.read_today(alloc)?;
@@ -41,8 +40,7 @@ pub(crate) fn view_of<S: Alter + Drop>(
     day: Day,
 ) -> Result<View, ReadError>
     requires { lookup.old.in_transaction ≡ false }
-    ensures reads { ReadsOnly (state S.Store lookup.old) (state S.Store lookup.new) }
-    ensures answer { Answers (state S.Store lookup.old) (state S.Store lookup.new) result (λ r view.
+    ensures { ReadsAs (state S.Store lookup.old) (state S.Store lookup.new) result (λ r view.
         view ≡ record { viewer = viewer.now; today = r.day; day = day }) }
 {
     match lookup.today(viewer, day) {
@@ -62,8 +60,7 @@ fn filing_read<S: Alter + Drop>(
     key: FilingKey,
 ) -> Result<bool, ReadError>
     requires { lookup.old.in_transaction ≡ false }
-    ensures reads { ReadsOnly (state S.Store lookup.old) (state S.Store lookup.new) }
-    ensures answer { Answers (state S.Store lookup.old) (state S.Store lookup.new) result (λ r seen.
+    ensures { ReadsAs (state S.Store lookup.old) (state S.Store lookup.new) result (λ r seen.
         seen ≡ is_number_seen view.now.viewer view.now.today key.agent
         (filings_of key.agent r.members) key.number) }
 {
@@ -81,8 +78,7 @@ pub(crate) fn is_filing_seen<S: Alter + Drop>(
     number: u32,
 ) -> Result<bool, ReadError>
     requires { lookup.old.in_transaction ≡ false }
-    ensures reads { ReadsOnly (state S.Store lookup.old) (state S.Store lookup.new) }
-    ensures answer { Answers (state S.Store lookup.old) (state S.Store lookup.new) result (λ r seen.
+    ensures { ReadsAs (state S.Store lookup.old) (state S.Store lookup.new) result (λ r seen.
         seen ≡ is_number_seen view.now.viewer view.now.today agent.now
         (filings_of agent.now r.members) number) }
 {

@@ -13,24 +13,37 @@ use Rattle.bor_store_sql.specs.Rows.Encoding.{truth, contents}
 use Rattle.bor_store_sql.specs.Shown.{Has, ShowsIn}
 use Rattle.bor_store_sql.specs.Found.{Finds}
 use Rattle.bor_store_reads.specs.declared.fault.ReadError.{ReadError}
-use Rattle.bor_store_reads.specs.Answering.{IsNoDamage, Answers}
+use Rattle.bor_store_reads.specs.Answering.{IsNoDamage, ReadsAs, ReadsOnly}
 
-module _ {X : Type 0} (columns : X → Row) (is_formed : X → Type 0) (old new : State) (found : Result (Vec Row Global) Error) (rows_of : Register → List Row) (finds : Finds old new found rows_of)
+-- a query changes nothing
+asked : (old new : State) (found : Result (Vec Row Global) Error) (rows_of : Register → List Row) → new.in_transaction ≡ false → Finds old new found rows_of → ReadsOnly old new
+asked old new found rows_of settled finds = record { mode = settled; began = finds.began; kept = finds.kept }
+
+module _ {X : Type 0} (columns : X → Row) (is_formed : X → Type 0) (old new : State) (found : Result (Vec Row Global) Error) (rows_of : Register → List Row) (settled : new.in_transaction ≡ false) (finds : Finds old new found rows_of)
     (xs_of : Register → List X) (are : (r : Register) → rows_of r ≡ map columns (xs_of r)) (formed : (r : Register) → IsStored r → All is_formed (xs_of r)) where
   -- what is told of rows that are those of formed values
   pub told : {Y : Type 0} (result : Result Y ReadError) (Q : List X → Y → Type 0)
-      → ((xs : List X) → IfOk found (λ rows. rows.items ≡ map columns xs) → All is_formed xs → MatchResult result (Q xs) IsNoDamage) → Answers old new result (λ r. Q (xs_of r))
-  told result Q h clean r shows = h (xs_of r) (subst (λ l. IfOk found (λ rows. rows.items ≡ l)) (are r) (finds.rows clean r shows)) (formed r shows.stored)
+      → ((xs : List X) → IfOk found (λ rows. rows.items ≡ map columns xs) → All is_formed xs → MatchResult result (Q xs) IsNoDamage) → ReadsAs old new result (λ r. Q (xs_of r))
+  told result Q h = record {
+    reads = asked old new found rows_of settled finds;
+    answer = λ clean r shows. h (xs_of r) (subst (λ l. IfOk found (λ rows. rows.items ≡ l)) (are r) (finds.rows clean r shows)) (formed r shows.stored);
+  }
 
 -- what is told of whether rows are found
-pub told_any : (old new : State) (found : Result (Vec Row Global) Error) (rows_of : Register → List Row) → Finds old new found rows_of → (has : Register → Bool) → ((r : Register) → not (length (rows_of r) == 0) ≡ has r)
-    → (result : Result Bool ReadError) → ((xs : List Row) → IfOk found (λ rows. rows.items ≡ xs) → MatchResult result (λ any. any ≡ not (length xs == 0)) IsNoDamage) → Answers old new result (λ r any. any ≡ has r)
-told_any old new found rows_of finds has is result h clean r shows = subst (λ b. MatchResult result (λ any. any ≡ b) IsNoDamage) (is r) (h (rows_of r) (finds.rows clean r shows))
+pub told_any : (old new : State) (found : Result (Vec Row Global) Error) (rows_of : Register → List Row) → new.in_transaction ≡ false → Finds old new found rows_of → (has : Register → Bool) → ((r : Register) → not (length (rows_of r) == 0) ≡ has r)
+    → (result : Result Bool ReadError) → ((xs : List Row) → IfOk found (λ rows. rows.items ≡ xs) → MatchResult result (λ any. any ≡ not (length xs == 0)) IsNoDamage) → ReadsAs old new result (λ r any. any ≡ has r)
+told_any old new found rows_of settled finds has is result h = record {
+  reads = asked old new found rows_of settled finds;
+  answer = λ clean r shows. subst (λ b. MatchResult result (λ any. any ≡ b) IsNoDamage) (is r) (h (rows_of r) (finds.rows clean r shows));
+}
+
+pub answered : {X : Type 0} (result : Result X ReadError) (P Q : X → Type 0) → ((x : X) → P x → Q x) → MatchResult result P IsNoDamage → MatchResult result Q IsNoDamage
+answered (Ok x) P Q so h = so x h
+answered (Err e) P Q so h = h
 
 -- the same answer in other words
-pub in_words : {X : Type 0} (old new : State) (result : Result X ReadError) (P Q : Register → X → Type 0) → ((r : Register) (x : X) → IsStored r → P r x → Q r x) → Answers old new result P → Answers old new result Q
-in_words old new (Ok x) P Q h a clean r shows = h r x shows.stored (a clean r shows)
-in_words old new (Err e) P Q h a clean r shows = a clean r shows
+pub in_words : {X : Type 0} (old new : State) (result : Result X ReadError) (P Q : Register → X → Type 0) → ((r : Register) (x : X) → IsStored r → P r x → Q r x) → ReadsAs old new result P → ReadsAs old new result Q
+in_words old new result P Q h was = record { reads = was.reads; answer = λ clean r shows. answered result (P r) (Q r) (λ x. h r x shows.stored) (was.answer clean r shows) }
 
 -- ---- counts
 
@@ -66,8 +79,11 @@ still_shows r old new same shows = record { has = subst (Has (contents r)) (sym 
 -- ---- flags
 
 -- what is told of the first row's truth value
-pub told_flag : (old new : State) (found : Result (Vec Row Global) Error) (rows_of : Register → List Row) → Finds old new found rows_of → (bs_of : Register → List Bool) → ((r : Register) → rows_of r ≡ map (λ b. truth b ∷ []) (bs_of r))
+pub told_flag : (old new : State) (found : Result (Vec Row Global) Error) (rows_of : Register → List Row) → new.in_transaction ≡ false → Finds old new found rows_of → (bs_of : Register → List Bool) → ((r : Register) → rows_of r ≡ map (λ b. truth b ∷ []) (bs_of r))
     → (has : Register → Bool) → ((r : Register) → unwrap_or (slice_get (bs_of r) 0) false ≡ has r) → (result : Result Bool ReadError)
-    → ((bs : List Bool) → IfOk found (λ rows. rows.items ≡ map (λ b. truth b ∷ []) bs) → MatchResult result (λ flag. flag ≡ unwrap_or (slice_get bs 0) false) IsNoDamage) → Answers old new result (λ r flag. flag ≡ has r)
-told_flag old new found rows_of finds bs_of are has is result h clean r shows =
-    subst (λ b. MatchResult result (λ flag. flag ≡ b) IsNoDamage) (is r) (h (bs_of r) (subst (λ l. IfOk found (λ rows. rows.items ≡ l)) (are r) (finds.rows clean r shows)))
+    → ((bs : List Bool) → IfOk found (λ rows. rows.items ≡ map (λ b. truth b ∷ []) bs) → MatchResult result (λ flag. flag ≡ unwrap_or (slice_get bs 0) false) IsNoDamage) → ReadsAs old new result (λ r flag. flag ≡ has r)
+told_flag old new found rows_of settled finds bs_of are has is result h = record {
+  reads = asked old new found rows_of settled finds;
+  answer = λ clean r shows.
+      subst (λ b. MatchResult result (λ flag. flag ≡ b) IsNoDamage) (is r) (h (bs_of r) (subst (λ l. IfOk found (λ rows. rows.items ≡ l)) (are r) (finds.rows clean r shows)));
+}

@@ -1,4 +1,5 @@
 pub mod Found
+pub mod Reading
 pub mod Lists
 pub mod FoundAgents
 pub mod FoundFilings

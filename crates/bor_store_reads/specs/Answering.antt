@@ -30,6 +30,11 @@ pub record ReadsOnly (old new : State) : Type 0 where
 abbrev pub Answers : {X : Type 0} → State → State → Result X ReadError → (Register → X → Type 0) → Type 0
 Answers old new result P = IsClean new → (r : Register) → ShowsIn r old → MatchResult result (P r) IsNoDamage
 
+-- A read: it changes nothing, and this holds of what it answers of the register that is shown.
+pub record ReadsAs {X : Type 0} (old new : State) (result : Result X ReadError) (P : Register → X → Type 0) : Type 0 where
+  pub reads : ReadsOnly old new
+  pub answer : Answers old new result P
+
 -- the fault of a keep that an error is told as
 abbrev pub told_as : ReadError → StoreFault
 told_as errors.Memory = store_faults.Memory

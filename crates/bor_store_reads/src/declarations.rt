@@ -8,7 +8,7 @@ ghost use Rattle.bor_register.specs.Rows.{rows_of};
 ghost use Rattle.bor_store_sql.specs.Rows.Placed.{bare, line_of, period_rows};
 ghost use Rattle.bor_store_sql.specs.Rows.Seen.{is_seen, row_placed};
 ghost use Rattle.bor_store_sql.specs.Selected.{identifiers_at, in_declaration, interests_at, placed_of};
-ghost use Rattle.bor_store_reads.specs.Answering.{Answers, IsNoDamage, ReadsOnly};
+ghost use Rattle.bor_store_reads.specs.Answering.{IsNoDamage, ReadsAs};
 ghost use Rattle.bor_store_reads.specs.Asking.{part_identifiers, part_interests};
 
 use crate::fault::ReadError;
@@ -36,8 +36,7 @@ fn statements<S: Alter>(
     declaration: &Ident,
 ) -> Result<Vec<StatementRow>, ReadError>
     requires { conn.old.in_transaction ≡ false }
-    ensures reads { ReadsOnly (state S.Store conn.old) (state S.Store conn.new) }
-    ensures answer { Answers (state S.Store conn.old) (state S.Store conn.new) result (λ r rows.
+    ensures { ReadsAs (state S.Store conn.old) (state S.Store conn.new) result (λ r rows.
         rows.items ≡ map bare (in_declaration declaration.now (placed_of agent.now r))) }
 {
     all(
@@ -53,8 +52,7 @@ fn lines_of_one<S: Alter>(
     at: &At,
 ) -> Result<Vec<InterestLine>, ReadError>
     requires { conn.old.in_transaction ≡ false }
-    ensures reads { ReadsOnly (state S.Store conn.old) (state S.Store conn.new) }
-    ensures answer { Answers (state S.Store conn.old) (state S.Store conn.new) result (λ r rows.
+    ensures { ReadsAs (state S.Store conn.old) (state S.Store conn.new) result (λ r rows.
         rows.items ≡ map line_of (interests_at at.now r.members)) }
 {
     all(
@@ -70,8 +68,7 @@ fn periods_of_one<S: Alter>(
     at: &At,
 ) -> Result<Vec<PeriodRow>, ReadError>
     requires { conn.old.in_transaction ≡ false }
-    ensures reads { ReadsOnly (state S.Store conn.old) (state S.Store conn.new) }
-    ensures answer { Answers (state S.Store conn.old) (state S.Store conn.new) result (λ r rows.
+    ensures { ReadsAs (state S.Store conn.old) (state S.Store conn.new) result (λ r rows.
         rows.items ≡ flat_map period_rows (interests_at at.now r.members)) }
 {
     all(
@@ -87,8 +84,7 @@ pub fn interests_of_one<S: Alter>(
     at: &At,
 ) -> Result<Vec<InterestRow>, ReadError>
     requires { conn.old.in_transaction ≡ false }
-    ensures reads { ReadsOnly (state S.Store conn.old) (state S.Store conn.new) }
-    ensures answer { Answers (state S.Store conn.old) (state S.Store conn.new) result (λ r rows.
+    ensures { ReadsAs (state S.Store conn.old) (state S.Store conn.new) result (λ r rows.
         rows.items ≡ interests_at at.now r.members) }
 {
     let lines = lines_of_one(conn, alloc, at)?;
@@ -104,8 +100,7 @@ fn interests_of_row<S: Alter>(
     row: &StatementRow,
 ) -> Result<Vec<InterestRow>, ReadError>
     requires { conn.old.in_transaction ≡ false }
-    ensures reads { ReadsOnly (state S.Store conn.old) (state S.Store conn.new) }
-    ensures answer { Answers (state S.Store conn.old) (state S.Store conn.new) result (λ r rows.
+    ensures { ReadsAs (state S.Store conn.old) (state S.Store conn.new) result (λ r rows.
         rows.items ≡ part_interests row.now.part row.now.at r.members) }
 {
     match row.part {
@@ -122,8 +117,7 @@ fn interests_of<S: Alter>(
     rows: &[StatementRow],
 ) -> Result<Vec<InterestRow>, ReadError>
     requires { conn.old.in_transaction ≡ false }
-    ensures reads { ReadsOnly (state S.Store conn.old) (state S.Store conn.new) }
-    ensures answer { Answers (state S.Store conn.old) (state S.Store conn.new) result
+    ensures { ReadsAs (state S.Store conn.old) (state S.Store conn.new) result
         (λ r interests.
         interests.items ≡ flat_map (λ row. part_interests row.part row.at r.members) rows.now) }
 {
@@ -142,8 +136,7 @@ pub fn identifiers_of_one<S: Alter>(
     at: &At,
 ) -> Result<Vec<IdentifierRow>, ReadError>
     requires { conn.old.in_transaction ≡ false }
-    ensures reads { ReadsOnly (state S.Store conn.old) (state S.Store conn.new) }
-    ensures answer { Answers (state S.Store conn.old) (state S.Store conn.new) result (λ r rows.
+    ensures { ReadsAs (state S.Store conn.old) (state S.Store conn.new) result (λ r rows.
         rows.items ≡ identifiers_at at.now r.members) }
 {
     all(
@@ -160,8 +153,7 @@ fn identifiers_of_row<S: Alter>(
     row: &StatementRow,
 ) -> Result<Vec<IdentifierRow>, ReadError>
     requires { conn.old.in_transaction ≡ false }
-    ensures reads { ReadsOnly (state S.Store conn.old) (state S.Store conn.new) }
-    ensures answer { Answers (state S.Store conn.old) (state S.Store conn.new) result (λ r rows.
+    ensures { ReadsAs (state S.Store conn.old) (state S.Store conn.new) result (λ r rows.
         rows.items ≡ part_identifiers row.now.part row.now.at r.members) }
 {
     match row.part {
@@ -178,8 +170,7 @@ fn identifiers_of<S: Alter>(
     rows: &[StatementRow],
 ) -> Result<Vec<IdentifierRow>, ReadError>
     requires { conn.old.in_transaction ≡ false }
-    ensures reads { ReadsOnly (state S.Store conn.old) (state S.Store conn.new) }
-    ensures answer { Answers (state S.Store conn.old) (state S.Store conn.new) result
+    ensures { ReadsAs (state S.Store conn.old) (state S.Store conn.new) result
         (λ r identifiers.
         identifiers.items ≡ flat_map (λ row. part_identifiers row.part row.at r.members) rows.now) }
 {
@@ -199,8 +190,7 @@ fn placed<S: Alter>(
     declaration: &Ident,
 ) -> Result<Vec<Placed>, ReadError>
     requires { conn.old.in_transaction ≡ false }
-    ensures reads { ReadsOnly (state S.Store conn.old) (state S.Store conn.new) }
-    ensures answer { Answers (state S.Store conn.old) (state S.Store conn.new) result (λ r placed.
+    ensures { ReadsAs (state S.Store conn.old) (state S.Store conn.new) result (λ r placed.
         placed.items ≡ in_declaration declaration.now (placed_of agent.now r)) }
 {
     let statements = statements(conn, alloc, agent, declaration)?;
@@ -235,8 +225,7 @@ fn seen<S: Alter>(
     statements: Vec<Placed>,
 ) -> Result<Vec<Row>, ReadError>
     requires { conn.old.in_transaction ≡ false }
-    ensures reads { ReadsOnly (state S.Store conn.old) (state S.Store conn.new) }
-    ensures answer { Answers (state S.Store conn.old) (state S.Store conn.new) result (λ r rows.
+    ensures { ReadsAs (state S.Store conn.old) (state S.Store conn.new) result (λ r rows.
         rows.items
         ≡ map row_placed
         (filter (is_seen viewer.now day agent.now (filings_of agent.now r.members))
@@ -265,8 +254,7 @@ pub fn read_rows_of<S: Alter>(
     declaration: &Ident,
 ) -> Result<Vec<Row>, ReadError>
     requires { conn.old.in_transaction ≡ false }
-    ensures reads { ReadsOnly (state S.Store conn.old) (state S.Store conn.new) }
-    ensures answer { Answers (state S.Store conn.old) (state S.Store conn.new) result (λ r rows.
+    ensures { ReadsAs (state S.Store conn.old) (state S.Store conn.new) result (λ r rows.
         rows.items
         ≡ rows_of viewer.now r.day agent.now declaration.now (filings_of agent.now r.members)) }
 {

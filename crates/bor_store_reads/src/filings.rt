@@ -5,7 +5,7 @@ ghost use Rattle.sqlite.specs.Held.{state};
 ghost use Rattle.bor_register.specs.Register.{filings_of, filing_keyed};
 ghost use Rattle.bor_register.specs.Publication.{line_of, filing_shown, has_bytes};
 ghost use Rattle.bor_store_sql.specs.Rows.Placed.{filing_row};
-ghost use Rattle.bor_store_reads.specs.Answering.{Answers, ReadsOnly};
+ghost use Rattle.bor_store_reads.specs.Answering.{ReadsAs};
 
 use crate::fault::ReadError;
 use crate::register::read_day;
@@ -25,8 +25,7 @@ pub fn read_filing<S: Alter>(
     key: &LodgeKey,
 ) -> Result<Option<Filing>, ReadError>
     requires { conn.old.in_transaction ≡ false }
-    ensures reads { ReadsOnly (state S.Store conn.old) (state S.Store conn.new) }
-    ensures answer { Answers (state S.Store conn.old) (state S.Store conn.new) result (λ r filing.
+    ensures { ReadsAs (state S.Store conn.old) (state S.Store conn.new) result (λ r filing.
         filing ≡ option_map filing_shown (filing_keyed key.now (filings_of agent.now r.members))) }
 {
     first(alloc, filing_by_key(conn, agent.as_str(), key.as_str()))
@@ -40,8 +39,7 @@ fn found_line<S: Alter>(
     key: &LodgeKey,
 ) -> Result<Option<FilingRow>, ReadError>
     requires { conn.old.in_transaction ≡ false }
-    ensures reads { ReadsOnly (state S.Store conn.old) (state S.Store conn.new) }
-    ensures answer { Answers (state S.Store conn.old) (state S.Store conn.new) result (λ r row.
+    ensures { ReadsAs (state S.Store conn.old) (state S.Store conn.new) result (λ r row.
         row ≡ option_map (filing_row agent.now)
         (filing_keyed key.now (filings_of agent.now r.members))) }
 {
@@ -58,8 +56,7 @@ pub fn read_line<S: Alter>(
     key: &LodgeKey,
 ) -> Result<Option<FilingLine>, ReadError>
     requires { conn.old.in_transaction ≡ false }
-    ensures reads { ReadsOnly (state S.Store conn.old) (state S.Store conn.new) }
-    ensures answer { Answers (state S.Store conn.old) (state S.Store conn.new) result (λ r line.
+    ensures { ReadsAs (state S.Store conn.old) (state S.Store conn.new) result (λ r line.
         line ≡ option_map (line_of r.day) (filing_keyed key.now (filings_of agent.now r.members))) }
 {
     let day = read_day(conn, alloc)?;
@@ -77,8 +74,7 @@ pub fn has_file<S: Alter>(
     bytes: &[u8],
 ) -> Result<bool, ReadError>
     requires { conn.old.in_transaction ≡ false }
-    ensures reads { ReadsOnly (state S.Store conn.old) (state S.Store conn.new) }
-    ensures answer { Answers (state S.Store conn.old) (state S.Store conn.new) result (λ r has.
+    ensures { ReadsAs (state S.Store conn.old) (state S.Store conn.new) result (λ r has.
         has ≡ has_bytes bytes.now (filing_keyed key.now (filings_of agent.now r.members))) }
 {
     flag(same_bytes(conn, agent.as_str(), key.as_str(), bytes))
@@ -91,8 +87,7 @@ fn found_last<S: Alter>(
     agent: &AgentName,
 ) -> Result<Option<FilingRow>, ReadError>
     requires { conn.old.in_transaction ≡ false }
-    ensures reads { ReadsOnly (state S.Store conn.old) (state S.Store conn.new) }
-    ensures answer { Answers (state S.Store conn.old) (state S.Store conn.new) result (λ r row.
+    ensures { ReadsAs (state S.Store conn.old) (state S.Store conn.new) result (λ r row.
         unwrap_or (option_map (λ f. f.number) row) 0 ≡ length (filings_of agent.now r.members)) }
 {
     first(alloc, last_filing(conn, agent.as_str()))
@@ -105,8 +100,7 @@ pub fn filing_count<S: Alter>(
     agent: &AgentName,
 ) -> Result<usize, ReadError>
     requires { conn.old.in_transaction ≡ false }
-    ensures reads { ReadsOnly (state S.Store conn.old) (state S.Store conn.new) }
-    ensures answer { Answers (state S.Store conn.old) (state S.Store conn.new) result (λ r count.
+    ensures { ReadsAs (state S.Store conn.old) (state S.Store conn.new) result (λ r count.
         count ≡ length (filings_of agent.now r.members)) }
 {
     match found_last(conn, alloc, agent)? {
@@ -122,8 +116,7 @@ fn found_lines<S: Alter>(
     agent: &AgentName,
 ) -> Result<Vec<FilingRow>, ReadError>
     requires { conn.old.in_transaction ≡ false }
-    ensures reads { ReadsOnly (state S.Store conn.old) (state S.Store conn.new) }
-    ensures answer { Answers (state S.Store conn.old) (state S.Store conn.new) result (λ r rows.
+    ensures { ReadsAs (state S.Store conn.old) (state S.Store conn.new) result (λ r rows.
         rows.items ≡ map (filing_row agent.now) (filings_of agent.now r.members)) }
 {
     all(alloc, filings_of_agent(conn, agent.as_str()))
@@ -137,8 +130,7 @@ pub fn read_filings<S: Alter>(
     agent: &AgentName,
 ) -> Result<Vec<FilingLine>, ReadError>
     requires { conn.old.in_transaction ≡ false }
-    ensures reads { ReadsOnly (state S.Store conn.old) (state S.Store conn.new) }
-    ensures answer { Answers (state S.Store conn.old) (state S.Store conn.new) result (λ r lines.
+    ensures { ReadsAs (state S.Store conn.old) (state S.Store conn.new) result (λ r lines.
         lines.items ≡ map (line_of r.day) (filings_of agent.now r.members)) }
 {
     let day = read_day(conn, alloc)?;

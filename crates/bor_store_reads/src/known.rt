@@ -3,7 +3,7 @@
 ghost use Rattle.std.specs.Prelude.{◌≡◌, false, IfOk};
 ghost use Rattle.sqlite.specs.Held.{state};
 ghost use Rattle.bor_register.specs.Register.{filings_of};
-ghost use Rattle.bor_store_reads.specs.Answering.{Answers, ReadsOnly};
+ghost use Rattle.bor_store_reads.specs.Answering.{ReadsAs};
 ghost use Rattle.bor_store_reads.specs.Asking.{is_number_seen, IsKnown};
 
 use crate::fault::ReadError;
@@ -29,8 +29,7 @@ pub fn is_number_seen<S: Alter>(
     number: u32,
 ) -> Result<bool, ReadError>
     requires { conn.old.in_transaction ≡ false }
-    ensures reads { ReadsOnly (state S.Store conn.old) (state S.Store conn.new) }
-    ensures answer { Answers (state S.Store conn.old) (state S.Store conn.new) result (λ r seen.
+    ensures { ReadsAs (state S.Store conn.old) (state S.Store conn.new) result (λ r seen.
         seen ≡ is_number_seen viewer.now day agent.now (filings_of agent.now r.members) number) }
 {
     match found_filing(conn, alloc, agent, number)? {
@@ -50,9 +49,8 @@ pub(crate) fn known_of<S: Alter>(
     number: u32,
 ) -> Result<Known, ReadError>
     requires { conn.old.in_transaction ≡ false }
-    ensures reads { ReadsOnly (state S.Store conn.old) (state S.Store conn.new) }
     ensures number { IfOk result (λ known. known.number ≡ number) }
-    ensures answer { Answers (state S.Store conn.old) (state S.Store conn.new) result (λ r known.
+    ensures reads { ReadsAs (state S.Store conn.old) (state S.Store conn.new) result (λ r known.
         IsKnown viewer.now day agent.now (filings_of agent.now r.members) last
         → IsKnown viewer.now day agent.now (filings_of agent.now r.members) known) }
 {

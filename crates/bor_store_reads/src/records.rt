@@ -4,7 +4,7 @@ ghost use Rattle.std.specs.Prelude.{◌≡◌, false, map, option_map, slice_get
 ghost use Rattle.sqlite.specs.Held.{state};
 ghost use Rattle.bor_store_sql.specs.Rows.Placed.{bare};
 ghost use Rattle.bor_store_sql.specs.Selected.{identified_by, in_record, in_series, placed_of, standing_at, with_subject};
-ghost use Rattle.bor_store_reads.specs.Answering.{Answers, ReadsOnly};
+ghost use Rattle.bor_store_reads.specs.Answering.{ReadsAs};
 
 use crate::fault::ReadError;
 use crate::values::{all, first};
@@ -26,8 +26,7 @@ pub fn read_series<S: Alter>(
     rec: &Ident,
 ) -> Result<Vec<StatementRow>, ReadError>
     requires { conn.old.in_transaction ≡ false }
-    ensures reads { ReadsOnly (state S.Store conn.old) (state S.Store conn.new) }
-    ensures answer { Answers (state S.Store conn.old) (state S.Store conn.new) result (λ r rows.
+    ensures { ReadsAs (state S.Store conn.old) (state S.Store conn.new) result (λ r rows.
         rows.items ≡ map bare (in_series declaration.now rec.now (placed_of agent.now r))) }
 {
     all(
@@ -45,8 +44,7 @@ pub fn read_record<S: Alter>(
     rec: &str,
 ) -> Result<Vec<StatementRow>, ReadError>
     requires { conn.old.in_transaction ≡ false }
-    ensures reads { ReadsOnly (state S.Store conn.old) (state S.Store conn.new) }
-    ensures answer { Answers (state S.Store conn.old) (state S.Store conn.new) result (λ r rows.
+    ensures { ReadsAs (state S.Store conn.old) (state S.Store conn.new) result (λ r rows.
         rows.items ≡ map bare (in_record rec.now (placed_of agent.now r))) }
 {
     all(alloc, statements_of_record(conn, agent, rec))
@@ -62,8 +60,7 @@ pub fn read_subject<S: Alter>(
     rec: &Ident,
 ) -> Result<Vec<StatementRow>, ReadError>
     requires { conn.old.in_transaction ≡ false }
-    ensures reads { ReadsOnly (state S.Store conn.old) (state S.Store conn.new) }
-    ensures answer { Answers (state S.Store conn.old) (state S.Store conn.new) result (λ r rows.
+    ensures { ReadsAs (state S.Store conn.old) (state S.Store conn.new) result (λ r rows.
         rows.items ≡ map bare (with_subject declaration.now rec.now (placed_of agent.now r))) }
 {
     all(
@@ -79,8 +76,7 @@ pub fn read_place<S: Alter>(
     at: &At,
 ) -> Result<Option<StatementRow>, ReadError>
     requires { conn.old.in_transaction ≡ false }
-    ensures reads { ReadsOnly (state S.Store conn.old) (state S.Store conn.new) }
-    ensures answer { Answers (state S.Store conn.old) (state S.Store conn.new) result (λ r row.
+    ensures { ReadsAs (state S.Store conn.old) (state S.Store conn.new) result (λ r row.
         row ≡ option_map bare (slice_get (standing_at at.now r.members) 0)) }
 {
     first(
@@ -98,8 +94,7 @@ pub fn read_identified<S: Alter>(
     id: &str,
 ) -> Result<Vec<IdentifierRow>, ReadError>
     requires { conn.old.in_transaction ≡ false }
-    ensures reads { ReadsOnly (state S.Store conn.old) (state S.Store conn.new) }
-    ensures answer { Answers (state S.Store conn.old) (state S.Store conn.new) result (λ r rows.
+    ensures { ReadsAs (state S.Store conn.old) (state S.Store conn.new) result (λ r rows.
         rows.items ≡ identified_by scheme.now id.now r.members) }
 {
     all(alloc, identifiers_by_id(conn, scheme, id))

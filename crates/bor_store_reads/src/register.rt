@@ -3,7 +3,7 @@
 ghost use Rattle.std.specs.Prelude.{◌≡◌, false, Some};
 ghost use Rattle.sqlite.specs.Held.{state};
 ghost use Rattle.bor_store_sql.specs.Rows.Placed.{register_row};
-ghost use Rattle.bor_store_reads.specs.Answering.{Answers, ReadsOnly};
+ghost use Rattle.bor_store_reads.specs.Answering.{ReadsAs};
 
 use crate::fault::ReadError;
 use crate::values::first;
@@ -18,8 +18,7 @@ fn found_register<S: Alter>(
     alloc: Global,
 ) -> Result<Option<RegisterRow>, ReadError>
     requires { conn.old.in_transaction ≡ false }
-    ensures reads { ReadsOnly (state S.Store conn.old) (state S.Store conn.new) }
-    ensures answer { Answers (state S.Store conn.old) (state S.Store conn.new) result (λ r row.
+    ensures { ReadsAs (state S.Store conn.old) (state S.Store conn.new) result (λ r row.
         row ≡ Some (register_row r)) }
 {
     first(alloc, all_register(conn))
@@ -31,8 +30,7 @@ pub(crate) fn read_register<S: Alter>(
     alloc: Global,
 ) -> Result<RegisterRow, ReadError>
     requires { conn.old.in_transaction ≡ false }
-    ensures reads { ReadsOnly (state S.Store conn.old) (state S.Store conn.new) }
-    ensures answer { Answers (state S.Store conn.old) (state S.Store conn.new) result (λ r row.
+    ensures { ReadsAs (state S.Store conn.old) (state S.Store conn.new) result (λ r row.
         row ≡ register_row r) }
 {
     match found_register(conn, alloc)? {
@@ -44,8 +42,7 @@ pub(crate) fn read_register<S: Alter>(
 /// The register's day.
 pub fn read_day<S: Alter>(conn: &mut Connection<S>, alloc: Global) -> Result<Day, ReadError>
     requires { conn.old.in_transaction ≡ false }
-    ensures reads { ReadsOnly (state S.Store conn.old) (state S.Store conn.new) }
-    ensures answer { Answers (state S.Store conn.old) (state S.Store conn.new) result (λ r day.
+    ensures { ReadsAs (state S.Store conn.old) (state S.Store conn.new) result (λ r day.
         day ≡ r.day) }
 {
     Ok(read_register(conn, alloc)?.day)

@@ -10,7 +10,7 @@ ghost use Rattle.bor_register.specs.Register.{filings_of};
 ghost use Rattle.bor_register.specs.Live.{live_of};
 ghost use Rattle.bor_store_sql.specs.Rows.Placed.{bare, filing_row};
 ghost use Rattle.bor_store_sql.specs.Selected.{in_series, numbered, placed_of};
-ghost use Rattle.bor_store_reads.specs.Answering.{Answers, ReadsOnly};
+ghost use Rattle.bor_store_reads.specs.Answering.{ReadsAs};
 
 use crate::fault::ReadError;
 use crate::values::{any, first};
@@ -28,8 +28,7 @@ pub fn has_statement<S: Alter>(
     id: &Ident,
 ) -> Result<bool, ReadError>
     requires { conn.old.in_transaction ≡ false }
-    ensures reads { ReadsOnly (state S.Store conn.old) (state S.Store conn.new) }
-    ensures answer { Answers (state S.Store conn.old) (state S.Store conn.new) result (λ r has.
+    ensures { ReadsAs (state S.Store conn.old) (state S.Store conn.new) result (λ r has.
         has ≡ has_id id.now (live_of (filings_of agent.now r.members))) }
 {
     any(statement_by_id(conn, agent.as_str(), id.as_str()))
@@ -44,8 +43,7 @@ pub(crate) fn found_statement<S: Alter>(
     rec: &Ident,
 ) -> Result<Option<StatementRow>, ReadError>
     requires { conn.old.in_transaction ≡ false }
-    ensures reads { ReadsOnly (state S.Store conn.old) (state S.Store conn.new) }
-    ensures answer { Answers (state S.Store conn.old) (state S.Store conn.new) result (λ r row.
+    ensures { ReadsAs (state S.Store conn.old) (state S.Store conn.new) result (λ r row.
         row ≡ option_map bare
         (last_or None (in_series declaration.now rec.now (placed_of agent.now r)))) }
 {
@@ -63,8 +61,7 @@ pub(crate) fn found_filing<S: Alter>(
     number: u32,
 ) -> Result<Option<FilingRow>, ReadError>
     requires { conn.old.in_transaction ≡ false }
-    ensures reads { ReadsOnly (state S.Store conn.old) (state S.Store conn.new) }
-    ensures answer { Answers (state S.Store conn.old) (state S.Store conn.new) result (λ r row.
+    ensures { ReadsAs (state S.Store conn.old) (state S.Store conn.new) result (λ r row.
         row ≡ option_map (filing_row agent.now)
         (slice_get (numbered number (filings_of agent.now r.members)) 0)) }
 {
@@ -81,8 +78,7 @@ pub fn read_last<S: Alter>(
     rec: &Ident,
 ) -> Result<Option<Last>, ReadError>
     requires { conn.old.in_transaction ≡ false }
-    ensures reads { ReadsOnly (state S.Store conn.old) (state S.Store conn.new) }
-    ensures answer { Answers (state S.Store conn.old) (state S.Store conn.new) result (λ r last.
+    ensures { ReadsAs (state S.Store conn.old) (state S.Store conn.new) result (λ r last.
         last ≡ last_of declaration.now rec.now (live_of (filings_of agent.now r.members))) }
 {
     let Some(row) = found_statement(conn, alloc, agent, declaration, rec)? else {

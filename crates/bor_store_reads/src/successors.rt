@@ -8,7 +8,7 @@ ghost use Rattle.bor_register.specs.Withdrawal.{has_successor};
 ghost use Rattle.bor_store_sql.specs.Rows.Placed.{bare};
 ghost use Rattle.bor_store_sql.specs.Rows.Seen.{is_later};
 ghost use Rattle.bor_store_sql.specs.Selected.{in_filing, in_series, placed_of};
-ghost use Rattle.bor_store_reads.specs.Answering.{Answers, ReadsOnly};
+ghost use Rattle.bor_store_reads.specs.Answering.{ReadsAs};
 
 use crate::fault::ReadError;
 use crate::statements::found_statement;
@@ -27,8 +27,7 @@ fn found_statements<S: Alter>(
     number: u32,
 ) -> Result<Vec<StatementRow>, ReadError>
     requires { conn.old.in_transaction ≡ false }
-    ensures reads { ReadsOnly (state S.Store conn.old) (state S.Store conn.new) }
-    ensures answer { Answers (state S.Store conn.old) (state S.Store conn.new) result (λ r rows.
+    ensures { ReadsAs (state S.Store conn.old) (state S.Store conn.new) result (λ r rows.
         rows.items ≡ map bare (in_filing number (placed_of agent.now r))) }
 {
     all(alloc, statements_of_filing(conn, agent.as_str(), number))
@@ -44,8 +43,7 @@ fn is_followed<S: Alter>(
     row: &StatementRow,
 ) -> Result<bool, ReadError>
     requires { conn.old.in_transaction ≡ false }
-    ensures reads { ReadsOnly (state S.Store conn.old) (state S.Store conn.new) }
-    ensures answer { Answers (state S.Store conn.old) (state S.Store conn.new) result (λ r followed.
+    ensures { ReadsAs (state S.Store conn.old) (state S.Store conn.new) result (λ r followed.
         followed ≡ is_later number
         (last_or None (in_series row.now.declaration row.now.rec (placed_of agent.now r)))) }
 {
@@ -64,8 +62,7 @@ fn any_followed<S: Alter>(
     rows: &[StatementRow],
 ) -> Result<bool, ReadError>
     requires { conn.old.in_transaction ≡ false }
-    ensures reads { ReadsOnly (state S.Store conn.old) (state S.Store conn.new) }
-    ensures answer { Answers (state S.Store conn.old) (state S.Store conn.new) result (λ r any.
+    ensures { ReadsAs (state S.Store conn.old) (state S.Store conn.new) result (λ r any.
         any ≡ list_any
         (λ row. is_later number
         (last_or None (in_series row.declaration row.rec (placed_of agent.now r))))
@@ -89,8 +86,7 @@ pub fn has_successor<S: Alter>(
     number: u32,
 ) -> Result<bool, ReadError>
     requires { conn.old.in_transaction ≡ false }
-    ensures reads { ReadsOnly (state S.Store conn.old) (state S.Store conn.new) }
-    ensures answer { Answers (state S.Store conn.old) (state S.Store conn.new) result (λ r has.
+    ensures { ReadsAs (state S.Store conn.old) (state S.Store conn.new) result (λ r has.
         has ≡ has_successor number (filings_of agent.now r.members)) }
 {
     let rows = found_statements(conn, alloc, agent, number)?;

@@ -5,7 +5,7 @@ ghost use Rattle.std.specs.Prelude.{◌≡◌, false, length, map, nat_le, not};
 ghost use Rattle.std.specs.List.{flat_map};
 ghost use Rattle.sqlite.specs.Held.{state};
 ghost use Rattle.bor_store_sql.specs.Rows.Placed.{agent_row, bare, filing_lines, identifier_rows, interest_rows, line_of, period_rows, placed, without_files};
-ghost use Rattle.bor_store_reads.specs.Answering.{Answers, ReadsOnly};
+ghost use Rattle.bor_store_reads.specs.Answering.{ReadsAs};
 
 use crate::fault::ReadError;
 use crate::values::{all, any};
@@ -24,8 +24,7 @@ use std::alloc::Global;
 /// The rows of all agents, by name.
 fn agents<S: Alter>(conn: &mut Connection<S>, alloc: Global) -> Result<Vec<AgentRow>, ReadError>
     requires { conn.old.in_transaction ≡ false }
-    ensures reads { ReadsOnly (state S.Store conn.old) (state S.Store conn.new) }
-    ensures answer { Answers (state S.Store conn.old) (state S.Store conn.new) result (λ r rows.
+    ensures { ReadsAs (state S.Store conn.old) (state S.Store conn.new) result (λ r rows.
         rows.items ≡ map agent_row r.members) }
 {
     all(alloc, all_agents(conn))
@@ -34,8 +33,7 @@ fn agents<S: Alter>(conn: &mut Connection<S>, alloc: Global) -> Result<Vec<Agent
 /// The rows of all filings without their files, by agent and number.
 fn filings<S: Alter>(conn: &mut Connection<S>, alloc: Global) -> Result<Vec<FilingRow>, ReadError>
     requires { conn.old.in_transaction ≡ false }
-    ensures reads { ReadsOnly (state S.Store conn.old) (state S.Store conn.new) }
-    ensures answer { Answers (state S.Store conn.old) (state S.Store conn.new) result (λ r rows.
+    ensures { ReadsAs (state S.Store conn.old) (state S.Store conn.new) result (λ r rows.
         rows.items ≡ filing_lines r.members) }
 {
     all(alloc, all_filings(conn))
@@ -47,8 +45,7 @@ fn statements<S: Alter>(
     alloc: Global,
 ) -> Result<Vec<StatementRow>, ReadError>
     requires { conn.old.in_transaction ≡ false }
-    ensures reads { ReadsOnly (state S.Store conn.old) (state S.Store conn.new) }
-    ensures answer { Answers (state S.Store conn.old) (state S.Store conn.new) result (λ r rows.
+    ensures { ReadsAs (state S.Store conn.old) (state S.Store conn.new) result (λ r rows.
         rows.items ≡ map bare (placed r.members)) }
 {
     all(alloc, all_statements(conn))
@@ -60,8 +57,7 @@ fn interest_lines<S: Alter>(
     alloc: Global,
 ) -> Result<Vec<InterestLine>, ReadError>
     requires { conn.old.in_transaction ≡ false }
-    ensures reads { ReadsOnly (state S.Store conn.old) (state S.Store conn.new) }
-    ensures answer { Answers (state S.Store conn.old) (state S.Store conn.new) result (λ r rows.
+    ensures { ReadsAs (state S.Store conn.old) (state S.Store conn.new) result (λ r rows.
         rows.items ≡ map line_of (flat_map interest_rows (placed r.members))) }
 {
     all(alloc, all_interests(conn))
@@ -70,8 +66,7 @@ fn interest_lines<S: Alter>(
 /// The rows of the days of all interests, by the place of their statement.
 fn periods<S: Alter>(conn: &mut Connection<S>, alloc: Global) -> Result<Vec<PeriodRow>, ReadError>
     requires { conn.old.in_transaction ≡ false }
-    ensures reads { ReadsOnly (state S.Store conn.old) (state S.Store conn.new) }
-    ensures answer { Answers (state S.Store conn.old) (state S.Store conn.new) result (λ r rows.
+    ensures { ReadsAs (state S.Store conn.old) (state S.Store conn.new) result (λ r rows.
         rows.items ≡ flat_map period_rows (flat_map interest_rows (placed r.members))) }
 {
     all(alloc, all_periods(conn))
@@ -83,8 +78,7 @@ fn interests<S: Alter>(
     alloc: Global,
 ) -> Result<Vec<InterestRow>, ReadError>
     requires { conn.old.in_transaction ≡ false }
-    ensures reads { ReadsOnly (state S.Store conn.old) (state S.Store conn.new) }
-    ensures answer { Answers (state S.Store conn.old) (state S.Store conn.new) result (λ r rows.
+    ensures { ReadsAs (state S.Store conn.old) (state S.Store conn.new) result (λ r rows.
         rows.items ≡ flat_map interest_rows (placed r.members)) }
 {
     let lines = interest_lines(conn, alloc)?;
@@ -98,8 +92,7 @@ fn identifiers<S: Alter>(
     alloc: Global,
 ) -> Result<Vec<IdentifierRow>, ReadError>
     requires { conn.old.in_transaction ≡ false }
-    ensures reads { ReadsOnly (state S.Store conn.old) (state S.Store conn.new) }
-    ensures answer { Answers (state S.Store conn.old) (state S.Store conn.new) result (λ r rows.
+    ensures { ReadsAs (state S.Store conn.old) (state S.Store conn.new) result (λ r rows.
         rows.items ≡ flat_map identifier_rows (placed r.members)) }
 {
     all(alloc, all_identifiers(conn))
@@ -108,8 +101,7 @@ fn identifiers<S: Alter>(
 /// All live statements, by agent, filing and place.
 fn placed<S: Alter>(conn: &mut Connection<S>, alloc: Global) -> Result<Vec<Placed>, ReadError>
     requires { conn.old.in_transaction ≡ false }
-    ensures reads { ReadsOnly (state S.Store conn.old) (state S.Store conn.new) }
-    ensures answer { Answers (state S.Store conn.old) (state S.Store conn.new) result
+    ensures { ReadsAs (state S.Store conn.old) (state S.Store conn.new) result
         (λ r statements.
         statements.items ≡ placed r.members) }
 {
@@ -127,8 +119,7 @@ fn placed<S: Alter>(conn: &mut Connection<S>, alloc: Global) -> Result<Vec<Place
 /// Whether there are more live statements than so many.
 pub fn has_more<S: Alter>(conn: &mut Connection<S>, most: u32) -> Result<bool, ReadError>
     requires { conn.old.in_transaction ≡ false }
-    ensures reads { ReadsOnly (state S.Store conn.old) (state S.Store conn.new) }
-    ensures answer { Answers (state S.Store conn.old) (state S.Store conn.new) result (λ r more.
+    ensures { ReadsAs (state S.Store conn.old) (state S.Store conn.new) result (λ r more.
         more ≡ not (nat_le (length (placed r.members)) most)) }
 {
     any(more_statements(conn, most))
@@ -140,8 +131,7 @@ pub(crate) fn members<S: Alter>(
     alloc: Global,
 ) -> Result<Vec<Member>, ReadError>
     requires { conn.old.in_transaction ≡ false }
-    ensures reads { ReadsOnly (state S.Store conn.old) (state S.Store conn.new) }
-    ensures answer { Answers (state S.Store conn.old) (state S.Store conn.new) result (λ r members.
+    ensures { ReadsAs (state S.Store conn.old) (state S.Store conn.new) result (λ r members.
         members.items ≡ without_files r.members) }
 {
     let agents = agents(conn, alloc)?;

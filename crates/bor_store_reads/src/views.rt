@@ -4,7 +4,7 @@ ghost use Rattle.std.specs.Prelude.{◌≡◌, false};
 ghost use Rattle.sqlite.specs.Held.{state};
 ghost use Rattle.bor_register.specs.Publication.{published};
 ghost use Rattle.bor_register.specs.Rows.{visible};
-ghost use Rattle.bor_store_reads.specs.Answering.{Answers, ReadsOnly};
+ghost use Rattle.bor_store_reads.specs.Answering.{ReadsAs};
 
 use crate::fault::ReadError;
 use crate::register::read_day;
@@ -25,8 +25,7 @@ pub fn read_visible<S: Alter>(
     viewer: &AgentName,
 ) -> Result<Vec<Row>, ReadError>
     requires { conn.old.in_transaction ≡ false }
-    ensures reads { ReadsOnly (state S.Store conn.old) (state S.Store conn.new) }
-    ensures answer { Answers (state S.Store conn.old) (state S.Store conn.new) result (λ r rows.
+    ensures { ReadsAs (state S.Store conn.old) (state S.Store conn.new) result (λ r rows.
         rows.items ≡ visible viewer.now r.day r.members) }
 {
     let day = read_day(conn, alloc)?;
@@ -41,8 +40,7 @@ pub fn read_published<S: Alter>(
     alloc: Global,
 ) -> Result<Vec<Outward>, ReadError>
     requires { conn.old.in_transaction ≡ false }
-    ensures reads { ReadsOnly (state S.Store conn.old) (state S.Store conn.new) }
-    ensures answer { Answers (state S.Store conn.old) (state S.Store conn.new) result (λ r outwards.
+    ensures { ReadsAs (state S.Store conn.old) (state S.Store conn.new) result (λ r outwards.
         outwards.items ≡ published r.day r.members) }
 {
     let day = read_day(conn, alloc)?;

@@ -24,18 +24,18 @@ loop-placed-preserved g c =
     let steps : into_iter_items c.loop-placed.placed-iterator ≡ c.in-Some.placed ∷ into_iter_items c.next.new.self = c.in-Some.ensures.steps.0 in
     record {
       whole = (let was = c.loop-placed.invariant.whole in let gone = c.in-Some.ensures.steps.1 in let short = ap length steps in omega arith);
-      mode = c.known_of.ensures.reads.mode;
-      began = λ clean. c.loop-placed.invariant.began (c.known_of.ensures.reads.began clean);
-      kept = λ clean. c.known_of.ensures.reads.kept clean ∙ c.loop-placed.invariant.kept (c.known_of.ensures.reads.began clean);
+      mode = c.known_of.ensures.reads.reads.mode;
+      began = λ clean. c.loop-placed.invariant.began (c.known_of.ensures.reads.reads.began clean);
+      kept = λ clean. c.known_of.ensures.reads.reads.kept clean ∙ c.loop-placed.invariant.kept (c.known_of.ensures.reads.reads.began clean);
       told = λ clean r shows.
-          (let began = c.known_of.ensures.reads.began clean in
+          (let began = c.known_of.ensures.reads.reads.began clean in
           let shown = still_shows r (state g.S.Store c.args.conn.now) (state g.S.Store c.loop-placed.conn) (c.loop-placed.invariant.kept began) shows in
-          c.in_ok-known.ensures.answer clean r shown (c.loop-placed.invariant.told began r shows));
+          c.in_ok-known.ensures.reads.answer clean r shown (c.loop-placed.invariant.told began r shows));
       found = λ clean r shows.
-          (let began = c.known_of.ensures.reads.began clean in
+          (let began = c.known_of.ensures.reads.reads.began clean in
           let own = filings_of c.args.agent.now r.members in
           let shown = still_shows r (state g.S.Store c.args.conn.now) (state g.S.Store c.loop-placed.conn) (c.loop-placed.invariant.kept began) shows in
-          let known = c.in_ok-known.ensures.answer clean r shown (c.loop-placed.invariant.told began r shows) in
+          let known = c.in_ok-known.ensures.reads.answer clean r shown (c.loop-placed.invariant.told began r shows) in
           next_seen (is_seen c.args.viewer.now c.args.day c.args.agent.now own) c.loop-placed.rows.items _ _ c.in-Some.placed _ (into_iter_items c.next.new.self) _ (c.loop-placed.invariant.found began r shows) steps
           (ap (is_number_seen c.args.viewer.now c.args.day c.args.agent.now own) (sym c.in_ok-known.ensures.number) ∙ sym known) c.in_ok-push_if.ensures);
     }

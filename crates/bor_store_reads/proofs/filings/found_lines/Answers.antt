@@ -9,12 +9,12 @@ use Rattle.bor_store_reads.proofs.Found.{told}
 use Rattle.bor_store_reads.proofs.FoundFilings.{own_rows_formed}
 use Rattle.bor_store_reads.proofs.filings.found_lines.Goals as goal
 
-pub returns-clause-answer : goal.returns-clause-answer
-returns-clause-answer g c =
+pub returns : goal.returns
+returns g c =
     let agent = c.args.agent.now in
     let old = state g.S.Store c.args.conn.now in
     let new = state g.S.Store c.filings_of_agent.new.conn in
-    told line_columns IsFormedFilingRow old new c.filings_of_agent.result (λ r. map (λ f. line_columns (filing_row c.as_str.result.now f)) (filings_of c.as_str.result.now r.members)) c.filings_of_agent.ensures.finds
+    told line_columns IsFormedFilingRow old new c.filings_of_agent.result (λ r. map (λ f. line_columns (filing_row c.as_str.result.now f)) (filings_of c.as_str.result.now r.members)) c.filings_of_agent.ensures.mode c.filings_of_agent.ensures.finds
     (λ r. map (filing_row agent) (filings_of agent r.members))
     (λ r. ap (λ a. map (λ f. line_columns (filing_row a f)) (filings_of a r.members)) c.as_str.ensures.value ∙ sym (map-map line_columns (filing_row agent) (filings_of agent r.members)))
     (own_rows_formed agent c.as_str.ensures.form (λ fs. fs) (λ fs h. h))

@@ -1,29 +1,32 @@
 use Rattle.std.proofs.Common.{Some, sym, ap, ◌∙◌}
-use Rattle.sqlite.specs.Held.{state}
 use Rattle.bor_register.specs.Register.{filings_of}
-use Rattle.bor_store_reads.proofs.Found.{still_shows}
 use Rattle.bor_store_reads.proofs.FoundFilings.{own_numbered}
 use Rattle.bor_store_reads.proofs.FoundStatements.{no_last, last_known, last_has_filing}
+use Rattle.bor_store_reads.proofs.Reading.{read_fails, read_never, read_next, read_so}
 use Rattle.bor_store_reads.proofs.statements.read_last.Goals as goal
 
-pub returns-in_default-clause-answer : goal.returns-in_default-clause-answer
-returns-in_default-clause-answer g c clean r shows =
+pub returns-in_default : goal.returns-in_default
+returns-in_default g c =
     let agent = c.args.agent.now in
-    sym (no_last agent c.args.declaration.now c.args.rec.now (filings_of agent r.members) (own_numbered agent r.members shows.stored.numbered) (sym (c.in_ok-row.ensures.answer clean r shows) ∙ c.in_default.is))
+    read_so c.in_ok-row.ensures
+    (λ r stored is. sym (no_last agent c.args.declaration.now c.args.rec.now (filings_of agent r.members) (own_numbered agent r.members stored.numbered) (sym is ∙ c.in_default.is)))
 
-pub returns-in-Some-2-clause-answer : goal.returns-in-Some-2-clause-answer
-returns-in-Some-2-clause-answer g c clean r shows =
+pub returns-in-Some-2 : goal.returns-in-Some-2
+returns-in-Some-2 g c =
     let agent = c.args.agent.now in
-    let began = c.found_filing.ensures.reads.began clean in
-    let shown = still_shows r (state g.S.Store c.args.conn.now) (state g.S.Store c.found_statement.new.conn) (c.found_statement.ensures.reads.kept began) shows in
+    read_so (read_next c.in_ok-row.ensures c.in_ok-filing.ensures)
+    (λ r stored is.
     ap Some c.known.ensures
-    ∙ last_known agent c.args.declaration.now c.args.rec.now (filings_of agent r.members) (own_numbered agent r.members shows.stored.numbered) c.in-Some.row (sym c.in-Some.is ∙ c.in_ok-row.ensures.answer began r shows)
-    c.in-Some-2.filing (sym c.in-Some-2.is ∙ c.in_ok-filing.ensures.answer clean r shown)
+    ∙ last_known agent c.args.declaration.now c.args.rec.now (filings_of agent r.members) (own_numbered agent r.members stored.numbered) c.in-Some.row (sym c.in-Some.is ∙ is.0) c.in-Some-2.filing (sym c.in-Some-2.is ∙ is.1))
 
-pub returns-clause-answer : goal.returns-clause-answer
-returns-clause-answer g c clean r shows bad =
+pub returns : goal.returns
+returns g c =
     let agent = c.args.agent.now in
-    let began = c.found_filing.ensures.reads.began clean in
-    let shown = still_shows r (state g.S.Store c.args.conn.now) (state g.S.Store c.found_statement.new.conn) (c.found_statement.ensures.reads.kept began) shows in
-    last_has_filing agent c.args.declaration.now c.args.rec.now (filings_of agent r.members) (own_numbered agent r.members shows.stored.numbered) c.in-Some.row (sym c.in-Some.is ∙ c.in_ok-row.ensures.answer began r shows)
-    (sym c.in-None.is ∙ c.in_ok-filing.ensures.answer clean r shown)
+    read_never (read_next c.in_ok-row.ensures c.in_ok-filing.ensures)
+    (λ r stored is. last_has_filing agent c.args.declaration.now c.args.rec.now (filings_of agent r.members) (own_numbered agent r.members stored.numbered) c.in-Some.row (sym c.in-Some.is ∙ is.0) (sym c.in-None.is ∙ is.1))
+
+pub returns-in_err-row : goal.returns-in_err-row
+returns-in_err-row g c = read_fails c.from_residual.ensures.1 c.in_err-row.ensures
+
+pub returns-in_err-filing : goal.returns-in_err-filing
+returns-in_err-filing g c = read_fails c.from_residual-in_err-filing.ensures.1 (read_next c.in_ok-row.ensures c.in_err-filing.ensures)

@@ -8,9 +8,9 @@ use Rattle.bor_store_sql.proofs.OnRows.Formed.{agents_formed}
 use Rattle.bor_store_reads.proofs.Found.{told}
 use Rattle.bor_store_reads.proofs.tables.agents.Goals as goal
 
-pub returns-clause-answer : goal.returns-clause-answer
-returns-clause-answer g c =
-    told agent_row_columns IsFormedAgentRow (state g.S.Store c.args.conn.now) (state g.S.Store c.all_agents.new.conn) c.all_agents.result (λ r. map agent_columns r.members) c.all_agents.ensures.finds (λ r. map agent_row r.members)
+pub returns : goal.returns
+returns g c =
+    told agent_row_columns IsFormedAgentRow (state g.S.Store c.args.conn.now) (state g.S.Store c.all_agents.new.conn) c.all_agents.result (λ r. map agent_columns r.members) c.all_agents.ensures.mode c.all_agents.ensures.finds (λ r. map agent_row r.members)
     (λ r. sym (map-map agent_row_columns agent_row r.members))
     (λ r stored. agents_formed r.members stored.formed.members)
     c.all.result (λ xs values. values.items ≡ xs) c.all.ensures

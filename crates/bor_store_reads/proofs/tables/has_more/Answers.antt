@@ -5,10 +5,10 @@ use Rattle.bor_store_sql.specs.Rows.Placed.{placed}
 use Rattle.bor_store_reads.proofs.Found.{told_any, any_after}
 use Rattle.bor_store_reads.proofs.tables.has_more.Goals as goal
 
-pub returns-clause-answer : goal.returns-clause-answer
-returns-clause-answer g c =
+pub returns : goal.returns
+returns g c =
     let most = c.args.most in
-    told_any (state g.S.Store c.args.conn.now) (state g.S.Store c.more_statements.new.conn) c.more_statements.result (λ r. map (λ p. Int (pos 1) ∷ []) (take 1 (drop most (placed r.members)))) c.more_statements.ensures.finds
+    told_any (state g.S.Store c.args.conn.now) (state g.S.Store c.more_statements.new.conn) c.more_statements.result (λ r. map (λ p. Int (pos 1) ∷ []) (take 1 (drop most (placed r.members)))) c.more_statements.ensures.mode c.more_statements.ensures.finds
     (λ r. not (nat_le (length (placed r.members)) most))
     (λ r. any_after (λ p. Int (pos 1) ∷ []) most (placed r.members))
     c.any.result c.any.ensures

@@ -1,15 +1,20 @@
 use Rattle.std.proofs.Common.{◌∙◌}
 use Rattle.std.specs.List.{flat_map}
-use Rattle.sqlite.specs.Held.{state}
 use Rattle.bor_store_sql.specs.Rows.Placed.{interest_rows, placed}
 use Rattle.bor_store_sql.proofs.OnRows.Apart.{all_apart}
 use Rattle.bor_store_sql.proofs.OnRows.Timings.{all_several}
-use Rattle.bor_store_reads.proofs.Found.{still_shows}
+use Rattle.bor_store_reads.proofs.Reading.{read_fails, read_next, read_so, read_wants}
 use Rattle.bor_store_reads.proofs.tables.interests.Goals as goal
 
-pub returns-clause-answer : goal.returns-clause-answer
-returns-clause-answer g c clean r shows =
-    let second = c.periods.ensures.reads.began clean in
-    let shown = still_shows r (state g.S.Store c.args.conn.now) (state g.S.Store c.interest_lines.new.conn) (c.interest_lines.ensures.reads.kept second) shows in
-    c.in_ok-with_periods.ensures (flat_map interest_rows (placed r.members)) (all_several (placed r.members) (all_apart r.members shows.stored.ordered shows.stored.numbered)) (c.in_ok-lines.ensures.answer second r shows)
-    (c.as_slice.ensures.value ∙ c.in_ok-periods.ensures.answer clean r shown)
+pub returns : goal.returns
+returns g c = read_so (read_next c.in_ok-lines.ensures c.in_ok-periods.ensures)
+    (λ r stored is. c.in_ok-with_periods.ensures (flat_map interest_rows (placed r.members)) (all_several (placed r.members) (all_apart r.members stored.ordered stored.numbered)) is.0 (c.as_slice.ensures.value ∙ is.1))
+
+pub returns-in_err-lines : goal.returns-in_err-lines
+returns-in_err-lines g c = read_fails c.from_residual.ensures.1 c.in_err-lines.ensures
+
+pub returns-in_err-periods : goal.returns-in_err-periods
+returns-in_err-periods g c = read_fails c.from_residual-in_err-periods.ensures.1 (read_next c.in_ok-lines.ensures c.in_err-periods.ensures)
+
+pub returns-in_err-with_periods : goal.returns-in_err-with_periods
+returns-in_err-with_periods g c = read_wants c.from_residual-in_err-with_periods.ensures.1 (read_next c.in_ok-lines.ensures c.in_ok-periods.ensures).reads

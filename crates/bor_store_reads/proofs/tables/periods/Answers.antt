@@ -8,9 +8,9 @@ use Rattle.bor_store_sql.proofs.OnRows.Formed.{placed_formed, all_interests_form
 use Rattle.bor_store_reads.proofs.Found.{told}
 use Rattle.bor_store_reads.proofs.tables.periods.Goals as goal
 
-pub returns-clause-answer : goal.returns-clause-answer
-returns-clause-answer g c =
-    told period_columns IsFormedPeriodRow (state g.S.Store c.args.conn.now) (state g.S.Store c.all_periods.new.conn) c.all_periods.result (λ r. map period_columns (flat_map period_rows (flat_map interest_rows (placed r.members)))) c.all_periods.ensures.finds
+pub returns : goal.returns
+returns g c =
+    told period_columns IsFormedPeriodRow (state g.S.Store c.args.conn.now) (state g.S.Store c.all_periods.new.conn) c.all_periods.result (λ r. map period_columns (flat_map period_rows (flat_map interest_rows (placed r.members)))) c.all_periods.ensures.mode c.all_periods.ensures.finds
     (λ r. flat_map period_rows (flat_map interest_rows (placed r.members)))
     (λ r. refl)
     (λ r stored. all_periods_formed (flat_map interest_rows (placed r.members)) (all_interests_formed (placed r.members) (placed_formed r stored)))

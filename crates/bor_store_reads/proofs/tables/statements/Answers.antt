@@ -8,9 +8,9 @@ use Rattle.bor_store_sql.proofs.OnRows.Formed.{placed_formed, all_bare_formed}
 use Rattle.bor_store_reads.proofs.Found.{told}
 use Rattle.bor_store_reads.proofs.tables.statements.Goals as goal
 
-pub returns-clause-answer : goal.returns-clause-answer
-returns-clause-answer g c =
-    told statement_columns IsFormedStatementRow (state g.S.Store c.args.conn.now) (state g.S.Store c.all_statements.new.conn) c.all_statements.result (λ r. map (λ p. statement_columns (bare p)) (placed r.members)) c.all_statements.ensures.finds (λ r. map bare (placed r.members))
+pub returns : goal.returns
+returns g c =
+    told statement_columns IsFormedStatementRow (state g.S.Store c.args.conn.now) (state g.S.Store c.all_statements.new.conn) c.all_statements.result (λ r. map (λ p. statement_columns (bare p)) (placed r.members)) c.all_statements.ensures.mode c.all_statements.ensures.finds (λ r. map bare (placed r.members))
     (λ r. sym (map-map statement_columns bare (placed r.members)))
     (λ r stored. all_bare_formed (placed r.members) (placed_formed r stored))
     c.all.result (λ xs values. values.items ≡ xs) c.all.ensures
