@@ -2,7 +2,7 @@
 
 ghost use Rattle.std.specs.Prelude.{◌≡◌, IfOk, map};
 ghost use Rattle.std.specs.List.{flat_map};
-ghost use Rattle.bor_store_sql.specs.Rows.Placed.{bare, interest_rows, identifier_rows, AreApart};
+ghost use Rattle.bor_store_sql.specs.Rows.Placed.{bare, interest_rows, identifier_rows, with_lists, AreApart};
 
 use crate::rows::split::{identifiers, interests, split_identifiers, split_interests};
 use crate::rows::typed::{IdentifierRow, InterestRow, Placed, StatementRow};
@@ -27,9 +27,24 @@ pub fn joined(
         let (own_identifiers, more_identifiers) = split_identifiers(identifiers_left, &row.at);
         interests_left = more_interests;
         identifiers_left = more_identifiers;
-        let interests = interests(alloc, own_interests)?;
-        let identifiers = identifiers(alloc, own_identifiers)?;
-        placed.push(row.with(interests, identifiers))?;
+        let made = with_rows(alloc, row, own_interests, own_identifiers)?;
+        placed.push(made)?;
     }
     Ok(placed)
+}
+
+// The statement of a row, with the interests and the identifiers of these rows.
+fn with_rows(
+    alloc: Global,
+    row: StatementRow,
+    own_interests: &[InterestRow],
+    own_identifiers: &[IdentifierRow],
+) -> Result<Placed, AllocError>
+    ensures { IfOk result (λ placed. placed
+        ≡ with_lists row (map (λ r. r.interest) own_interests.now)
+        (map (λ r. r.identifier) own_identifiers.now)) }
+{
+    let interests = interests(alloc, own_interests)?;
+    let identifiers = identifiers(alloc, own_identifiers)?;
+    Ok(row.with(interests, identifiers))
 }

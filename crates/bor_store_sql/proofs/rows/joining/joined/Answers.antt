@@ -24,7 +24,7 @@ loop-row-preserved c =
           let gone = c.in-Some.ensures.steps.1 in
           let short = ap length steps in
           omega arith,
-      λ ps apart rows is ds. rw c.in_ok-push.ensures.items (one_more ps c.loop-row.placed.items _ _ c.in-Some.row _ _ c.split_interests.result.0.now _ _ c.split_identifiers.result.0.now c.with.result
+      λ ps apart rows is ds. rw c.in_ok-push.ensures.items (one_more ps c.loop-row.placed.items _ _ c.in-Some.row _ _ c.split_interests.result.0.now _ _ c.split_identifiers.result.0.now c.in_ok-made.made
           (c.loop-row.invariant.1 ps apart rows is ds) steps c.split_interests.ensures c.split_identifiers.ensures (search rules)),
     )
 
