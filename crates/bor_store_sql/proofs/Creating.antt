@@ -1,5 +1,5 @@
 -- What the texts do that make the tables and their indexes.
-use Rattle.std.proofs.Common.{◌≡◌, ℕ, ℤ, pos, List, [], ◌∷◌, slice_get, true, false, None, Some, Ok, Err, Result, refl, sym, ap, subst, ◌∙◌}
+use Rattle.std.proofs.Common.{◌≡◌, ℕ, ℤ, pos, List, [], ◌∷◌, slice_get, true, false, None, Some, Ok, Result, refl, sym, ap, subst, ◌∙◌}
 use Rattle.std.specs.List.{AllByRecursion}
 use Rattle.std.proofs.lemmas.List.Elements.{All-nil}
 use Rattle.std.proofs.lemmas.List.Sorted.{IsPermutation-refl}
@@ -14,7 +14,7 @@ use Rattle.sqlite.specs.Change.{created, next_tree, KeepsRows}
 use Rattle.sqlite.specs.Cast.{cast_all}
 use Rattle.sqlite.specs.Does.{Tally, Does, lacks_sequence}
 use Rattle.sqlite.specs.Effect.{Database}
-use Rattle.sqlite.specs.State.{State, Executes, ExecutesInside, Writes, mode_of}
+use Rattle.sqlite.specs.State.{State, Executes, Writes, mode_of}
 use Rattle.sqlite.proofs.Callers.{runs_as}
 use Rattle.sqlite_catalog.specs.Change.{indexed}
 use Rattle.sqlite_keyed.proofs.ListLemmas.{all-append, all_both}
@@ -31,11 +31,12 @@ use Rattle.bor_store_sql.specs.Rows.Encoding.{contents, register_columns, tables
 use Rattle.bor_store_sql.specs.Rows.Stored.{IsStored}
 use Rattle.bor_store_sql.specs.Blank.{IsBlank, Leads, no_contents}
 use Rattle.bor_store_sql.specs.Kept.{Keeps}
-use Rattle.bor_store_sql.specs.Moving.{MakesPeriod, Moves}
+use Rattle.bor_store_sql.specs.Moving.{MakesPeriod}
+use Rattle.bor_store_sql.specs.Ran.{Moves}
 use Rattle.bor_store_sql.specs.Shown.{Has, HasFirst}
 use Rattle.bor_store_sql.proofs.Inserts.{inserts, went, same_value, cast_int}
 use Rattle.bor_store_sql.proofs.Others.{with_register}
-use Rattle.bor_store_sql.proofs.Stepping.{how_ended, ended_open, ended_committed}
+use Rattle.bor_store_sql.proofs.Moves.{both_move, in_other_words}
 use Rattle.bor_store_sql.proofs.Tables.{one_more}
 
 -- tables without rows stay so where rows are kept
@@ -88,39 +89,6 @@ module _ (sql : List ℕ) (schema : Schema) (at : ℕ) (table : Table) (index : 
         empty = still_empty schema.tables old.now.trees all.0.trees blank.empty made.rows;
       })
 
--- ---- one after the other
-
-pub one_lead : (before after : Database → Type 0) (sql : List ℕ) (params : Row) (old new : State) (result : Result ℕ Error) → ExecutesInside 0 sql params old new result
-    → ((count : ℕ) → before old.now → Executes sql params old new (Ok count) → after new.now) → Leads before after old new result
-one_lead before after sql params old new (Ok count) h does = record {
-  was_open = λ up. h.1.was_open;
-  committed = λ up. h.1.committed_is;
-  goes_on = h.1.mode;
-  made = λ is. does count is h.0;
-}
-one_lead before after sql params old new (Err e) h does =
-    let ended = how_ended sql params old new e h in
-    record { was_open = ended_open old new ended; committed = ended_committed old new ended; goes_on = tt; made = tt }
-
-pub both_lead : {X Y : Type 0} (first between last : Database → Type 0) (old mid new : State) (x : X) (result : Result Y Error) → Leads {E = Error} first between old mid (Ok x) → Leads {E = Error} between last mid new result
-    → Leads {E = Error} first last old new result
-both_lead first between last old mid new x (Ok y) one two = record {
-  was_open = λ up. one.was_open (two.was_open up);
-  committed = λ up. two.committed up ∙ one.committed (two.was_open up);
-  goes_on = two.goes_on;
-  made = λ is. two.made (one.made is);
-}
-both_lead first between last old mid new x (Err e) one two = record {
-  was_open = λ up. one.was_open (two.was_open up);
-  committed = λ up. two.committed up ∙ one.committed (two.was_open up);
-  goes_on = tt;
-  made = tt;
-}
-
--- what they answer doesn't matter
-pub finished : {X : Type 0} (first last : Database → Type 0) (old new : State) (x : X) → Leads {E = Error} first last old new (Ok x) → Leads {X = Unit {0}} {E = Error} first last old new (Ok (tt {0}))
-finished first last old new x one = record { was_open = one.was_open; committed = one.committed; goes_on = one.goes_on; made = one.made }
-
 -- ---- the register's row
 
 pub none_kept : (rows : List Row) → rows ≡ [] → Keeps [] rows
@@ -137,14 +105,13 @@ blank_has db blank = record {
   identifiers = none_kept _ blank.empty.1.1.1.1.1.0;
 }
 
+-- one after the other
+pub both_lead : (first between last : Database → Type 0) (old mid new : State) (result : Result (Unit {0}) Error) → Leads first between old mid (Ok (tt {0})) → Leads between last mid new result → Leads first last old new result
+both_lead first between last old mid new result one two = both_move _ _ _ old mid new result (λ to_between to_last is. to_last (to_between is)) one two
+
 -- the table period, beside six without rows
-pub period_leads : {X : Type 0} (old new : State) (x : X) → Moves {E = Error} MakesPeriod old new (Ok x) → Leads {E = Error} (IsBlank first_schema) (Has no_contents) old new (Ok x)
-period_leads old new x one = record {
-  was_open = one.was_open;
-  committed = one.committed;
-  goes_on = one.goes_on;
-  made = λ blank. one.made no_contents (blank_has old.now blank);
-}
+pub period_leads : (old new : State) (result : Result (Unit {0}) Error) → Moves MakesPeriod old new result → Leads (IsBlank first_schema) (Has no_contents) old new result
+period_leads old new result one = in_other_words MakesPeriod _ old new result (λ makes blank. makes no_contents (blank_has old.now blank)) one
 
 -- what the INSERT of the register's row is given
 abbrev pub given_register : ℤ → List ℕ → Row

@@ -7,8 +7,7 @@ pub mod Selects
 pub mod Tables
 pub mod Others
 pub mod Adding
-pub mod Stepping
-pub mod Going
+pub mod Ending
 pub mod Counted
 pub mod Lists
 pub mod Members

@@ -1,48 +1,126 @@
--- Statements of a transaction, one after the other.
-use Rattle.std.proofs.Common.{◌≡◌, ◌<◌, ◌+◌, ℕ, List, [], ◌∷◌, ◌++◌, map, take, length, get_or, append_assoc, append-nil, Ok, Err, Result, OnOk, IsTrue, IsErr, false, true≢false, sym, ap, subst, ◌∙◌}
+-- What is done in a transaction, one statement after the other.
+use Rattle.std.proofs.Common.{◌≡◌, ◌⊎◌, inl, inr, ◌<◌, ◌≤◌, ◌+◌, ℕ, List, [], ◌∷◌, ◌++◌, map, take, length, get_or, append_assoc, append-nil, Ok, Err, Result, OnOk, IsTrue, IsErr, true≢false, refl, sym, ap, subst, ◌∙◌, arith}
 use Rattle.std.proofs.lemmas.List.{map-append, take_more}
 use Rattle.sqlite.specs.Effect.{Database}
 use Rattle.sqlite.specs.Order.{Row}
 use Rattle.sqlite.specs.declared.error.Error.{Error}
-use Rattle.sqlite.specs.State.{State, ExecutesInside, Executes, HasCleanDisk, Shows, KeepsCounts}
-use Rattle.bor_store_sql.proofs.Stepping.{how_ended, ended_open, ended_committed}
-use Rattle.bor_store_sql.specs.Moving.{Moves, PutsPeriods}
-use Rattle.bor_store_sql.specs.Rows.Encoding.{period_columns}
-use Rattle.bor_store_sql.specs.Shown.{Has}
+use Rattle.sqlite.specs.State.{State, ExecutesInside, Executes, HasCleanDisk, IsUnchanged, IsRolledBack, Survives}
+use Rattle.sqlite.specs.Tree.{Trees}
+use Rattle.bor_store_sql.specs.Changing.{Any}
+use Rattle.bor_store_sql.specs.Moving.{PutsPeriods}
+use Rattle.bor_store_sql.specs.Ran.{Moved, Moves, Ran, RunsInside}
+use Rattle.bor_store_sql.specs.Rows.Encoding.{Contents, period_columns}
+use Rattle.bor_store_sql.specs.Shown.{Changes, Has, Steps}
 use Rattle.bor_store_sql.specs.declared.rows.typed.PeriodRow.{PeriodRow}
 
-pub one_move : (Makes : Database → Database → Type 0) (sql : List ℕ) (params : Row) (old new : State) (result : Result ℕ Error) → ExecutesInside 0 sql params old new result
-    → ((count : ℕ) → Executes sql params old new (Ok count) → Makes old.now new.now) → Moves Makes old new result
-one_move Makes sql params old new (Ok count) h does = record {
-  was_open = λ up. h.1.was_open;
-  committed = λ up. h.1.committed_is;
-  goes_on = h.1.mode;
-  made = does count h.0;
-}
-one_move Makes sql params old new (Err e) h does =
-    let ended = how_ended sql params old new e h in
-    record { was_open = ended_open old new ended; committed = ended_committed old new ended; goes_on = tt; made = tt }
+-- ---- one text
 
-pub both_move : {X Y Z : Type 0} (First Then Both : Database → Database → Type 0) (old mid new : State) (x : X) (y : Y) (z : Z) → (First old.now mid.now → Then mid.now new.now → Both old.now new.now)
-    → Moves {E = Error} First old mid (Ok x) → Moves {E = Error} Then mid new (Ok y) → Moves {E = Error} Both old new (Ok z)
-both_move First Then Both old mid new x y z chain one two = record {
+no_less : (a b : ℕ) → a ≤ b → b ≡ 0 → a ≡ 0
+no_less a b le none = omega arith
+
+-- a disk that is clean was so before
+pub was_clean : (old new : State) (Commits : Trees → Type 0) → Survives old new Commits → HasCleanDisk new → HasCleanDisk old
+was_clean old new Commits survives clean = no_less _ _ survives.clean clean
+
+how_ended : (sql : List ℕ) (params : Row) (old new : State) (e : Error) → ExecutesInside 0 sql params old new (Err e) → IsUnchanged old new ⊎ IsRolledBack old new
+how_ended sql params old new e (inl h) = h.1
+how_ended sql params old new e (inr h) = inl h.2
+
+module _ (sql : List ℕ) (params : Row) (old new : State) (Commits : Trees → Type 0) (survives : Survives old new Commits) where
+  pub ran_well : (count : ℕ) → (HasCleanDisk new → IsTrue old.in_transaction → ExecutesInside 0 sql params old new (Ok count)) → Ran sql params old new (Ok (tt {0}))
+  ran_well count h = record { clean = was_clean old new Commits survives; inside = λ clean inside. (count, h clean inside) }
+
+  pub ran_badly : (e : Error) (result : Result (Unit {0}) Error) → (HasCleanDisk new → IsTrue old.in_transaction → ExecutesInside 0 sql params old new (Err e)) → IsErr result → Ran sql params old new result
+  ran_badly e (Ok x) h err = absurd (true≢false (sym err))
+  ran_badly e (Err why) h err = record { clean = was_clean old new Commits survives; inside = λ clean inside. how_ended sql params old new e (h clean inside) }
+
+-- ---- one statement
+
+ended_open : (old new : State) → IsUnchanged old new ⊎ IsRolledBack old new → IsTrue new.is_open → IsTrue old.is_open
+ended_open old new (inl k) up = k.0.was_open
+ended_open old new (inr k) up = k.was_open up
+
+ended_committed : (old new : State) → IsUnchanged old new ⊎ IsRolledBack old new → IsTrue new.is_open → new.committed ≡ old.committed
+ended_committed old new (inl k) up = k.0.committed_is
+ended_committed old new (inr k) up = (k.undone up).1
+
+one_move : (Makes : Database → Database → Type 0) (sql : List ℕ) (params : Row) (old new : State) (result : Result (Unit {0}) Error) → RunsInside sql params old new result
+    → ((count : ℕ) → Executes sql params old new (Ok count) → Makes old.now new.now) → Moved Makes old new result
+one_move Makes sql params old new (Ok x) h does = record {
+  was_open = λ up. h.1.1.was_open;
+  committed = λ up. h.1.1.committed_is;
+  goes_on = h.1.1.mode;
+  made = does h.0 h.1.0;
+}
+one_move Makes sql params old new (Err e) h does = record { was_open = ended_open old new h; committed = ended_committed old new h; goes_on = tt; made = tt }
+
+-- what a statement makes that is given what it is said to be given
+pub moves_by : (Makes : Database → Database → Type 0) (sql : List ℕ) (given params : Row) (old new : State) (result : Result (Unit {0}) Error) → Ran sql given old new result → given ≡ params
+    → ((count : ℕ) → Executes sql params old new (Ok count) → Makes old.now new.now) → Moves Makes old new result
+moves_by Makes sql given params old new result ran is does = record {
+  clean = ran.clean;
+  inside = λ clean inside. one_move Makes sql params old new result (subst (λ row. RunsInside sql row old new result) is (ran.inside clean inside)) does;
+}
+
+-- ---- one after the other
+
+both_moved : (First Then All : Database → Database → Type 0) (old mid new : State) (result : Result (Unit {0}) Error) → (First old.now mid.now → Then mid.now new.now → All old.now new.now)
+    → Moved First old mid (Ok (tt {0})) → Moved Then mid new result → Moved All old new result
+both_moved First Then All old mid new (Ok x) chain one two = record {
   was_open = λ up. one.was_open (two.was_open up);
   committed = λ up. two.committed up ∙ one.committed (two.was_open up);
   goes_on = two.goes_on;
   made = chain one.made two.made;
 }
+both_moved First Then All old mid new (Err e) chain one two = record {
+  was_open = λ up. one.was_open (two.was_open up);
+  committed = λ up. two.committed up ∙ one.committed (two.was_open up);
+  goes_on = tt;
+  made = tt;
+}
 
--- ---- in a loop
+-- one that went well, and another, which may fail
+pub both_move : (First Then All : Database → Database → Type 0) (old mid new : State) (result : Result (Unit {0}) Error) → (First old.now mid.now → Then mid.now new.now → All old.now new.now)
+    → Moves First old mid (Ok (tt {0})) → Moves Then mid new result → Moves All old new result
+both_move First Then All old mid new result chain one two = record {
+  clean = λ clean. one.clean (two.clean clean);
+  inside = λ clean inside.
+      let first = one.inside (two.clean clean) inside in
+      both_moved First Then All old mid new result chain first (two.inside clean first.goes_on);
+}
 
--- all statements so far went well
-pub record Moved (Makes : Database → Database → Type 0) (old now : State) : Type 0 where
-  pub clean : HasCleanDisk now → HasCleanDisk old
-  pub moves : HasCleanDisk now → IsTrue old.in_transaction → Moves {X = Unit {0}} {E = Error} Makes old now (Ok (tt {0}))
+-- a failure makes nothing, whatever was to be made
+pub fails : (Then All : Database → Database → Type 0) (old new : State) (e : Error) (result : Result (Unit {0}) Error) → IsErr result → Moves Then old new (Err e) → Moves All old new result
+fails Then All old new e (Ok x) err one = absurd (true≢false (sym err))
+fails Then All old new e (Err why) err one = record {
+  clean = one.clean;
+  inside = λ clean inside.
+      let moved = one.inside clean inside in
+      record { was_open = moved.was_open; committed = moved.committed; goes_on = tt; made = tt };
+}
 
-pub none_moved : (Makes : Database → Database → Type 0) (old : State) → Makes old.now old.now → Moved Makes old old
-none_moved Makes old same = record {
+abbrev Whatever : Database → Database → Type 0
+Whatever old new = Unit {0}
+
+-- one that went well, and another that failed
+pub then_fails : (First Then All : Database → Database → Type 0) (old mid new : State) (e : Error) (result : Result (Unit {0}) Error) → IsErr result → Moves First old mid (Ok (tt {0})) → Moves Then mid new (Err e) → Moves All old new result
+then_fails First Then All old mid new e result err one two = fails Whatever All old new e result err (both_move First Then Whatever old mid new (Err e) (λ a b. tt {0}) one two)
+
+-- what was made, in other words
+pub in_other_words : (Makes All : Database → Database → Type 0) (old new : State) (result : Result (Unit {0}) Error) → (Makes old.now new.now → All old.now new.now) → Moves Makes old new result → Moves All old new result
+in_other_words Makes All old new (Ok x) turn one = record {
+  clean = one.clean;
+  inside = λ clean inside.
+      let moved = one.inside clean inside in
+      record { was_open = moved.was_open; committed = moved.committed; goes_on = moved.goes_on; made = turn moved.made };
+}
+in_other_words Makes All old new (Err e) turn one = fails Makes All old new e (Err e) refl one
+
+-- nothing is done
+pub none_moves : (Makes : Database → Database → Type 0) (old : State) → Makes old.now old.now → Moves Makes old old (Ok (tt {0}))
+none_moves Makes old same = record {
   clean = λ clean. clean;
-  moves = λ clean inside. record {
+  inside = λ clean inside. record {
     was_open = λ up. up;
     committed = λ up. λ i. old.committed;
     goes_on = inside;
@@ -50,35 +128,37 @@ none_moved Makes old same = record {
   };
 }
 
-module _ {X : Type 0} (First Then : Database → Database → Type 0) (old now new : State) (so_far : Moved First old now) (clean : HasCleanDisk new → HasCleanDisk now) where
-  pub one_moved : (Both : Database → Database → Type 0) (x : X) → (HasCleanDisk new → IsTrue now.in_transaction → Moves {X = X} {E = Error} Then now new (Ok x))
-      → (First old.now now.now → Then now.now new.now → Both old.now new.now) → Moved Both old new
-  one_moved Both x step chain = record {
-    clean = λ c. so_far.clean (clean c);
-    moves = λ c inside.
-        let one = so_far.moves (clean c) inside in
-        let two = step c one.goes_on in
-        record {
-          was_open = λ up. one.was_open (two.was_open up);
-          committed = λ up. two.committed up ∙ one.committed (two.was_open up);
-          goes_on = two.goes_on;
-          made = chain one.made two.made;
-        };
-  }
+-- no further one was run
+pub stops : (First All : Database → Database → Type 0) (old new : State) (result : Result (Unit {0}) Error) → IsErr result → Moves First old new (Ok (tt {0})) → Moves All old new result
+stops First All old new (Ok x) err one = absurd (true≢false (sym err))
+stops First All old new (Err e) err one = record {
+  clean = one.clean;
+  inside = λ clean inside.
+      let moved = one.inside clean inside in
+      record { was_open = moved.was_open; committed = moved.committed; goes_on = tt; made = tt };
+}
 
-  -- the next one failed
-  pub one_failed : {Y : Type 0} (Both : Database → Database → Type 0) (e : Error) (result : Result Y Error) → (HasCleanDisk new → IsTrue now.in_transaction → Moves {X = X} {E = Error} Then now new (Err e)) → IsErr result
-      → HasCleanDisk new → IsTrue old.in_transaction → Moves {E = Error} Both old new result
-  one_failed Both e (Ok y) step err c inside = absurd (true≢false (sym err))
-  one_failed Both e (Err why) step err c inside =
-      let one = so_far.moves (clean c) inside in
-      let two = step c one.goes_on in
-      record {
-        was_open = λ up. one.was_open (two.was_open up);
-        committed = λ up. two.committed up ∙ one.committed (two.was_open up);
-        goes_on = tt;
-        made = tt;
-      }
+-- ---- changes of rows
+
+-- two changes are one
+pub chained : (fits : Contents → Type 0) (f g h : Contents → Contents) (old mid new : Database) → ((t : Contents) → g (f t) ≡ h t) → Changes fits f old mid → Changes Any g mid new → Changes fits h old new
+chained fits f g h old mid new same one two t has fit = subst (λ x. Has x new) (same t) (two (f t) (one t has fit) (tt {0}))
+
+-- one change after the other
+pub both_step : (fits : Contents → Type 0) (f g : Contents → Contents) (old mid new : State) (result : Result (Unit {0}) Error) → Steps fits f old mid (Ok (tt {0})) → Steps Any g mid new result → Steps fits (λ t. g (f t)) old new result
+both_step fits f g old mid new result one two = both_move (Changes fits f) (Changes Any g) (Changes fits (λ t. g (f t))) old mid new result (λ to_f to_g t has fit. to_g (f t) (to_f t has fit) (tt {0})) one two
+
+-- the same in other words
+pub one_more : (f g h : Contents → Contents) (old mid new : State) → ((t : Contents) → g (f t) ≡ h t) → Steps Any f old mid (Ok (tt {0})) → Steps Any g mid new (Ok (tt {0})) → Steps Any h old new (Ok (tt {0}))
+one_more f g h old mid new same one two = both_move (Changes Any f) (Changes Any g) (Changes Any h) old mid new (Ok (tt {0})) (chained Any f g h old.now mid.now new.now same) one two
+
+-- nothing is a change that leaves the rows
+pub left_so : (h : Contents → Contents) (db : Database) → ((t : Contents) → t ≡ h t) → Changes Any h db db
+left_so h db same t has fit = subst (λ x. Has x db) (same t) has
+
+-- a change in other words
+pub said_so : (f h : Contents → Contents) (old new : Database) → ((t : Contents) → f t ≡ h t) → Changes Any f old new → Changes Any h old new
+said_so f h old new same one t has fit = subst (λ x. Has x new) (same t) (one t has fit)
 
 -- ---- periods, one after the other
 
@@ -94,17 +174,3 @@ no_periods_put db t has = subst (λ l. Has (record t { periods = l }) db) (sym (
 pub one_more_period : (i : ℕ) (ps : List PeriodRow) (p : PeriodRow) (old now new : Database) → i < length ps → p ≡ get_or ps i p → PutsPeriods (take i ps) old now → PutsPeriods (p ∷ []) now new → PutsPeriods (take (i + 1) ps) old new
 one_more_period i ps p old now new lt is first next t has =
     subst (λ l. Has (record t { periods = l }) new) (one_more_of period_columns t.periods i ps p lt is) (next (record t { periods = t.periods ++ map period_columns (take i ps) }) (first t has))
-
--- ---- the end
-
--- a transaction that is committed
-pub committed_moves : {X Y : Type 0} {y : Y} (Makes : Database → Database → Type 0) (old start mid new : State) (result : Result X Error) → (IsTrue start.is_open → start.now ≡ old.committed)
-    → Moves {E = Error} Makes start mid (Ok y) → OnOk result (IsTrue mid.in_transaction × Shows mid new mid.now mid.now false × KeepsCounts mid new × (new.marks ≡ []))
-    → OnOk result (Makes old.committed new.committed)
-committed_moves Makes old start mid new (Err e) now moves commit = tt
-committed_moves Makes old start mid new (Ok x) now moves commit =
-    subst (λ db. Makes db new.committed) (now (moves.was_open commit.1.was_open)) (subst (Makes start.now) (sym commit.1.committed_is) moves.made)
-
-pub on_ok : {X E P Q : Type 0} (result : Result X E) → OnOk result P → (P → Q) → OnOk result Q
-on_ok (Ok x) p follows = follows p
-on_ok (Err e) p follows = tt

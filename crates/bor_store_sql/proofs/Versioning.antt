@@ -1,11 +1,12 @@
 -- What the UPDATE of the version does.
-use Rattle.std.proofs.Common.{◌≡◌, ◌≤◌, ℕ, ℤ, pos, Bool, true, false, cond, List, [], ◌∷◌, length, drop, ◌++◌, ◌==◌, map, Ok, arith, refl, ap, ap₂, ◌∙◌}
+use Rattle.std.proofs.Common.{◌≡◌, ◌≤◌, ℕ, ℤ, pos, Bool, true, false, cond, List, [], ◌∷◌, length, drop, ◌++◌, ◌==◌, map, Ok, arith, refl, ap, ap₂, subst, ◌∙◌}
 use Rattle.std.specs.List.{flat_map, filter_map}
 use Rattle.std.proofs.Math.Bool.{and-true}
 use Rattle.sqlite.specs.declared.types.Value.TheVariants.{Null, Int}
 use Rattle.sqlite.specs.Order.{Row, column}
 use Rattle.sqlite.specs.Term.{Term, col}
 use Rattle.sqlite.specs.State.{State, Executes}
+use Rattle.sqlite.specs.Effect.{Database}
 use Rattle.sqlite_rules.specs.Action.{Work, works, work_by, pairs, deed_for}
 use Rattle.sqlite_schema.specs.Rules.{parent_key}
 use Rattle.sqlite_rules.specs.Cast.{cast_row}
@@ -16,6 +17,7 @@ use Rattle.bor_store_sql.specs.Texts.Changes.{equals_number, update_version_prog
 use Rattle.bor_store_sql.specs.declared.texts.changes.TheConstants.{FIRST_VERSION, VERSION}
 use Rattle.bor_store_sql.specs.Rows.Encoding.{Contents, contents, first_version, period_columns, register_columns, tables_version, versioned_columns}
 use Rattle.bor_store_sql.specs.Rows.Placed.{interest_rows, period_rows, placed, register_row}
+use Rattle.bor_store_sql.specs.declared.rows.typed.PeriodRow.{PeriodRow}
 use Rattle.bor_store_sql.specs.declared.rows.typed.Placed.{Placed}
 use Rattle.bor_store_sql.specs.Changing.{all_periods}
 use Rattle.std.proofs.lemmas.List.{map-append}
@@ -82,13 +84,19 @@ row_is : (r : Register) → cond (is_the_row tables_version (first_row r)) (vers
 row_is r = rw (is_it r) (rw (cast_int (pos 1), cast_int tables_version, cast_int r.day) refl)
 
 -- the tables of a register, once its periods are there and the version is set
-pub moved_is : (r : Register) → with_version tables_version (record (first_contents r) { periods = (contents r).periods }) ≡ contents r
+moved_is : (r : Register) → with_version tables_version (record (first_contents r) { periods = (contents r).periods }) ≡ contents r
 moved_is r = ap (λ (x : Row). record (contents r) { register = x ∷ [] }) (row_is r)
 
 -- the rows of the table period are those of the days of all interests
-pub periods_are : (r : Register) → map period_columns (all_periods r.members) ≡ (contents r).periods
+periods_are : (r : Register) → map period_columns (all_periods r.members) ≡ (contents r).periods
 periods_are r = go (placed r.members)
   where
     go : (ps : List Placed) → map period_columns (flat_map (λ (p : Placed). flat_map period_rows (interest_rows p)) ps) ≡ flat_map (λ (p : Placed). flat_map (λ i. map period_columns (period_rows i)) (interest_rows p)) ps
     go [] = refl
     go (p ∷ ps) = map-append period_columns (flat_map period_rows (interest_rows p)) (flat_map (λ (q : Placed). flat_map period_rows (interest_rows q)) ps) ∙ ap₂ (λ x y. x ++ y) (map-flat_map period_columns period_rows (interest_rows p)) (go ps)
+
+-- the tables once they are moved, with the rows of a register's days
+pub moved_has : (ps : List PeriodRow) (r : Register) (db : Database) → ps ≡ all_periods r.members → Has (with_version tables_version (record (first_contents r) { periods = map period_columns ps })) db → Has (contents r) db
+moved_has ps r db given has =
+    let rows : map period_columns ps ≡ (contents r).periods = ap (map period_columns) given ∙ periods_are r in
+    subst (λ t. Has t db) (ap (λ l. with_version tables_version (record (first_contents r) { periods = l })) rows ∙ moved_is r) has

@@ -1,12 +1,10 @@
 -- What the statements of a withdrawal do.
-use Rattle.std.proofs.Common.{◌≡◌, ℕ, pos, Bool, true, false, List, [], ◌∷◌, length, drop, Ok, Result, IsTrue, ◌==◌, refl}
+use Rattle.std.proofs.Common.{◌≡◌, ℕ, pos, Bool, true, false, List, [], ◌∷◌, length, drop, Ok, Result, ◌==◌, refl}
 use Rattle.sqlite.specs.declared.types.Value.TheVariants.{Null, Int, Text}
 use Rattle.sqlite.specs.Order.{Row, column}
 use Rattle.std.specs.List.{flat_map, filter_map}
 use Rattle.sqlite.specs.Term.{Term, col, lit}
-use Rattle.sqlite.specs.State.{State, Executes, HasCleanDisk}
-use Rattle.sqlite.specs.Held.{Held, state}
-use Rattle.sqlite.specs.Store.{Ghosts}
+use Rattle.sqlite.specs.State.{State, Executes}
 use Rattle.sqlite.specs.declared.error.Error.{Error}
 use Rattle.sqlite_rules.specs.Action.{Work, works, work_by, pairs, deed_for}
 use Rattle.sqlite_schema.specs.Rules.{parent_key}
@@ -18,10 +16,10 @@ use Rattle.bor_store_sql.specs.Texts.Changes.{mark_withdrawn_text, mark_withdraw
 use Rattle.bor_store_sql.proofs.OnTexts.ChangeMeanings.{mark_withdrawn_is, delete_identifiers_is, delete_interests_is, delete_periods_is, delete_statements_is}
 use Rattle.bor_store_sql.specs.Rows.Encoding.{Contents}
 use Rattle.bor_store_sql.specs.Ran.{Ran}
-use Rattle.bor_store_sql.specs.Shown.{Has, Steps}
+use Rattle.bor_store_sql.specs.Shown.{Changes, Has, Steps}
 use Rattle.bor_store_sql.specs.Changing.{Any, is_of_filing, marked, with_mark, IsOnce, without_identifiers, without_interests, without_periods, without_statements}
 use Rattle.bor_store_sql.proofs.Inserts.{cast_int}
-use Rattle.bor_store_sql.proofs.Stepping.{one_step}
+use Rattle.bor_store_sql.proofs.Moves.{moves_by}
 use Rattle.bor_store_sql.proofs.Writes.{deletes, updates}
 use Rattle.bor_store_sql.proofs.Tables.{deleted, updated}
 use Rattle.bor_store_sql.proofs.Others.{with_filings, with_statements, with_interests, with_identifiers, with_periods}
@@ -92,23 +90,18 @@ module _ (agent : List ℕ) (number : ℕ) (old new : State) (count : ℕ) (t : 
 
 -- ---- each as a step of the transaction
 
-module _ {S : Type 0} (g : Ghosts S) (agent : List ℕ) (number : ℕ) (old new : Held S) (result : Result ℕ Error) where
-  pub identifiers_gone : Ran delete_identifiers_text (Text agent ∷ Int (pos number) ∷ []) (state g old) (state g new) result → HasCleanDisk (state g new) → IsTrue old.in_transaction → Steps Any (without_identifiers agent number) (state g old) (state g new) result
-  identifiers_gone ran clean inside =
-      one_step Any (without_identifiers agent number) delete_identifiers_text (filing_params agent number) (state g old) (state g new) result (ran.inside clean inside) (λ count t h has fit. identifiers_deleted agent number (state g old) (state g new) count t has h)
+module _ (agent : List ℕ) (number : ℕ) (old new : State) (result : Result (Unit {0}) Error) where
+  pub identifiers_gone : Ran delete_identifiers_text (filing_params agent number) old new result → Steps Any (without_identifiers agent number) old new result
+  identifiers_gone ran = moves_by (Changes Any (without_identifiers agent number)) delete_identifiers_text (filing_params agent number) (filing_params agent number) old new result ran refl (λ count h t has fit. identifiers_deleted agent number old new count t has h)
 
-  pub periods_gone : Ran delete_periods_text (Text agent ∷ Int (pos number) ∷ []) (state g old) (state g new) result → HasCleanDisk (state g new) → IsTrue old.in_transaction → Steps Any (without_periods agent number) (state g old) (state g new) result
-  periods_gone ran clean inside =
-      one_step Any (without_periods agent number) delete_periods_text (filing_params agent number) (state g old) (state g new) result (ran.inside clean inside) (λ count t h has fit. periods_deleted agent number (state g old) (state g new) count t has h)
+  pub periods_gone : Ran delete_periods_text (filing_params agent number) old new result → Steps Any (without_periods agent number) old new result
+  periods_gone ran = moves_by (Changes Any (without_periods agent number)) delete_periods_text (filing_params agent number) (filing_params agent number) old new result ran refl (λ count h t has fit. periods_deleted agent number old new count t has h)
 
-  pub interests_gone : Ran delete_interests_text (Text agent ∷ Int (pos number) ∷ []) (state g old) (state g new) result → HasCleanDisk (state g new) → IsTrue old.in_transaction → Steps Any (without_interests agent number) (state g old) (state g new) result
-  interests_gone ran clean inside =
-      one_step Any (without_interests agent number) delete_interests_text (filing_params agent number) (state g old) (state g new) result (ran.inside clean inside) (λ count t h has fit. interests_deleted agent number (state g old) (state g new) count t has h)
+  pub interests_gone : Ran delete_interests_text (filing_params agent number) old new result → Steps Any (without_interests agent number) old new result
+  interests_gone ran = moves_by (Changes Any (without_interests agent number)) delete_interests_text (filing_params agent number) (filing_params agent number) old new result ran refl (λ count h t has fit. interests_deleted agent number old new count t has h)
 
-  pub statements_gone : Ran delete_statements_text (Text agent ∷ Int (pos number) ∷ []) (state g old) (state g new) result → HasCleanDisk (state g new) → IsTrue old.in_transaction → Steps Any (without_statements agent number) (state g old) (state g new) result
-  statements_gone ran clean inside =
-      one_step Any (without_statements agent number) delete_statements_text (filing_params agent number) (state g old) (state g new) result (ran.inside clean inside) (λ count t h has fit. statements_deleted agent number (state g old) (state g new) count t has h)
+  pub statements_gone : Ran delete_statements_text (filing_params agent number) old new result → Steps Any (without_statements agent number) old new result
+  statements_gone ran = moves_by (Changes Any (without_statements agent number)) delete_statements_text (filing_params agent number) (filing_params agent number) old new result ran refl (λ count h t has fit. statements_deleted agent number old new count t has h)
 
-  pub mark_made : Ran mark_withdrawn_text (Text agent ∷ Int (pos number) ∷ []) (state g old) (state g new) result → HasCleanDisk (state g new) → IsTrue old.in_transaction → Steps (IsOnce agent number) (with_mark agent number) (state g old) (state g new) result
-  mark_made ran clean inside =
-      one_step (IsOnce agent number) (with_mark agent number) mark_withdrawn_text (filing_params agent number) (state g old) (state g new) result (ran.inside clean inside) (λ count t h has fit. filing_marked agent number (state g old) (state g new) count t has fit h)
+  pub mark_made : Ran mark_withdrawn_text (filing_params agent number) old new result → Steps (IsOnce agent number) (with_mark agent number) old new result
+  mark_made ran = moves_by (Changes (IsOnce agent number) (with_mark agent number)) mark_withdrawn_text (filing_params agent number) (filing_params agent number) old new result ran refl (λ count h t has fit. filing_marked agent number old new count t has fit h)

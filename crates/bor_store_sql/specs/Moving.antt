@@ -1,5 +1,5 @@
--- What a statement of the move from version 1 to these tables does, for clauses of private functions alone.
-use Rattle.std.specs.Prelude.{◌≡◌, ◌≤◌, ◌++◌, [], ◌∷◌, ℤ, Bool, cond, filter, length, List, map, Result, OnOk, IsTrue}
+-- What the statements of the move from version 1 to these tables make, for clauses of private functions alone.
+use Rattle.std.specs.Prelude.{◌≡◌, ◌≤◌, ◌++◌, [], ◌∷◌, ℤ, Bool, cond, filter, length, List, map}
 use Rattle.sqlite.specs.Effect.{Database}
 use Rattle.sqlite.specs.Order.{Row, column}
 use Rattle.sqlite.specs.Cast.{cast_all}
@@ -7,17 +7,9 @@ use Rattle.sqlite.specs.declared.types.Value.TheVariants.{Int}
 use Rattle.bor_store_sql.specs.Texts.Changes.{equals_number}
 use Rattle.bor_store_sql.specs.Texts.Tables.{register_table}
 use Rattle.bor_store_sql.specs.Changing.{passes}
-use Rattle.sqlite.specs.State.{State}
 use Rattle.bor_store_sql.specs.Rows.Encoding.{Contents, period_columns, tables_version}
 use Rattle.bor_store_sql.specs.Shown.{Has, HasFirst}
 use Rattle.bor_store_sql.specs.declared.rows.typed.PeriodRow.{PeriodRow}
-
--- a statement of a transaction that is under way, which makes such a change, or may have ended the transaction by a failure
-pub record Moves {X E : Type 0} (Makes : Database → Database → Type 0) (old new : State) (result : Result X E) : Type 0 where
-  pub was_open : IsTrue new.is_open → IsTrue old.is_open
-  pub committed : IsTrue new.is_open → new.committed ≡ old.committed
-  pub goes_on : OnOk result (IsTrue new.in_transaction)
-  pub made : OnOk result (Makes old.now new.now)
 
 -- the row is the register's: its first column is 1
 abbrev pub is_the_row : ℤ → Row → Bool

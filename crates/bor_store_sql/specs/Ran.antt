@@ -1,10 +1,35 @@
--- A statement of a transaction.
-use Rattle.std.specs.Prelude.{ℕ, List, Result, IsTrue}
+-- What is done in a transaction, for clauses of private functions alone.
+use Rattle.std.specs.Prelude.{◌≡◌, ◌⊎◌, ℕ, List, Ok, Err, Result, OnOk, OnErr, IsOk, IsTrue}
+use Rattle.sqlite.specs.Effect.{Database}
 use Rattle.sqlite.specs.Order.{Row}
-use Rattle.sqlite.specs.State.{State, HasCleanDisk, ExecutesInside}
+use Rattle.sqlite.specs.State.{State, HasCleanDisk, ExecutesInside, IsUnchanged, IsRolledBack}
 use Rattle.sqlite.specs.declared.error.Error.{Error}
 
+-- the text was run, or failed and may have ended the transaction
+abbrev pub RunsInside : List ℕ → Row → State → State → Result (Unit {0}) Error → Type 0
+RunsInside text params old new (Ok x) = (count : ℕ) × ExecutesInside 0 text params old new (Ok count)
+RunsInside text params old new (Err e) = IsUnchanged old new ⊎ IsRolledBack old new
+
 -- The text was run in the transaction that was under way, with these parameters.
-pub record Ran (text : List ℕ) (params : Row) (old new : State) (result : Result ℕ Error) : Type 0 where
+pub record Ran (text : List ℕ) (params : Row) (old new : State) (result : Result (Unit {0}) Error) : Type 0 where
   pub clean : HasCleanDisk new → HasCleanDisk old
-  pub inside : HasCleanDisk new → IsTrue old.in_transaction → ExecutesInside 0 text params old new result
+  pub inside : HasCleanDisk new → IsTrue old.in_transaction → RunsInside text params old new result
+
+-- what is made of the database by statements that went well; a failure may have ended the transaction
+pub record Moved (Makes : Database → Database → Type 0) (old new : State) (result : Result (Unit {0}) Error) : Type 0 where
+  pub was_open : IsTrue new.is_open → IsTrue old.is_open
+  pub committed : IsTrue new.is_open → new.committed ≡ old.committed
+  pub goes_on : OnOk result (IsTrue new.in_transaction)
+  pub made : OnOk result (Makes old.now new.now)
+
+-- Statements of a transaction that was under way, on a disk that has returned what was written, make such a change of the database.
+pub record Moves (Makes : Database → Database → Type 0) (old new : State) (result : Result (Unit {0}) Error) : Type 0 where
+  pub clean : HasCleanDisk new → HasCleanDisk old
+  pub inside : HasCleanDisk new → IsTrue old.in_transaction → Moved Makes old new result
+
+-- A transaction ends: it is committed where all went well that was done in it, and else undone.
+pub record Ends (old new : State) (done result : Result (Unit {0}) Error) : Type 0 where
+  pub clean : HasCleanDisk new → HasCleanDisk old
+  pub was_open : HasCleanDisk new → IsTrue new.is_open → IsTrue old.is_open
+  pub committed : HasCleanDisk new → OnOk result (IsOk done × (new.committed ≡ old.now))
+  pub undone : HasCleanDisk new → IsTrue new.is_open → OnErr result (new.committed ≡ old.committed)

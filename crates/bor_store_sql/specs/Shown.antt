@@ -1,14 +1,16 @@
 -- The register that a connection shows.
-use Rattle.std.specs.Prelude.{◌≡◌, ◌⊎◌, [], ◌∷◌, IsTrue, Result, OnOk}
+use Rattle.std.specs.Prelude.{◌≡◌, ◌⊎◌, [], ◌∷◌, IsTrue, Result}
 use Rattle.sqlite.specs.Effect.{Database}
 use Rattle.sqlite.specs.Schema.{Schema}
 use Rattle.sqlite.specs.State.{State, HasCleanDisk}
+use Rattle.sqlite.specs.declared.error.Error.{Error}
 use Rattle.bor_register.specs.Register.{Register}
 use Rattle.bor_store_sql.specs.Texts.Tables.{first_schema, keep_schema}
 use Rattle.bor_store_sql.specs.Kept.{Keeps}
 use Rattle.bor_store_sql.specs.Rows.Encoding.{Contents, contents, first_version, versioned_columns}
 use Rattle.bor_store_sql.specs.Rows.Placed.{register_row}
 use Rattle.bor_store_sql.specs.Rows.Stored.{IsStored}
+use Rattle.bor_store_sql.specs.Ran.{Moves}
 
 -- the database has the seven tables with these rows
 pub record Has (t : Contents) (db : Database) : Type 0 where
@@ -29,12 +31,13 @@ pub record ShowsIn (r : Register) (s : State) : Type 0 where
   pub has : Has (contents r) s.committed
   pub stored : IsStored r
 
--- a statement of a transaction that is under way, which may have ended it by a failure
-pub record Steps {X E : Type 0} (fits : Contents → Type 0) (change : Contents → Contents) (old new : State) (result : Result X E) : Type 0 where
-  pub was_open : IsTrue new.is_open → IsTrue old.is_open
-  pub committed : IsTrue new.is_open → new.committed ≡ old.committed
-  pub goes_on : OnOk result (IsTrue new.in_transaction)
-  pub made : OnOk result ((t : Contents) → Has t old.now → fits t → Has (change t) new.now)
+-- tables that have rows which the change fits have the changed rows
+abbrev pub Changes : (Contents → Type 0) → (Contents → Contents) → Database → Database → Type 0
+Changes fits change old new = (t : Contents) → Has t old → fits t → Has (change t) new
+
+-- statements of a transaction make this change
+abbrev pub Steps : (Contents → Type 0) → (Contents → Contents) → State → State → Result (Unit {0}) Error → Type 0
+Steps fits change old new result = Moves (Changes fits change) old new result
 
 -- ---- version 1
 

@@ -1,8 +1,7 @@
 //! What adds an agent, and a filing with its statements.
 
-ghost use Rattle.std.specs.Prelude.{◌≡◌, ◌+◌, ◌<◌, ◌^◌, false, true, [], ◌∷◌, All, is_some, ◌||◌, length, IsTrue, IfOk, OnOk, OnErr};
+ghost use Rattle.std.specs.Prelude.{◌≡◌, ◌+◌, ◌<◌, ◌^◌, false, true, [], ◌∷◌, All, is_some, ◌||◌, length, IfOk, OnOk, OnErr};
 ghost use Rattle.sqlite.specs.Held.{state};
-ghost use Rattle.sqlite.specs.State.{HasCleanDisk};
 ghost use Rattle.bor_store_sql.specs.Rows.Placed.{bare, period_of, placed_from, interests_from, identifiers_from, interests_of, identifiers_of};
 ghost use Rattle.bor_store_sql.specs.Shown.{Steps, IsClean, ShowsIn};
 ghost use Rattle.bor_store_sql.specs.Changing.{Any, live_filing, with_filing_row, with_statement_row, with_interest_rows, with_identifier_rows, with_period_row, with_period_rows, with_one_placed, with_placed, with_live_filing, added};
@@ -14,6 +13,7 @@ ghost use Rattle.bor_register.specs.Limits.{filings_limit};
 use crate::columns::{
     filing_values, identifier_values, interest_values, period_values, statement_values,
 };
+use crate::running::{finish, run};
 use crate::texts::changes::{
     INSERT_FILING, INSERT_IDENTIFIER, INSERT_INTEREST, INSERT_PERIOD, INSERT_STATEMENT,
 };
@@ -28,16 +28,13 @@ fn insert_filing<S: Alter>(
     key: &str,
     due: Day,
     bytes: &[u8],
-) -> Result<usize, Error>
+) -> Result<(), Error>
     ensures same_reference { tx.new.conn.ghost_name ≡ tx.old.conn.ghost_name }
-    ensures clean { HasCleanDisk (state S.Store tx.new.conn.now)
-        → HasCleanDisk (state S.Store tx.old.conn.now) }
-    ensures steps { HasCleanDisk (state S.Store tx.new.conn.now)
-        → IsTrue (state S.Store tx.old.conn.now).in_transaction
-        → Steps Any (with_filing_row agent.now (live_filing number key.now due bytes.now []))
+    ensures steps { Steps Any (with_filing_row agent.now (live_filing number key.now due bytes.now []))
         (state S.Store tx.old.conn.now) (state S.Store tx.new.conn.now) result }
 {
-    tx.execute(
+    run(
+        tx,
         INSERT_FILING,
         &filing_values(agent, number, key, due, bytes),
     )
@@ -49,13 +46,9 @@ fn insert_statement<S: Alter>(
     number: u32,
     place: u32,
     statement: &Statement,
-) -> Result<usize, Error>
+) -> Result<(), Error>
     ensures same_reference { tx.new.conn.ghost_name ≡ tx.old.conn.ghost_name }
-    ensures clean { HasCleanDisk (state S.Store tx.new.conn.now)
-        → HasCleanDisk (state S.Store tx.old.conn.now) }
-    ensures steps { HasCleanDisk (state S.Store tx.new.conn.now)
-        → IsTrue (state S.Store tx.old.conn.now).in_transaction
-        → Steps Any
+    ensures steps { Steps Any
         (with_statement_row
         (bare (record {
           at = record { agent = agent.now; filing = number; place = place };
@@ -63,7 +56,8 @@ fn insert_statement<S: Alter>(
         })))
         (state S.Store tx.old.conn.now) (state S.Store tx.new.conn.now) result }
 {
-    tx.execute(
+    run(
+        tx,
         INSERT_STATEMENT,
         &statement_values(agent, number, place, statement),
     )
@@ -76,13 +70,9 @@ fn insert_interest<S: Alter>(
     place: u32,
     item: u32,
     interest: &Interest,
-) -> Result<usize, Error>
+) -> Result<(), Error>
     ensures same_reference { tx.new.conn.ghost_name ≡ tx.old.conn.ghost_name }
-    ensures clean { HasCleanDisk (state S.Store tx.new.conn.now)
-        → HasCleanDisk (state S.Store tx.old.conn.now) }
-    ensures steps { HasCleanDisk (state S.Store tx.new.conn.now)
-        → IsTrue (state S.Store tx.old.conn.now).in_transaction
-        → Steps Any
+    ensures steps { Steps Any
         (with_interest_rows
         (record {
           at = record { agent = agent.now; filing = number; place = place };
@@ -91,7 +81,8 @@ fn insert_interest<S: Alter>(
         } ∷ []))
         (state S.Store tx.old.conn.now) (state S.Store tx.new.conn.now) result }
 {
-    tx.execute(
+    run(
+        tx,
         INSERT_INTEREST,
         &interest_values(agent, number, place, item, interest),
     )
@@ -104,13 +95,9 @@ fn put_period<S: Alter>(
     place: u32,
     item: u32,
     interest: &Interest,
-) -> Result<usize, Error>
+) -> Result<(), Error>
     ensures same_reference { tx.new.conn.ghost_name ≡ tx.old.conn.ghost_name }
-    ensures clean { HasCleanDisk (state S.Store tx.new.conn.now)
-        → HasCleanDisk (state S.Store tx.old.conn.now) }
-    ensures steps { HasCleanDisk (state S.Store tx.new.conn.now)
-        → IsTrue (state S.Store tx.old.conn.now).in_transaction
-        → Steps Any
+    ensures steps { Steps Any
         (with_period_row
         (period_of
         (record {
@@ -120,7 +107,8 @@ fn put_period<S: Alter>(
         })))
         (state S.Store tx.old.conn.now) (state S.Store tx.new.conn.now) result }
 {
-    tx.execute(
+    run(
+        tx,
         INSERT_PERIOD,
         &period_values(agent, number, place, item, interest.starts, interest.ends),
     )
@@ -143,11 +131,7 @@ fn insert_period<S: Alter>(
     interest: &Interest,
 ) -> Result<(), Error>
     ensures same_reference { tx.new.conn.ghost_name ≡ tx.old.conn.ghost_name }
-    ensures clean { HasCleanDisk (state S.Store tx.new.conn.now)
-        → HasCleanDisk (state S.Store tx.old.conn.now) }
-    ensures steps { HasCleanDisk (state S.Store tx.new.conn.now)
-        → IsTrue (state S.Store tx.old.conn.now).in_transaction
-        → Steps Any
+    ensures steps { Steps Any
         (with_period_rows
         (record {
           at = record { agent = agent.now; filing = number; place = place };
@@ -159,8 +143,7 @@ fn insert_period<S: Alter>(
     if !is_said(interest) {
         return Ok(());
     }
-    put_period(tx, agent, number, place, item, interest)?;
-    Ok(())
+    put_period(tx, agent, number, place, item, interest)
 }
 
 fn insert_identifier<S: Alter>(
@@ -170,13 +153,9 @@ fn insert_identifier<S: Alter>(
     place: u32,
     item: u32,
     identifier: &Identifier,
-) -> Result<usize, Error>
+) -> Result<(), Error>
     ensures same_reference { tx.new.conn.ghost_name ≡ tx.old.conn.ghost_name }
-    ensures clean { HasCleanDisk (state S.Store tx.new.conn.now)
-        → HasCleanDisk (state S.Store tx.old.conn.now) }
-    ensures steps { HasCleanDisk (state S.Store tx.new.conn.now)
-        → IsTrue (state S.Store tx.old.conn.now).in_transaction
-        → Steps Any
+    ensures steps { Steps Any
         (with_identifier_rows
         (record {
           at = record { agent = agent.now; filing = number; place = place };
@@ -185,7 +164,8 @@ fn insert_identifier<S: Alter>(
         } ∷ []))
         (state S.Store tx.old.conn.now) (state S.Store tx.new.conn.now) result }
 {
-    tx.execute(
+    run(
+        tx,
         INSERT_IDENTIFIER,
         &identifier_values(agent, number, place, item, identifier),
     )
@@ -230,11 +210,7 @@ fn insert_interests<S: Alter>(
     interests: &[Interest],
 ) -> Result<(), Error>
     ensures same_reference { tx.new.conn.ghost_name ≡ tx.old.conn.ghost_name }
-    ensures clean { HasCleanDisk (state S.Store tx.new.conn.now)
-        → HasCleanDisk (state S.Store tx.old.conn.now) }
-    ensures steps { HasCleanDisk (state S.Store tx.new.conn.now)
-        → IsTrue (state S.Store tx.old.conn.now).in_transaction
-        → Steps Any
+    ensures steps { Steps Any
         (with_interest_rows
         (interests_from (record { agent = agent.now; filing = number; place = place })
         1 interests.now))
@@ -257,11 +233,7 @@ fn insert_periods<S: Alter>(
     interests: &[Interest],
 ) -> Result<(), Error>
     ensures same_reference { tx.new.conn.ghost_name ≡ tx.old.conn.ghost_name }
-    ensures clean { HasCleanDisk (state S.Store tx.new.conn.now)
-        → HasCleanDisk (state S.Store tx.old.conn.now) }
-    ensures steps { HasCleanDisk (state S.Store tx.new.conn.now)
-        → IsTrue (state S.Store tx.old.conn.now).in_transaction
-        → Steps Any
+    ensures steps { Steps Any
         (with_period_rows
         (interests_from (record { agent = agent.now; filing = number; place = place })
         1 interests.now))
@@ -283,11 +255,7 @@ fn insert_identifiers<S: Alter>(
     identifiers: &[Identifier],
 ) -> Result<(), Error>
     ensures same_reference { tx.new.conn.ghost_name ≡ tx.old.conn.ghost_name }
-    ensures clean { HasCleanDisk (state S.Store tx.new.conn.now)
-        → HasCleanDisk (state S.Store tx.old.conn.now) }
-    ensures steps { HasCleanDisk (state S.Store tx.new.conn.now)
-        → IsTrue (state S.Store tx.old.conn.now).in_transaction
-        → Steps Any
+    ensures steps { Steps Any
         (with_identifier_rows
         (identifiers_from (record { agent = agent.now; filing = number; place = place })
         1 identifiers.now))
@@ -311,11 +279,7 @@ fn insert_placed<S: Alter>(
     statement: &Statement,
 ) -> Result<(), Error>
     ensures same_reference { tx.new.conn.ghost_name ≡ tx.old.conn.ghost_name }
-    ensures clean { HasCleanDisk (state S.Store tx.new.conn.now)
-        → HasCleanDisk (state S.Store tx.old.conn.now) }
-    ensures steps { HasCleanDisk (state S.Store tx.new.conn.now)
-        → IsTrue (state S.Store tx.old.conn.now).in_transaction
-        → Steps Any
+    ensures steps { Steps Any
         (with_one_placed
         (record {
           at = record { agent = agent.now; filing = number; place = place };
@@ -337,11 +301,7 @@ fn insert_statements<S: Alter>(
     statements: &[Statement],
 ) -> Result<(), Error>
     ensures same_reference { tx.new.conn.ghost_name ≡ tx.old.conn.ghost_name }
-    ensures clean { HasCleanDisk (state S.Store tx.new.conn.now)
-        → HasCleanDisk (state S.Store tx.old.conn.now) }
-    ensures steps { HasCleanDisk (state S.Store tx.new.conn.now)
-        → IsTrue (state S.Store tx.old.conn.now).in_transaction
-        → Steps Any (with_placed (placed_from agent.now number 1 statements.now))
+    ensures steps { Steps Any (with_placed (placed_from agent.now number 1 statements.now))
         (state S.Store tx.old.conn.now) (state S.Store tx.new.conn.now) result }
     ensures counted { IfOk result (λ _. AreCounted statements.now) }
 {
@@ -364,11 +324,7 @@ fn insert_rows<S: Alter>(
     statements: &[Statement],
 ) -> Result<(), Error>
     ensures same_reference { tx.new.conn.ghost_name ≡ tx.old.conn.ghost_name }
-    ensures clean { HasCleanDisk (state S.Store tx.new.conn.now)
-        → HasCleanDisk (state S.Store tx.old.conn.now) }
-    ensures steps { HasCleanDisk (state S.Store tx.new.conn.now)
-        → IsTrue (state S.Store tx.old.conn.now).in_transaction
-        → Steps Any (with_live_filing agent.now number key.now due bytes.now statements.now)
+    ensures steps { Steps Any (with_live_filing agent.now number key.now due bytes.now statements.now)
         (state S.Store tx.old.conn.now) (state S.Store tx.new.conn.now) result }
     ensures counted { IfOk result (λ _. AreCounted statements.now) }
 {
@@ -407,6 +363,6 @@ pub fn add_filing<S: Alter>(
     let lodge_key = key.as_str();
     let _known = due.number();
     let mut tx = conn.transaction();
-    insert_rows(&mut tx, agent, number, lodge_key, due, bytes, statements)?;
-    tx.commit()
+    let done = insert_rows(&mut tx, agent, number, lodge_key, due, bytes, statements);
+    finish(tx, done)
 }

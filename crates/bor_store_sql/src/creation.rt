@@ -1,17 +1,17 @@
 //! What makes the tables.
 
-ghost use Rattle.std.specs.Prelude.{◌≡◌, false, true, IsTrue, OnOk, OnErr};
+ghost use Rattle.std.specs.Prelude.{◌≡◌, false, OnOk, OnErr};
 ghost use Rattle.sqlite.specs.Held.{state};
-ghost use Rattle.sqlite.specs.State.{HasCleanDisk};
 ghost use Rattle.bor_register.specs.Register.{empty_register};
-ghost use Rattle.bor_store_sql.specs.Texts.Tables.{no_schema, schema_1, schema_2, schema_3, schema_4, schema_5, schema_6, schema_7, schema_8, schema_9, first_schema};
+ghost use Rattle.bor_store_sql.specs.Texts.Tables.{no_schema, schema_3, schema_6, first_schema};
 ghost use Rattle.bor_store_sql.specs.Rows.Encoding.{contents};
 ghost use Rattle.bor_store_sql.specs.Blank.{IsBlank, Leads, no_contents};
-ghost use Rattle.bor_store_sql.specs.Moving.{MakesPeriod, Moves};
+ghost use Rattle.bor_store_sql.specs.Moving.{MakesPeriod};
+ghost use Rattle.bor_store_sql.specs.Ran.{Moves};
 ghost use Rattle.bor_store_sql.specs.Shown.{Has, IsClean, ShowsIn};
 
 use crate::columns::register_values;
-use crate::running::run;
+use crate::running::{finish, run};
 use crate::texts::changes::INSERT_REGISTER;
 use crate::texts::tables::{
     AGENT_TABLE, FILING_TABLE, IDENTIFIER_INDEX, IDENTIFIER_TABLE, INTEREST_TABLE, LINE_INDEX,
@@ -20,209 +20,66 @@ use crate::texts::tables::{
 use bor_terms::{Day, Token};
 use sqlite::{Alter, Connection, Error, Transaction};
 
-#[tactic(auto, using(crate::proofs::Created::register_created))]
-fn create_register<S: Alter>(tx: &mut Transaction<'_, S>) -> Result<usize, Error>
-    ensures same_reference { tx.new.conn.ghost_name ≡ tx.old.conn.ghost_name }
-    ensures clean { HasCleanDisk (state S.Store tx.new.conn.now)
-        → HasCleanDisk (state S.Store tx.old.conn.now) }
-    ensures leads { HasCleanDisk (state S.Store tx.new.conn.now)
-        → IsTrue (state S.Store tx.old.conn.now).in_transaction
-        → Leads (IsBlank no_schema) (IsBlank schema_1) (state S.Store tx.old.conn.now)
-        (state S.Store tx.new.conn.now) result }
-{
-    run(tx, REGISTER_TABLE, &[])
-}
-
-#[tactic(auto, using(crate::proofs::Created::agent_created))]
-fn create_agent<S: Alter>(tx: &mut Transaction<'_, S>) -> Result<usize, Error>
-    ensures same_reference { tx.new.conn.ghost_name ≡ tx.old.conn.ghost_name }
-    ensures clean { HasCleanDisk (state S.Store tx.new.conn.now)
-        → HasCleanDisk (state S.Store tx.old.conn.now) }
-    ensures leads { HasCleanDisk (state S.Store tx.new.conn.now)
-        → IsTrue (state S.Store tx.old.conn.now).in_transaction
-        → Leads (IsBlank schema_1) (IsBlank schema_2) (state S.Store tx.old.conn.now)
-        (state S.Store tx.new.conn.now) result }
-{
-    run(tx, AGENT_TABLE, &[])
-}
-
-#[tactic(auto, using(crate::proofs::Created::filing_created))]
-fn create_filing<S: Alter>(tx: &mut Transaction<'_, S>) -> Result<usize, Error>
-    ensures same_reference { tx.new.conn.ghost_name ≡ tx.old.conn.ghost_name }
-    ensures clean { HasCleanDisk (state S.Store tx.new.conn.now)
-        → HasCleanDisk (state S.Store tx.old.conn.now) }
-    ensures leads { HasCleanDisk (state S.Store tx.new.conn.now)
-        → IsTrue (state S.Store tx.old.conn.now).in_transaction
-        → Leads (IsBlank schema_2) (IsBlank schema_3) (state S.Store tx.old.conn.now)
-        (state S.Store tx.new.conn.now) result }
-{
-    run(tx, FILING_TABLE, &[])
-}
-
-#[tactic(auto, using(crate::proofs::Created::statement_created))]
-fn create_statement<S: Alter>(tx: &mut Transaction<'_, S>) -> Result<usize, Error>
-    ensures same_reference { tx.new.conn.ghost_name ≡ tx.old.conn.ghost_name }
-    ensures clean { HasCleanDisk (state S.Store tx.new.conn.now)
-        → HasCleanDisk (state S.Store tx.old.conn.now) }
-    ensures leads { HasCleanDisk (state S.Store tx.new.conn.now)
-        → IsTrue (state S.Store tx.old.conn.now).in_transaction
-        → Leads (IsBlank schema_3) (IsBlank schema_4) (state S.Store tx.old.conn.now)
-        (state S.Store tx.new.conn.now) result }
-{
-    run(tx, STATEMENT_TABLE, &[])
-}
-
-#[tactic(auto, using(crate::proofs::Created::interest_created))]
-fn create_interest<S: Alter>(tx: &mut Transaction<'_, S>) -> Result<usize, Error>
-    ensures same_reference { tx.new.conn.ghost_name ≡ tx.old.conn.ghost_name }
-    ensures clean { HasCleanDisk (state S.Store tx.new.conn.now)
-        → HasCleanDisk (state S.Store tx.old.conn.now) }
-    ensures leads { HasCleanDisk (state S.Store tx.new.conn.now)
-        → IsTrue (state S.Store tx.old.conn.now).in_transaction
-        → Leads (IsBlank schema_4) (IsBlank schema_5) (state S.Store tx.old.conn.now)
-        (state S.Store tx.new.conn.now) result }
-{
-    run(tx, INTEREST_TABLE, &[])
-}
-
-#[tactic(auto, using(crate::proofs::Created::identifier_created))]
-fn create_identifier<S: Alter>(tx: &mut Transaction<'_, S>) -> Result<usize, Error>
-    ensures same_reference { tx.new.conn.ghost_name ≡ tx.old.conn.ghost_name }
-    ensures clean { HasCleanDisk (state S.Store tx.new.conn.now)
-        → HasCleanDisk (state S.Store tx.old.conn.now) }
-    ensures leads { HasCleanDisk (state S.Store tx.new.conn.now)
-        → IsTrue (state S.Store tx.old.conn.now).in_transaction
-        → Leads (IsBlank schema_5) (IsBlank schema_6) (state S.Store tx.old.conn.now)
-        (state S.Store tx.new.conn.now) result }
-{
-    run(tx, IDENTIFIER_TABLE, &[])
-}
-
-#[tactic(auto, using(crate::proofs::Created::record_index_created))]
-fn create_record_index<S: Alter>(tx: &mut Transaction<'_, S>) -> Result<usize, Error>
-    ensures same_reference { tx.new.conn.ghost_name ≡ tx.old.conn.ghost_name }
-    ensures clean { HasCleanDisk (state S.Store tx.new.conn.now)
-        → HasCleanDisk (state S.Store tx.old.conn.now) }
-    ensures leads { HasCleanDisk (state S.Store tx.new.conn.now)
-        → IsTrue (state S.Store tx.old.conn.now).in_transaction
-        → Leads (IsBlank schema_6) (IsBlank schema_7) (state S.Store tx.old.conn.now)
-        (state S.Store tx.new.conn.now) result }
-{
-    run(tx, RECORD_INDEX, &[])
-}
-
-#[tactic(auto, using(crate::proofs::Created::subject_index_created))]
-fn create_subject_index<S: Alter>(tx: &mut Transaction<'_, S>) -> Result<usize, Error>
-    ensures same_reference { tx.new.conn.ghost_name ≡ tx.old.conn.ghost_name }
-    ensures clean { HasCleanDisk (state S.Store tx.new.conn.now)
-        → HasCleanDisk (state S.Store tx.old.conn.now) }
-    ensures leads { HasCleanDisk (state S.Store tx.new.conn.now)
-        → IsTrue (state S.Store tx.old.conn.now).in_transaction
-        → Leads (IsBlank schema_7) (IsBlank schema_8) (state S.Store tx.old.conn.now)
-        (state S.Store tx.new.conn.now) result }
-{
-    run(tx, SUBJECT_INDEX, &[])
-}
-
-#[tactic(auto, using(crate::proofs::Created::identifier_index_created))]
-fn create_identifier_index<S: Alter>(tx: &mut Transaction<'_, S>) -> Result<usize, Error>
-    ensures same_reference { tx.new.conn.ghost_name ≡ tx.old.conn.ghost_name }
-    ensures clean { HasCleanDisk (state S.Store tx.new.conn.now)
-        → HasCleanDisk (state S.Store tx.old.conn.now) }
-    ensures leads { HasCleanDisk (state S.Store tx.new.conn.now)
-        → IsTrue (state S.Store tx.old.conn.now).in_transaction
-        → Leads (IsBlank schema_8) (IsBlank schema_9) (state S.Store tx.old.conn.now)
-        (state S.Store tx.new.conn.now) result }
-{
-    run(tx, IDENTIFIER_INDEX, &[])
-}
-
-#[tactic(auto, using(crate::proofs::Created::line_index_created))]
-fn create_line_index<S: Alter>(tx: &mut Transaction<'_, S>) -> Result<usize, Error>
-    ensures same_reference { tx.new.conn.ghost_name ≡ tx.old.conn.ghost_name }
-    ensures clean { HasCleanDisk (state S.Store tx.new.conn.now)
-        → HasCleanDisk (state S.Store tx.old.conn.now) }
-    ensures leads { HasCleanDisk (state S.Store tx.new.conn.now)
-        → IsTrue (state S.Store tx.old.conn.now).in_transaction
-        → Leads (IsBlank schema_9) (IsBlank first_schema) (state S.Store tx.old.conn.now)
-        (state S.Store tx.new.conn.now) result }
-{
-    run(tx, LINE_INDEX, &[])
-}
-
 /// Makes the table `period` beside those of version 1, whatever rows they have.
-#[tactic(auto, using(crate::proofs::Beside::period_made_beside))]
-pub(crate) fn create_period<S: Alter>(tx: &mut Transaction<'_, S>) -> Result<usize, Error>
+pub(crate) fn create_period<S: Alter>(tx: &mut Transaction<'_, S>) -> Result<(), Error>
     ensures same_reference { tx.new.conn.ghost_name ≡ tx.old.conn.ghost_name }
-    ensures clean { HasCleanDisk (state S.Store tx.new.conn.now)
-        → HasCleanDisk (state S.Store tx.old.conn.now) }
-    ensures moves { HasCleanDisk (state S.Store tx.new.conn.now)
-        → IsTrue (state S.Store tx.old.conn.now).in_transaction
-        → Moves MakesPeriod (state S.Store tx.old.conn.now) (state S.Store tx.new.conn.now) result }
+    ensures moves { Moves MakesPeriod (state S.Store tx.old.conn.now) (state S.Store tx.new.conn.now) result }
 {
     run(tx, PERIOD_TABLE, &[])
 }
 
 fn create_lists<S: Alter>(tx: &mut Transaction<'_, S>) -> Result<(), Error>
     ensures same_reference { tx.new.conn.ghost_name ≡ tx.old.conn.ghost_name }
-    ensures clean { HasCleanDisk (state S.Store tx.new.conn.now)
-        → HasCleanDisk (state S.Store tx.old.conn.now) }
-    ensures leads { HasCleanDisk (state S.Store tx.new.conn.now)
-        → IsTrue (state S.Store tx.old.conn.now).in_transaction
-        → Leads (IsBlank no_schema) (IsBlank schema_3) (state S.Store tx.old.conn.now)
+    ensures leads { Leads (IsBlank no_schema) (IsBlank schema_3) (state S.Store tx.old.conn.now)
         (state S.Store tx.new.conn.now) result }
 {
-    create_register(tx)?;
-    create_agent(tx)?;
-    create_filing(tx)?;
-    Ok(())
+    run(tx, REGISTER_TABLE, &[])?;
+    run(tx, AGENT_TABLE, &[])?;
+    run(tx, FILING_TABLE, &[])
 }
 
 fn create_details<S: Alter>(tx: &mut Transaction<'_, S>) -> Result<(), Error>
     ensures same_reference { tx.new.conn.ghost_name ≡ tx.old.conn.ghost_name }
-    ensures clean { HasCleanDisk (state S.Store tx.new.conn.now)
-        → HasCleanDisk (state S.Store tx.old.conn.now) }
-    ensures leads { HasCleanDisk (state S.Store tx.new.conn.now)
-        → IsTrue (state S.Store tx.old.conn.now).in_transaction
-        → Leads (IsBlank schema_3) (IsBlank schema_6) (state S.Store tx.old.conn.now)
+    ensures leads { Leads (IsBlank schema_3) (IsBlank schema_6) (state S.Store tx.old.conn.now)
         (state S.Store tx.new.conn.now) result }
 {
-    create_statement(tx)?;
-    create_interest(tx)?;
-    create_identifier(tx)?;
-    Ok(())
+    run(tx, STATEMENT_TABLE, &[])?;
+    run(tx, INTEREST_TABLE, &[])?;
+    run(tx, IDENTIFIER_TABLE, &[])
 }
 
 fn create_indexes<S: Alter>(tx: &mut Transaction<'_, S>) -> Result<(), Error>
     ensures same_reference { tx.new.conn.ghost_name ≡ tx.old.conn.ghost_name }
-    ensures clean { HasCleanDisk (state S.Store tx.new.conn.now)
-        → HasCleanDisk (state S.Store tx.old.conn.now) }
-    ensures leads { HasCleanDisk (state S.Store tx.new.conn.now)
-        → IsTrue (state S.Store tx.old.conn.now).in_transaction
-        → Leads (IsBlank schema_6) (IsBlank first_schema) (state S.Store tx.old.conn.now)
+    ensures leads { Leads (IsBlank schema_6) (IsBlank first_schema) (state S.Store tx.old.conn.now)
         (state S.Store tx.new.conn.now) result }
 {
-    create_record_index(tx)?;
-    create_subject_index(tx)?;
-    create_identifier_index(tx)?;
-    create_line_index(tx)?;
-    Ok(())
+    run(tx, RECORD_INDEX, &[])?;
+    run(tx, SUBJECT_INDEX, &[])?;
+    run(tx, IDENTIFIER_INDEX, &[])?;
+    run(tx, LINE_INDEX, &[])
+}
+
+// The tables of version 1.
+fn create_tables<S: Alter>(tx: &mut Transaction<'_, S>) -> Result<(), Error>
+    ensures same_reference { tx.new.conn.ghost_name ≡ tx.old.conn.ghost_name }
+    ensures leads { Leads (IsBlank no_schema) (IsBlank first_schema) (state S.Store tx.old.conn.now)
+        (state S.Store tx.new.conn.now) result }
+{
+    create_lists(tx)?;
+    create_details(tx)?;
+    create_indexes(tx)
 }
 
 fn insert_register<S: Alter>(
     tx: &mut Transaction<'_, S>,
     registrar: &str,
     day: Day,
-) -> Result<usize, Error>
+) -> Result<(), Error>
     ensures same_reference { tx.new.conn.ghost_name ≡ tx.old.conn.ghost_name }
-    ensures clean { HasCleanDisk (state S.Store tx.new.conn.now)
-        → HasCleanDisk (state S.Store tx.old.conn.now) }
-    ensures leads { HasCleanDisk (state S.Store tx.new.conn.now)
-        → IsTrue (state S.Store tx.old.conn.now).in_transaction
-        → Leads (Has no_contents) (Has (contents (empty_register registrar.now day)))
+    ensures leads { Leads (Has no_contents) (Has (contents (empty_register registrar.now day)))
         (state S.Store tx.old.conn.now) (state S.Store tx.new.conn.now) result }
 {
-    tx.execute(INSERT_REGISTER, &register_values(day, registrar))
+    run(tx, INSERT_REGISTER, &register_values(day, registrar))
 }
 
 fn make_register<S: Alter>(
@@ -231,19 +88,12 @@ fn make_register<S: Alter>(
     day: Day,
 ) -> Result<(), Error>
     ensures same_reference { tx.new.conn.ghost_name ≡ tx.old.conn.ghost_name }
-    ensures clean { HasCleanDisk (state S.Store tx.new.conn.now)
-        → HasCleanDisk (state S.Store tx.old.conn.now) }
-    ensures leads { HasCleanDisk (state S.Store tx.new.conn.now)
-        → IsTrue (state S.Store tx.old.conn.now).in_transaction
-        → Leads (IsBlank no_schema) (Has (contents (empty_register registrar.now day)))
+    ensures leads { Leads (IsBlank no_schema) (Has (contents (empty_register registrar.now day)))
         (state S.Store tx.old.conn.now) (state S.Store tx.new.conn.now) result }
 {
-    create_lists(tx)?;
-    create_details(tx)?;
-    create_indexes(tx)?;
+    create_tables(tx)?;
     create_period(tx)?;
-    insert_register(tx, registrar, day)?;
-    Ok(())
+    insert_register(tx, registrar, day)
 }
 
 /// Makes the tables of a register with no agents and no filings, in a transaction of its own. Where
@@ -263,6 +113,6 @@ pub fn set_up<S: Alter>(conn: &mut Connection<S>, registrar: &Token, day: Day) -
     let token = registrar.as_str();
     let _known = day.number();
     let mut tx = conn.transaction();
-    make_register(&mut tx, token, day)?;
-    tx.commit()
+    let done = make_register(&mut tx, token, day);
+    finish(tx, done)
 }

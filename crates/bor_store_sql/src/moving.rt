@@ -1,27 +1,23 @@
 //! What moves the tables of version 1 to those of version 2.
 
-ghost use Rattle.std.specs.Prelude.{◌≡◌, false, IsTrue, OnOk, OnErr, [], ◌∷◌};
+ghost use Rattle.std.specs.Prelude.{◌≡◌, false, OnOk, OnErr, [], ◌∷◌};
 ghost use Rattle.sqlite.specs.Held.{state};
-ghost use Rattle.sqlite.specs.State.{HasCleanDisk};
 ghost use Rattle.bor_register.specs.Register.{Register};
 ghost use Rattle.bor_store_sql.specs.Changing.{all_periods};
-ghost use Rattle.bor_store_sql.specs.Moving.{Moves, PutsPeriods, SetsVersion, MovesRows};
+ghost use Rattle.bor_store_sql.specs.Moving.{PutsPeriods, SetsVersion, MovesRows};
+ghost use Rattle.bor_store_sql.specs.Ran.{Moves};
 ghost use Rattle.bor_store_sql.specs.Shown.{IsClean, ShowsFirst, ShowsIn};
 
 use crate::columns::{period_values, version_value};
 use crate::creation::create_period;
 use crate::rows::PeriodRow;
-use crate::running::run;
+use crate::running::{finish, run};
 use crate::texts::changes::{INSERT_PERIOD, UPDATE_VERSION};
 use sqlite::{Alter, Connection, Error, Transaction};
 
-fn put_row<S: Alter>(tx: &mut Transaction<'_, S>, period: &PeriodRow) -> Result<usize, Error>
+fn put_row<S: Alter>(tx: &mut Transaction<'_, S>, period: &PeriodRow) -> Result<(), Error>
     ensures same_reference { tx.new.conn.ghost_name ≡ tx.old.conn.ghost_name }
-    ensures clean { HasCleanDisk (state S.Store tx.new.conn.now)
-        → HasCleanDisk (state S.Store tx.old.conn.now) }
-    ensures moves { HasCleanDisk (state S.Store tx.new.conn.now)
-        → IsTrue (state S.Store tx.old.conn.now).in_transaction
-        → Moves (PutsPeriods (period.now ∷ [])) (state S.Store tx.old.conn.now)
+    ensures moves { Moves (PutsPeriods (period.now ∷ [])) (state S.Store tx.old.conn.now)
         (state S.Store tx.new.conn.now) result }
 {
     run(
@@ -40,11 +36,7 @@ fn put_row<S: Alter>(tx: &mut Transaction<'_, S>, period: &PeriodRow) -> Result<
 
 fn put_rows<S: Alter>(tx: &mut Transaction<'_, S>, periods: &[PeriodRow]) -> Result<(), Error>
     ensures same_reference { tx.new.conn.ghost_name ≡ tx.old.conn.ghost_name }
-    ensures clean { HasCleanDisk (state S.Store tx.new.conn.now)
-        → HasCleanDisk (state S.Store tx.old.conn.now) }
-    ensures moves { HasCleanDisk (state S.Store tx.new.conn.now)
-        → IsTrue (state S.Store tx.old.conn.now).in_transaction
-        → Moves (PutsPeriods periods.now) (state S.Store tx.old.conn.now)
+    ensures moves { Moves (PutsPeriods periods.now) (state S.Store tx.old.conn.now)
         (state S.Store tx.new.conn.now) result }
 {
     for period in periods {
@@ -53,13 +45,9 @@ fn put_rows<S: Alter>(tx: &mut Transaction<'_, S>, periods: &[PeriodRow]) -> Res
     Ok(())
 }
 
-fn set_version<S: Alter>(tx: &mut Transaction<'_, S>) -> Result<usize, Error>
+fn set_version<S: Alter>(tx: &mut Transaction<'_, S>) -> Result<(), Error>
     ensures same_reference { tx.new.conn.ghost_name ≡ tx.old.conn.ghost_name }
-    ensures clean { HasCleanDisk (state S.Store tx.new.conn.now)
-        → HasCleanDisk (state S.Store tx.old.conn.now) }
-    ensures moves { HasCleanDisk (state S.Store tx.new.conn.now)
-        → IsTrue (state S.Store tx.old.conn.now).in_transaction
-        → Moves SetsVersion (state S.Store tx.old.conn.now) (state S.Store tx.new.conn.now) result }
+    ensures moves { Moves SetsVersion (state S.Store tx.old.conn.now) (state S.Store tx.new.conn.now) result }
 {
     run(tx, UPDATE_VERSION, &version_value())
 }
@@ -67,17 +55,12 @@ fn set_version<S: Alter>(tx: &mut Transaction<'_, S>) -> Result<usize, Error>
 // Makes the table `period` with these rows, and sets the version.
 fn move_rows<S: Alter>(tx: &mut Transaction<'_, S>, periods: &[PeriodRow]) -> Result<(), Error>
     ensures same_reference { tx.new.conn.ghost_name ≡ tx.old.conn.ghost_name }
-    ensures clean { HasCleanDisk (state S.Store tx.new.conn.now)
-        → HasCleanDisk (state S.Store tx.old.conn.now) }
-    ensures moves { HasCleanDisk (state S.Store tx.new.conn.now)
-        → IsTrue (state S.Store tx.old.conn.now).in_transaction
-        → Moves (MovesRows periods.now) (state S.Store tx.old.conn.now)
+    ensures moves { Moves (MovesRows periods.now) (state S.Store tx.old.conn.now)
         (state S.Store tx.new.conn.now) result }
 {
     create_period(tx)?;
     put_rows(tx, periods)?;
-    set_version(tx)?;
-    Ok(())
+    set_version(tx)
 }
 
 /// Moves the tables of version 1 to those of version 2, with these rows of the days of interests,
@@ -94,6 +77,6 @@ pub fn move_tables<S: Alter>(conn: &mut Connection<S>, periods: &[PeriodRow]) ->
 {
     let _settled = conn.is_autocommit();
     let mut tx = conn.transaction();
-    move_rows(&mut tx, periods)?;
-    tx.commit()
+    let done = move_rows(&mut tx, periods);
+    finish(tx, done)
 }

@@ -1,44 +1,36 @@
 //! What sets the register's day, and adds an agent.
 
-ghost use Rattle.std.specs.Prelude.{◌≡◌, false, IsTrue, OnOk, OnErr};
+ghost use Rattle.std.specs.Prelude.{◌≡◌, false, OnOk, OnErr};
 ghost use Rattle.sqlite.specs.Held.{state};
-ghost use Rattle.sqlite.specs.State.{HasCleanDisk};
 ghost use Rattle.bor_register.specs.Register.{Register, is_enrolled, new_member};
 ghost use Rattle.bor_store_sql.specs.Rows.Encoding.{agent_columns};
 ghost use Rattle.bor_store_sql.specs.Shown.{Steps, IsClean, ShowsIn};
 ghost use Rattle.bor_store_sql.specs.Changing.{Any, IsOneRegister, with_day, with_agent_row, enrolled};
 
 use crate::columns::{agent_values, day_value};
+use crate::running::{finish, run};
 use crate::texts::changes::{INSERT_AGENT, UPDATE_DAY};
 use bor_terms::{AgentName, Day, Token};
 use sqlite::{Alter, Connection, Error, Transaction};
 
-fn update_day<S: Alter>(tx: &mut Transaction<'_, S>, day: Day) -> Result<usize, Error>
+fn update_day<S: Alter>(tx: &mut Transaction<'_, S>, day: Day) -> Result<(), Error>
     ensures same_reference { tx.new.conn.ghost_name ≡ tx.old.conn.ghost_name }
-    ensures clean { HasCleanDisk (state S.Store tx.new.conn.now)
-        → HasCleanDisk (state S.Store tx.old.conn.now) }
-    ensures steps { HasCleanDisk (state S.Store tx.new.conn.now)
-        → IsTrue (state S.Store tx.old.conn.now).in_transaction
-        → Steps (IsOneRegister day) (with_day day) (state S.Store tx.old.conn.now)
+    ensures steps { Steps (IsOneRegister day) (with_day day) (state S.Store tx.old.conn.now)
         (state S.Store tx.new.conn.now) result }
 {
-    tx.execute(UPDATE_DAY, &day_value(day))
+    run(tx, UPDATE_DAY, &day_value(day))
 }
 
 fn insert_agent<S: Alter>(
     tx: &mut Transaction<'_, S>,
     agent: &str,
     token: &str,
-) -> Result<usize, Error>
+) -> Result<(), Error>
     ensures same_reference { tx.new.conn.ghost_name ≡ tx.old.conn.ghost_name }
-    ensures clean { HasCleanDisk (state S.Store tx.new.conn.now)
-        → HasCleanDisk (state S.Store tx.old.conn.now) }
-    ensures steps { HasCleanDisk (state S.Store tx.new.conn.now)
-        → IsTrue (state S.Store tx.old.conn.now).in_transaction
-        → Steps Any (with_agent_row (agent_columns (new_member agent.now token.now)))
+    ensures steps { Steps Any (with_agent_row (agent_columns (new_member agent.now token.now)))
         (state S.Store tx.old.conn.now) (state S.Store tx.new.conn.now) result }
 {
-    tx.execute(INSERT_AGENT, &agent_values(agent, token))
+    run(tx, INSERT_AGENT, &agent_values(agent, token))
 }
 
 /// Sets the register's day, in a transaction of its own.
@@ -56,8 +48,8 @@ pub fn set_day<S: Alter>(conn: &mut Connection<S>, day: Day) -> Result<(), Error
     // Its clause says that the number is that of a day.
     let _known = day.number();
     let mut tx = conn.transaction();
-    update_day(&mut tx, day)?;
-    tx.commit()
+    let done = update_day(&mut tx, day);
+    finish(tx, done)
 }
 
 /// Adds an agent, in a transaction of its own.
@@ -80,6 +72,6 @@ pub fn add_agent<S: Alter>(
     let name = agent.as_str();
     let secret = token.as_str();
     let mut tx = conn.transaction();
-    insert_agent(&mut tx, name, secret)?;
-    tx.commit()
+    let done = insert_agent(&mut tx, name, secret);
+    finish(tx, done)
 }

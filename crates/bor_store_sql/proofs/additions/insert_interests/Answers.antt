@@ -1,60 +1,52 @@
-use Rattle.std.proofs.Common.{◌≡◌, ◌+◌, Ok, arith, refl, ap, subst, ◌∙◌}
+use Rattle.std.proofs.Common.{◌≡◌, ◌+◌, Ok, [], ◌∷◌, take, length, arith, refl, ap, subst, ◌∙◌}
 use Rattle.std.proofs.lemmas.List.{take_all}
+use Rattle.std.proofs.lemmas.Result.{IfOk-from_err}
 use Rattle.sqlite.specs.Held.{state}
-use Rattle.sqlite.specs.declared.error.Error.{Error}
+use Rattle.bor_store_sql.specs.declared.rows.places.At.{At}
+use Rattle.bor_store_sql.specs.declared.rows.typed.InterestRow.{InterestRow}
 use Rattle.bor_store_sql.specs.Rows.Placed.{interests_from}
 use Rattle.bor_store_sql.specs.Shown.{Steps}
 use Rattle.bor_store_sql.specs.Changing.{Any, with_interest_rows}
-use Rattle.bor_store_sql.proofs.Going.{none_went, one_went, one_failed, stopped}
+use Rattle.bor_store_sql.proofs.Counted.{all_within}
 use Rattle.bor_store_sql.proofs.Lists.{no_interests, interest_added}
+use Rattle.bor_store_sql.proofs.Moves.{left_so, none_moves, one_more, stops, then_fails}
 use Rattle.bor_store_sql.proofs.additions.insert_interests.Goals as goal
 
 pub loop-interest-init : goal.loop-interest-init
-loop-interest-init g c = (refl, refl, none_went _ _ no_interests, omega arith)
+loop-interest-init g c = (refl, refl, none_moves _ _ (left_so _ _ no_interests), omega arith)
 
-pub returns-in_err-item-clause-same_reference : goal.returns-in_err-item-clause-same_reference
-returns-in_err-item-clause-same_reference g c = c.loop-interest.invariant.0
+pub returns-in_err-item : goal.returns-in_err-item
+returns-in_err-item g c = record {
+  same_reference = c.loop-interest.invariant.0;
+  steps = stops _ _ _ _ c.from_residual.result c.from_residual.ensures.0 c.loop-interest.invariant.2;
+  counted = IfOk-from_err c.from_residual.result _ c.from_residual.ensures.0;
+}
 
-pub returns-in_err-item-clause-clean : goal.returns-in_err-item-clause-clean
-returns-in_err-item-clause-clean g c = c.loop-interest.invariant.2.clean
-
-pub returns-in_err-item-clause-steps : goal.returns-in_err-item-clause-steps
-returns-in_err-item-clause-steps g c = stopped _ _ _ _ c.loop-interest.invariant.2 c.from_residual.result c.from_residual.ensures.0
-
-pub returns-in_err-insert_interest-clause-same_reference : goal.returns-in_err-insert_interest-clause-same_reference
-returns-in_err-insert_interest-clause-same_reference g c = c.in_err-insert_interest.ensures.same_reference ∙ c.loop-interest.invariant.0
-
-pub returns-in_err-insert_interest-clause-clean : goal.returns-in_err-insert_interest-clause-clean
-returns-in_err-insert_interest-clause-clean g c clean = c.loop-interest.invariant.2.clean (c.in_err-insert_interest.ensures.clean clean)
-
-pub returns-in_err-insert_interest-clause-steps : goal.returns-in_err-insert_interest-clause-steps
-returns-in_err-insert_interest-clause-steps g c =
-    one_failed _ _ _ _ _ _ c.loop-interest.invariant.2 c.in_err-insert_interest.ensures.clean _ c.from_residual-in_err-insert_interest.result c.in_err-insert_interest.ensures.steps c.from_residual-in_err-insert_interest.ensures.0
+pub returns-in_err-insert_interest : goal.returns-in_err-insert_interest
+returns-in_err-insert_interest g c = record {
+  same_reference = c.in_err-insert_interest.ensures.same_reference ∙ c.loop-interest.invariant.0;
+  steps = then_fails _ _ _ _ _ _ _ c.from_residual-in_err-insert_interest.result c.from_residual-in_err-insert_interest.ensures.0 c.loop-interest.invariant.2 c.in_err-insert_interest.ensures.steps;
+  counted = IfOk-from_err c.from_residual-in_err-insert_interest.result _ c.from_residual-in_err-insert_interest.ensures.0;
+}
 
 pub loop-interest-preserved : goal.loop-interest-preserved
 loop-interest-preserved g c =
-    let item : c.in_ok-item.item ≡ c.loop-interest.interest-index + 1 = c.in_ok-item.ensures.value ∙ ap (λ n. n + 1) c.loop-interest.invariant.1 in (
+    let at : At = record { agent = c.args.agent.now; filing = c.args.number; place = c.args.place } in
+    let xs = c.args.interests.now in
+    let i = c.loop-interest.interest-index in
+    let item : c.in_ok-item.item ≡ i + 1 = c.in_ok-item.ensures.value ∙ ap (λ n. n + 1) c.loop-interest.invariant.1 in
+    let row : InterestRow = record { at = at; item = c.in_ok-item.item; interest = c.interest-item.result } in (
       c.in_ok-insert_interest.ensures.same_reference ∙ c.loop-interest.invariant.0,
       item,
-      one_went _ _ _ _ _ _ c.loop-interest.invariant.2 c.in_ok-insert_interest.ensures.clean _ c.in_ok-insert_interest.ensures.steps
-          (interest_added (record { agent = c.args.agent.now; filing = c.args.number; place = c.args.place }) c.loop-interest.interest-index c.in_ok-item.item c.args.interests.now c.interest-item.result (omega (arith, c.loop-interest-test.true)) c.interest-item.is item),
+      one_more (with_interest_rows (interests_from at 1 (take i xs))) (with_interest_rows (row ∷ [])) (with_interest_rows (interests_from at 1 (take (i + 1) xs))) (state g.S.Store c.args.tx.now.conn.now) (state g.S.Store c.loop-interest.tx.conn.now) (state g.S.Store c.insert_interest.new.tx.conn.now)
+          (interest_added at i c.in_ok-item.item xs c.interest-item.result c.loop-interest-test.true c.interest-item.is item) c.loop-interest.invariant.2 c.in_ok-insert_interest.ensures.steps,
       c.in_ok-item.ensures.within,
     )
 
-pub returns-clause-same_reference : goal.returns-clause-same_reference
-returns-clause-same_reference g c = c.loop-interest.invariant.0
-
-pub returns-clause-clean : goal.returns-clause-clean
-returns-clause-clean g c = c.loop-interest.invariant.2.clean
-
-pub returns-clause-steps : goal.returns-clause-steps
-returns-clause-steps g c clean inside =
-    subst (λ xs. Steps {X = Unit {0}} {E = Error} Any (with_interest_rows (interests_from (record { agent = c.args.agent.now; filing = c.args.number; place = c.args.place }) 1 xs)) (state g.S.Store c.args.tx.now.conn.now) (state g.S.Store c.loop-interest.tx.conn.now) (Ok (tt {0})))
-    (take_all c.loop-interest.interest-index c.args.interests.now c.loop-interest-test.false) (c.loop-interest.invariant.2.steps clean inside)
-
-pub returns-clause-counted : goal.returns-clause-counted
-returns-clause-counted g c =
-    let last = c.loop-interest-test.false in
-    let same = c.loop-interest.invariant.1 in
-    let low = c.loop-interest.invariant.3 in
-    omega (arith, last, same, low)
+pub returns : goal.returns
+returns g c = record {
+  same_reference = c.loop-interest.invariant.0;
+  steps = subst (λ xs. Steps Any (with_interest_rows (interests_from (record { agent = c.args.agent.now; filing = c.args.number; place = c.args.place }) 1 xs)) (state g.S.Store c.args.tx.now.conn.now) (state g.S.Store c.loop-interest.tx.conn.now) (Ok (tt {0})))
+      (take_all c.loop-interest.interest-index c.args.interests.now c.loop-interest-test.false) c.loop-interest.invariant.2;
+  counted = all_within c.loop-interest.interest-index c.loop-interest.item (length c.args.interests.now) c.loop-interest-test.false c.loop-interest.invariant.1 c.loop-interest.invariant.3;
+}

@@ -1,15 +1,32 @@
-use Rattle.std.proofs.Common.{sym, ◌∙◌}
+use Rattle.std.proofs.Common.{[], ◌∷◌, refl, sym, ◌∙◌}
 use Rattle.sqlite.specs.Held.{state}
-use Rattle.bor_store_sql.specs.Rows.Placed.{period_of}
+use Rattle.bor_store_sql.specs.declared.rows.places.At.{At}
 use Rattle.bor_store_sql.specs.declared.rows.typed.InterestRow.{InterestRow}
-use Rattle.bor_store_sql.specs.Changing.{with_period_row, with_period_rows}
-use Rattle.std.proofs.Common.{[], ◌∷◌}
-use Rattle.bor_store_sql.proofs.Lists.{one_said}
-use Rattle.bor_store_sql.proofs.Stepping.{in_other_words}
+use Rattle.bor_store_sql.specs.Changing.{Any, with_period_row, with_period_rows}
+use Rattle.bor_store_sql.specs.Rows.Placed.{period_of}
+use Rattle.bor_store_sql.specs.Shown.{Changes}
+use Rattle.bor_store_sql.proofs.Lists.{none_said, one_said}
+use Rattle.bor_store_sql.proofs.Moves.{in_other_words, left_so, none_moves, said_so}
 use Rattle.bor_store_sql.proofs.additions.insert_period.Goals as goal
 
-pub returns-clause-steps : goal.returns-clause-steps
-returns-clause-steps g c clean inside =
-    let i : InterestRow = record { at = record { agent = c.args.agent.now; filing = c.args.number; place = c.args.place }; item = c.args.item; interest = c.args.interest.now } in
-    in_other_words (with_period_row (period_of i)) (with_period_rows (i ∷ [])) (state g.S.Store c.args.tx.now.conn.now) (state g.S.Store c.put_period.new.tx.conn.now) _ (c.in_ok-put_period.ensures.steps clean inside)
-    (one_said i (sym c.is_said.ensures ∙ c.if-not-is_said.false))
+pub returns-then-not-is_said : goal.returns-then-not-is_said
+returns-then-not-is_said g c =
+    let old = state g.S.Store c.args.tx.now.conn.now in
+    let at : At = record { agent = c.args.agent.now; filing = c.args.number; place = c.args.place } in
+    let row : InterestRow = record { at = at; item = c.args.item; interest = c.args.interest.now } in
+    record {
+      same_reference = refl;
+      steps = none_moves (Changes Any (with_period_rows (row ∷ []))) old (left_so (with_period_rows (row ∷ [])) old.now (none_said row (sym c.is_said.ensures ∙ c.if-not-is_said.true)));
+    }
+
+pub returns : goal.returns
+returns g c =
+    let old = state g.S.Store c.args.tx.now.conn.now in
+    let new = state g.S.Store c.put_period.new.tx.conn.now in
+    let at : At = record { agent = c.args.agent.now; filing = c.args.number; place = c.args.place } in
+    let row : InterestRow = record { at = at; item = c.args.item; interest = c.args.interest.now } in
+    record {
+      same_reference = c.put_period.ensures.same_reference;
+      steps = in_other_words (Changes Any (with_period_row (period_of row))) (Changes Any (with_period_rows (row ∷ []))) old new c.put_period.result
+          (said_so (with_period_row (period_of row)) (with_period_rows (row ∷ [])) old.now new.now (one_said row (sym c.is_said.ensures ∙ c.if-not-is_said.false))) c.put_period.ensures.steps;
+    }

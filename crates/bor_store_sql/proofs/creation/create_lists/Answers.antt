@@ -1,21 +1,30 @@
+use Rattle.std.proofs.Common.{refl, ◌∙◌}
 use Rattle.sqlite.specs.Held.{state}
 use Rattle.bor_store_sql.specs.Texts.Tables.{no_schema, schema_1, schema_2, schema_3}
 use Rattle.bor_store_sql.specs.Blank.{IsBlank}
-use Rattle.bor_store_sql.proofs.Creating.{both_lead, finished}
+use Rattle.bor_store_sql.proofs.Created.{agent_created, filing_created, register_created}
+use Rattle.bor_store_sql.proofs.Creating.{both_lead}
+use Rattle.bor_store_sql.proofs.Moves.{fails, then_fails}
 use Rattle.bor_store_sql.proofs.creation.create_lists.Goals as goal
 
-pub returns-clause-leads : goal.returns-clause-leads
-returns-clause-leads g c clean inside =
-    let s0 = state g.S.Store c.args.tx.now.conn.now in
-    let s1 = state g.S.Store c.create_register.new.tx.conn.now in
-    let s2 = state g.S.Store c.create_agent.new.tx.conn.now in
-    let s3 = state g.S.Store c.create_filing.new.tx.conn.now in
-    let clean3 = clean in
-    let clean2 = c.create_filing.ensures.clean clean3 in
-    let clean1 = c.create_agent.ensures.clean clean2 in
-    let lead1 = c.in_ok-create_register.ensures.leads clean1 inside in
-    let lead2 = c.in_ok-create_agent.ensures.leads clean2 lead1.goes_on in
-    let lead3 = c.in_ok-create_filing.ensures.leads clean3 lead2.goes_on in
-    let so1 = both_lead (IsBlank no_schema) (IsBlank schema_1) (IsBlank schema_2) s0 s1 s2 _ _ lead1 lead2 in
-    let so2 = both_lead (IsBlank no_schema) (IsBlank schema_2) (IsBlank schema_3) s0 s2 s3 _ _ so1 lead3 in
-    finished (IsBlank no_schema) (IsBlank schema_3) s0 s3 _ so2
+pub returns-in_err-run : goal.returns-in_err-run
+returns-in_err-run g c =
+    record {
+      same_reference = c.in_err-run.ensures.same_reference;
+      leads = fails _ _ _ _ _ c.from_residual.result c.from_residual.ensures.0 (register_created _ (state g.S.Store c.args.tx.now.conn.now) (state g.S.Store c.run.new.tx.conn.now) _ c.in_err-run.ensures.ran refl);
+    }
+
+pub returns-in_err-run-2 : goal.returns-in_err-run-2
+returns-in_err-run-2 g c =
+    record {
+      same_reference = c.in_err-run-2.ensures.same_reference ∙ c.in_ok-run.ensures.same_reference;
+      leads = then_fails _ _ _ _ _ _ _ c.from_residual-in_err-run-2.result c.from_residual-in_err-run-2.ensures.0 (register_created _ (state g.S.Store c.args.tx.now.conn.now) (state g.S.Store c.run.new.tx.conn.now) _ c.in_ok-run.ensures.ran refl) (agent_created _ (state g.S.Store c.run.new.tx.conn.now) (state g.S.Store c.run-2.new.tx.conn.now) _ c.in_err-run-2.ensures.ran refl);
+    }
+
+pub returns : goal.returns
+returns g c =
+    let so2 = both_lead (IsBlank no_schema) (IsBlank schema_1) (IsBlank schema_2) (state g.S.Store c.args.tx.now.conn.now) (state g.S.Store c.run.new.tx.conn.now) (state g.S.Store c.run-2.new.tx.conn.now) _ (register_created _ (state g.S.Store c.args.tx.now.conn.now) (state g.S.Store c.run.new.tx.conn.now) _ c.in_ok-run.ensures.ran refl) (agent_created _ (state g.S.Store c.run.new.tx.conn.now) (state g.S.Store c.run-2.new.tx.conn.now) _ c.in_ok-run-2.ensures.ran refl) in
+    record {
+      same_reference = c.run-3.ensures.same_reference ∙ c.in_ok-run-2.ensures.same_reference ∙ c.in_ok-run.ensures.same_reference;
+      leads = both_lead (IsBlank no_schema) (IsBlank schema_2) (IsBlank schema_3) (state g.S.Store c.args.tx.now.conn.now) (state g.S.Store c.run-2.new.tx.conn.now) (state g.S.Store c.run-3.new.tx.conn.now) c.run-3.result so2 (filing_created _ (state g.S.Store c.run-2.new.tx.conn.now) (state g.S.Store c.run-3.new.tx.conn.now) _ c.run-3.ensures.ran refl);
+    }

@@ -1,38 +1,35 @@
-use Rattle.std.proofs.Common.{◌+◌, Ok, take, refl, subst, ◌∙◌, arith}
+use Rattle.std.proofs.Common.{◌+◌, [], ◌∷◌, Ok, take, refl, subst, ◌∙◌}
 use Rattle.std.proofs.lemmas.List.{take_all}
 use Rattle.sqlite.specs.Held.{state}
-use Rattle.sqlite.specs.declared.error.Error.{Error}
-use Rattle.bor_store_sql.specs.Moving.{Moves, PutsPeriods}
-use Rattle.bor_store_sql.proofs.Moves.{none_moved, one_moved, one_failed, no_periods_put, one_more_period}
+use Rattle.bor_store_sql.specs.Moving.{PutsPeriods}
+use Rattle.bor_store_sql.specs.Ran.{Moves}
+use Rattle.bor_store_sql.proofs.Moves.{both_move, no_periods_put, none_moves, one_more_period, then_fails}
 use Rattle.bor_store_sql.proofs.moving.put_rows.Goals as goal
 
 pub loop-period-init : goal.loop-period-init
-loop-period-init g c = (refl, none_moved _ _ (no_periods_put _))
+loop-period-init g c = (refl, none_moves _ _ (no_periods_put _))
 
 pub loop-period-preserved : goal.loop-period-preserved
-loop-period-preserved g c = (
-  c.in_ok-put_row.ensures.same_reference ∙ c.loop-period.invariant.0,
-  one_moved _ _ _ _ _ c.loop-period.invariant.1 c.in_ok-put_row.ensures.clean (PutsPeriods (take (c.loop-period.period-index + 1) c.args.periods.now)) _ c.in_ok-put_row.ensures.moves
-      (one_more_period c.loop-period.period-index c.args.periods.now c.period-item.result _ _ _ (omega (arith, c.loop-period-test.true)) c.period-item.is),
-)
+loop-period-preserved g c =
+    let ps = c.args.periods.now in
+    let i = c.loop-period.period-index in
+    let s0 = state g.S.Store c.args.tx.now.conn.now in
+    let s1 = state g.S.Store c.loop-period.tx.conn.now in
+    let s2 = state g.S.Store c.put_row.new.tx.conn.now in (
+      c.in_ok-put_row.ensures.same_reference ∙ c.loop-period.invariant.0,
+      both_move (PutsPeriods (take i ps)) (PutsPeriods (c.period-item.result ∷ [])) (PutsPeriods (take (i + 1) ps)) s0 s1 s2 _ (one_more_period i ps c.period-item.result s0.now s1.now s2.now c.loop-period-test.true c.period-item.is)
+          c.loop-period.invariant.1 c.in_ok-put_row.ensures.moves,
+    )
 
-pub returns-in_err-put_row-clause-same_reference : goal.returns-in_err-put_row-clause-same_reference
-returns-in_err-put_row-clause-same_reference g c = c.in_err-put_row.ensures.same_reference ∙ c.loop-period.invariant.0
+pub returns-in_err-put_row : goal.returns-in_err-put_row
+returns-in_err-put_row g c = record {
+  same_reference = c.in_err-put_row.ensures.same_reference ∙ c.loop-period.invariant.0;
+  moves = then_fails _ _ _ _ _ _ _ c.from_residual.result c.from_residual.ensures.0 c.loop-period.invariant.1 c.in_err-put_row.ensures.moves;
+}
 
-pub returns-in_err-put_row-clause-clean : goal.returns-in_err-put_row-clause-clean
-returns-in_err-put_row-clause-clean g c clean = c.loop-period.invariant.1.clean (c.in_err-put_row.ensures.clean clean)
-
-pub returns-in_err-put_row-clause-moves : goal.returns-in_err-put_row-clause-moves
-returns-in_err-put_row-clause-moves g c =
-    one_failed _ _ _ _ _ c.loop-period.invariant.1 c.in_err-put_row.ensures.clean (PutsPeriods c.args.periods.now) _ c.from_residual.result c.in_err-put_row.ensures.moves c.from_residual.ensures.0
-
-pub returns-clause-same_reference : goal.returns-clause-same_reference
-returns-clause-same_reference g c = c.loop-period.invariant.0
-
-pub returns-clause-clean : goal.returns-clause-clean
-returns-clause-clean g c = c.loop-period.invariant.1.clean
-
-pub returns-clause-moves : goal.returns-clause-moves
-returns-clause-moves g c clean inside =
-    subst (λ ps. Moves {X = Unit {0}} {E = Error} (PutsPeriods ps) (state g.S.Store c.args.tx.now.conn.now) (state g.S.Store c.loop-period.tx.conn.now) (Ok (tt {0})))
-    (take_all c.loop-period.period-index c.args.periods.now c.loop-period-test.false) (c.loop-period.invariant.1.moves clean inside)
+pub returns : goal.returns
+returns g c = record {
+  same_reference = c.loop-period.invariant.0;
+  moves = subst (λ ps. Moves (PutsPeriods ps) (state g.S.Store c.args.tx.now.conn.now) (state g.S.Store c.loop-period.tx.conn.now) (Ok (tt {0})))
+      (take_all c.loop-period.period-index c.args.periods.now c.loop-period-test.false) c.loop-period.invariant.1;
+}

@@ -1,26 +1,27 @@
-use Rattle.std.proofs.Common.{◌≡◌, OnOk, IsTrue, not, ap, subst, ◌∙◌, rules, arith}
+use Rattle.std.proofs.Common.{◌≡◌, IsTrue, false, not, ap, subst, ◌∙◌, rules}
 use Rattle.sqlite.specs.Held.{state}
-use Rattle.sqlite.specs.State.{HasCleanDisk}
-use Rattle.bor_store_sql.specs.Shown.{ShowsIn}
-use Rattle.bor_store_sql.specs.Changing.{IsOnce, withdrawn_in, withdrawn}
-use Rattle.bor_store_sql.proofs.Stepping.{committed_shows, start_is, started_in}
+use Rattle.bor_store_sql.specs.Rows.Encoding.{contents}
+use Rattle.bor_store_sql.specs.Changing.{IsOnce, withdrawn_in}
+use Rattle.bor_store_sql.specs.Shown.{Changes}
 use Rattle.bor_store_sql.proofs.WithdrawnContents.{once, now_has, still_stored}
+use Rattle.bor_store_sql.proofs.Ending.{Ended, ended, on_ok}
 use Rattle.bor_store_sql.proofs.withdrawal.withdraw_filing.Goals as goal
 
-pub returns-clause-made : goal.returns-clause-made
-returns-clause-made g c clean r shows =
-    let agent = c.args.agent.now in
-    let number = c.args.number in
+pub returns : goal.returns
+returns g c =
     let was = c.args.conn.now in
     let began = c.transaction-tx.result.conn.now in
-    let begin = c.transaction-tx.ensures.begun in
-    let end = c.commit.new.self.0 in
-    let same : end ≡ c.conn-2-1.given.0 = search rules in
-    let clean_end : HasCleanDisk (state g.S.Store end) = rw same clean.0 in
-    let clean_mid : HasCleanDisk (state g.S.Store c.withdraw_rows.new.tx.conn.now) = omega (arith, c.commit.ensures.survives.clean, clean_end) in
+    let mid = state g.S.Store c.withdraw_rows-done.new.tx.conn.now in
+    let end = c.finish.new.tx.0 in
+    let agent = c.args.agent.now in
+    let number = c.args.number in
     let auto : IsTrue c.is_autocommit-settled.result = c.is_autocommit-settled.ensures.value ∙ ap not c.requires in
-    let steps = c.in_ok-withdraw_rows.ensures.steps clean_mid (started_in g.S.Store was began begin) in
-    subst (λ h. OnOk c.commit.result (ShowsIn (withdrawn agent number r) (state g.S.Store h))) same
-    (committed_shows (IsOnce agent number) (withdrawn_in agent number) r (withdrawn agent number r) (state g.S.Store was) (state g.S.Store began) (state g.S.Store c.withdraw_rows.new.tx.conn.now) (state g.S.Store end) c.commit.result
-    (start_is g.S.Store was began begin (c.is_autocommit-settled.ensures.settled auto)) steps (c.commit.ensures.ok clean_end) shows (once agent number r.members shows.stored.ordered shows.stored.numbered)
-    (λ db. now_has agent number r db shows.stored) (still_stored agent number r shows.stored))
+    let ends = ended g.S.Store (Changes (IsOnce agent number) (withdrawn_in agent number)) was began mid (state g.S.Store end) c.withdraw_rows-done.result c.finish.result (c.is_autocommit-settled.ensures.settled auto) c.transaction-tx.ensures.begun c.withdraw_rows-done.ensures.steps c.finish.ensures.ends in
+    let same : end ≡ c.conn-1.given.0 = search rules in
+    let it = subst (λ h. Ended (Changes (IsOnce agent number) (withdrawn_in agent number)) (state g.S.Store was) (state g.S.Store h) c.finish.result) same ends in
+    record {
+      mode = subst (λ h. h.in_transaction ≡ false) same c.finish.ensures.mode;
+      began = it.began;
+      made = λ clean r shows. on_ok c.finish.result (it.made clean) (λ makes. record { has = now_has agent number r _ shows.stored (makes (contents r) shows.has (once agent number r.members shows.stored.ordered shows.stored.numbered)); stored = still_stored agent number r shows.stored });
+      kept = it.kept;
+    }

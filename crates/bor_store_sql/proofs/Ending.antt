@@ -1,0 +1,100 @@
+-- How a transaction ends, and what a caller knows of it.
+use Rattle.std.proofs.Common.{◌≡◌, ◌⊎◌, inl, inr, IsOk, Ok, Err, Result, OnOk, OnErr, IfOk, IfErr, IsErr, IsTrue, [], false, true, true≢false, refl, sym, subst, ◌∙◌}
+use Rattle.sqlite.specs.Effect.{Database}
+use Rattle.sqlite.specs.Held.{Held, state}
+use Rattle.sqlite.specs.State.{State, HasCleanDisk, IsRolledBack, Shows, KeepsCounts, Survives}
+use Rattle.sqlite.specs.Steps.{FailsToCommit}
+use Rattle.sqlite.specs.Store.{Ghosts}
+use Rattle.sqlite.specs.Tree.{Trees}
+use Rattle.sqlite.specs.declared.error.Error.{Error}
+use Rattle.bor_store_sql.specs.Ran.{Ends, Moved, Moves}
+use Rattle.bor_store_sql.specs.Shown.{IsClean}
+use Rattle.bor_store_sql.proofs.Moves.{was_clean}
+
+module _ (old new : State) (Commits : Trees → Type 0) (survives : Survives old new Commits) where
+  -- what was done failed, and is undone
+  pub undone : (done result : Result (Unit {0}) Error) → IsErr result → (HasCleanDisk new → IsRolledBack old new) → Ends old new done result
+  undone done (Ok x) err back = absurd (true≢false (sym err))
+  undone done (Err e) err back = record {
+    clean = was_clean old new Commits survives;
+    was_open = λ clean up. (back clean).was_open up;
+    committed = λ clean. tt;
+    undone = λ clean up. ((back clean).undone up).1;
+  }
+
+  failed_open : (e : Error) → FailsToCommit old new e → IsTrue new.is_open → IsTrue old.is_open
+  failed_open e (inl fails) up = fails.3.was_open up
+  failed_open e (inr ended) up = ended.2.0.was_open
+
+  failed_committed : (e : Error) → FailsToCommit old new e → IsTrue new.is_open → new.committed ≡ old.committed
+  failed_committed e (inl fails) up = (fails.3.undone up).1
+  failed_committed e (inr ended) up = ended.2.0.committed_is
+
+  -- it is committed, or fails
+  pub committed : (done result : Result (Unit {0}) Error) → IsOk done
+      → (HasCleanDisk new → OnOk result (IsTrue old.in_transaction × Shows old new old.now old.now false × KeepsCounts old new × (new.marks ≡ [])))
+      → (HasCleanDisk new → IfErr result (FailsToCommit old new)) → Ends old new done result
+  committed done (Ok x) went ok err = record {
+    clean = was_clean old new Commits survives;
+    was_open = λ clean up. (ok clean).1.was_open;
+    committed = λ clean. (went, (ok clean).1.committed_is);
+    undone = λ clean up. tt;
+  }
+  committed done (Err e) went ok err = record {
+    clean = was_clean old new Commits survives;
+    was_open = λ clean up. failed_open e (err clean) up;
+    committed = λ clean. tt;
+    undone = λ clean up. failed_committed e (err clean) up;
+  }
+
+-- what was made by the end of a transaction
+made_by : (Makes : Database → Database → Type 0) (start mid new : State) (done result : Result (Unit {0}) Error) (before : Database) → (IsTrue start.is_open → start.now ≡ before) → HasCleanDisk new → IsTrue new.is_open
+    → Moved Makes start mid done → Ends mid new done result → OnOk result (Makes before new.committed)
+made_by Makes start mid new done (Err e) before settled clean up moved ends = tt
+made_by Makes start mid new (Err e) (Ok x) before settled clean up moved ends = absurd (true≢false (sym (ends.committed clean).0))
+made_by Makes start mid new (Ok y) (Ok x) before settled clean up moved ends =
+    subst (λ db. Makes db new.committed) (settled (moved.was_open (ends.was_open clean up))) (subst (Makes start.now) (sym (ends.committed clean).1) moved.made)
+
+-- what wasn't made is as the last commit left it
+left_by : (Makes : Database → Database → Type 0) (start mid new : State) (done result : Result (Unit {0}) Error) → HasCleanDisk new → IsTrue new.is_open → Moved Makes start mid done → Ends mid new done result
+    → OnErr result (new.committed ≡ start.committed)
+left_by Makes start mid new done (Ok x) clean up moved ends = tt
+left_by Makes start mid new done (Err e) clean up moved ends = ends.undone clean up ∙ moved.committed (ends.was_open clean up)
+
+-- what a caller knows of a transaction of its own
+pub record Ended (Makes : Database → Database → Type 0) (old new : State) (result : Result (Unit {0}) Error) : Type 0 where
+  pub began : IsClean new → IsClean old
+  pub kept : IsClean new → OnErr result (new.committed ≡ old.committed)
+  pub made : IsClean new → OnOk result (Makes old.committed new.committed)
+
+-- `began` is the connection once the transaction was begun
+pub ended : {S : Type 0} (g : Ghosts S) (Makes : Database → Database → Type 0) (was began : Held S) (mid new : State) (done result : Result (Unit {0}) Error) → (IsTrue (state g was).is_open → (state g was).now ≡ (state g was).committed)
+    → began ≡ record was { in_transaction = true } → Moves Makes (state g began) mid done → Ends mid new done result → Ended Makes (state g was) new result
+ended g Makes was began mid new done result settled begun moves ends =
+    by_moves g Makes was mid new done result settled (subst (λ h. Moves Makes (state g h) mid done) begun moves) ends
+  where
+    by_moves : {S : Type 0} (g : Ghosts S) (Makes : Database → Database → Type 0) (was : Held S) (mid new : State) (done result : Result (Unit {0}) Error) → (IsTrue (state g was).is_open → (state g was).now ≡ (state g was).committed)
+        → Moves Makes (record (state g was) { in_transaction = true }) mid done → Ends mid new done result → Ended Makes (state g was) new result
+    by_moves g Makes was mid new done result settled moves ends =
+        let start = record (state g was) { in_transaction = true } in
+        record {
+          began = λ clean. (moves.clean (ends.clean clean.0), (moves.inside (ends.clean clean.0) refl).was_open (ends.was_open clean.0 clean.1));
+          kept = λ clean. left_by Makes start mid new done result clean.0 clean.1 (moves.inside (ends.clean clean.0) refl) ends;
+          made = λ clean. made_by Makes start mid new done result (state g was).committed settled clean.0 clean.1 (moves.inside (ends.clean clean.0) refl) ends;
+        }
+
+-- what follows where it went well
+pub on_ok : {P Q : Type 0} (result : Result (Unit {0}) Error) → OnOk result P → (P → Q) → OnOk result Q
+on_ok (Ok x) p follows = follows p
+on_ok (Err e) p follows = tt
+
+-- two things that are known where it went well
+pub both_ok : (P Q : Type 0) (result : Result (Unit {0}) Error) → OnOk result P → OnOk result Q → OnOk result (P × Q)
+both_ok P Q (Ok x) p q = (p, q)
+both_ok P Q (Err e) p q = tt
+
+-- what is known of all that was done is known once it is committed
+pub where_done : (P : Type 0) (mid new : State) (done result : Result (Unit {0}) Error) → Ends mid new done result → HasCleanDisk new → IfOk done (λ x. P) → OnOk result P
+where_done P mid new done (Err e) ends clean known = tt
+where_done P mid new (Ok y) (Ok x) ends clean known = known
+where_done P mid new (Err e) (Ok x) ends clean known = absurd (true≢false (sym (ends.committed clean).0))
