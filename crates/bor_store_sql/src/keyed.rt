@@ -11,9 +11,8 @@ ghost use Rattle.bor_store_sql.specs.Rows.Encoding.{truth, agent_columns, line_c
 ghost use Rattle.bor_store_sql.specs.Found.{Finds, FindsBoth};
 ghost use Rattle.bor_store_sql.specs.Selected.{named, with_token, keyed, numbered, last, placed_of, in_filing, in_declaration, in_series, identified, interests_at, identifiers_at, place_columns};
 
-use crate::queries::{
-    query_by_file, query_by_filing, query_by_one, query_by_statement, query_by_three, query_by_two,
-};
+use crate::columns::{file_key, filing_key, one_text, statement_key, three_texts, two_texts};
+use crate::queries::query;
 use crate::texts::queries::{
     AGENT_BY_NAME, AGENT_BY_TOKEN, FILE_BY_NUMBER, FILING_BY_KEY, FILINGS_OF_AGENT,
     IDENTIFIERS_OF_STATEMENT, INTERESTS_OF_STATEMENT, LAST_FILING, LAST_OF_SERIES, LINE_BY_KEY,
@@ -23,30 +22,27 @@ use crate::texts::queries::{
 use sqlite::{Alter, Connection, Error, Row};
 
 /// The agent of this name with its token; no row where there is none.
-#[tactic(auto, using(crate::proofs::Plain::agent_by_name_asks))]
 pub fn agent_by_name<S: Alter>(conn: &mut Connection<S>, name: &str) -> Result<Vec<Row>, Error>
     requires { conn.old.in_transaction ≡ false }
     ensures mode { conn.new.in_transaction ≡ false }
     ensures finds { Finds (state S.Store conn.old) (state S.Store conn.new) result (λ r.
         map agent_columns (named name.now r.members)) }
 {
-    query_by_one(conn, AGENT_BY_NAME, name)
+    query(conn, AGENT_BY_NAME, &one_text(name))
 }
 
 /// The agents that have this token, by name.
-#[tactic(auto, using(crate::proofs::Plain::agent_by_token_asks))]
 pub fn agent_by_token<S: Alter>(conn: &mut Connection<S>, token: &str) -> Result<Vec<Row>, Error>
     requires { conn.old.in_transaction ≡ false }
     ensures mode { conn.new.in_transaction ≡ false }
     ensures finds { Finds (state S.Store conn.old) (state S.Store conn.new) result (λ r.
         map agent_columns (with_token token.now r.members)) }
 {
-    query_by_one(conn, AGENT_BY_TOKEN, token)
+    query(conn, AGENT_BY_TOKEN, &one_text(token))
 }
 
 /// The agent's filings under a key, by number: number, due day, whether it is withdrawn, and the
 /// file. No row where it has lodged none.
-#[tactic(auto, using(crate::proofs::Plain::filing_by_key_asks))]
 pub fn filing_by_key<S: Alter>(
     conn: &mut Connection<S>,
     agent: &str,
@@ -58,11 +54,10 @@ pub fn filing_by_key<S: Alter>(
         map (λ f. shown_columns (filing_shown f))
         (keyed key.now (filings_of agent.now r.members))) }
 {
-    query_by_two(conn, FILING_BY_KEY, agent, key)
+    query(conn, FILING_BY_KEY, &two_texts(agent, key))
 }
 
 /// The agent's filings under a key without their files, by number.
-#[tactic(auto, using(crate::proofs::Plain::line_by_key_asks))]
 pub fn line_by_key<S: Alter>(
     conn: &mut Connection<S>,
     agent: &str,
@@ -74,11 +69,10 @@ pub fn line_by_key<S: Alter>(
         map (λ f. line_columns (filing_row agent.now f))
         (keyed key.now (filings_of agent.now r.members))) }
 {
-    query_by_two(conn, LINE_BY_KEY, agent, key)
+    query(conn, LINE_BY_KEY, &two_texts(agent, key))
 }
 
 /// The agent's filing with this number, without its file.
-#[tactic(auto, using(crate::proofs::Plain::line_by_number_asks))]
 pub fn line_by_number<S: Alter>(
     conn: &mut Connection<S>,
     agent: &str,
@@ -90,11 +84,10 @@ pub fn line_by_number<S: Alter>(
         map (λ f. line_columns (filing_row agent.now f))
         (numbered number (filings_of agent.now r.members))) }
 {
-    query_by_filing(conn, LINE_BY_NUMBER, agent, number)
+    query(conn, LINE_BY_NUMBER, &filing_key(agent, number))
 }
 
 /// Whether the file of the agent's filings under a key has these bytes, by number: 1 or 0.
-#[tactic(auto, using(crate::proofs::Plain::same_bytes_asks))]
 pub fn same_bytes<S: Alter>(
     conn: &mut Connection<S>,
     agent: &str,
@@ -107,33 +100,30 @@ pub fn same_bytes<S: Alter>(
         map (λ f. truth (is_same f.bytes bytes.now) ∷ [])
         (keyed key.now (filings_of agent.now r.members))) }
 {
-    query_by_file(conn, SAME_BYTES, agent, key, bytes)
+    query(conn, SAME_BYTES, &file_key(agent, key, bytes))
 }
 
 /// The agent's filings without their files, by number.
-#[tactic(auto, using(crate::proofs::Plain::filings_of_agent_asks))]
 pub fn filings_of_agent<S: Alter>(conn: &mut Connection<S>, agent: &str) -> Result<Vec<Row>, Error>
     requires { conn.old.in_transaction ≡ false }
     ensures mode { conn.new.in_transaction ≡ false }
     ensures finds { Finds (state S.Store conn.old) (state S.Store conn.new) result (λ r.
         map (λ f. line_columns (filing_row agent.now f)) (filings_of agent.now r.members)) }
 {
-    query_by_one(conn, FILINGS_OF_AGENT, agent)
+    query(conn, FILINGS_OF_AGENT, &one_text(agent))
 }
 
 /// The agent's last filing, without its file; no row where it has none.
-#[tactic(auto, using(crate::proofs::Plain::last_filing_asks))]
 pub fn last_filing<S: Alter>(conn: &mut Connection<S>, agent: &str) -> Result<Vec<Row>, Error>
     requires { conn.old.in_transaction ≡ false }
     ensures mode { conn.new.in_transaction ≡ false }
     ensures finds { Finds (state S.Store conn.old) (state S.Store conn.new) result (λ r.
         map (λ f. line_columns (filing_row agent.now f)) (last (filings_of agent.now r.members))) }
 {
-    query_by_one(conn, LAST_FILING, agent)
+    query(conn, LAST_FILING, &one_text(agent))
 }
 
 /// The last live statement of a record; no row where it has none.
-#[tactic(auto, using(crate::proofs::Plain::last_of_series_asks))]
 pub fn last_of_series<S: Alter>(
     conn: &mut Connection<S>,
     agent: &str,
@@ -146,11 +136,10 @@ pub fn last_of_series<S: Alter>(
         map (λ p. statement_columns (bare p))
         (last (in_series declaration.now rec.now (placed_of agent.now r)))) }
 {
-    query_by_three(conn, LAST_OF_SERIES, agent, declaration, rec)
+    query(conn, LAST_OF_SERIES, &three_texts(agent, declaration, rec))
 }
 
 /// Where the agent's live statements with this identifier stand: filing and place.
-#[tactic(auto, using(crate::proofs::Plain::statement_by_id_asks))]
 pub fn statement_by_id<S: Alter>(
     conn: &mut Connection<S>,
     agent: &str,
@@ -161,11 +150,10 @@ pub fn statement_by_id<S: Alter>(
     ensures finds { Finds (state S.Store conn.old) (state S.Store conn.new) result (λ r.
         map place_columns (identified id.now (placed_of agent.now r))) }
 {
-    query_by_two(conn, STATEMENT_BY_ID, agent, id)
+    query(conn, STATEMENT_BY_ID, &two_texts(agent, id))
 }
 
 /// The live statements of the agent's filing with this number, by place.
-#[tactic(auto, using(crate::proofs::Plain::statements_of_filing_asks))]
 pub fn statements_of_filing<S: Alter>(
     conn: &mut Connection<S>,
     agent: &str,
@@ -178,11 +166,10 @@ pub fn statements_of_filing<S: Alter>(
     ensures both { FindsBoth (state S.Store conn.old) (state S.Store conn.new) result (λ r.
         map (λ p. statement_columns (bare p)) (in_filing number (placed_of agent.now r))) }
 {
-    query_by_filing(conn, STATEMENTS_OF_FILING, agent, number)
+    query(conn, STATEMENTS_OF_FILING, &filing_key(agent, number))
 }
 
 /// The agent's live statements of a declaration, by filing and place.
-#[tactic(auto, using(crate::proofs::Plain::statements_of_declaration_asks))]
 pub fn statements_of_declaration<S: Alter>(
     conn: &mut Connection<S>,
     agent: &str,
@@ -194,11 +181,14 @@ pub fn statements_of_declaration<S: Alter>(
         map (λ p. statement_columns (bare p))
         (in_declaration declaration.now (placed_of agent.now r))) }
 {
-    query_by_two(conn, STATEMENTS_OF_DECLARATION, agent, declaration)
+    query(
+        conn,
+        STATEMENTS_OF_DECLARATION,
+        &two_texts(agent, declaration),
+    )
 }
 
 /// The interests of the statement at this place, by item.
-#[tactic(auto, using(crate::proofs::Plain::interests_of_statement_asks))]
 pub fn interests_of_statement<S: Alter>(
     conn: &mut Connection<S>,
     agent: &str,
@@ -216,11 +206,14 @@ pub fn interests_of_statement<S: Alter>(
         (interests_at (record { agent = agent.now; filing = number; place = place })
         r.members)) }
 {
-    query_by_statement(conn, INTERESTS_OF_STATEMENT, agent, number, place)
+    query(
+        conn,
+        INTERESTS_OF_STATEMENT,
+        &statement_key(agent, number, place),
+    )
 }
 
 /// The days of the interests of the statement at this place, by item.
-#[tactic(auto, using(crate::proofs::PeriodReads::periods_of_statement_asks))]
 pub fn periods_of_statement<S: Alter>(
     conn: &mut Connection<S>,
     agent: &str,
@@ -235,11 +228,14 @@ pub fn periods_of_statement<S: Alter>(
         (interests_at (record { agent = agent.now; filing = number; place = place })
         r.members))) }
 {
-    query_by_statement(conn, PERIODS_OF_STATEMENT, agent, number, place)
+    query(
+        conn,
+        PERIODS_OF_STATEMENT,
+        &statement_key(agent, number, place),
+    )
 }
 
 /// The agent's filing with this number, with its file.
-#[tactic(auto, using(crate::proofs::PeriodReads::file_by_number_asks))]
 pub fn file_by_number<S: Alter>(
     conn: &mut Connection<S>,
     agent: &str,
@@ -254,11 +250,10 @@ pub fn file_by_number<S: Alter>(
         map (λ f. shown_columns (filing_shown f))
         (numbered number (filings_of agent.now r.members))) }
 {
-    query_by_filing(conn, FILE_BY_NUMBER, agent, number)
+    query(conn, FILE_BY_NUMBER, &filing_key(agent, number))
 }
 
 /// The identifiers of the statement at this place, by item.
-#[tactic(auto, using(crate::proofs::Plain::identifiers_of_statement_asks))]
 pub fn identifiers_of_statement<S: Alter>(
     conn: &mut Connection<S>,
     agent: &str,
@@ -276,5 +271,9 @@ pub fn identifiers_of_statement<S: Alter>(
         (identifiers_at (record { agent = agent.now; filing = number; place = place })
         r.members)) }
 {
-    query_by_statement(conn, IDENTIFIERS_OF_STATEMENT, agent, number, place)
+    query(
+        conn,
+        IDENTIFIERS_OF_STATEMENT,
+        &statement_key(agent, number, place),
+    )
 }

@@ -17,7 +17,6 @@ use crate::texts::queries::{
 use sqlite::{Alter, Connection, Error, Row};
 
 /// The register's row.
-#[tactic(auto, using(crate::proofs::Plain::all_register_asks, crate::proofs::WholeReads::all_register_finds))]
 pub fn all_register<S: Alter>(conn: &mut Connection<S>) -> Result<Vec<Row>, Error>
     requires { conn.old.in_transaction ≡ false }
     ensures mode { conn.new.in_transaction ≡ false }
@@ -28,7 +27,6 @@ pub fn all_register<S: Alter>(conn: &mut Connection<S>) -> Result<Vec<Row>, Erro
 }
 
 /// The agents with their tokens, by name.
-#[tactic(auto, using(crate::proofs::Plain::all_agents_asks, crate::proofs::WholeReads::all_agents_finds))]
 pub fn all_agents<S: Alter>(conn: &mut Connection<S>) -> Result<Vec<Row>, Error>
     requires { conn.old.in_transaction ≡ false }
     ensures mode { conn.new.in_transaction ≡ false }
@@ -39,7 +37,6 @@ pub fn all_agents<S: Alter>(conn: &mut Connection<S>) -> Result<Vec<Row>, Error>
 }
 
 /// All filings without their files, by agent and number.
-#[tactic(auto, using(crate::proofs::Plain::all_filings_asks, crate::proofs::WholeReads::all_filings_finds, crate::proofs::BothReads::all_filings_finds))]
 pub fn all_filings<S: Alter>(conn: &mut Connection<S>) -> Result<Vec<Row>, Error>
     requires { conn.old.in_transaction ≡ false }
     ensures mode { conn.new.in_transaction ≡ false }
@@ -52,7 +49,6 @@ pub fn all_filings<S: Alter>(conn: &mut Connection<S>) -> Result<Vec<Row>, Error
 }
 
 /// All statements, by agent, filing and place.
-#[tactic(auto, using(crate::proofs::Plain::all_statements_asks, crate::proofs::WholeReads::all_statements_finds))]
 pub fn all_statements<S: Alter>(conn: &mut Connection<S>) -> Result<Vec<Row>, Error>
     requires { conn.old.in_transaction ≡ false }
     ensures mode { conn.new.in_transaction ≡ false }
@@ -63,7 +59,6 @@ pub fn all_statements<S: Alter>(conn: &mut Connection<S>) -> Result<Vec<Row>, Er
 }
 
 /// All interests, by agent, filing, place and item.
-#[tactic(auto, using(crate::proofs::Plain::all_interests_asks, crate::proofs::WholeReads::all_interests_finds))]
 pub fn all_interests<S: Alter>(conn: &mut Connection<S>) -> Result<Vec<Row>, Error>
     requires { conn.old.in_transaction ≡ false }
     ensures mode { conn.new.in_transaction ≡ false }
@@ -74,7 +69,6 @@ pub fn all_interests<S: Alter>(conn: &mut Connection<S>) -> Result<Vec<Row>, Err
 }
 
 /// The days of all interests, by agent, filing, place and item.
-#[tactic(auto, using(crate::proofs::PeriodReads::all_periods_asks, crate::proofs::PeriodReads::all_periods_finds))]
 pub fn all_periods<S: Alter>(conn: &mut Connection<S>) -> Result<Vec<Row>, Error>
     requires { conn.old.in_transaction ≡ false }
     ensures mode { conn.new.in_transaction ≡ false }
@@ -85,7 +79,6 @@ pub fn all_periods<S: Alter>(conn: &mut Connection<S>) -> Result<Vec<Row>, Error
 }
 
 /// All identifiers, by agent, filing, place and item.
-#[tactic(auto, using(crate::proofs::Plain::all_identifiers_asks, crate::proofs::WholeReads::all_identifiers_finds))]
 pub fn all_identifiers<S: Alter>(conn: &mut Connection<S>) -> Result<Vec<Row>, Error>
     requires { conn.old.in_transaction ≡ false }
     ensures mode { conn.new.in_transaction ≡ false }
@@ -96,7 +89,6 @@ pub fn all_identifiers<S: Alter>(conn: &mut Connection<S>) -> Result<Vec<Row>, E
 }
 
 /// Whether there are more live statements than `count`: one row where there are, and else no row.
-#[tactic(auto, using(crate::proofs::Plain::more_statements_asks))]
 pub fn more_statements<S: Alter>(conn: &mut Connection<S>, count: u32) -> Result<Vec<Row>, Error>
     requires { conn.old.in_transaction ≡ false }
     ensures mode { conn.new.in_transaction ≡ false }

@@ -7,7 +7,8 @@ ghost use Rattle.bor_store_sql.specs.Rows.Encoding.{statement_columns, identifie
 ghost use Rattle.bor_store_sql.specs.Found.{Finds};
 ghost use Rattle.bor_store_sql.specs.Selected.{placed_of, in_series, in_record, with_subject, standing_at, identified_by};
 
-use crate::queries::{query_by_statement, query_by_three, query_by_two};
+use crate::columns::{statement_key, three_texts, two_texts};
+use crate::queries::query;
 use crate::texts::queries::{
     IDENTIFIERS_BY_ID, STATEMENT_BY_PLACE, STATEMENTS_OF_RECORD, STATEMENTS_OF_SERIES,
     STATEMENTS_OF_SUBJECT,
@@ -15,7 +16,6 @@ use crate::texts::queries::{
 use sqlite::{Alter, Connection, Error, Row};
 
 /// The live statements of a record, by filing and place.
-#[tactic(auto, using(crate::proofs::Plain::statements_of_series_asks))]
 pub fn statements_of_series<S: Alter>(
     conn: &mut Connection<S>,
     agent: &str,
@@ -28,12 +28,15 @@ pub fn statements_of_series<S: Alter>(
         map (λ p. statement_columns (bare p))
         (in_series declaration.now rec.now (placed_of agent.now r))) }
 {
-    query_by_three(conn, STATEMENTS_OF_SERIES, agent, declaration, rec)
+    query(
+        conn,
+        STATEMENTS_OF_SERIES,
+        &three_texts(agent, declaration, rec),
+    )
 }
 
 /// The live statements of the agent's records with this identifier, of whatever declaration, by
 /// filing and place.
-#[tactic(auto, using(crate::proofs::Plain::statements_of_record_asks))]
 pub fn statements_of_record<S: Alter>(
     conn: &mut Connection<S>,
     agent: &str,
@@ -44,12 +47,11 @@ pub fn statements_of_record<S: Alter>(
     ensures finds { Finds (state S.Store conn.old) (state S.Store conn.new) result (λ r.
         map (λ p. statement_columns (bare p)) (in_record rec.now (placed_of agent.now r))) }
 {
-    query_by_two(conn, STATEMENTS_OF_RECORD, agent, rec)
+    query(conn, STATEMENTS_OF_RECORD, &two_texts(agent, rec))
 }
 
 /// The agent's live relationship statements of a declaration that name this record as their
 /// subject, by filing and place.
-#[tactic(auto, using(crate::proofs::Plain::statements_of_subject_asks))]
 pub fn statements_of_subject<S: Alter>(
     conn: &mut Connection<S>,
     agent: &str,
@@ -62,12 +64,15 @@ pub fn statements_of_subject<S: Alter>(
         map (λ p. statement_columns (bare p))
         (with_subject declaration.now rec.now (placed_of agent.now r))) }
 {
-    query_by_three(conn, STATEMENTS_OF_SUBJECT, agent, declaration, rec)
+    query(
+        conn,
+        STATEMENTS_OF_SUBJECT,
+        &three_texts(agent, declaration, rec),
+    )
 }
 
 /// The live statement at a place of the agent's filing with this number; no row where there is
 /// none.
-#[tactic(auto, using(crate::proofs::Plain::statement_by_place_asks))]
 pub fn statement_by_place<S: Alter>(
     conn: &mut Connection<S>,
     agent: &str,
@@ -81,12 +86,15 @@ pub fn statement_by_place<S: Alter>(
         (standing_at (record { agent = agent.now; filing = number; place = place })
         r.members)) }
 {
-    query_by_statement(conn, STATEMENT_BY_PLACE, agent, number, place)
+    query(
+        conn,
+        STATEMENT_BY_PLACE,
+        &statement_key(agent, number, place),
+    )
 }
 
 /// The identifiers of all live statements that have this scheme and this identifier, by agent,
 /// filing, place and item.
-#[tactic(auto, using(crate::proofs::Plain::identifiers_by_id_asks))]
 pub fn identifiers_by_id<S: Alter>(
     conn: &mut Connection<S>,
     scheme: &str,
@@ -97,5 +105,5 @@ pub fn identifiers_by_id<S: Alter>(
     ensures finds { Finds (state S.Store conn.old) (state S.Store conn.new) result (λ r.
         map identifier_columns (identified_by scheme.now id.now r.members)) }
 {
-    query_by_two(conn, IDENTIFIERS_BY_ID, scheme, id)
+    query(conn, IDENTIFIERS_BY_ID, &two_texts(scheme, id))
 }

@@ -1,10 +1,12 @@
-use Rattle.std.proofs.Common.{List, Vec, IsTrue, not, ap, ◌∙◌, arith}
+use Rattle.std.proofs.Common.{List, Vec, IsTrue, not, ap, ◌∙◌}
 use Rattle.std.specs.declared.alloc.Global.{Global}
 use Rattle.sqlite.specs.Order.{Row}
 use Rattle.sqlite.specs.Held.{state}
+use Rattle.sqlite.specs.State.{HasCleanDisk}
 use Rattle.sqlite.specs.Values.{bound}
 use Rattle.bor_store_sql.proofs.Finding.{settled_shown}
 use Rattle.bor_store_sql.proofs.Keeping.{left_by}
+use Rattle.bor_store_sql.proofs.Moves.{was_clean}
 use Rattle.bor_store_sql.proofs.queries.query.Goals as goal
 
 abbrev rows_in : Vec Row Global → List Row
@@ -17,9 +19,9 @@ returns-clause-asked g c =
     let text = c.args.sql.now in
     let params = bound c.args.params.now in
     let auto : IsTrue c.is_autocommit-settled.result = c.is_autocommit-settled.ensures.value ∙ ap not c.requires.settled in
+    let left = λ (disk : HasCleanDisk new). left_by old new text c.requires.asks params rows_in c.query_all.result (c.query_all.ensures.ok disk) (c.query_all.ensures.err disk) in
     record {
-      began = λ clean. (let disk = clean.0 in omega (arith, c.query_all.ensures.survives.clean, disk), (left_by old new text c.requires.asks params rows_in c.query_all.result (c.query_all.ensures.ok clean.0) (c.query_all.ensures.err clean.0)).was_open clean.1);
-      kept = λ clean. (left_by old new text c.requires.asks params rows_in c.query_all.result (c.query_all.ensures.ok clean.0) (c.query_all.ensures.err clean.0)).committed clean.1;
-      shown = λ clean. settled_shown text params old new
-          (c.is_autocommit-settled.ensures.settled auto ((left_by old new text c.requires.asks params rows_in c.query_all.result (c.query_all.ensures.ok clean.0) (c.query_all.ensures.err clean.0)).was_open clean.1)) c.query_all.result (c.query_all.ensures.ok clean.0);
+      began = λ clean. (was_clean old new _ c.query_all.ensures.survives clean.0, (left clean.0).was_open clean.1);
+      kept = λ clean. (left clean.0).committed clean.1;
+      shown = λ clean. settled_shown text params old new (c.is_autocommit-settled.ensures.settled auto ((left clean.0).was_open clean.1)) c.query_all.result (c.query_all.ensures.ok clean.0);
     }
