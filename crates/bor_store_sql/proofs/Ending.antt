@@ -1,5 +1,5 @@
 -- How a transaction ends, and what a caller knows of it.
-use Rattle.std.proofs.Common.{◌≡◌, ◌⊎◌, inl, inr, IsOk, Ok, Err, Result, OnOk, OnErr, IfOk, IfErr, IsErr, IsTrue, [], false, true, true≢false, refl, sym, subst, ◌∙◌}
+use Rattle.std.proofs.Common.{◌≡◌, inl, inr, IsOk, Ok, Err, Result, OnOk, OnErr, IfOk, IfErr, IsErr, IsTrue, [], false, true, true≢false, refl, sym, subst, ◌∙◌}
 use Rattle.sqlite.specs.Effect.{Database}
 use Rattle.sqlite.specs.Held.{Held, state}
 use Rattle.sqlite.specs.State.{State, HasCleanDisk, IsRolledBack, Shows, KeepsCounts, Survives}

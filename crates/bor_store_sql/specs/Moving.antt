@@ -1,5 +1,5 @@
 -- What the statements of the move from version 1 to these tables make, for clauses of private functions alone.
-use Rattle.std.specs.Prelude.{◌≡◌, ◌≤◌, ◌++◌, [], ◌∷◌, ℤ, Bool, cond, filter, length, List, map}
+use Rattle.std.specs.Prelude.{◌≤◌, ◌++◌, [], ◌∷◌, ℤ, Bool, cond, filter, length, List, map}
 use Rattle.sqlite.specs.Effect.{Database}
 use Rattle.sqlite.specs.Order.{Row, column}
 use Rattle.sqlite.specs.Cast.{cast_all}

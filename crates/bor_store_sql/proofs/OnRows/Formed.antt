@@ -18,9 +18,7 @@ use Rattle.bor_store_sql.specs.declared.rows.places.At.{At}
 use Rattle.bor_store_sql.specs.declared.rows.typed.Placed.{Placed}
 use Rattle.bor_store_sql.specs.Rows.Placed.{register_row, agent_row, filing_row, filing_lines, bare, line_of, period_of, period_rows, if_said, part_of, interests_of, identifiers_of, interest_rows, identifier_rows, interests_from, identifiers_from, placed_from, placed_by, placed}
 use Rattle.bor_store_sql.specs.Rows.RowForms.{IsFormedRegisterRow, IsFormedAgentRow, IsFormedFilingRow, IsFormedAt, IsFormedPart, IsFormedStatementRow, IsFormedInterestLine, IsFormedPeriodRow, IsFormedInterestRow, IsFormedIdentifierRow, IsFormedPlaced}
-use Rattle.bor_store_sql.specs.declared.rows.typed.InterestLine.{InterestLine}
 use Rattle.bor_store_sql.specs.declared.rows.typed.InterestRow.{InterestRow}
-use Rattle.bor_store_sql.specs.declared.rows.typed.PeriodRow.{PeriodRow}
 use Rattle.bor_store_sql.specs.Rows.Stored.{IsCounted, AreCounted, IsStored}
 
 pub register_formed : (r : Register) → IsFormed r → IsFormedRegisterRow (register_row r)

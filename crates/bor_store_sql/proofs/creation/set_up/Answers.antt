@@ -1,6 +1,5 @@
 use Rattle.std.proofs.Common.{◌≡◌, IsTrue, false, not, ap, subst, ◌∙◌, rules}
 use Rattle.sqlite.specs.Held.{state}
-use Rattle.sqlite.specs.Effect.{Database}
 use Rattle.bor_terms.specs.Day.{IsDay}
 use Rattle.bor_register.specs.Register.{empty_register}
 use Rattle.bor_store_sql.specs.Rows.Encoding.{contents}
