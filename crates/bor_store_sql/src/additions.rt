@@ -30,7 +30,8 @@ fn insert_filing<S: Alter>(
     bytes: &[u8],
 ) -> Result<(), Error>
     ensures same_reference { tx.new.conn.ghost_name ≡ tx.old.conn.ghost_name }
-    ensures steps { Steps Any (with_filing_row agent.now (live_filing number key.now due bytes.now []))
+    ensures steps { Steps Any
+        (with_filing_row agent.now (live_filing number key.now due bytes.now []))
         (state S.Store tx.old.conn.now) (state S.Store tx.new.conn.now) result }
 {
     run(
@@ -324,7 +325,8 @@ fn insert_rows<S: Alter>(
     statements: &[Statement],
 ) -> Result<(), Error>
     ensures same_reference { tx.new.conn.ghost_name ≡ tx.old.conn.ghost_name }
-    ensures steps { Steps Any (with_live_filing agent.now number key.now due bytes.now statements.now)
+    ensures steps { Steps Any
+        (with_live_filing agent.now number key.now due bytes.now statements.now)
         (state S.Store tx.old.conn.now) (state S.Store tx.new.conn.now) result }
     ensures counted { IfOk result (λ _. AreCounted statements.now) }
 {

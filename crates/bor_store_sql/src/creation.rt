@@ -23,7 +23,8 @@ use sqlite::{Alter, Connection, Error, Transaction};
 /// Makes the table `period` beside those of version 1, whatever rows they have.
 pub(crate) fn create_period<S: Alter>(tx: &mut Transaction<'_, S>) -> Result<(), Error>
     ensures same_reference { tx.new.conn.ghost_name ≡ tx.old.conn.ghost_name }
-    ensures moves { Moves MakesPeriod (state S.Store tx.old.conn.now) (state S.Store tx.new.conn.now) result }
+    ensures moves { Moves MakesPeriod (state S.Store tx.old.conn.now)
+        (state S.Store tx.new.conn.now) result }
 {
     run(tx, PERIOD_TABLE, &[])
 }

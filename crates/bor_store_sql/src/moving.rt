@@ -47,7 +47,8 @@ fn put_rows<S: Alter>(tx: &mut Transaction<'_, S>, periods: &[PeriodRow]) -> Res
 
 fn set_version<S: Alter>(tx: &mut Transaction<'_, S>) -> Result<(), Error>
     ensures same_reference { tx.new.conn.ghost_name ≡ tx.old.conn.ghost_name }
-    ensures moves { Moves SetsVersion (state S.Store tx.old.conn.now) (state S.Store tx.new.conn.now) result }
+    ensures moves { Moves SetsVersion (state S.Store tx.old.conn.now)
+        (state S.Store tx.new.conn.now) result }
 {
     run(tx, UPDATE_VERSION, &version_value())
 }
