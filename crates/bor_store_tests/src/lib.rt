@@ -8,14 +8,6 @@ mod damage;
 #[cfg(test)]
 mod first;
 #[cfg(test)]
-mod moving;
-#[cfg(test)]
-mod nodes;
-#[cfg(test)]
-mod opening;
-#[cfg(test)]
-mod sight;
-#[cfg(test)]
 mod stopped;
 #[cfg(test)]
 mod stores;
