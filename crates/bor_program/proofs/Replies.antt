@@ -1,8 +1,9 @@
 -- What is written part by part, and how replies end.
-use Rattle.std.proofs.Common.{◌≡◌, ◌∙◌, ◌≤◌, ◌⊎◌, ℕ, List, [], ◌∷◌, ◌++◌, Option, Some, None, Result, Ok, Err, ap, arith, inl, inr, refl, sym, subst, true, false, Bool, max, IfSome, length, option_map, take, append-nil, append_assoc, lit≤}
+use Rattle.std.proofs.Common.{◌≡◌, ◌∙◌, ◌≤◌, ◌⊎◌, ℕ, List, [], ◌∷◌, ◌++◌, Option, Some, None, Result, Ok, Err, ap, arith, inl, inr, refl, sym, subst, true, false, Bool, max, ◌+◌, ◌/◌, ◌<◌, IfSome, length, option_map, take, append-nil, append_assoc, lit≤}
 use Rattle.std.specs.Borrow.{Bor}
 use Rattle.std.specs.Io.KnownBytes.{Appends, Keeps}
 use Rattle.std.proofs.KnownBytes.{Appends-trans}
+use Rattle.std.proofs.lemmas.Bool.{le-leb, lt-leb}
 use Rattle.clap.specs.Words.{Text as Words}
 use Rattle.bor_wire.specs.declared.replies.Reply.{Reply}
 use Rattle.bor_wire.specs.declared.replies.Reply.TheVariants.{Full, Unavailable}
@@ -20,6 +21,8 @@ use Rattle.bor_register.specs.Register.{Register}
 use Rattle.bor_desk.specs.Operations.Legality.{IsLegal}
 use Rattle.bor_http.specs.Spelling.Spell.{Spelled}
 use Rattle.bor_wire.specs.Histories.{IsAlone}
+use Rattle.bor_wire.specs.Refused.{IsFull}
+use Rattle.bor_wire.specs.Rendering.Heads.{status_line}
 use Rattle.bor_wire.specs.Reports.{AreReports}
 use Rattle.bor_wire.specs.Runs.{AreReplies, AreSpelled, full, register_left, served}
 use Rattle.bor_program.proofs.Ends.{part_none}
@@ -153,6 +156,15 @@ all_answered shows is_clean opened left inputs replies began count spelled are l
 }
 
 -- ---- exit statuses
+
+-- the first of its three digits tells whether a status is 400 or more
+pub is_told_refused : (bytes : List ℕ) (status : ℕ) → IsFull bytes status → 400 ≤ status → is_refusal bytes ≡ true
+unfolding status_line
+is_told_refused bytes status h le = ap is_refusal h.line.1 ∙ le-leb 52 (48 + status / 100) (omega (arith, le))
+
+pub is_told_done : (bytes : List ℕ) (status : ℕ) → IsFull bytes status → status < 400 → is_refusal bytes ≡ false
+unfolding status_line
+is_told_done bytes status h less = ap is_refusal h.line.1 ∙ lt-leb 52 (48 + status / 100) (omega (arith, less))
 
 -- 0, 1 or 3
 abbrev pub IsEnd : ℕ → Type 0

@@ -6,13 +6,13 @@ use Rattle.std.specs.Io.KnownBytes.{Appends, Keeps}
 use Rattle.bor_records.specs.Promises.{Promised}
 use Rattle.bor_register.specs.Register.{Register}
 use Rattle.bor_desk.specs.Operations.Legality.{IsLegal}
-use Rattle.bor_wire.specs.declared.rendering.reply.TheConstants.{UNAVAILABLE}
 use Rattle.bor_http.specs.Spelling.Spell.{Spelled}
 use Rattle.bor_wire.specs.declared.replies.Reply.{Reply}
 use Rattle.bor_wire.specs.declared.replies.Reply.TheVariants.{Full, Unavailable}
 use Rattle.bor_wire.specs.Runs.{AreReplies, AreSpelled, full, register_left, served}
 use Rattle.bor_wire.specs.Histories.{IsAlone}
 use Rattle.bor_wire.specs.Reports.{AreReports}
+use Rattle.bor_wire.specs.Turns.{sent_as}
 use Rattle.clap.specs.Words.{Text}
 use Rattle.bor_program.specs.Inputs.{AreReadOf}
 use Rattle.bor_program.specs.Program.{exit_code}
@@ -21,14 +21,10 @@ use Rattle.bor_program.specs.declared.status.Status.{Status}
 
 -- ---- what is sent
 
-abbrev pub sent_of : Reply → List ℕ
-sent_of (Full bytes) = bytes
-sent_of Unavailable = UNAVAILABLE.now
-
 -- the replies one after the other
 abbrev pub sent : List Reply → List ℕ
 sent [] = []
-sent (reply ∷ replies) = sent_of reply ++ sent replies
+sent (reply ∷ replies) = sent_as reply ++ sent replies
 
 -- ---- how it ends
 

@@ -6,7 +6,7 @@ ghost use Rattle.bor_program.specs.Failures.{IsMetPrinting, TellsFiles};
 ghost use Rattle.bor_program.specs.Inputs.{IsReadOf};
 ghost use Rattle.bor_program.specs.Performing.{Exchanges, ExchangesOnceTold};
 ghost use Rattle.bor_program.specs.Program.{exit_code};
-ghost use Rattle.bor_program.specs.Replying.{AreAnswers, EndsFiles, EndsSending, is_refusal, replies_status, reply_status, sent, sent_of};
+ghost use Rattle.bor_program.specs.Replying.{AreAnswers, EndsFiles, EndsSending, replies_status, reply_status, sent};
 ghost use Rattle.bor_program.specs.Streams.{AppendsPart};
 
 use crate::failure::Failure;
@@ -16,7 +16,7 @@ use crate::output::{Output, write_part};
 use crate::registrar::{Exchanging, token_told};
 use crate::status::Status;
 use bor_desk::operations::ListKeep;
-use bor_wire::{Reply, UNAVAILABLE};
+use bor_wire::Reply;
 use bor_words::Exchange;
 use std::alloc::Global;
 use std::io::Write;
@@ -170,23 +170,13 @@ fn send<'a, O: Output>(output: &mut O, replies: &[Reply]) -> Result<(), Failure<
     ensures err { IfErr result (λ failure. failure ≡ Failure.Unwritable) }
 {
     for reply in replies {
-        if !write_part(output, bytes_of(reply)) {
+        if !write_part(output, reply.bytes()) {
             return Err(Failure::Unwritable);
         }
     }
     match output.hand_on() {
         Ok(()) => Ok(()),
         Err(_) => Err(Failure::Unwritable),
-    }
-}
-
-// The bytes that are sent.
-fn bytes_of(reply: &Reply) -> &[u8]
-    ensures { result.now ≡ sent_of reply.now }
-{
-    match reply {
-        Reply::Full(bytes) => bytes.as_slice(),
-        Reply::Unavailable => UNAVAILABLE,
     }
 }
 
@@ -205,18 +195,8 @@ fn reply_status(reply: &Reply) -> Status
     ensures { exit_code result ≡ reply_status reply.now }
 {
     match reply {
-        Reply::Full(bytes) if is_refusal(bytes.as_slice()) => Status::Refused,
+        Reply::Full(full) if full.status() >= 400 => Status::Refused,
         Reply::Full(_) => Status::Done,
         Reply::Unavailable => Status::Failed,
-    }
-}
-
-// Whether the status in a reply's first line is 400 or more.
-fn is_refusal(bytes: &[u8]) -> bool
-    ensures { result ≡ is_refusal bytes.now }
-{
-    match bytes.get(9) {
-        Some(digit) => *digit >= b'4',
-        None => false,
     }
 }

@@ -1,5 +1,5 @@
 -- Steps of clients are steps of the server.
-use Rattle.std.proofs.Common.{◌≡◌, ◌++◌, List, [], ◌∷◌, ℕ, Option, refl, sym, subst}
+use Rattle.std.proofs.Common.{◌≡◌, ◌++◌, List, [], ◌∷◌, ℕ, Option, sym, subst}
 use Rattle.bor_records.specs.Promises.{Promised}
 use Rattle.bor_register.specs.Register.{Register, IsOrdered}
 use Rattle.bor_wire.specs.declared.outgoing.Outgoing.{Outgoing}

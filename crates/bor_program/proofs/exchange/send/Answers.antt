@@ -10,8 +10,8 @@ pub returns-then-not-write_part-clause-part : goal.returns-then-not-write_part-c
 returns-then-not-write_part-clause-part g c =
     let i = c.loop-reply.reply-index in
     let replies = c.args.replies.now in
-    let more : sent (drop i replies) ≡ c.bytes_of.result.now ++ sent (drop (i + 1) replies) = grind (arith, common_steps) in
-    part_begun _ _ _ (sent replies) c.bytes_of.result.now (sent (drop (i + 1) replies))
+    let more : sent (drop i replies) ≡ c.bytes.result.now ++ sent (drop (i + 1) replies) = grind (arith, common_steps) in
+    part_begun _ _ _ (sent replies) c.bytes.result.now (sent (drop (i + 1) replies))
     (subst (IsWritten (g.O.Write.contents c.args.output.now) (g.O.Write.contents c.loop-reply.output) (sent replies)) more c.loop-reply.invariant)
     c.write_part.ensures.part
 
@@ -19,7 +19,7 @@ pub loop-reply-preserved : goal.loop-reply-preserved
 loop-reply-preserved g c =
     let i = c.loop-reply.reply-index in
     let replies = c.args.replies.now in
-    let more : sent (drop i replies) ≡ c.bytes_of.result.now ++ sent (drop (i + 1) replies) = grind (arith, common_steps) in
-    let whole : Appends (g.O.Write.contents c.loop-reply.output) (g.O.Write.contents c.write_part.new.writer) c.bytes_of.result.now = search rules in
-    part_written _ _ _ (sent replies) c.bytes_of.result.now (sent (drop (i + 1) replies))
+    let more : sent (drop i replies) ≡ c.bytes.result.now ++ sent (drop (i + 1) replies) = grind (arith, common_steps) in
+    let whole : Appends (g.O.Write.contents c.loop-reply.output) (g.O.Write.contents c.write_part.new.writer) c.bytes.result.now = search rules in
+    part_written _ _ _ (sent replies) c.bytes.result.now (sent (drop (i + 1) replies))
     (subst (IsWritten (g.O.Write.contents c.args.output.now) (g.O.Write.contents c.loop-reply.output) (sent replies)) more c.loop-reply.invariant) whole
