@@ -119,7 +119,8 @@ impl<S: Start + Copy> Ports for Host<'_, S> {
 
     ghost listens = { λ _ _ _. ⊤ };
 
-    ghost serves = { λ _ _ _ _ _ _ _ _. ⊤ };
+    // What the calls of its watch came to is the system's to say.
+    ghost serves = { λ _ _ _ _ _ _ _ _ _. ⊤ };
 
     fn listen(&self, port: u16) -> Option<TcpListener> {
         let address = SocketAddr::from(([127, 0, 0, 1], port));

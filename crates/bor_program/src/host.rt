@@ -8,7 +8,8 @@ ghost use Rattle.bor_register.specs.Register.{Register};
 ghost use Rattle.bor_register.specs.declared.fault.StoreFault.{StoreFault};
 ghost use Rattle.bor_desk.specs.Operations.Legality.{IsLegal};
 ghost use Rattle.bor_desk.specs.Operations.Outcomes.{IsFaultOf};
-ghost use Rattle.bor_program.specs.Connections.Serving.{IsServed};
+ghost use Rattle.bor_program.specs.Connections.Serving.{IsServed, IsServedWith};
+ghost use Rattle.bor_program.specs.Connections.Watching.{Act};
 ghost use Rattle.bor_program.specs.declared.connections.limits.Limits.{Limits};
 ghost use Rattle.bor_http.specs.Spelling.Spell.{Spelled};
 ghost use Rattle.bor_wire.specs.Histories.{IsAlone};
@@ -212,18 +213,19 @@ pub trait Ports: Registers {
     /// This port is listened on by this listener.
     ghost listens: { Self → ℕ → Self.Listener → Type 0 };
 
-    /// Of a listener so many connections were served within these limits, with a log or without. It
-    /// led from one state of a register to another, with this status.
-    ghost serves: { Self → Self.Listener → Limits → ℕ → Bool → Self.Register → Self.Register
-        → ℕ → Type 0 };
+    /// Of a listener so many connections were served within these limits, with a log or without, by
+    /// these calls of its watch. It led from one state of a register to another, with this status.
+    ghost serves: { Self → Self.Listener → Limits → ℕ → Bool → List Act → Self.Register
+        → Self.Register → ℕ → Type 0 };
 
     /// Listens on this port, if that can be done.
     fn listen(&self, port: u16) -> Option<Self::Listener>
         ensures { IfSome result (λ listener. listens self.now port listener) };
 
     /// Serves so many connections of a listener, each client within these limits, and gives 0, or 3
-    /// where one of them failed. Where it is asked for, each request that was answered has a line
-    /// on standard error.
+    /// where one of them failed. It leaves one without a client only where a client couldn't be let
+    /// in, or where it may end: clients can't be watched for, or can't be waited for any longer.
+    /// Where it is asked for, each request that was answered has a line on standard error.
     fn serve(
         &self,
         register: &mut Self::Register,
@@ -232,8 +234,11 @@ pub trait Ports: Registers {
         connections: u32,
         log: bool,
     ) -> u8
-        ensures hosted { serves self.now listener.now limits connections log register.old
-            register.new result }
+        ensures hosted { (acts : List Act)
+            × serves self.now listener.now limits connections log acts register.old register.new
+            result
+            × IsServedWith Self.Register.shows Self.Register.is_clean acts register.old
+            register.new connections result }
         ensures served { IsServed Self.Register.shows Self.Register.is_clean register.old
             register.new connections result };
 }

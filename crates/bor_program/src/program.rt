@@ -51,7 +51,8 @@ pub fn run<R: NamedFiles + AllocGlobal, H: Ports, S: AsStr, I: Read, O: Output, 
         × Keeps (O.contents output.old) (O.contents output.new)
         × IsTold IsWantOfMemory (E.contents errors.old) (E.contents errors.new))
         ⊎ ((asked : Asked) × IsAsked (entered_by (map S.text words.now)) asked
-        × Performs (IsReadOf (R.opens rt.now) R.File.remaining) (IsHosted H.listens H.serves)
+        × Performs (IsReadOf (R.opens rt.now) R.File.remaining)
+        (IsHosted H.Register.shows H.Register.is_clean H.listens H.serves)
         H.Register.shows H.Register.is_clean H.Register.tells H.does host.old host.new asked
         (I.remaining input.old) (I.remaining input.new)
         (O.contents output.old) (O.contents output.new) (E.contents errors.old)
@@ -135,7 +136,7 @@ fn perform<R: NamedFiles + AllocGlobal, H: Ports, I: Read, O: Output, E: Write>(
     errors: &mut E,
 ) -> Status
     ensures done { Performs (IsReadOf (R.opens rt.now) R.File.remaining)
-        (IsHosted H.listens H.serves)
+        (IsHosted H.Register.shows H.Register.is_clean H.listens H.serves)
         H.Register.shows H.Register.is_clean H.Register.tells H.does host.old host.new command.entry
         (I.remaining input.old) (I.remaining input.new)
         (O.contents output.old) (O.contents output.new) (E.contents errors.old)

@@ -28,7 +28,8 @@ pub fn serve<H: Ports, O: Output, E: Write>(
     output: &mut O,
     errors: &mut E,
 ) -> Status
-    ensures done { Serves (IsHosted H.listens H.serves)
+    ensures done { Serves
+        (IsHosted H.Register.shows H.Register.is_clean H.listens H.serves)
         H.Register.shows H.Register.is_clean H.does host.old host.new asked.entry
         (O.contents output.old) (O.contents output.new) (E.contents errors.old)
         (E.contents errors.new) (exit_code result) }
@@ -57,7 +58,8 @@ fn listen<'a, H: Ports, O: Output>(
     output: &mut O,
 ) -> Result<Status, Failure<'a>>
     ensures hosted { IfOk result (λ status.
-        IsHosted H.listens H.serves asked.entry register.old register.new (exit_code status)) }
+        IsHosted H.Register.shows H.Register.is_clean H.listens H.serves asked.entry
+        register.old register.new (exit_code status)) }
     ensures ok { IfOk result (λ status.
         IsServed H.Register.shows H.Register.is_clean register.old register.new
         asked.entry.connections (exit_code status)

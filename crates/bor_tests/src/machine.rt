@@ -79,7 +79,7 @@ impl Ports for Machine {
 
     ghost listens = { λ _ _ _. ⊤ };
 
-    ghost serves = { λ _ _ _ _ _ _ _ _. ⊤ };
+    ghost serves = { λ _ _ _ _ _ _ _ _ _. ⊤ };
 
     fn listen(&self, _port: u16) -> Option<Queue<'static>> {
         Some(Queue::new(&[]))
