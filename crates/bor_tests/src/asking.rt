@@ -1,6 +1,6 @@
 //! A register in memory that is asked by requests.
 
-use crate::files::file;
+use crate::files::{file, put};
 use bor_chains::Node;
 use bor_desk::operations::{Keep, ListKeep};
 use bor_desk::{DeskReply, answer};
@@ -48,10 +48,19 @@ pub(crate) fn request(rt: &impl Abort, alloc: Global, ask: Ask<'_>) -> Vec<u8> {
     } else {
         String::from_str(alloc, words).expect(rt, "memory")
     };
-    let (body, length) = (body.as_str(), body.len());
-    let text = format!(in alloc;
-        "{line} HTTP/1.1\r\nHost: localhost\r\nAuthorization: Bearer {caller}-token-000001\r\nContent-Length: {length}\r\n\r\n{body}"
-    ).expect(rt, "memory");
+    let length = body.len();
+    let length = format!(in alloc; "{length}").expect(rt, "memory");
+    let mut text = String::new(alloc);
+    let parts = [
+        line,
+        " HTTP/1.1\r\nHost: localhost\r\nAuthorization: Bearer ",
+        caller,
+        "-token-000001\r\nContent-Length: ",
+        length.as_str(),
+        "\r\n\r\n",
+        body.as_str(),
+    ];
+    put(rt, &mut text, &parts);
     text.into_bytes()
 }
 

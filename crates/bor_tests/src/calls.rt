@@ -1,8 +1,9 @@
 //! What a keep is asked for: nothing twice, and nothing that the request doesn't need.
 
 use crate::asking::{ALDER, Ask, answered, day, keep_after, keep_of_two, node, read};
+use crate::checks::{counts, holds};
 use crate::failing_keep::FailingKeep;
-use bor_chains::{LinkSource, persons_of};
+use bor_chains::persons_of;
 use bor_desk::operations::{Keep, KeepSource, ListKeep, StoreFault};
 use std::alloc::Global;
 use std::process::Abort;
@@ -88,17 +89,28 @@ const CALLS: [(Ask<'static>, &str); 23] = [
     ),
 ];
 
+// An ask makes these calls of the keep.
+fn asks_for(
+    rt: &impl Abort,
+    alloc: Global,
+    keep: &mut FailingKeep<ListKeep>,
+    ask: Ask<'_>,
+    calls: &str,
+) {
+    keep.calls.clear();
+    let _ = answered(rt, alloc, keep, ask);
+    holds(rt, ask.0, keep.calls.as_str().trim() == calls);
+}
+
 #[test]
 fn a_keep_is_asked_for_no_more_than_is_needed(rt: HostRuntime) {
     let alloc = rt.alloc();
     let new = keep_after(&rt, alloc, &[], 0);
     let mut keep = FailingKeep::new(alloc, new, u32::MAX, StoreFault::Store);
-    for (ask, wanted) in CALLS {
-        keep.calls = String::new(alloc);
-        let _ = answered(&rt, alloc, &mut keep, ask);
-        assert_eq!(rt; keep.calls.as_str().trim(), wanted, "{}", ask.0);
+    for (ask, calls) in CALLS {
+        asks_for(&rt, alloc, &mut keep, ask, calls);
     }
-    assert_eq!(rt; keep.faults(), 0);
+    holds(&rt, "no fault", keep.faults() == 0);
 }
 
 // A register in which alder has lodged files of statements in words, whose calls are noted from here on.
@@ -133,8 +145,25 @@ fn count_behind<K: Keep>(rt: &impl Abort, alloc: Global, keep: &mut K, rec: &str
     let target = node(rt, alloc, rec);
     let mut source = KeepSource::new(keep, &viewer, day(rt, "2024-02-01"));
     let persons = persons_of(alloc, &mut source, &target).expect(rt, "no report");
-    assert_eq!(rt; source.faults(), 0);
     persons.len()
+}
+
+// The keep of these files once it was asked who stands behind a record of alder's declaration c1, as alder
+// sees it: one person.
+fn reported(rt: &impl Abort, alloc: Global, files: &[&str], rec: &str) -> FailingKeep<ListKeep> {
+    let mut keep = noting(rt, alloc, files);
+    counts(rt, rec, count_behind(rt, alloc, &mut keep, rec), 1);
+    keep
+}
+
+// So many calls were made in all.
+fn has_made(rt: &impl Abort, keep: &FailingKeep<ListKeep>, calls: usize) {
+    counts(
+        rt,
+        "calls",
+        keep.calls.as_str().split_whitespace().count(),
+        calls,
+    );
 }
 
 // Three calls for each entity, and one for the person, whatever else there is.
@@ -142,50 +171,39 @@ fn count_behind<K: Keep>(rt: &impl Abort, alloc: Global, keep: &mut K, rec: &str
 fn a_report_asks_for_what_its_chains_meet(rt: HostRuntime) {
     let alloc = rt.alloc();
     for (entities, others, calls) in [(1, 1, 4), (10, 1, 31), (10, 40, 31), (40, 10, 121)] {
-        let (one, other) = (
-            chain(&rt, alloc, "a", entities),
-            chain(&rt, alloc, "b", others),
-        );
-        let mut keep = noting(&rt, alloc, &[one.as_str(), other.as_str()]);
-        assert_eq!(rt; count_behind(&rt, alloc, &mut keep, "ae1"), 1);
-        let made = keep.calls.as_str().split_whitespace().count();
-        assert_eq!(rt; made, calls, "{entities} beside {others}");
+        let one = chain(&rt, alloc, "a", entities);
+        let other = chain(&rt, alloc, "b", others);
+        let keep = reported(&rt, alloc, &[one.as_str(), other.as_str()], "ae1");
+        has_made(&rt, &keep, calls);
     }
 }
 
-// How often a call was made.
-fn times(keep: &FailingKeep<ListKeep>, call: &str) -> u32 {
-    let mut times: u32 = 0;
+// A call was made so often.
+fn is_called(rt: &impl Abort, keep: &FailingKeep<ListKeep>, call: &str, wanted: usize) {
+    let mut times: usize = 0;
     for one in keep.calls.as_str().split(' ') {
         if one == call {
             times = times.wrapping_add(1);
         }
     }
-    times
+    counts(rt, call, times, wanted);
 }
 
-// The target and the person, the class, and the links into each of it.
+// Of a class: the target and the person, the class, and the links into each of it.
 #[test]
-fn a_class_of_a_thousand_is_asked_for_once(rt: HostRuntime) {
+fn a_class_is_asked_for_once_and_links_at_most_twice(rt: HostRuntime) {
     let alloc = rt.alloc();
     let mut words = String::from_str(alloc, "P s p; R t r e997 p").expect(&rt, "memory");
     for i in 0..998_u32 {
         write!(words, "; E s{i} e{i} 1").expect(&rt, "memory");
     }
-    let mut keep = noting(&rt, alloc, &[words.as_str()]);
-    assert_eq!(rt; count_behind(&rt, alloc, &mut keep, "e0"), 1);
-    assert_eq!(rt; keep.calls.as_str().split_whitespace().count(), 1001);
-    assert_eq!(rt; times(&keep, "same:e0"), 1);
-    assert_eq!(rt; times(&keep, "links_into:e997"), 1);
-}
-
-// e1 is met as the target and in the middle.
-#[test]
-fn links_are_asked_for_at_most_twice(rt: HostRuntime) {
-    let alloc = rt.alloc();
+    let keep = reported(&rt, alloc, &[words.as_str()], "e0");
+    has_made(&rt, &keep, 1001);
+    is_called(&rt, &keep, "same:e0", 1);
+    is_called(&rt, &keep, "links_into:e997", 1);
+    // e1 is met as the target and in the middle.
     let words = "E s1 e1; E s2 a1; P s3 p1; R s4 x1 e1 a1; R s5 x2 a1 e1; R s6 x3 a1 p1";
-    let mut keep = noting(&rt, alloc, &[words]);
-    assert_eq!(rt; count_behind(&rt, alloc, &mut keep, "e1"), 1);
-    assert_eq!(rt; times(&keep, "links_into:e1"), 2);
-    assert_eq!(rt; times(&keep, "links_into:a1"), 1);
+    let keep = reported(&rt, alloc, &[words], "e1");
+    is_called(&rt, &keep, "links_into:e1", 2);
+    is_called(&rt, &keep, "links_into:a1", 1);
 }

@@ -5,7 +5,7 @@ ghost use Rattle.std.specs.Prelude.{⊤};
 use bor_program::connections::{PLACES, Places, Watch, accepted};
 use bor_program::log::Note;
 use std::alloc::Global;
-use std::cell::{Cell, RefCell};
+use std::cell::Cell;
 use std::io;
 use std::io::{ErrorKind, Read, Write};
 use std::net::{OpenListener, OpenStream, Shutdown, SocketAddr};
@@ -51,34 +51,63 @@ pub(crate) struct Client<'a> {
     /// It ends its input behind its bytes; else it sends no more.
     pub(crate) ends: bool,
     pub(crate) sent: Cell<usize>,
-    pub(crate) taken: RefCell<Vec<u8>>,
     /// How much was sent when it was told that no more is written.
     pub(crate) ended: Cell<Option<usize>>,
+    // The reply that it wants, how much of it was taken, and whether anything else was.
+    wants: &'a [u8],
+    taken: Cell<usize>,
+    differs: Cell<bool>,
     may_send: Cell<bool>,
     may_take: Cell<bool>,
 }
 
 impl<'a> Client<'a> {
-    /// A client that sends the bytes in pieces of this size, and takes all that it is told.
-    pub(crate) fn new(alloc: Global, sends: &'a [u8], piece: usize) -> Client<'a> {
+    /// A client that sends the bytes in pieces of this size, takes all that it is told, and wants this reply.
+    pub(crate) fn new(sends: &'a [u8], piece: usize, wants: &'a [u8]) -> Client<'a> {
         Client {
             sends,
             piece,
             takes: usize::MAX,
             ends: true,
             sent: Cell::new(0),
-            taken: RefCell::new(Vec::new(alloc)),
             ended: Cell::new(None),
+            wants,
+            taken: Cell::new(0),
+            differs: Cell::new(false),
             may_send: Cell::new(true),
             may_take: Cell::new(true),
         }
     }
 
     /// One that sends the bytes in pieces of this size, and then waits.
-    pub(crate) fn waiting(alloc: Global, sends: &'a [u8], piece: usize) -> Client<'a> {
-        let mut client = Client::new(alloc, sends, piece);
+    pub(crate) fn waiting(sends: &'a [u8], piece: usize, wants: &'a [u8]) -> Client<'a> {
+        let mut client = Client::new(sends, piece, wants);
         client.ends = false;
         client
+    }
+
+    /// Whether what it has is so much of the reply that it wants, and nothing else.
+    pub(crate) fn has_front(&self, length: usize) -> bool {
+        self.taken.get() == length && !self.differs.get()
+    }
+
+    /// Whether it has the reply that it wants, and nothing else.
+    pub(crate) fn has_all(&self) -> bool {
+        self.has_front(self.wants.len())
+    }
+
+    // Takes the bytes.
+    fn take(&self, bytes: &[u8]) {
+        let begin = self.taken.get();
+        let end = begin.saturating_add(bytes.len());
+        let is_wanted = match self.wants.get(begin..end) {
+            Some(part) => part == bytes,
+            None => false,
+        };
+        if !is_wanted {
+            self.differs.set(true);
+        }
+        self.taken.set(end);
     }
 }
 
@@ -108,10 +137,7 @@ impl<'a> Write for Line<'a> {
         }
         self.0.may_take.set(self.0.takes == usize::MAX);
         let count = self.0.takes.min(buf.len());
-        match self.0.taken.try_borrow_mut() {
-            Ok(mut taken) => taken.extend_from_slice(&buf[..count])?,
-            Err(_) => return Err(io::Error::from(ErrorKind::BrokenPipe)),
-        }
+        self.0.take(&buf[..count]);
         Ok(count)
     }
 
@@ -168,40 +194,26 @@ impl<'a> OpenListener for Queue<'a> {
     }
 }
 
-/// Each wait ends at once: each of these clients may send a piece and take one, wherever it has its place.
+/// Each wait ends at once: each client of the queue may send a piece and take one, wherever it has its place.
 #[derive(Drop)]
 pub(crate) struct Waits<'a> {
-    clients: &'a [Option<&'a Client<'a>>],
+    /// Where the clients wait to be accepted.
+    pub(crate) queue: &'a Queue<'a>,
     /// How long each might last.
     pub(crate) limits: Vec<Option<Duration>>,
     /// None can be waited for.
     pub(crate) fails: bool,
-    // After so many waits this queue begins with its first client.
-    turns: Option<(usize, &'a Queue<'a>)>,
+    /// After so many waits the queue begins with its first client.
+    pub(crate) turns: usize,
 }
 
 impl<'a> Waits<'a> {
-    pub(crate) fn new(alloc: Global, clients: &'a [Option<&'a Client<'a>>]) -> Waits<'a> {
+    pub(crate) fn new(alloc: Global, queue: &'a Queue<'a>) -> Waits<'a> {
         Waits {
-            clients,
+            queue,
             limits: Vec::new(alloc),
             fails: false,
-            turns: None,
-        }
-    }
-
-    /// The same, where this queue begins with its first client after so many waits.
-    pub(crate) fn turning(
-        alloc: Global,
-        clients: &'a [Option<&'a Client<'a>>],
-        count: usize,
-        queue: &'a Queue<'a>,
-    ) -> Waits<'a> {
-        Waits {
-            clients,
-            limits: Vec::new(alloc),
-            fails: false,
-            turns: Some((count, queue)),
+            turns: usize::MAX,
         }
     }
 }
@@ -226,11 +238,10 @@ impl<'a> Watch<Queue<'a>> for Waits<'a> {
             return Err(io::Error::from(ErrorKind::Unsupported));
         }
         self.limits.push(limit)?;
-        match self.turns {
-            Some((count, queue)) if self.limits.len() == count => queue.accepted.set(0),
-            _ => {}
+        if self.limits.len() == self.turns {
+            self.queue.accepted.set(0);
         }
-        for client in self.clients.iter().flatten() {
+        for client in self.queue.clients.iter().flatten() {
             client.may_send.set(true);
             client.may_take.set(true);
         }

@@ -2,8 +2,10 @@
 //! it is, and the register is as before.
 
 use crate::asking::{ALDER, Ask, BIRCH, answered, day, keep_after, node, read, request};
+use crate::checks::{holds, holds_at};
 use crate::exchanges::{LODGING, exchanged};
 use crate::failing_keep::FailingKeep;
+use crate::streams::Drip;
 use bor_desk::operations::{Keep, ListKeep, StoreFault};
 use bor_desk::{DeskReply, report_text};
 use bor_wire::{Outcome, Reply, UNAVAILABLE, render, replay};
@@ -62,12 +64,10 @@ fn is_answered_failed(
     ask: Ask<'_>,
 ) -> bool {
     let told = answered(rt, alloc, failing, ask);
-    if failing.faults() == 0 {
-        return false;
-    }
+    let faults = failing.faults();
     let is_told = matches!(&told, DeskReply::Failed(met) if *met == failing.fault);
-    assert!(rt; is_told && failing.faults() == 1, "{}", ask.0);
-    true
+    holds(rt, ask.0, faults == 0 || is_told && faults == 1);
+    faults > 0
 }
 
 // Asks twice more with so many calls left, by an exchange and in a run, and has the one reply of a keep
@@ -81,34 +81,45 @@ fn is_replied_unavailable(
 ) {
     let input = request(rt, alloc, ask);
     failing.left = calls;
-    let (outcome, out) = exchanged(alloc, failing, &input, 40, None);
-    assert!(rt; outcome == Outcome::Replied(503), "{} {calls}", ask.0);
-    assert!(rt; out.as_slice() == UNAVAILABLE, "{} {calls}", ask.0);
+    let (outcome, out) = exchanged(alloc, failing, Drip::new(&input, 40));
+    let is_told = outcome == Outcome::Replied(503) && out.as_slice() == UNAVAILABLE;
+    holds(rt, ask.0, is_told);
     failing.left = calls;
     let replies = replay(alloc, failing, &[input]).expect(rt, "memory");
-    let is_unavailable = matches!(replies.as_slice(), [Reply::Unavailable]);
-    assert!(rt;
-        is_unavailable && failing.faults() == 3,
-        "{} {calls}",
-        ask.0
-    );
+    let is_told = matches!(replies.as_slice(), [Reply::Unavailable]);
+    holds(rt, ask.0, is_told && failing.faults() == 3);
+}
+
+// Makes an ask with so many calls left, and tells whether there was a fault: then it is told each way that
+// it can be asked, and the register is as before.
+fn is_failed(
+    rt: &impl Abort,
+    alloc: Global,
+    place: usize,
+    (calls, fault): (u32, StoreFault),
+    before: &[u8],
+) -> bool {
+    let ask = *ASKS.get(place).expect(rt, "no ask");
+    let keep = keep_after(rt, alloc, &ASKS, place);
+    let mut failing = FailingKeep::new(alloc, keep, calls, fault);
+    if !is_answered_failed(rt, alloc, &mut failing, ask) {
+        return false;
+    }
+    is_replied_unavailable(rt, alloc, &mut failing, ask, calls);
+    let after = seen(rt, alloc, &mut failing.keep);
+    holds(rt, ask.0, after.as_slice() == before);
+    true
 }
 
 // How many calls of the keep an ask makes: each of them was made to answer the fault in turn.
 fn failed_calls(rt: &impl Abort, alloc: Global, place: usize, fault: StoreFault) -> u32 {
-    let ask = *ASKS.get(place).expect(rt, "no ask");
     let before = seen(rt, alloc, &mut keep_after(rt, alloc, &ASKS, place));
     for calls in 0..100 {
-        let keep = keep_after(rt, alloc, &ASKS, place);
-        let mut failing = FailingKeep::new(alloc, keep, calls, fault);
-        if !is_answered_failed(rt, alloc, &mut failing, ask) {
+        if !is_failed(rt, alloc, place, (calls, fault), &before) {
             return calls;
         }
-        is_replied_unavailable(rt, alloc, &mut failing, ask, calls);
-        let after = seen(rt, alloc, &mut failing.keep);
-        assert!(rt; after.as_slice() == before.as_slice(), "{} {calls}", ask.0);
     }
-    panic!(rt; "too many calls of {}", ask.0)
+    panic!(rt; "too many calls at {place}")
 }
 
 #[test]
@@ -116,7 +127,7 @@ fn each_call_that_fails_is_told_and_leaves_the_register(rt: HostRuntime) {
     for fault in FAULTS {
         for place in 0..ASKS.len() {
             let calls = failed_calls(&rt, rt.alloc(), place, fault);
-            assert!(rt; calls > 1, "{place}");
+            holds_at(&rt, "calls", place, calls > 1);
         }
     }
 }
@@ -128,13 +139,14 @@ fn is_report_failed(rt: &impl Abort, alloc: Global, calls: u32, fault: StoreFaul
     let entity = node(rt, alloc, "e1");
     let viewer = read(rt, alloc, "birch");
     let told = report_text(alloc, &mut failing, &viewer, &entity, day(rt, "2024-02-01"));
+    let faults = failing.faults();
     match told {
         Ok(text) => {
-            assert!(rt; failing.faults() == 0 && !text.refused, "{calls}");
+            holds(rt, "a report", faults == 0 && !text.refused);
             false
         }
         Err(met) => {
-            assert!(rt; failing.faults() == 1 && met == fault, "{calls}");
+            holds(rt, "a fault", faults == 1 && met == fault);
             true
         }
     }
@@ -146,7 +158,7 @@ fn each_call_of_a_report_that_fails_is_told(rt: HostRuntime) {
     for fault in FAULTS {
         for calls in 0..5 {
             let is_failed = is_report_failed(&rt, rt.alloc(), calls, fault);
-            assert!(rt; is_failed == (calls < 4), "{calls}");
+            holds(&rt, "calls", is_failed == (calls < 4));
         }
     }
 }

@@ -7,36 +7,45 @@ use std::process::Abort;
 pub(crate) const FIRST: &str =
     r#"[{"statementId":"s1","statementDate":"2024-01-10","declarationSubject":"c1","recordId":"e1","recordType":"entity","recordDetails":{"entityType":{"type":"registeredEntity"},"name":"Alder Ltd"}},{"statementId":"s2","statementDate":"2024-01-10","declarationSubject":"c1","recordId":"p1","recordType":"person","recordDetails":{"personType":"knownPerson","names":[{"fullName":"Ann Moss"}]}},{"statementId":"s3","statementDate":"2024-01-10","declarationSubject":"c1","recordId":"r1","recordType":"relationship","recordDetails":{"subject":"e1","interestedParty":"p1","interests":[{"type":"votingRights","share":{"exact":100}}]}}]"#;
 
-// Adds the record type and the details of a statement of this kind: the words behind its record are an
-// entity's number, or a relationship's subject and party, and a share that isn't 60 percent of the votes.
-fn add_details<'a>(
-    rt: &impl Abort,
-    text: &mut String,
-    kind: &str,
-    (first, second, share): (&'a str, &'a str, &'a str),
-) {
-    let written = match (kind, first, share) {
-        ("P", _, _) => write!(text, r#""person","recordDetails":{{}}}}"#),
-        ("E", "", _) => write!(
-            text,
-            r#""entity","recordDetails":{{"entityType":{{"type":"registeredEntity"}}}}}}"#
-        ),
-        ("E", number, _) => write!(
-            text,
-            r#""entity","recordDetails":{{"entityType":{{"type":"registeredEntity"}},"identifiers":[{{"scheme":"X","id":"{number}"}}]}}}}"#
-        ),
-        (_, subject, "") => write!(
-            text,
-            r#""relationship","recordDetails":{{"subject":"{subject}","interestedParty":"{second}","interests":[{{"type":"votingRights","share":{{"exact":60}}}}]}}}}"#
-        ),
-        (_, subject, share) => write!(
-            text,
-            r#""relationship","recordDetails":{{"subject":"{subject}","interestedParty":"{second}","interests":[{{"type":"shareholding","share":{{"exact":{share}}}}}]}}}}"#
-        ),
-    };
-    written.expect(rt, "memory");
+// What stands between the words of a statement.
+const PERSON: &str = r#""person","recordDetails":{}}"#;
+
+const ENTITY: &str = r#""entity","recordDetails":{"entityType":{"type":"registeredEntity"}"#;
+
+const NUMBER: &str = r#","identifiers":[{"scheme":"X","id":""#;
+
+const SUBJECT: &str = r#""relationship","recordDetails":{"subject":""#;
+
+const PARTY: &str = r#"","interestedParty":""#;
+
+const VOTES: &str = r#"","interests":[{"type":"votingRights","share":{"exact":60}}]}}"#;
+
+const SHARES: &str = r#"","interests":[{"type":"shareholding","share":{"exact":"#;
+
+/// Adds the parts to the text, one behind the other.
+pub(crate) fn put(rt: &impl Abort, text: &mut String, parts: &[&str]) {
+    for part in parts {
+        text.push_str(part).expect(rt, "memory");
+    }
 }
 
+// Adds the record type and the details of a statement of this kind: the words behind its record are an
+// entity's number, or a relationship's subject and party, and a share that isn't 60 percent of the votes.
+fn add_details(rt: &impl Abort, text: &mut String, kind: &str, words: (&str, &str, &str)) {
+    let (first, party, share) = words;
+    match (kind, first, share) {
+        ("P", _, _) => put(rt, text, &[PERSON]),
+        ("E", "", _) => put(rt, text, &[ENTITY, "}}"]),
+        ("E", number, _) => put(rt, text, &[ENTITY, NUMBER, number, "\"}]}}"]),
+        (_, subject, "") => put(rt, text, &[SUBJECT, subject, PARTY, party, VOTES]),
+        (_, subject, share) => {
+            let parts = [SUBJECT, subject, PARTY, party, SHARES, share, "}}]}}"];
+            put(rt, text, &parts);
+        }
+    }
+}
+
+// Adds a statement in words.
 fn add_statement(rt: &impl Abort, text: &mut String, statement: &str) {
     let mut words = statement.split(' ');
     let kind = words.next().unwrap_or("");
@@ -45,11 +54,14 @@ fn add_statement(rt: &impl Abort, text: &mut String, statement: &str) {
     let first = words.next().unwrap_or("");
     let second = words.next().unwrap_or("");
     let share = words.next().unwrap_or("");
-    write!(
-        text,
-        r#"{{"statementId":"{id}","statementDate":"2024-01-10","declarationSubject":"c1","recordId":"{rec}","recordType":"#
-    )
-    .expect(rt, "memory");
+    let parts = [
+        "{\"statementId\":\"",
+        id,
+        "\",\"statementDate\":\"2024-01-10\",\"declarationSubject\":\"c1\",\"recordId\":\"",
+        rec,
+        "\",\"recordType\":",
+    ];
+    put(rt, text, &parts);
     add_details(rt, text, kind, (first, second, share));
 }
 
@@ -62,10 +74,10 @@ pub(crate) fn file(rt: &impl Abort, alloc: Global, words: &str) -> String {
     let mut text = String::from_str(alloc, "[").expect(rt, "memory");
     for statement in words.split("; ") {
         if !text.ends_with("[") {
-            text.push(',').expect(rt, "memory");
+            put(rt, &mut text, &[","]);
         }
         add_statement(rt, &mut text, statement);
     }
-    text.push(']').expect(rt, "memory");
+    put(rt, &mut text, &["]"]);
     text
 }

@@ -94,7 +94,7 @@ impl Ports for Machine {
         _log: bool,
     ) -> u8 {
         let clock = Ticking::new(Some(1));
-        let mut waits = Waits::new(self.alloc, &[]);
+        let mut waits = Waits::new(self.alloc, listener);
         serve_within(
             &(clock, self.alloc),
             register,

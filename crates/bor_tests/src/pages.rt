@@ -1,6 +1,7 @@
 //! The examples of the first pages on files, records, chains and registers, each as it stands there.
 
 use crate::asking::{day, node, read};
+use crate::checks::{all_hold, counts, holds};
 use crate::files::{FIRST, file};
 use bods_read::{
     Details, Fault, Field, FileFault, Interest, ReadFault, RecordType, Statement, Status, read_file,
@@ -21,14 +22,17 @@ fn the_page_of_files(rt: HostRuntime) {
     let file =
         b"[{\"statementId\":\"s1\",\"statementDate\":\"2024-01-10\",\"declarationSubject\":\"c1\",\"recordId\":\"p1\",\"recordType\":\"person\",\"recordDetails\":{}}]";
     let statements = read_file(rt.alloc(), file).expect(&rt, "memory");
-    assert_eq!(rt; statements.len(), 1);
-    assert_eq!(rt; statements[0].record_type(), RecordType::Person);
+    let [statement] = statements.as_slice() else {
+        panic!(rt; "not one statement");
+    };
+    let is_person = statement.record_type() == RecordType::Person;
+    holds(&rt, "a person", is_person);
     let fault = FileFault::At {
         place: 1,
         fault: Fault::Missing(Field::StatementDate),
     };
-    let refused = read_file(rt.alloc(), b"[{\"statementId\":\"s1\"}]");
-    assert_eq!(rt; refused.err(), Some(ReadFault::File(fault)));
+    let refused = read_file(rt.alloc(), b"[{\"statementId\":\"s1\"}]").err();
+    holds(&rt, "refused", refused == Some(ReadFault::File(fault)));
 }
 
 /// The statements of a file in words.
@@ -43,15 +47,18 @@ fn the_page_of_records(rt: HostRuntime) {
     let [one, two] = statements.as_slice() else {
         panic!(rt; "not two statements");
     };
-    assert_eq!(rt; admit(None, one, due), Ok(Status::New));
     let last = Last {
         kind: RecordType::Entity,
         status: Status::New,
         day: one.day,
         due,
     };
-    assert_eq!(rt; admit(Some(last), two, due), Ok(Status::Updated));
-    assert_eq!(rt; admit(None, two, due), Ok(Status::New));
+    let are_admitted = [
+        admit(None, one, due) == Ok(Status::New),
+        admit(Some(last), two, due) == Ok(Status::Updated),
+        admit(None, two, due) == Ok(Status::New),
+    ];
+    all_hold(&rt, "admitted", &are_admitted);
 }
 
 /// The statements of a file in words as new rows of alder's.
@@ -96,10 +103,13 @@ fn the_page_of_links(rt: HostRuntime) {
     };
     let e1 = open_node(&rt, alloc, *first);
     let a1 = open_node(&rt, alloc, *second);
-    assert!(rt; e1.is_alias(&a1));
     let votes = interests_of(&third.statement);
-    assert!(rt; stake_of(votes, date));
-    assert!(rt; holding_of(votes, date));
+    let told = [
+        e1.is_alias(&a1),
+        stake_of(votes, date),
+        holding_of(votes, date),
+    ];
+    all_hold(&rt, "told", &told);
 }
 
 #[test]
@@ -112,9 +122,11 @@ fn the_page_of_chains(rt: HostRuntime) {
         &rt, "memory",
     );
     let persons = persons_of(alloc, &mut source, &e1).expect(&rt, "no report");
-    assert_eq!(rt; persons.len(), 1);
-    assert_eq!(rt; persons[0].node.rec.as_str(), "p1");
-    assert_eq!(rt; persons[0].links, 2);
+    let [person] = persons.as_slice() else {
+        panic!(rt; "not one person");
+    };
+    let is_person = person.node.rec.as_str() == "p1" && person.links == 2;
+    holds(&rt, "p1", is_person);
 }
 
 /// Adds a filing of one statement, due on a day, where there is room.
@@ -145,11 +157,11 @@ fn the_page_of_registers(rt: HostRuntime) {
     let mut members = Vec::new(alloc);
     enrol_member(alloc, &mut members, &alder, &token).expect(&rt, "memory");
     add(&rt, alloc, &mut members, &alder, tomorrow);
-    assert_eq!(rt; own_filings(&members, &alder).len(), 1);
+    counts(&rt, "own", own_filings(&members, &alder).len(), 1);
     let published = all_published(alloc, &members, today).expect(&rt, "memory");
-    assert_eq!(rt; published.len(), 0);
+    counts(&rt, "today", published.len(), 0);
     let published = all_published(alloc, &members, tomorrow).expect(&rt, "memory");
-    assert_eq!(rt; published.len(), 1);
+    counts(&rt, "tomorrow", published.len(), 1);
 }
 
 // Enrols where the name and the token are free.
@@ -171,9 +183,10 @@ fn the_page_of_keeps(rt: HostRuntime) {
     );
     let mut keep = ListKeep::new(alloc, registrar, day(&rt, "2024-02-01"));
     enrol_new(&mut keep, &alder, &token).expect(&rt, "a fault");
-    assert!(rt; keep.has_agent(&alder).expect(&rt, "a fault"));
-    assert_eq!(rt; keep.filings(&alder).expect(&rt, "a fault").len(), 0);
-    assert_eq!(rt; keep.faults(), 0);
+    holds(&rt, "an agent", keep.has_agent(&alder) == Ok(true));
+    let filings = keep.filings(&alder).expect(&rt, "a fault");
+    counts(&rt, "filings", filings.len(), 0);
+    holds(&rt, "no fault", keep.faults() == 0);
 }
 
 // Lodges where `lodge` may be called.
@@ -206,7 +219,13 @@ fn the_page_of_operations(rt: HostRuntime) {
     let file = FIRST.as_bytes();
     let lodged = lodge_of(&rt, alloc, &mut keep, (&alder, &key), tomorrow, file);
     let lodged = lodged.expect(&rt, "not lodged");
-    assert_eq!(rt; (lodged.number, lodged.state), (1, State::Draft));
-    assert_eq!(rt; advance(&mut keep, tomorrow), Ok(tomorrow));
-    assert_eq!(rt; keep.published().expect(&rt, "a fault").len(), 1);
+    let is_draft = lodged.number == 1 && lodged.state == State::Draft;
+    holds(&rt, "a draft", is_draft);
+    holds(
+        &rt,
+        "advanced",
+        advance(&mut keep, tomorrow) == Ok(tomorrow),
+    );
+    let published = keep.published().expect(&rt, "a fault");
+    counts(&rt, "published", published.len(), 1);
 }

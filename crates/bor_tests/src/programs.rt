@@ -1,6 +1,7 @@
 //! The program where its streams, its memory or its store fail.
 
 use crate::asking::{ALDER, keep_of_two, request};
+use crate::checks::{holds, holds_at};
 use crate::failing_keep::FailingKeep;
 use crate::machine::{Machine, Starved};
 use crate::streams::{Drip, Gate};
@@ -9,7 +10,7 @@ use bor_program::{Failure, OpenRegister, Status, exchange_on, report_on, run};
 use bor_wire::UNAVAILABLE;
 use bor_words::{Command, HELP, Report, Unread};
 use std::alloc::Global;
-use std::io::{ErrorKind, Read, Write};
+use std::io::ErrorKind;
 use std::process::Abort;
 use std::rt::Files;
 
@@ -50,24 +51,19 @@ const EXCHANGE: [&str; 8] = [
     "nowhere.http",
 ];
 
-// The exit status of a run on these words, at a machine that has memory or none for a register.
-fn status_of<R: Files + AllocGlobal, I: Read, O: Write, E: Write>(
+// A run on these words, at a machine that has memory or none for a register, fails.
+fn fails<R: Files + AllocGlobal + Abort>(
     rt: &R,
     is_starved: bool,
     words: &[&str],
-    input: &mut I,
-    output: &mut O,
-    errors: &mut E,
-) -> u8 {
+    mut input: Drip<'_>,
+    output: &mut Gate,
+    errors: &mut Gate,
+) {
     let alloc = rt.alloc();
-    run(
-        rt,
-        &mut Machine { alloc, is_starved },
-        words,
-        input,
-        output,
-        errors,
-    )
+    let mut machine = Machine { alloc, is_starved };
+    let status = run(rt, &mut machine, words, &mut input, output, errors);
+    holds_at(rt, "status of words", words.len(), status == 3);
 }
 
 // A run on these words with an empty list on standard input fails, writes this much of the text, and tells
@@ -78,12 +74,11 @@ fn fails_untold<R: Files + AllocGlobal + Abort>(
     mut output: Gate,
     text: &[u8],
 ) {
-    let mut input = b"[]".as_slice();
-    let mut errors = Vec::new(rt.alloc());
-    let status = status_of(rt, false, words, &mut input, &mut output, &mut errors);
-    assert_eq!(rt; status, 3, "{words:?}");
-    assert!(rt; output.taken.as_slice() == text, "{words:?}");
-    assert!(rt; errors.is_empty(), "{words:?}");
+    let mut errors = Gate::open(rt.alloc());
+    let input = Drip::new(b"[]", 2);
+    fails(rt, false, words, input, &mut output, &mut errors);
+    holds_at(rt, "output", text.len(), output.has(text));
+    holds_at(rt, "no line", text.len(), errors.has(b""));
 }
 
 // Words and the text that is printed, of which the output takes nothing or nine bytes, or hands nothing on.
@@ -97,48 +92,46 @@ fn an_output_that_fails_is_not_told(rt: HostRuntime) {
         (&MIGRATE, "version 2\n"),
     ];
     for (words, text) in cases {
+        let text = text.as_bytes();
         for room in [0, 9] {
-            let front = text.as_bytes().get(..room).expect(&rt, "a longer text");
+            let front = text.get(..room).unwrap_or(&[]);
             fails_untold(&rt, words, Gate::new(rt.alloc(), room), front);
         }
-        let mut output = Gate::new(rt.alloc(), 100_000);
+        let mut output = Gate::open(rt.alloc());
         output.flushes = false;
-        fails_untold(&rt, words, output, text.as_bytes());
+        fails_untold(&rt, words, output, text);
     }
 }
 
-// A run on these words ends as failed, and tells this line alone.
-fn fails<R: Files + AllocGlobal + Abort, I: Read + Drop>(
+// A run on these words ends as failed, prints nothing, and tells this line alone, of which standard error
+// takes so many bytes.
+fn fails_by_line<R: Files + AllocGlobal + Abort>(
     rt: &R,
     is_starved: bool,
     words: &[&str],
-    mut input: I,
-    line: &str,
+    input: Drip<'_>,
+    (room, line): (usize, &[u8]),
 ) {
-    let mut output = Vec::new(rt.alloc());
-    let mut errors = Vec::new(rt.alloc());
-    let status = status_of(rt, is_starved, words, &mut input, &mut output, &mut errors);
-    assert_eq!(rt; status, 3, "{words:?}");
-    assert!(rt; output.is_empty(), "{words:?}");
-    assert!(rt; errors.as_slice() == line.as_bytes(), "{words:?}");
+    let mut output = Gate::open(rt.alloc());
+    let mut errors = Gate::new(rt.alloc(), room);
+    fails(rt, is_starved, words, input, &mut output, &mut errors);
+    holds_at(rt, "no output", room, output.has(b""));
+    holds_at(rt, "a line", room, errors.has(line));
 }
 
 #[test]
 fn an_input_that_breaks_off_is_told(rt: HostRuntime) {
-    for (kind, line) in [
+    let cases: [(ErrorKind, &[u8]); 2] = [
         (
             ErrorKind::ConnectionReset,
-            "bor: cannot read standard input\n",
+            b"bor: cannot read standard input\n",
         ),
-        (ErrorKind::OutOfMemory, "bor: out of memory\n"),
-    ] {
-        let input = Drip {
-            bytes: b"[{",
-            size: 1,
-            first: Some(ErrorKind::Interrupted),
-            last: Some(kind),
-        };
-        fails(&rt, false, &[], input, line);
+        (ErrorKind::OutOfMemory, b"bor: out of memory\n"),
+    ];
+    for (kind, line) in cases {
+        let mut input = Drip::failing(b"[{", 1, kind);
+        input.first = Some(ErrorKind::Interrupted);
+        fails_by_line(&rt, false, &[], input, (100, line));
     }
 }
 
@@ -146,7 +139,8 @@ fn an_input_that_breaks_off_is_told(rt: HostRuntime) {
 fn a_register_for_which_there_is_no_memory_is_told(rt: HostRuntime) {
     let cases: [&[&str]; 4] = [&REPORT, &SERVE, &MIGRATE, &EXCHANGE];
     for words in cases {
-        fails(&rt, true, words, b"".as_slice(), "bor: out of memory\n");
+        let input = Drip::new(b"", 1);
+        fails_by_line(&rt, true, words, input, (100, b"bor: out of memory\n"));
     }
 }
 
@@ -154,13 +148,9 @@ fn a_register_for_which_there_is_no_memory_is_told(rt: HostRuntime) {
 fn a_line_that_cannot_be_written_whole_is_cut_off(rt: HostRuntime) {
     let line = b"bor: cannot read nowhere.json\n";
     for room in 0..line.len() {
-        let mut output = Vec::new(rt.alloc());
-        let mut errors = Gate::new(rt.alloc(), room);
         let words = ["check", "nowhere.json"];
-        let mut input = b"[]".as_slice();
-        let status = status_of(&rt, false, &words, &mut input, &mut output, &mut errors);
-        assert_eq!(rt; status, 3, "{room}");
-        assert!(rt; errors.taken.as_slice() == &line[..room], "{room}");
+        let input = Drip::new(b"[]", 2);
+        fails_by_line(&rt, false, &words, input, (room, &line[..room]));
     }
 }
 
@@ -168,31 +158,30 @@ fn a_line_that_cannot_be_written_whole_is_cut_off(rt: HostRuntime) {
 const TAKEN: &[u8] =
     b"HTTP/1.1 409 Conflict\r\nContent-Type: application/json\r\nContent-Length: 23\r\nConnection: close\r\n\r\n{\"refusal\":\"NameTaken\"}";
 
-#[test]
-fn replies_that_are_cut_off_are_a_failure(rt: HostRuntime) {
-    let alloc = rt.alloc();
-    let inputs = [request(&rt, alloc, ALDER)];
-    let mut register = keep_of_two(&rt, alloc);
-    for room in 0..TAKEN.len() {
-        let mut output = Gate::new(alloc, room);
-        let ended = exchange_on(alloc, &mut register, &inputs, &mut output);
-        assert!(rt; ended == Err(Failure::Unwritable), "{room}");
-        assert!(rt; output.taken.as_slice() == &TAKEN[..room], "{room}");
-    }
-}
-
-// An exchange over a register ends so, and prints this.
-fn ends<K: OpenRegister>(
+// An exchange of alder's enrolment over a register ends so, and prints this where the output takes so many
+// bytes.
+fn ends_by<K: OpenRegister>(
     rt: &impl Abort,
     alloc: Global,
     register: &mut K,
+    (room, text): (usize, &[u8]),
     wanted: Result<Status, Failure<'_>>,
-    text: &[u8],
 ) {
     let inputs = [request(rt, alloc, ALDER)];
-    let mut output = Vec::new(alloc);
+    let mut output = Gate::new(alloc, room);
     let ended = exchange_on(alloc, register, &inputs, &mut output);
-    assert!(rt; ended == wanted && output.as_slice() == text);
+    holds_at(rt, "end", room, ended == wanted);
+    holds_at(rt, "output", room, output.has(text));
+}
+
+#[test]
+fn replies_that_are_cut_off_are_a_failure(rt: HostRuntime) {
+    let alloc = rt.alloc();
+    let mut register = keep_of_two(&rt, alloc);
+    for room in 0..TAKEN.len() {
+        let front = (room, &TAKEN[..room]);
+        ends_by(&rt, alloc, &mut register, front, Err(Failure::Unwritable));
+    }
 }
 
 #[test]
@@ -200,9 +189,11 @@ fn replies_of_a_register_that_fails_end_as_failed(rt: HostRuntime) {
     let alloc = rt.alloc();
     let list = keep_of_two(&rt, alloc);
     let mut failing = FailingKeep::new(alloc, list, 0, StoreFault::Store);
-    ends(&rt, alloc, &mut failing, Ok(Status::Failed), UNAVAILABLE);
+    let replies = (1000, UNAVAILABLE);
+    ends_by(&rt, alloc, &mut failing, replies, Ok(Status::Failed));
     let mut starved = Starved { list: failing.keep };
-    ends(&rt, alloc, &mut starved, Err(Failure::Memory), b"");
+    let nothing: (usize, &[u8]) = (1000, b"");
+    ends_by(&rt, alloc, &mut starved, nothing, Err(Failure::Memory));
 }
 
 // What is asked for by the words of a report.
@@ -213,25 +204,59 @@ fn asked<'a>(rt: &impl Abort, alloc: Global, words: &'a [&'a str]) -> Report<'a>
     }
 }
 
+// A report over a register fails by this call so, and prints nothing.
+fn fails_at(
+    rt: &impl Abort,
+    alloc: Global,
+    asked: &Report<'_>,
+    (calls, fault): (u32, StoreFault),
+    failure: Failure<'_>,
+) {
+    let keep = keep_of_two(rt, alloc);
+    let mut failing = FailingKeep::new(alloc, keep, calls, fault);
+    let mut output = Gate::open(alloc);
+    let ended = report_on(alloc, &mut failing, asked, &mut output);
+    holds(rt, "end", ended == Err(failure));
+    holds(rt, "no output", output.has(b""));
+}
+
 // The register's day is asked for, and then the entity.
 #[test]
 fn a_report_of_a_store_that_fails_prints_nothing(rt: HostRuntime) {
     let alloc = rt.alloc();
     let asked = asked(&rt, alloc, &REPORT);
-    for (fault, failure) in [
-        (StoreFault::Memory, Failure::Memory),
-        (StoreFault::Store, Failure::Store),
-        (StoreFault::Damaged, Failure::Store),
-    ] {
-        for left in 0..2 {
-            let keep = keep_of_two(&rt, alloc);
-            let mut failing = FailingKeep::new(alloc, keep, left, fault);
-            let mut output = Vec::new(alloc);
-            let ended = report_on(alloc, &mut failing, &asked, &mut output);
-            assert_eq!(rt; ended, Err(failure), "{left}");
-            assert!(rt; output.is_empty());
-        }
+    for calls in 0..2 {
+        fails_at(
+            &rt,
+            alloc,
+            &asked,
+            (calls, StoreFault::Memory),
+            Failure::Memory,
+        );
+        fails_at(
+            &rt,
+            alloc,
+            &asked,
+            (calls, StoreFault::Store),
+            Failure::Store,
+        );
+        fails_at(
+            &rt,
+            alloc,
+            &asked,
+            (calls, StoreFault::Damaged),
+            Failure::Store,
+        );
     }
+}
+
+// Whether clap answers these words by a page that the help has.
+fn is_in_help(rt: &impl Abort, alloc: Global, words: &[&str]) -> bool {
+    let Err(unread) = Command::read(alloc, words) else {
+        return false;
+    };
+    let page = format!(in alloc; "{unread}").expect(rt, "memory");
+    matches!(unread, Unread::Answered(_)) && HELP.contains(page.as_str())
 }
 
 // The pages that clap tells of each command.
@@ -245,12 +270,8 @@ fn the_help_has_the_pages_of_its_commands(rt: HostRuntime) {
         &["report", "--help"],
         &["migrate", "--help"],
     ];
-    for words in cases {
-        let unread = Command::read(rt.alloc(), words).expect_err(&rt, "no command");
-        let page = format!(in rt.alloc(); "{unread}").expect(&rt, "memory");
-        assert!(rt;
-            matches!(unread, Unread::Answered(_)) && HELP.contains(page.as_str()),
-            "{page}"
-        );
+    for (place, words) in cases.iter().enumerate() {
+        let is_there = is_in_help(&rt, rt.alloc(), words);
+        holds_at(&rt, "a page", place, is_there);
     }
 }

@@ -1,8 +1,9 @@
 //! The examples of the first pages on the desk, on HTTP and on words, each as it stands there.
 
 use crate::asking::{day, read};
+use crate::checks::{all_hold, holds};
 use bor_desk::operations::ListKeep;
-use bor_desk::{DeskReply, Request, answer, check_text};
+use bor_desk::{DeskReply, Request, answer};
 use bor_http::routes::{Paths, Route, allow_of, route_at};
 use bor_wire::rendering::{RESERVED, render_refusal};
 use bor_wire::{Counted, Outcome, Path, Refusal, exchange, parse, read_request};
@@ -22,31 +23,36 @@ fn the_page_of_the_desk(rt: HostRuntime) {
         &registrar,
         &Request::Enrol { name, token },
     );
-    assert!(rt; matches!(&reply, DeskReply::Enrolled(_)));
+    holds(&rt, "enrolled", matches!(&reply, DeskReply::Enrolled(_)));
     let reply = answer(alloc, &mut keep, &alder, &Request::Published);
-    assert!(rt; matches!(&reply, DeskReply::Published(outwards) if outwards.as_slice().is_empty()));
-    let text = check_text(alloc, b"[]").expect(&rt, "memory");
-    assert!(rt; text.refused && text.bytes.as_slice() == b"refused NoStatements\n".as_slice());
+    let is_empty =
+        matches!(&reply, DeskReply::Published(outwards) if outwards.as_slice().is_empty());
+    holds(&rt, "published", is_empty);
 }
 
 #[test]
 fn the_page_of_requests(rt: HostRuntime) {
     let mut reader = Counted::new(b"GET /filings HTTP/1.1\r\nHost: localhost\r\n\r\n".as_slice());
     let request = read_request(rt.alloc(), &mut reader).expect(&rt, "refused");
-    assert!(rt;
-        request.method() == b"GET".as_slice() && request.target() == b"/filings".as_slice()
-    );
-    assert!(rt; request.only(b"host") == Some(b"localhost".as_slice()));
-    assert!(rt; request.body().is_empty());
+    let told = [
+        request.method() == b"GET".as_slice(),
+        request.target() == b"/filings".as_slice(),
+        request.only(b"host") == Some(b"localhost".as_slice()),
+        request.body().is_empty(),
+    ];
+    all_hold(&rt, "told", &told);
 }
 
 #[test]
 fn the_page_of_routes(rt: HostRuntime) {
     let paths = Paths::new(rt.alloc()).expect(&rt, "memory");
-    assert_eq!(rt; paths.find("/filings/f1"), Some(Path::Filing));
-    assert_eq!(rt; route_at(Path::Filing, b"PUT"), Some(Route::Lodge));
-    assert_eq!(rt; route_at(Path::Filing, b"GET"), None);
-    assert_eq!(rt; allow_of(Path::Filing), "DELETE, PUT");
+    let told = [
+        paths.find("/filings/f1") == Some(Path::Filing),
+        route_at(Path::Filing, b"PUT") == Some(Route::Lodge),
+        route_at(Path::Filing, b"GET").is_none(),
+        allow_of(Path::Filing) == "DELETE, PUT",
+    ];
+    all_hold(&rt, "told", &told);
 }
 
 #[test]
@@ -56,18 +62,17 @@ fn the_page_of_what_a_request_asks(rt: HostRuntime) {
     let mut reader = Counted::new(input.as_slice());
     let request = read_request(alloc, &mut reader).expect(&rt, "refused");
     let asking = parse(alloc, &request).expect(&rt, "refused");
-    assert!(rt; asking.token.as_str() == "alder-token-000001");
-    assert!(rt; matches!(asking.request, Request::Filings));
+    let is_alders = asking.token.as_str() == "alder-token-000001";
+    let told = [is_alders, matches!(asking.request, Request::Filings)];
+    all_hold(&rt, "told", &told);
 }
 
 #[test]
 fn the_page_of_replies(rt: HostRuntime) {
     let mut out = Vec::with_capacity(rt.alloc(), RESERVED).expect(&rt, "memory");
     render_refusal(&mut out, Refusal::WrongMethod(Path::Filings));
-    assert!(rt;
-        out.as_slice()
-            .starts_with(b"HTTP/1.1 405 Method Not Allowed\r\n")
-    );
+    let line = b"HTTP/1.1 405 Method Not Allowed\r\n";
+    holds(&rt, "status line", out.as_slice().starts_with(line));
 }
 
 #[test]
@@ -80,8 +85,8 @@ fn the_page_of_exchanges(rt: HostRuntime) {
     let mut out = Vec::new(alloc);
     let mut reader = Counted::new(enrolment.as_slice());
     let outcome = exchange(alloc, &mut keep, &mut reader, &mut Counted::new(&mut out));
-    assert!(rt; outcome == Outcome::Replied(201));
-    assert!(rt; out.ends_with(b"{\"agent\":\"alder\"}"));
+    holds(&rt, "status", outcome == Outcome::Replied(201));
+    holds(&rt, "body", out.ends_with(b"{\"agent\":\"alder\"}"));
 }
 
 #[test]
@@ -102,6 +107,6 @@ fn the_page_of_words(rt: HostRuntime) {
     let Ok(Command::Report(asked)) = Command::read(rt.alloc(), &words) else {
         panic!(rt; "no report");
     };
-    assert!(rt; asked.viewer.as_str() == "alder");
-    assert!(rt; asked.date.is_none());
+    let told = [asked.viewer.as_str() == "alder", asked.date.is_none()];
+    all_hold(&rt, "told", &told);
 }

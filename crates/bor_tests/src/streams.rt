@@ -17,6 +17,30 @@ pub(crate) struct Drip<'a> {
     pub(crate) last: Option<ErrorKind>,
 }
 
+impl<'a> Drip<'a> {
+    /// A reader of the bytes that ends behind them.
+    pub(crate) fn new(bytes: &'a [u8], size: usize) -> Drip<'a> {
+        let (first, last) = (None, None);
+        Drip {
+            bytes,
+            size,
+            first,
+            last,
+        }
+    }
+
+    /// A reader of the bytes that fails behind them.
+    pub(crate) fn failing(bytes: &'a [u8], size: usize, fault: ErrorKind) -> Drip<'a> {
+        let (first, last) = (None, Some(fault));
+        Drip {
+            bytes,
+            size,
+            first,
+            last,
+        }
+    }
+}
+
 impl<'a> Read for Drip<'a> {
     fn read(&mut self, buf: &mut [u8]) -> io::Result<usize> {
         if let Some(kind) = self.first.take() {
@@ -58,6 +82,16 @@ impl Gate {
             fails: true,
             flushes: true,
         }
+    }
+
+    /// A writer that takes all.
+    pub(crate) fn open(alloc: Global) -> Gate {
+        Gate::new(alloc, usize::MAX)
+    }
+
+    /// Whether this is what it has taken.
+    pub(crate) fn has(&self, wanted: &[u8]) -> bool {
+        self.taken.as_slice() == wanted
     }
 }
 
