@@ -31,10 +31,10 @@ use bor_register::{
     own_filings, withdraw_of,
 };
 use bor_terms::{AgentName, Day, Ident, Listed, LodgeKey, Span, Token};
-use bor_wire::Outgoing;
 use bor_wire::rendering::{
     RESERVED, desk_status, is_long, refusal_status, render_refusal, render_short,
 };
+use bor_wire::{Outgoing, Reply, replay};
 use bor_words::Source;
 use std::alloc::Global;
 use std::fs;
@@ -552,6 +552,19 @@ fn is_sent(mut out: Vec<u8>) -> bool {
     is_written && outgoing.status() == 200 && outgoing.bytes() == MOVED
 }
 
+// A reply of a run tells its status and its bytes.
+fn is_reply_of_run_told(replies: &[Reply]) -> bool {
+    match replies {
+        [Reply::Full(full)] => full.status() == 401 && full.as_slice() == NO_TOKEN,
+        _ => false,
+    }
+}
+
+fn are_replies_sent(replies: &[Reply]) -> bool {
+    let mut replies = replies.iter();
+    replies.all(|reply| reply.status() == 401 && reply.bytes() == NO_TOKEN)
+}
+
 #[test]
 fn replies(rt: HostRuntime) {
     let alloc = rt.alloc();
@@ -559,11 +572,16 @@ fn replies(rt: HostRuntime) {
     let short = Vec::with_capacity(alloc, RESERVED).expect(&rt, "memory");
     let refused = Vec::with_capacity(alloc, RESERVED).expect(&rt, "memory");
     let sent = Vec::with_capacity(alloc, RESERVED).expect(&rt, "memory");
+    let mut keep = keep_of_drafts(&rt, alloc);
+    let input = Vec::from_slice(alloc, b"GET /filings HTTP/1.1\r\n\r\n").expect(&rt, "memory");
+    let run = replay(alloc, &mut keep, &[input]).expect(&rt, "memory");
     let marks = begin(&rt);
     let told = [
         is_reply_told(short, &reply),
         is_refusal_told(refused),
         is_sent(sent),
+        is_reply_of_run_told(&run),
+        are_replies_sent(&run),
     ];
     end(&rt, marks, &told);
 }
