@@ -1,5 +1,5 @@
-//! What the tests assert, each kind in one place: an assertion that stands in a test itself makes the
-//! proof of that test long.
+//! What the tests assert, each kind in one place: what is told where one fails is proved once, and
+//! not in each test.
 
 use std::process::Abort;
 
