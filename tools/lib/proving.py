@@ -70,7 +70,8 @@ def listed():
 
 def measured():
     """The seconds of processor time that each crate took where that was measured, by the table of ARCHITECTURE.md."""
-    rows = (TOP / "docs" / "ARCHITECTURE.md").read_text().splitlines()
+    table = TOP / "docs" / "ARCHITECTURE.md"
+    rows = table.read_text(encoding="utf-8").splitlines() if table.is_file() else []
     return {found[1]: int(found[2]) for found in map(MEASURED.match, rows) if found}
 
 
