@@ -9,7 +9,7 @@ use bor_terms::{Ident, Listed};
 use std::alloc::{AllocError, Global};
 
 /// What kind of entity it is (BODS 0.4, `entityType.type`).
-#[derive(Clone, Copy, Debug, PartialEq, Eq)]
+#[derive(Clone, Copy, PartialEq, Eq)]
 pub enum EntityKind {
     RegisteredEntity,
     LegalEntity,
@@ -42,7 +42,7 @@ impl EntityKind {
 }
 
 /// What kind of person it is (BODS 0.4, `personType`).
-#[derive(Clone, Copy, Debug, PartialEq, Eq)]
+#[derive(Clone, Copy, PartialEq, Eq)]
 pub enum PersonKind {
     KnownPerson,
     AnonymousPerson,
@@ -68,14 +68,14 @@ impl PersonKind {
 
 /// An identifier of an entity under a scheme, as a company number under `GB-COH`. Identifiers are
 /// ordered by scheme, then by id.
-#[derive(Debug, Drop, PartialEq, Eq, PartialOrd, Ord)]
+#[derive(Drop, PartialEq, Eq, PartialOrd, Ord)]
 pub struct Identifier {
     pub scheme: FreeText,
     pub id: FreeText,
 }
 
 /// What a statement says of its record.
-#[derive(Debug, Drop)]
+#[derive(Drop)]
 pub enum Details {
     Entity {
         kind: EntityKind,

@@ -6,7 +6,7 @@ ghost use Rattle.bods_read.specs.Words.{interest_word, directness_word};
 use bor_terms::{Day, Span};
 
 /// What kind of interest it is. BODS has more kinds, which play no part in a chain.
-#[derive(Clone, Copy, Debug, PartialEq, Eq)]
+#[derive(Clone, Copy, PartialEq, Eq)]
 pub enum InterestKind {
     Shareholding,
     VotingRights,
@@ -31,7 +31,7 @@ impl InterestKind {
 }
 
 /// Whether the interest is held directly.
-#[derive(Clone, Copy, Debug, PartialEq, Eq)]
+#[derive(Clone, Copy, PartialEq, Eq)]
 pub enum Directness {
     Direct,
     Indirect,
@@ -54,7 +54,7 @@ impl Directness {
 }
 
 /// An interest of a relationship.
-#[derive(Clone, Copy, Debug, PartialEq, Eq)]
+#[derive(Clone, Copy, PartialEq, Eq)]
 pub struct Interest {
     pub kind: InterestKind,
     pub directness: Directness,

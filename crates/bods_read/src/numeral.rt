@@ -11,7 +11,7 @@ use crate::trouble::Trouble;
 use serde_json::Value;
 
 // An exclusive member: an open bound itself, or a word on the bound beside it.
-#[derive(Clone, Copy, Debug, PartialEq, Eq)]
+#[derive(Clone, Copy, PartialEq, Eq)]
 pub(crate) enum Exclusive {
     Absent,
     Flag(bool),
@@ -19,7 +19,7 @@ pub(crate) enum Exclusive {
 }
 
 // The members of a share.
-#[derive(Clone, Copy, Debug)]
+#[derive(Clone, Copy)]
 pub(crate) struct Share {
     pub exact: Option<u8>,
     pub minimum: Option<u8>,

@@ -15,7 +15,7 @@ use bor_terms::Span;
 use serde_json::Value;
 
 // An end of a range.
-#[derive(Clone, Copy, Debug)]
+#[derive(Clone, Copy)]
 struct End {
     at: u8,
     is_open: bool,

@@ -78,7 +78,7 @@ impl Status {
 }
 
 /// A statement of a file, member by member (BODS 0.4).
-#[derive(Debug, Drop)]
+#[derive(Drop)]
 pub struct Statement {
     /// `statementId`
     pub id: Ident,

@@ -7,7 +7,7 @@ ghost use Rattle.bods_read.specs.declared.trouble.Trouble.TheVariants.{Memory};
 use crate::fault::{Fault, FileFault, ReadFault};
 use std::alloc::{AllocError, AllocFailed};
 
-#[derive(Debug, Drop)]
+#[derive(Drop)]
 pub(crate) enum Trouble {
     // Memory was wanting.
     Memory,

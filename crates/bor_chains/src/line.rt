@@ -9,7 +9,7 @@ use bor_records::links::Node;
 use std::cmp::Ordering;
 
 /// A person of a report.
-#[derive(Debug, Drop)]
+#[derive(Drop)]
 pub struct PersonLine {
     /// The record of the person.
     pub node: Node,

@@ -7,7 +7,7 @@ use bor_records::Entry;
 use bor_terms::{AgentName, Day, Listed};
 
 /// An answer.
-#[derive(Debug, Drop)]
+#[derive(Drop)]
 pub enum DeskReply {
     /// The filing that was lodged, now or before in the same way.
     Lodged(Lodged),
@@ -42,7 +42,7 @@ pub enum DeskReply {
 }
 
 /// An answer, and the agent that was answered.
-#[derive(Debug, Drop)]
+#[derive(Drop)]
 pub struct Answered {
     /// The agent that has the token; `None` where the registrar or nobody has it, or where the keep
     /// failed before that was known.

@@ -4,7 +4,7 @@ use bor_chains::Node;
 use bor_terms::{AgentName, Day, Ident, Listed, LodgeKey, Token};
 
 /// A request. Those of agents are all but `Day` and `Enrol`, which are the registrar's.
-#[derive(Debug, Drop)]
+#[derive(Drop)]
 pub enum Request {
     /// Lodges a file under a key, due on a day.
     Lodge {

@@ -10,7 +10,7 @@ use bor_terms::Listed;
 use std::alloc::{AllocError, Global};
 
 /// The text of a command, and whether it tells a refusal.
-#[derive(Debug, Drop)]
+#[derive(Drop)]
 pub struct Text {
     pub bytes: Listed<u8>,
     pub refused: bool,

@@ -127,7 +127,7 @@ impl<K: Keep> OpenRegister for K {
 }
 
 /// How a register came to be open.
-#[derive(Clone, Copy, Debug, PartialEq, Eq)]
+#[derive(Clone, Copy, PartialEq, Eq)]
 pub enum Origin {
     /// It stood in its file.
     Found,
@@ -146,7 +146,7 @@ pub struct Opened<K> {
 }
 
 /// Where a command is that may take long.
-#[derive(Clone, Copy, Debug, PartialEq, Eq)]
+#[derive(Clone, Copy, PartialEq, Eq)]
 pub enum Stage<'a> {
     /// The register in the file of this name is opened next.
     Opening(&'a str),

@@ -31,7 +31,7 @@ const SECONDS_A_DAY: u64 = 86_400;
 const LAST_DAY: u64 = 2_932_896;
 
 /// What bytes ask for, as far as the log may tell it.
-#[derive(Clone, Copy, Debug, PartialEq, Eq)]
+#[derive(Clone, Copy, PartialEq, Eq)]
 pub enum Asked {
     /// A path by one of its methods.
     Route(Route),
@@ -42,7 +42,7 @@ pub enum Asked {
 }
 
 /// A second of time, in UTC.
-#[derive(Clone, Copy, Debug, PartialEq, Eq)]
+#[derive(Clone, Copy, PartialEq, Eq)]
 pub struct Moment {
     /// The day.
     pub day: Day,
@@ -51,7 +51,7 @@ pub struct Moment {
 }
 
 /// What is noted of a request that was answered, until its line is written.
-#[derive(Debug, Drop)]
+#[derive(Drop)]
 pub struct Note {
     /// What was asked for.
     pub asked: Asked,

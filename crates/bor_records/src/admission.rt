@@ -10,7 +10,7 @@ use bor_terms::Day;
 
 /// What is known of a record's last live statement (BODS 0.4, `recordType`, `recordStatus`,
 /// `statementDate`; the due day is this register's).
-#[derive(Clone, Copy, Debug, PartialEq, Eq)]
+#[derive(Clone, Copy, PartialEq, Eq)]
 pub struct Last {
     pub kind: RecordType,
     /// The settled status.

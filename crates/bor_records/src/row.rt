@@ -4,7 +4,7 @@ use bods_read::{Statement, Status};
 use bor_terms::AgentName;
 
 /// A live statement with the agent and the filing that it stands in.
-#[derive(Debug, Drop)]
+#[derive(Drop)]
 pub struct Row {
     pub agent: AgentName,
     /// The filing's number, which counts from 1 for each agent.
@@ -17,7 +17,7 @@ pub struct Row {
 }
 
 /// What a snapshot shows of a record: its latest statement, with its settled status.
-#[derive(Debug, Drop)]
+#[derive(Drop)]
 pub struct Entry {
     pub status: Status,
     pub statement: Statement,

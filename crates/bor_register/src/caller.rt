@@ -3,7 +3,7 @@
 use bor_terms::AgentName;
 
 /// Who has a token of the register.
-#[derive(Debug, Drop)]
+#[derive(Drop)]
 pub enum Caller {
     /// The registrar, who moves the day and enrols agents.
     Registrar,

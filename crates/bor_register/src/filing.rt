@@ -10,7 +10,7 @@ use bor_terms::{AgentName, Day, Listed, LodgeKey};
 use std::alloc::{AllocError, Global};
 
 /// A filing as the register holds it, in its agent's list.
-#[derive(Debug, Drop)]
+#[derive(Drop)]
 pub struct AcceptedFiling {
     /// From 1; each agent's filings are numbered in order of acceptance, and no number comes twice.
     pub number: u32,
@@ -90,7 +90,7 @@ impl AcceptedFiling {
 }
 
 /// What its agent reads of a filing, a withdrawn one too.
-#[derive(Debug, Drop)]
+#[derive(Drop)]
 pub struct Filing {
     /// From 1, in order of acceptance.
     pub number: u32,
@@ -139,7 +139,7 @@ impl State {
 }
 
 /// A line of an agent's list of its own filings: what it reads of one without its file.
-#[derive(Debug, Drop)]
+#[derive(Drop)]
 pub struct FilingLine {
     /// The key under which the agent lodged it.
     pub key: LodgeKey,
@@ -152,7 +152,7 @@ pub struct FilingLine {
 }
 
 /// What all see of a published filing: neither its number, nor its key, nor its bytes.
-#[derive(Debug, Drop)]
+#[derive(Drop)]
 pub struct Outward {
     /// Who lodged it.
     pub agent: AgentName,

@@ -17,7 +17,7 @@ use bor_terms::{AgentName, Day, Listed, LodgeKey, Token};
 use std::alloc::{AllocError, Global};
 
 /// An agent of the register, with its filings in order of acceptance.
-#[derive(Debug, Drop)]
+#[derive(Drop)]
 pub struct Member {
     /// The agent's name; no other member has it.
     pub name: AgentName,

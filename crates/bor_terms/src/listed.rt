@@ -7,7 +7,7 @@ use std::marker::Model;
 
 /// A list that contracts see as a list, so that the struct which holds it can be compared with a
 /// value of a definition. It is made from a `Vec` and takes no memory for itself.
-#[derive(Debug, Drop)]
+#[derive(Drop)]
 pub struct Listed<T> {
     items: Vec<T>,
 }

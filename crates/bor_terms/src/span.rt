@@ -10,7 +10,7 @@ use std::marker::Model;
 
 /// A share of BODS 0.4: a range of whole percents from 0 to 100, with each end closed or open. It
 /// stands for the half percents that lie in it, and there is always one.
-#[derive(Clone, Copy, Debug, PartialEq, Eq)]
+#[derive(Clone, Copy, PartialEq, Eq)]
 pub struct Span {
     low: u8,
     low_open: bool,

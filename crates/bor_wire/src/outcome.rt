@@ -16,7 +16,7 @@ use std::alloc::Global;
 use std::io::{Read, Write};
 
 /// How an exchange ended. The number is the status of the reply: where it is 503, nothing changed.
-#[derive(Clone, Copy, Debug, PartialEq, Eq)]
+#[derive(Clone, Copy, PartialEq, Eq)]
 pub enum Outcome {
     /// The whole reply was written.
     Replied(u16),

@@ -22,7 +22,7 @@ use std::marker::Model;
 
 /// The bytes of a full reply, and beside them the status that their first line tells. Contracts see
 /// the bytes, which determine the status.
-#[derive(Debug, Drop)]
+#[derive(Drop)]
 pub struct FullReply {
     status: u16,
     bytes: Vec<u8>,
@@ -58,7 +58,7 @@ impl FullReply {
 }
 
 /// The reply to an input.
-#[derive(Debug, Drop)]
+#[derive(Drop)]
 pub enum Reply {
     /// The whole reply, with its status.
     Full(FullReply),

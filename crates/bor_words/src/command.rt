@@ -20,7 +20,7 @@ use std::alloc::Global;
 use std::convert::AsStr;
 
 /// What `bor` is asked to do.
-#[derive(Debug, Drop, PartialEq, Eq)]
+#[derive(Drop, PartialEq, Eq)]
 pub enum Command<'a> {
     /// Lodge the file into an empty register, and print what becomes of it.
     Check(Source<'a>),

@@ -16,7 +16,7 @@ use std::alloc::Global;
 
 /// What `bor exchange` is asked to do: to answer the requests in files, each in the register that
 /// the one before it left.
-#[derive(Debug, Drop, PartialEq, Eq)]
+#[derive(Drop, PartialEq, Eq)]
 pub struct Exchange<'a> {
     /// The register's file. Without one the register is a new one in memory.
     pub db: Option<&'a str>,

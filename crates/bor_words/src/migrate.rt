@@ -8,7 +8,7 @@ use crate::matches::given;
 use clap::ArgMatches;
 
 /// What `bor migrate` is asked to do: to move a register to the tables of this program.
-#[derive(Clone, Copy, Debug, PartialEq, Eq)]
+#[derive(Clone, Copy, PartialEq, Eq)]
 pub struct Migrate<'a> {
     /// The register's file.
     pub db: &'a str,

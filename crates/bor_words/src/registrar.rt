@@ -14,7 +14,7 @@ use clap::ArgMatches;
 use std::alloc::Global;
 
 /// Where the registrar's token of a register that is set up is told.
-#[derive(Debug, Drop, PartialEq, Eq)]
+#[derive(Drop, PartialEq, Eq)]
 pub enum RegistrarSource<'a> {
     /// This is the token.
     Token(Token),

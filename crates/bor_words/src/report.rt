@@ -15,7 +15,7 @@ use clap::ArgMatches;
 use std::alloc::Global;
 
 /// What `bor report` is asked to do: to tell who stands behind an entity, as an agent sees it.
-#[derive(Debug, Drop, PartialEq, Eq)]
+#[derive(Drop, PartialEq, Eq)]
 pub struct Report<'a> {
     /// The register's file.
     pub db: &'a str,

@@ -12,7 +12,7 @@ use crate::values::{connections, port};
 use clap::ArgMatches;
 
 /// What `bor serve` is asked to do: to answer requests over HTTP, one after the other.
-#[derive(Clone, Copy, Debug, PartialEq, Eq)]
+#[derive(Clone, Copy, PartialEq, Eq)]
 pub struct Serve<'a> {
     /// The register's file.
     pub db: &'a str,

@@ -31,7 +31,7 @@ use std::alloc::Global;
 pub const FILINGS_LIMIT: usize = 999;
 
 /// What an agent is told of a filing that it lodged.
-#[derive(Clone, Copy, Debug, PartialEq, Eq)]
+#[derive(Clone, Copy, PartialEq, Eq)]
 pub struct Lodged {
     pub number: u32,
     pub due: Day,

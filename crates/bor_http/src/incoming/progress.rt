@@ -15,7 +15,7 @@ use std::alloc::{AllocError, Global};
 const HEAD_LIMIT: usize = 16_384;
 
 /// How much of a request has come.
-#[derive(Clone, Copy, Debug, PartialEq, Eq)]
+#[derive(Clone, Copy, PartialEq, Eq)]
 pub enum Progress {
     /// No head ends within so many bytes at its front, below 16,384.
     Searched(usize),

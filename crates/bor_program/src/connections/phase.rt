@@ -15,7 +15,7 @@ pub(crate) enum Phase<S> {
 }
 
 /// How a phase went on.
-#[derive(Clone, Copy, Debug, PartialEq, Eq)]
+#[derive(Clone, Copy, PartialEq, Eq)]
 pub(crate) enum Pace {
     /// Bytes were read or written.
     Moved,

@@ -27,7 +27,7 @@ pub(crate) struct Reading<S> {
 }
 
 /// What one read of a request gave.
-#[derive(Clone, Copy, Debug, PartialEq, Eq)]
+#[derive(Clone, Copy, PartialEq, Eq)]
 pub(crate) enum Taken {
     /// Bytes, and some are still missing.
     More,

@@ -10,7 +10,7 @@ use std::time::Duration;
 
 /// Since when a client is in its phase, once a clock was read in it; since when it is idle; and
 /// whether something may be read or written.
-#[derive(Clone, Copy, Debug, PartialEq, Eq)]
+#[derive(Clone, Copy, PartialEq, Eq)]
 pub(crate) struct Timing {
     since: Option<Duration>,
     idle_since: Duration,

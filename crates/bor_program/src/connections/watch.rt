@@ -13,7 +13,7 @@ use std::time::Duration;
 pub const PLACES: usize = 256;
 
 /// The places of clients: which are taken, and where something may be read or written.
-#[derive(Clone, Copy, Debug, PartialEq, Eq)]
+#[derive(Clone, Copy, PartialEq, Eq)]
 pub struct Places {
     taken: [bool; PLACES],
     ready: [bool; PLACES],

@@ -23,7 +23,7 @@ pub(crate) struct Writing<S> {
 }
 
 /// What one write of a reply did.
-#[derive(Clone, Copy, Debug, PartialEq, Eq)]
+#[derive(Clone, Copy, PartialEq, Eq)]
 pub(crate) enum Written {
     /// Bytes were written.
     More,
@@ -130,7 +130,7 @@ pub(crate) struct Draining<S> {
 }
 
 /// What one read behind a reply gave.
-#[derive(Clone, Copy, Debug, PartialEq, Eq)]
+#[derive(Clone, Copy, PartialEq, Eq)]
 pub(crate) enum Drained {
     /// Bytes, and more are read.
     More,

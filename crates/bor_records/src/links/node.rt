@@ -13,7 +13,7 @@ use std::cmp::Ordering;
 
 /// A record of an agent's declaration, by its key (this register's profile): the agent, the
 /// declaration's subject and the record's identifier.
-#[derive(Debug, Drop, PartialEq, Eq)]
+#[derive(Drop, PartialEq, Eq)]
 pub struct Node {
     /// The agent that lodged the record.
     pub agent: AgentName,
@@ -77,7 +77,7 @@ impl Node {
 }
 
 /// What a chain asks of a node.
-#[derive(Debug, Drop)]
+#[derive(Drop)]
 pub enum NodeInfo {
     /// An entity.
     Entity {
@@ -115,7 +115,7 @@ impl NodeInfo {
 }
 
 /// The record of an entity or a person that is open, with what its latest statement says.
-#[derive(Debug, Drop)]
+#[derive(Drop)]
 pub struct OpenNode {
     /// The record.
     pub node: Node,
@@ -155,7 +155,7 @@ fn has_identifier(identifiers: &[Identifier], one: &Identifier) -> bool
 }
 
 /// An open relationship between two nodes, from the party that holds to the subject that is held.
-#[derive(Debug, Drop)]
+#[derive(Drop)]
 pub struct Link {
     /// `interestedParty` (BODS 0.4).
     pub party: Node,

@@ -6,7 +6,7 @@ ghost use Rattle.bor_store_sql.specs.Rows.Placed.{same_place};
 use bor_terms::AgentName;
 
 /// Where a statement stands: its agent, its filing's number, and its place in the file.
-#[derive(Debug, Drop)]
+#[derive(Drop)]
 pub struct At {
     pub agent: AgentName,
     pub filing: u32,

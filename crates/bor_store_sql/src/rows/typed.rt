@@ -11,7 +11,7 @@ use bods_read::{
 use bor_terms::{AgentName, Day, Ident, Listed, LodgeKey, Span, Token};
 
 /// The row of the table `register`.
-#[derive(Debug, Drop)]
+#[derive(Drop)]
 pub struct RegisterRow {
     /// The register's day.
     pub day: Day,
@@ -20,14 +20,14 @@ pub struct RegisterRow {
 }
 
 /// A row of the table `agent`.
-#[derive(Debug, Drop)]
+#[derive(Drop)]
 pub struct AgentRow {
     pub name: AgentName,
     pub token: Token,
 }
 
 /// A row of the table `filing` without its file.
-#[derive(Debug, Drop)]
+#[derive(Drop)]
 pub struct FilingRow {
     pub agent: AgentName,
     /// From 1; each agent's filings are numbered in order of acceptance.
@@ -38,14 +38,14 @@ pub struct FilingRow {
 }
 
 /// A statement with where it stands.
-#[derive(Debug, Drop)]
+#[derive(Drop)]
 pub struct Placed {
     pub at: At,
     pub statement: Statement,
 }
 
 /// What the table `statement` has of a statement's details.
-#[derive(Debug, Drop)]
+#[derive(Drop)]
 pub enum Part {
     Entity {
         kind: EntityKind,
@@ -62,7 +62,7 @@ pub enum Part {
 }
 
 /// A row of the table `statement`.
-#[derive(Debug, Drop)]
+#[derive(Drop)]
 pub struct StatementRow {
     pub at: At,
     pub id: Ident,
@@ -74,7 +74,7 @@ pub struct StatementRow {
 }
 
 /// A row of the table `interest`, which has all of an interest but its days.
-#[derive(Debug, Drop)]
+#[derive(Drop)]
 pub struct InterestLine {
     pub at: At,
     pub item: u32,
@@ -84,7 +84,7 @@ pub struct InterestLine {
 }
 
 /// A row of the table `period`: the days of an interest that has at least one.
-#[derive(Debug, Drop)]
+#[derive(Drop)]
 pub struct PeriodRow {
     pub at: At,
     pub item: u32,
@@ -94,7 +94,7 @@ pub struct PeriodRow {
 
 /// An interest with where it stands. It has a row of the table `interest`, and one of the table
 /// `period` where it has a day.
-#[derive(Debug, Drop)]
+#[derive(Drop)]
 pub struct InterestRow {
     pub at: At,
     pub item: u32,
@@ -102,7 +102,7 @@ pub struct InterestRow {
 }
 
 /// A row of the table `identifier`.
-#[derive(Debug, Drop)]
+#[derive(Drop)]
 pub struct IdentifierRow {
     pub at: At,
     pub item: u32,
