@@ -70,7 +70,9 @@ impl PersonKind {
 /// ordered by scheme, then by id.
 #[derive(Drop, PartialEq, Eq, PartialOrd, Ord)]
 pub struct Identifier {
+    /// The scheme.
     pub scheme: FreeText,
+    /// The identifier under the scheme.
     pub id: FreeText,
 }
 

@@ -29,7 +29,7 @@ fn end_in(alloc: Global, value: &Value, field: Field) -> Result<Option<Ident>, T
     }
 }
 
-// The record that a required end names; an object names none.
+/// The record that a required end names; an object names none.
 pub(crate) fn end(alloc: Global, details: &Value, field: Field) -> Result<Option<Ident>, Trouble>
     ensures { Gives (λ x. x) result (outcome (required field end_in (view details.now))
         (required_value field end_in None (view details.now))) }

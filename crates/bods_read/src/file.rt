@@ -15,7 +15,7 @@ use crate::statement::Statement;
 use serde_json::{Category, Error, Value};
 use std::alloc::Global;
 
-/// The statements that a file may have.
+/// The most statements of a file.
 pub const STATEMENTS_LIMIT: usize = 1_000;
 
 fn statement_at(alloc: Global, value: &Value, place: u32) -> Result<Statement, ReadFault>

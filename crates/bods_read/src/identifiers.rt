@@ -35,7 +35,7 @@ fn identifier(alloc: Global, item: &Value) -> Result<Option<Identifier>, AllocEr
     }))
 }
 
-// The items that have both texts, in order.
+/// The items that have both texts, in order.
 pub(crate) fn kept(alloc: Global, items: &[Value]) -> Result<Vec<Identifier>, AllocError>
     ensures { IfOk result (λ kept. kept.items ≡ filter_map identifier_in (map view items.now)) }
 {

@@ -56,7 +56,9 @@ impl Directness {
 /// An interest of a relationship.
 #[derive(Clone, Copy, PartialEq, Eq)]
 pub struct Interest {
+    /// What kind of interest it is (`type`).
     pub kind: InterestKind,
+    /// Whether it is direct or indirect (`directOrIndirect`).
     pub directness: Directness,
     /// The share in percent; it is read for the three named kinds alone.
     pub share: Option<Span>,

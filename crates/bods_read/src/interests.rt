@@ -133,7 +133,7 @@ fn each(alloc: Global, values: &[Value]) -> Result<Vec<Interest>, Trouble>
     Ok(interests)
 }
 
-// The interests of a relationship, in order.
+/// The interests of a relationship, in order.
 #[tactic(auto, using(crate::proofs::Tables::table_rules), unfolding(crate::specs::Interests::interests_lines, crate::specs::Interests::interests_of))]
 pub(crate) fn interests(alloc: Global, details: &Value) -> Result<Listed<Interest>, Trouble>
     ensures { Gives (λ i. i) result

@@ -15,10 +15,10 @@ use bor_terms::{Day, Ident};
 use serde_json::Value;
 use std::alloc::{AllocError, Global};
 
-/// The items that a member may have that is an array: interests, identifiers.
+/// The most items of a member that is an array: identifiers, interests.
 pub const ITEMS_LIMIT: usize = 100;
 
-// The member of an object, unless it is absent or null.
+/// The member of an object, unless it is absent or null.
 #[tactic(auto, unfolding(crate::specs::Member::member))]
 pub(crate) fn member<'a>(object: &'a Value, name: &str) -> Option<&'a Value>
     ensures { option_map (λ v. view v.now) result ≡ member name.now (view object.now) }
@@ -27,14 +27,14 @@ pub(crate) fn member<'a>(object: &'a Value, name: &str) -> Option<&'a Value>
     if found.is_null() { None } else { Some(found) }
 }
 
-// The text of a member, if it is one.
+/// The text of a member, if it is one.
 pub(crate) fn text_at<'a>(object: &'a Value, name: &str) -> Option<&'a str>
     ensures { option_map (λ s. s.now) result ≡ text_at name.now (view object.now) }
 {
     member(object, name)?.as_str()
 }
 
-// A copy of the text of a member, if it is one.
+/// A copy of the text of a member, if it is one.
 pub(crate) fn free_text_at(
     alloc: Global,
     object: &Value,
@@ -48,7 +48,7 @@ pub(crate) fn free_text_at(
     }
 }
 
-// The items of an array.
+/// The items of an array.
 #[tactic(auto, using(crate::proofs::Items::items_are), unfolding(crate::specs::Member::items_in))]
 pub(crate) fn items_in(value: &Value) -> Option<&Vec<Value>>
     ensures { option_map (λ v. map view v.now.items) result ≡ items_in (view value.now) }
@@ -70,7 +70,7 @@ fn ident_in(alloc: Global, value: &Value, field: Field) -> Result<Ident, Trouble
     }
 }
 
-// A required member that is an identifier.
+/// A required member that is an identifier.
 pub(crate) fn ident(alloc: Global, object: &Value, field: Field) -> Result<Ident, Trouble>
     ensures { Gives (λ x. x) result (outcome (required field ident_in (view object.now))
         (required_value field ident_in [] (view object.now))) }
@@ -95,7 +95,7 @@ fn day_in(value: &Value, field: Field) -> Result<Day, Trouble>
     }
 }
 
-// A required member that is a day.
+/// A required member that is a day.
 pub(crate) fn day(object: &Value, field: Field) -> Result<Day, Trouble>
     ensures { Gives (λ x. x) result (outcome (required field day_in (view object.now))
         (required_value field day_in (pos 0) (view object.now))) }
@@ -120,7 +120,7 @@ fn type_in(value: &Value, field: Field) -> Result<RecordType, Trouble>
     }
 }
 
-// A required member that is a type of record.
+/// A required member that is a type of record.
 pub(crate) fn record_type(object: &Value, field: Field) -> Result<RecordType, Trouble>
     ensures { Gives (λ x. x) result (outcome (required field type_in (view object.now))
         (required_value field type_in Entity (view object.now))) }
@@ -131,7 +131,7 @@ pub(crate) fn record_type(object: &Value, field: Field) -> Result<RecordType, Tr
     }
 }
 
-// A member that is a status, or none.
+/// A member that is a status, or none.
 #[tactic(auto, unfolding(crate::specs::Member::status_in))]
 pub(crate) fn status(object: &Value, field: Field) -> Result<Option<Status>, Trouble>
     ensures { Gives (λ x. x) result (outcome (optional field status_in (view object.now))
@@ -149,7 +149,7 @@ pub(crate) fn status(object: &Value, field: Field) -> Result<Option<Status>, Tro
     }
 }
 
-// A required member that is an object.
+/// A required member that is an object.
 #[tactic(auto, unfolding(crate::specs::Member::object_in))]
 pub(crate) fn object(object: &Value, field: Field) -> Result<&Value, Trouble>
     ensures { Gives (λ x. view x.now) result (outcome (required field object_in (view object.now))
@@ -162,7 +162,7 @@ pub(crate) fn object(object: &Value, field: Field) -> Result<&Value, Trouble>
     }
 }
 
-// The items of a member that is an array of so many at most; none where it is absent.
+/// The items of a member that is an array of so many at most; none where it is absent.
 pub(crate) fn array(object: &Value, field: Field) -> Result<&[Value], Trouble>
     ensures { Gives (λ values. map view values.now) result (outcome (array field (view object.now))
         (array_items field (view object.now))) }

@@ -10,7 +10,7 @@ use crate::member::member;
 use crate::trouble::Trouble;
 use serde_json::Value;
 
-// An exclusive member: an open bound itself, or a word on the bound beside it.
+/// An exclusive member: an open bound itself, or a word on the bound beside it.
 #[derive(Clone, Copy, PartialEq, Eq)]
 pub(crate) enum Exclusive {
     Absent,
@@ -18,7 +18,7 @@ pub(crate) enum Exclusive {
     Percent(u8),
 }
 
-// The members of a share.
+/// The members of a share.
 #[derive(Clone, Copy)]
 pub(crate) struct Share {
     pub exact: Option<u8>,
@@ -75,7 +75,7 @@ fn exclusive_at(share: &Value, field: Field) -> Result<Exclusive, Trouble>
     }
 }
 
-// The members of the object that a share is.
+/// The members of the object that a share is.
 #[tactic(auto, using(crate::proofs::Tables::table_rules), unfolding(crate::specs::Share::member_lines, crate::specs::Share::members_of))]
 pub(crate) fn members(share: &Value) -> Result<Share, Trouble>
     ensures value { Gives (λ s. s) result

@@ -51,7 +51,7 @@ fn of_object(alloc: Global, value: &Value) -> Result<Statement, Trouble>
     })
 }
 
-// The statement that a value is, or the first of its faults.
+/// The statement that a value is, or the first of its faults.
 #[tactic(auto, unfolding(crate::specs::Statement::statement_lines, crate::specs::Member::object_in))]
 pub(crate) fn statement(alloc: Global, value: &Value) -> Result<Statement, Trouble>
     ensures { Gives (λ s. s) result

@@ -100,7 +100,7 @@ fn span(share: &Share) -> Option<Span>
     }
 }
 
-// The range that an object gives.
+/// The range that an object gives.
 #[tactic(auto, using(crate::proofs::Bounds::range_rules), unfolding(crate::specs::Share::range_lines, crate::specs::Share::range_of))]
 pub(crate) fn range(share: &Value) -> Result<Span, Trouble>
     ensures { Gives (λ s. Some s) result

@@ -28,7 +28,7 @@ impl RecordType {
         }
     }
 
-    // The type whose word a text is.
+    /// The type whose word a text is.
     #[tactic(auto, unfolding(crate::specs::Words::type_worded, crate::specs::Words::type_word))]
     pub(crate) fn worded(text: &str) -> Option<RecordType>
         ensures { result ≡ type_worded text.now }
@@ -63,7 +63,7 @@ impl Status {
         }
     }
 
-    // The status whose word a text is.
+    /// The status whose word a text is.
     #[tactic(auto, unfolding(crate::specs::Words::status_worded, crate::specs::Words::status_word))]
     pub(crate) fn worded(text: &str) -> Option<Status>
         ensures { result ≡ status_worded text.now }

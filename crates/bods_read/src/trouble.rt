@@ -9,14 +9,14 @@ use std::alloc::{AllocError, AllocFailed};
 
 #[derive(Drop)]
 pub(crate) enum Trouble {
-    // Memory was wanting.
+    /// Memory was wanting.
     Memory,
-    // A line of the table of faults fails.
+    /// A line of the table of faults fails.
     Fault(Fault),
 }
 
 impl Trouble {
-    // What is answered for it at the place of its statement.
+    /// What is answered for it at the place of its statement.
     pub(crate) fn at(self, place: u32) -> ReadFault
         ensures { result ≡ fault_at place self }
     {

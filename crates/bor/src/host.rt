@@ -25,13 +25,13 @@ use std::net::{SocketAddr, TcpListener};
 use std::os::unix::fs::OpenOptionsExt;
 use std::time::Duration;
 
-// For so many seconds a command is silent on a terminal.
+// A command that was silent for so many seconds tells where it is.
 const SILENCE: u64 = 1;
 
-// Of requests that are answered next: over a file each may wait for the disk.
+// Before so many requests are answered, that is told: over a file each may wait for the disk.
 const MANY: usize = 20;
 
-// A file of so many bytes takes about that long to open.
+// Before a file of so many bytes is opened, that is told: it takes about a second.
 const LARGE: u64 = 33_554_432;
 
 /// What opens registers in files of SQLite, and listens on ports of 127.0.0.1. `S` stands for what

@@ -104,6 +104,7 @@ fn is_bare<S: Alter>(conn: &Connection<S>) -> bool
     ensures used { result ≡ false → IsClean (state S.Store conn.now)
         → (state S.Store conn.now).committed.schema ≢ no_schema }
 {
+    // Its clause says that the connection shows what the last commit left.
     let _settled = conn.is_autocommit();
     let schema = conn.schema();
     schema.tables.is_empty() && schema.indexes.is_empty() && schema.views.is_empty()

@@ -49,7 +49,7 @@ impl<'r> Waiting<'r> {
     }
 }
 
-/// How long the clock has run; nothing where it can't be read.
+/// How long the clock has run; zero where it can't be read.
 pub(crate) fn time(rt: &HostRuntime) -> Duration {
     rt.monotonic().unwrap_or(Duration::ZERO)
 }

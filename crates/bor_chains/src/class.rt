@@ -252,7 +252,7 @@ fn nodes_at(alloc: Global, nodes: &[OpenNode], places: &[usize]) -> Result<Vec<N
     Ok(out)
 }
 
-// Where the node is listed.
+/// Where the node is listed.
 pub(crate) fn place_of(
     nodes: &[OpenNode],
     places: &BTreeMap<Node, usize>,
@@ -269,7 +269,7 @@ pub(crate) fn place_of(
     }
 }
 
-// All that are the same as the node at this place, each once.
+/// All that are the same as the node at this place, each once.
 pub(crate) fn same_listed(
     alloc: Global,
     nodes: &[OpenNode],

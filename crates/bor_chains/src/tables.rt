@@ -12,7 +12,7 @@ use bor_records::links::{Link, Node, OpenNode};
 use std::alloc::{AllocError, Global};
 use std::collections::BTreeMap;
 
-// The place of each node, the first where it is listed again.
+/// The place of each node, the first where it is listed again.
 pub(crate) fn places_of(
     alloc: Global,
     nodes: &[OpenNode],
@@ -57,7 +57,7 @@ fn put(lists: &mut Vec<Vec<usize>>, place: Option<&usize>, link: usize) -> Resul
     }
 }
 
-// By the place of each node the places of the links into it, in their order.
+/// By the place of each node the places of the links into it, in their order.
 pub(crate) fn by_subject(
     alloc: Global,
     places: &BTreeMap<Node, usize>,
@@ -77,7 +77,7 @@ pub(crate) fn by_subject(
     Ok(into)
 }
 
-// The list at the place of a node.
+/// The list at the place of a node.
 pub(crate) fn list_at<'a>(
     lists: &'a [Vec<usize>],
     places: &BTreeMap<Node, usize>,
@@ -107,7 +107,7 @@ fn link_at(
     }
 }
 
-// Of the links at these places those with this subject.
+/// Of the links at these places those with this subject.
 pub(crate) fn links_at(
     alloc: Global,
     links: &[Link],

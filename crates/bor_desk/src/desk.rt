@@ -257,8 +257,8 @@ pub fn answer_naming<K: Keep>(
 /// then the operation's own. A refusal leaves the register as it was, and so does `Failed`. No call
 /// of the keep is made that the request doesn't need.
 ///
-/// What is left is said of every register, and so is what is told; but of a snapshot, of each whose
-/// agents stand in order of their names, which every legal one does.
+/// What is left is said of every register, and so is what is told, but for snapshots: what one
+/// tells is said of registers whose agents stand in order of their names, as every legal one's do.
 pub fn answer<K: Keep>(alloc: Global, keep: &mut K, token: &Token, request: &Request) -> DeskReply
     ensures began { K.is_clean keep.new → K.is_clean keep.old }
     ensures step { Promised K.shows K.is_clean keep.old keep.new (λ r.

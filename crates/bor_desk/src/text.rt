@@ -12,7 +12,9 @@ use std::alloc::{AllocError, Global};
 /// The text of a command, and whether it tells a refusal.
 #[derive(Drop)]
 pub struct Text {
+    /// The bytes of the text.
     pub bytes: Listed<u8>,
+    /// Whether it tells a refusal.
     pub refused: bool,
 }
 

@@ -74,6 +74,10 @@ pub trait OpenRegister {
     /// The replies to inputs, each answered from the register that the one before it left. What
     /// each agent receives follows from its own exchanges alone, and a report on chains with status
     /// 200 names exactly the persons joined to the entity.
+    ///
+    /// # Errors
+    ///
+    /// There is no memory for the list of replies or for the paths; what is shown stays.
     fn replay(&mut self, alloc: Global, inputs: &[Vec<u8>]) -> Result<Vec<Reply>, AllocError>
         ensures began { is_clean self.new → is_clean self.old }
         ensures count { IfOk result (λ replies. length replies.items ≡ length inputs.now) }
@@ -102,6 +106,10 @@ pub trait OpenRegister {
         ensures err { OnErr result (Kept shows is_clean self.old self.new) };
 
     /// The text that tells who stands behind an entity.
+    ///
+    /// # Errors
+    ///
+    /// The keep failed, or memory was wanting.
     fn report(&mut self, alloc: Global, asked: &Report<'_>) -> Result<Text, StoreFault>
         ensures kept { Kept shows is_clean self.old self.new }
         ensures text { Promised shows is_clean self.old self.new (λ r.
@@ -172,6 +180,10 @@ pub trait Registers {
     fn reach(&self, stage: Stage<'_>);
 
     /// The register in the file of this name. Where there is none, none is made.
+    ///
+    /// # Errors
+    ///
+    /// `NoRegister`, `OtherVersion` or `Taken` of this file; `Memory`; `Store`.
     fn open<'a>(&mut self, path: &'a str) -> Result<Self::Register, Failure<'a>>
         ensures ok { IfOk result (λ register. does self.old (Opens path.entry register) self.new) }
         ensures err { IfErr result (λ failure. does self.old (Fails path.entry failure) self.new) }
@@ -179,6 +191,10 @@ pub trait Registers {
 
     /// The register in the file of this name; where it has none, one of this day and registrar is
     /// set up.
+    ///
+    /// # Errors
+    ///
+    /// `NoRegister`, `OtherVersion` or `Taken` of this file; `Memory`; `Store`.
     fn open_or_set_up<'a>(
         &mut self,
         path: &'a str,
@@ -193,6 +209,10 @@ pub trait Registers {
 
     /// Moves the register in the file of this name to the tables of this program; one that has them
     /// stays as it is. Where there is no register, none is made.
+    ///
+    /// # Errors
+    ///
+    /// `NoRegister`, `OtherVersion` or `Taken` of this file; `Memory`; `Store`.
     fn migrate<'a>(&mut self, path: &'a str) -> Result<(), Failure<'a>>
         ensures ok { OnOk result (does self.old (Moves path.entry) self.new) }
         ensures err { IfErr result (λ failure. does self.old (Fails path.entry failure) self.new) }
@@ -223,9 +243,9 @@ pub trait Ports: Registers {
         ensures { IfSome result (λ listener. listens self.now port listener) };
 
     /// Serves so many connections of a listener, each client within these limits, and gives 0, or 3
-    /// where one of them failed. It leaves one without a client only where a client couldn't be let
-    /// in, or where it may end: clients can't be watched for, or can't be waited for any longer.
-    /// Where it is asked for, each request that was answered has a line on standard error.
+    /// where one of them failed. A connection has no client only where one couldn't be let in, or
+    /// where serving ended early: clients couldn't be watched for, or waiting failed for good. With
+    /// `log` each request that was answered has a line on standard error.
     fn serve(
         &self,
         register: &mut Self::Register,

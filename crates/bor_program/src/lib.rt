@@ -3,7 +3,7 @@
 //!
 //! ```
 //! let words = ["check", "filing.json"];
-//! let status = run(&rt, &host, &words, &mut rt.stdin(), &mut rt.stdout(), &mut rt.stderr());
+//! let status = run(&rt, &mut host, &words, &mut rt.stdin(), &mut rt.stdout(), &mut rt.stderr());
 //! ```
 //!
 //! Each command is a function of its own over a register that is open ([`OpenRegister`], as any

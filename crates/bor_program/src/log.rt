@@ -84,7 +84,7 @@ impl Note {
 /// A request that was answered.
 #[derive(Drop)]
 pub struct Entry<'a> {
-    /// When.
+    /// When the line is made, before the server waits again.
     pub at: Moment,
     /// What was asked for.
     pub asked: Asked,
@@ -92,7 +92,8 @@ pub struct Entry<'a> {
     pub status: u16,
     /// The bytes of the whole reply.
     pub bytes: u64,
-    /// From when the server saw that something had come until the reply was made, in milliseconds.
+    /// From when the server saw that something had come until the line is made, in milliseconds:
+    /// what other clients were answered meanwhile counts too.
     pub millis: u64,
     /// The agent whose token the request had, if there is one.
     pub agent: Option<&'a AgentName>,
@@ -301,6 +302,10 @@ fn agent_text<'a>(agent: Option<&'a AgentName>) -> &'a str
 
 /// The line of a request that was answered: day and time, the method and the path, the reply's
 /// status and bytes, milliseconds, and the agent.
+///
+/// # Errors
+///
+/// Memory is wanting.
 pub fn entry_line(alloc: Global, entry: &Entry<'_>) -> Result<Vec<u8>, AllocError>
     ensures { IfOk result (λ line. line.items ≡ entry_line entry.now) }
 {

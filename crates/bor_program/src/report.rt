@@ -74,6 +74,10 @@ pub fn report_on<'a, K: OpenRegister, O: Output>(
 }
 
 /// The text that tells who stands behind an entity, by the register of a keep.
+///
+/// # Errors
+///
+/// The keep failed, or memory was wanting.
 pub fn report_in<K: Keep>(
     alloc: Global,
     keep: &mut K,

@@ -12,9 +12,11 @@ use bor_terms::Day;
 /// `statementDate`; the due day is this register's).
 #[derive(Clone, Copy, PartialEq, Eq)]
 pub struct Last {
+    /// What the record is of.
     pub kind: RecordType,
     /// The settled status.
     pub status: Status,
+    /// The statement's date.
     pub day: Day,
     /// The due day of the statement's filing.
     pub due: Day,

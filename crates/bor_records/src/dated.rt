@@ -6,7 +6,7 @@ ghost use Rattle.bor_records.specs.Snapshot.{is_dated, latest, latest_place};
 use crate::row::Row;
 use bor_terms::Day;
 
-// Whether the row's statement is dated at or before the day.
+/// Whether the row's statement is dated at or before the day.
 pub(crate) fn is_dated(row: &Row, day: Day) -> bool
     ensures { result ≡ is_dated day row.now }
 {

@@ -6,6 +6,7 @@ use bor_terms::AgentName;
 /// A live statement with the agent and the filing that it stands in.
 #[derive(Drop)]
 pub struct Row {
+    /// The agent that lodged it.
     pub agent: AgentName,
     /// The filing's number, which counts from 1 for each agent.
     pub filing: u32,
@@ -13,12 +14,15 @@ pub struct Row {
     pub place: usize,
     /// The settled status.
     pub status: Status,
+    /// The statement.
     pub statement: Statement,
 }
 
 /// What a snapshot shows of a record: its latest statement, with its settled status.
 #[derive(Drop)]
 pub struct Entry {
+    /// The settled status.
     pub status: Status,
+    /// The record's latest statement.
     pub statement: Statement,
 }

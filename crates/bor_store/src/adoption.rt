@@ -114,6 +114,7 @@ pub(crate) fn version_rows<S: Alter>(conn: &mut Connection<S>) -> Result<Vec<Row
     ensures versions { HasCleanDisk (state S.Store conn.new)
         → IfOk result (λ rows. AreVersions (state S.Store conn.old) rows.items) }
 {
+    // Its clause says that the connection shows what the last commit left.
     let _settled = conn.is_autocommit();
     conn.query_all(VERSIONS, &[])
 }

@@ -1,4 +1,5 @@
-//! That the values of statements have their forms, as the types of their parts tell.
+//! That the values of statements have their forms, as the types of their parts tell. Each call is
+//! made for its clause alone.
 
 ghost use Rattle.std.specs.Prelude.{All};
 ghost use Rattle.bods_read.specs.Forms.{IsFormedStatement, IsFormedDetails, IsFormedInterest, IsFormedIdentifier, IsIdent, IsFreeText, IsShare};

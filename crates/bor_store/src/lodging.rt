@@ -17,7 +17,7 @@ use bor_terms::{AgentName, Day, LodgeKey};
 use sqlite::{Alter, Connection};
 use std::alloc::Global;
 
-/// The number of the agent's next filing.
+// The number of the agent's next filing.
 fn next_number<S: Alter>(
     conn: &mut Connection<S>,
     alloc: Global,

@@ -63,6 +63,7 @@ fn is_first<S: Alter>(conn: &mut Connection<S>) -> Result<bool, OpenFault>
         → (r : Register) → ShowsIn r (state S.Store conn.old)
         → MatchResult result (λ first. first ≡ false) IsFailure }
 {
+    // Its clause says that the connection shows what the last commit left.
     let _settled = conn.is_autocommit();
     if !is_versioned(conn.schema()) {
         return Err(OpenFault::NoRegister);

@@ -56,6 +56,11 @@ impl<S: Start> SqlKeep<FileStore<FileFrom<S>>> {
 impl<D: Disk + Drop> SqlKeep<FileStore<D>> {
     /// Closes the register: the database file has all of it, without the log. Gives the files,
     /// which hold what the keep showed: the next one to open them finds it.
+    ///
+    /// # Errors
+    ///
+    /// The store's: the log can't be copied into the database file. Nothing that was committed is
+    /// lost.
     pub fn close(self) -> Result<Files<D>, Error>
         ensures { IsClosing self.conn result }
     {
@@ -65,9 +70,14 @@ impl<D: Disk + Drop> SqlKeep<FileStore<D>> {
 
 /// Closes a connection: the database file has all that it showed, without the log. Gives the files,
 /// as [`SqlKeep::close`] does.
+///
+/// # Errors
+///
+/// The store's: the log can't be copied into the database file. Nothing that was committed is lost.
 pub fn close_files<D: Disk + Drop>(conn: Connection<FileStore<D>>) -> Result<Files<D>, Error>
     ensures { IsClosing conn result }
 {
+    // Its clause says that the connection is live.
     let _live = conn.schema();
     match conn.close_files() {
         Ok(files) => Ok(files),

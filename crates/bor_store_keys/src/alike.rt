@@ -115,7 +115,7 @@ fn add_signed<S: Alter + Drop>(
     Ok(())
 }
 
-// The same for each identifier.
+// Adds the aliases of an entity that share one of its identifiers.
 fn add_identified<S: Alter + Drop>(
     lookup: &mut Lookup<S>,
     alloc: Global,
@@ -138,7 +138,7 @@ fn add_identified<S: Alter + Drop>(
     Ok(())
 }
 
-// The same for each sign of the entity.
+// Adds the aliases of an entity that have one of its signs.
 fn add_signs<S: Alter + Drop>(
     lookup: &mut Lookup<S>,
     alloc: Global,

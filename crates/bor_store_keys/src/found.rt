@@ -39,10 +39,10 @@ pub(crate) struct PlaceKey {
     pub(crate) agent: AgentName,
 }
 
-/// So many records are read one by one before it is asked whether to read all.
+// How many records are read before it is first asked whether all should be read.
 const MANY: usize = 128;
 
-/// All are read where there are at most so many statements for each record that was read.
+// All are read where the register has at most so many statements per record that was read.
 const SHARE: usize = 16;
 
 /// For a view, whether the viewer sees a filing and which row a record shows, where that was told;
@@ -55,7 +55,7 @@ pub(crate) struct Found {
     pub(crate) rows: BTreeMap<Node, Option<Row>>,
     pub(crate) places: BTreeMap<PlaceKey, Node>,
     pub(crate) lists: Option<ListSource>,
-    /// With so many rows it is asked whether to read all.
+    /// How many records are read before it is next asked whether all should be read.
     pub(crate) many: usize,
 }
 
@@ -84,8 +84,9 @@ impl Found {
         found
     }
 
-    /// All is read now where the register has at most so many statements: so many for each record
-    /// that was read. It is told where as many records were read since it was last told as before.
+    /// How many statements the register may have at most for all of it to be read now: `SHARE` per
+    /// record that was read. `None` where too few records were read since it last gave a limit: a
+    /// limit doubles the records that it takes to give the next.
     pub(crate) fn most(&mut self) -> Option<u32>
         ensures view { self.new.view ≡ self.old.view }
         ensures same { (r : Register) → AreOf r self.old → AreOf r self.new }
@@ -146,7 +147,8 @@ impl Found {
         }
     }
 
-    /// What a chain asks of the node that a record makes.
+    /// What a chain asks of the node that a record makes. `None` where it wasn't told yet,
+    /// `Some(None)` where the record makes no open node.
     #[tactic(auto, using(crate::proofs::Infos::info_closed))]
     pub(crate) fn info(
         &self,
@@ -164,7 +166,8 @@ impl Found {
         }
     }
 
-    /// The node that a record makes.
+    /// The node that a record makes. `None` where it wasn't told yet, `Some(None)` where the record
+    /// makes no open node.
     pub(crate) fn node(
         &self,
         alloc: Global,

@@ -38,7 +38,7 @@ fn is_told<S: Alter + Drop>(
     is_filing_seen(lookup, alloc, view, agent, row.at.filing)
 }
 
-// The last of the agent's statements of which that holds.
+// The last of the agent's statements that the viewer sees, dated at or before the day.
 fn last_told<S: Alter + Drop>(
     lookup: &mut Lookup<S>,
     alloc: Global,

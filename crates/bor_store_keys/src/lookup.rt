@@ -298,7 +298,8 @@ impl<S: Alter + Drop> Lookup<S> {
         }
     }
 
-    /// What a chain asks of the node that a record makes, where that was found.
+    /// What a chain asks of the node that a record makes, where that was found. `None` where it
+    /// wasn't told yet for this view, `Some(None)` where the record makes no open node.
     pub(crate) fn info(
         &self,
         alloc: Global,
@@ -315,7 +316,8 @@ impl<S: Alter + Drop> Lookup<S> {
         }
     }
 
-    /// The node that a record makes, where that was found.
+    /// The node that a record makes, where that was found. `None` where it wasn't told yet for this
+    /// view, `Some(None)` where the record makes no open node.
     pub(crate) fn node(
         &self,
         alloc: Global,
@@ -356,7 +358,8 @@ impl<S: Alter + Drop> Lookup<S> {
         }
     }
 
-    // All is read now where the register has at most so many statements.
+    // How many statements the register may have at most for all of it to be read now; `None` where
+    // too few records were read.
     fn most(&mut self, view: &View) -> Option<u32>
         ensures kept { self.new ≡ self.old }
         ensures today { IfSome result (λ _.
@@ -408,7 +411,7 @@ impl<S: Alter + Drop> Lookup<S> {
         }
     }
 
-    /// Puts them back.
+    /// Puts back the lists that were taken out.
     pub(crate) fn put_lists(&mut self, view: &View, lists: ListSource)
         requires { Holds (state S.Store self.old) (λ r. lists.shown ≡ seen view.now r) }
         ensures { self.new ≡ self.old }

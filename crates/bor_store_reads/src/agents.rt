@@ -15,7 +15,7 @@ use bor_terms::{AgentName, Token};
 use sqlite::{Alter, Connection};
 use std::alloc::Global;
 
-/// The agent that has the token.
+// The agent that has the token.
 fn found_agent<S: Alter>(
     conn: &mut Connection<S>,
     alloc: Global,

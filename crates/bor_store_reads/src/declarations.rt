@@ -28,7 +28,7 @@ use bor_terms::{AgentName, Day, Ident};
 use sqlite::{Alter, Connection};
 use std::alloc::Global;
 
-/// The rows of the declaration's statements, by filing and place.
+// The rows of the declaration's statements, by filing and place.
 fn statements<S: Alter>(
     conn: &mut Connection<S>,
     alloc: Global,
@@ -45,7 +45,7 @@ fn statements<S: Alter>(
     )
 }
 
-/// The interests of the statement at this place, without their days.
+// The interests of the statement at this place, without their days.
 fn lines_of_one<S: Alter>(
     conn: &mut Connection<S>,
     alloc: Global,
@@ -61,7 +61,7 @@ fn lines_of_one<S: Alter>(
     )
 }
 
-/// The days of the interests of the statement at this place.
+// The days of the interests of the statement at this place.
 fn periods_of_one<S: Alter>(
     conn: &mut Connection<S>,
     alloc: Global,
@@ -92,8 +92,8 @@ pub fn interests_of_one<S: Alter>(
     Ok(with_periods(alloc, lines, periods.as_slice())?)
 }
 
-/// The interests of the statement of this row. A relationship alone has any, so none are asked for
-/// of another.
+// The interests of the statement of this row. A relationship alone has any, so none are asked for
+// of another.
 fn interests_of_row<S: Alter>(
     conn: &mut Connection<S>,
     alloc: Global,
@@ -110,7 +110,7 @@ fn interests_of_row<S: Alter>(
     }
 }
 
-/// The interests of these statements, one statement after the other.
+// The interests of these statements, one statement after the other.
 fn interests_of<S: Alter>(
     conn: &mut Connection<S>,
     alloc: Global,
@@ -145,8 +145,8 @@ pub fn identifiers_of_one<S: Alter>(
     )
 }
 
-/// The identifiers of the statement of this row. An entity alone has any, so none are asked for of
-/// another.
+// The identifiers of the statement of this row. An entity alone has any, so none are asked for of
+// another.
 fn identifiers_of_row<S: Alter>(
     conn: &mut Connection<S>,
     alloc: Global,
@@ -163,7 +163,7 @@ fn identifiers_of_row<S: Alter>(
     }
 }
 
-/// The identifiers of these statements, one statement after the other.
+// The identifiers of these statements, one statement after the other.
 fn identifiers_of<S: Alter>(
     conn: &mut Connection<S>,
     alloc: Global,
@@ -182,7 +182,7 @@ fn identifiers_of<S: Alter>(
     Ok(identifiers)
 }
 
-/// The declaration's live statements.
+// The declaration's live statements.
 fn placed<S: Alter>(
     conn: &mut Connection<S>,
     alloc: Global,
@@ -215,7 +215,7 @@ fn push_if(rows: &mut Vec<Row>, seen: bool, placed: Placed) -> Result<(), ReadEr
     Ok(())
 }
 
-/// The rows of these statements of the agent that the viewer sees on a day.
+// The rows of these statements of the agent that the viewer sees on a day.
 fn seen<S: Alter>(
     conn: &mut Connection<S>,
     alloc: Global,

@@ -31,7 +31,7 @@ pub fn read_filing<S: Alter>(
     first(alloc, filing_by_key(conn, agent.as_str(), key.as_str()))
 }
 
-/// The row of the agent's filing under a key.
+// The row of the agent's filing under a key.
 fn found_line<S: Alter>(
     conn: &mut Connection<S>,
     alloc: Global,
@@ -80,7 +80,7 @@ pub fn has_file<S: Alter>(
     flag(same_bytes(conn, agent.as_str(), key.as_str(), bytes))
 }
 
-/// The agent's last filing.
+// The agent's last filing.
 fn found_last<S: Alter>(
     conn: &mut Connection<S>,
     alloc: Global,
@@ -109,7 +109,7 @@ pub fn filing_count<S: Alter>(
     }
 }
 
-/// The rows of the agent's filings, by number.
+// The rows of the agent's filings, by number.
 fn found_lines<S: Alter>(
     conn: &mut Connection<S>,
     alloc: Global,

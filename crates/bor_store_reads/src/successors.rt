@@ -19,7 +19,7 @@ use bor_terms::AgentName;
 use sqlite::{Alter, Connection};
 use std::alloc::Global;
 
-/// The rows of the live statements of the agent's filing with this number.
+// The rows of the live statements of the agent's filing with this number.
 fn found_statements<S: Alter>(
     conn: &mut Connection<S>,
     alloc: Global,
@@ -33,8 +33,8 @@ fn found_statements<S: Alter>(
     all(alloc, statements_of_filing(conn, agent.as_str(), number))
 }
 
-/// Whether the last statement of this one's record stands in a filing after the one with this
-/// number.
+// Whether the last statement of this one's record stands in a filing after the one with this
+// number.
 fn is_followed<S: Alter>(
     conn: &mut Connection<S>,
     alloc: Global,
@@ -53,7 +53,7 @@ fn is_followed<S: Alter>(
     }
 }
 
-/// Whether that is so of one of these statements.
+// Whether that is so of one of these statements.
 fn any_followed<S: Alter>(
     conn: &mut Connection<S>,
     alloc: Global,

@@ -21,7 +21,7 @@ use bor_store_sql::{
 use sqlite::{Alter, Connection};
 use std::alloc::Global;
 
-/// The rows of all agents, by name.
+// The rows of all agents, by name.
 fn agents<S: Alter>(conn: &mut Connection<S>, alloc: Global) -> Result<Vec<AgentRow>, ReadError>
     requires { conn.old.in_transaction ≡ false }
     ensures { ReadsAs (state S.Store conn.old) (state S.Store conn.new) result (λ r rows.
@@ -30,7 +30,7 @@ fn agents<S: Alter>(conn: &mut Connection<S>, alloc: Global) -> Result<Vec<Agent
     all(alloc, all_agents(conn))
 }
 
-/// The rows of all filings without their files, by agent and number.
+// The rows of all filings without their files, by agent and number.
 fn filings<S: Alter>(conn: &mut Connection<S>, alloc: Global) -> Result<Vec<FilingRow>, ReadError>
     requires { conn.old.in_transaction ≡ false }
     ensures { ReadsAs (state S.Store conn.old) (state S.Store conn.new) result (λ r rows.
@@ -39,7 +39,7 @@ fn filings<S: Alter>(conn: &mut Connection<S>, alloc: Global) -> Result<Vec<Fili
     all(alloc, all_filings(conn))
 }
 
-/// The rows of all statements, by agent, filing and place.
+// The rows of all statements, by agent, filing and place.
 fn statements<S: Alter>(
     conn: &mut Connection<S>,
     alloc: Global,
@@ -51,7 +51,7 @@ fn statements<S: Alter>(
     all(alloc, all_statements(conn))
 }
 
-/// The rows of all interests without their days, by the place of their statement.
+// The rows of all interests without their days, by the place of their statement.
 fn interest_lines<S: Alter>(
     conn: &mut Connection<S>,
     alloc: Global,
@@ -63,7 +63,7 @@ fn interest_lines<S: Alter>(
     all(alloc, all_interests(conn))
 }
 
-/// The rows of the days of all interests, by the place of their statement.
+// The rows of the days of all interests, by the place of their statement.
 fn periods<S: Alter>(conn: &mut Connection<S>, alloc: Global) -> Result<Vec<PeriodRow>, ReadError>
     requires { conn.old.in_transaction ≡ false }
     ensures { ReadsAs (state S.Store conn.old) (state S.Store conn.new) result (λ r rows.
@@ -72,7 +72,7 @@ fn periods<S: Alter>(conn: &mut Connection<S>, alloc: Global) -> Result<Vec<Peri
     all(alloc, all_periods(conn))
 }
 
-/// All interests, by the place of their statement.
+// All interests, by the place of their statement.
 fn interests<S: Alter>(
     conn: &mut Connection<S>,
     alloc: Global,
@@ -86,7 +86,7 @@ fn interests<S: Alter>(
     Ok(with_periods(alloc, lines, periods.as_slice())?)
 }
 
-/// The rows of all identifiers, by the place of their statement.
+// The rows of all identifiers, by the place of their statement.
 fn identifiers<S: Alter>(
     conn: &mut Connection<S>,
     alloc: Global,
@@ -98,7 +98,7 @@ fn identifiers<S: Alter>(
     all(alloc, all_identifiers(conn))
 }
 
-/// All live statements, by agent, filing and place.
+// All live statements, by agent, filing and place.
 fn placed<S: Alter>(conn: &mut Connection<S>, alloc: Global) -> Result<Vec<Placed>, ReadError>
     requires { conn.old.in_transaction ≡ false }
     ensures { ReadsAs (state S.Store conn.old) (state S.Store conn.new) result

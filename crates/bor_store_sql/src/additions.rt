@@ -360,6 +360,7 @@ pub fn add_filing<S: Alter>(
     ensures kept { IsClean (state S.Store conn.new)
         → OnErr result ((state S.Store conn.new).committed ≡ (state S.Store conn.old).committed) }
 {
+    // Its clause says that the connection shows what the last commit left.
     let _settled = conn.is_autocommit();
     // Their clauses say that the key has its form, and that the number is that of a day.
     let lodge_key = key.as_str();

@@ -109,6 +109,7 @@ pub fn set_up<S: Alter>(conn: &mut Connection<S>, registrar: &Token, day: Day) -
     ensures kept { IsClean (state S.Store conn.new)
         → OnErr result ((state S.Store conn.new).committed ≡ (state S.Store conn.old).committed) }
 {
+    // Its clause says that the connection shows what the last commit left.
     let _settled = conn.is_autocommit();
     // Their clauses say that the token has its form, and that the number is that of a day.
     let token = registrar.as_str();

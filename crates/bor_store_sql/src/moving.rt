@@ -76,6 +76,7 @@ pub fn move_tables<S: Alter>(conn: &mut Connection<S>, periods: &[PeriodRow]) ->
     ensures kept { IsClean (state S.Store conn.new)
         → OnErr result ((state S.Store conn.new).committed ≡ (state S.Store conn.old).committed) }
 {
+    // Its clause says that the connection shows what the last commit left.
     let _settled = conn.is_autocommit();
     let mut tx = conn.transaction();
     let done = move_rows(&mut tx, periods);

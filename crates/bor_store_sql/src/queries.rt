@@ -20,6 +20,7 @@ pub(crate) fn query<S: Alter>(
     ensures asked { Asked sql.now (bound params.now) (state S.Store conn.old)
         (state S.Store conn.new) result }
 {
+    // Its clause says that the connection shows what the last commit left.
     let _settled = conn.is_autocommit();
     conn.query_all(sql, params)
 }

@@ -44,6 +44,7 @@ pub fn set_day<S: Alter>(conn: &mut Connection<S>, day: Day) -> Result<(), Error
     ensures kept { IsClean (state S.Store conn.new)
         → OnErr result ((state S.Store conn.new).committed ≡ (state S.Store conn.old).committed) }
 {
+    // Its clause says that the connection shows what the last commit left.
     let _settled = conn.is_autocommit();
     // Its clause says that the number is that of a day.
     let _known = day.number();

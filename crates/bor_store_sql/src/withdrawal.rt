@@ -43,6 +43,7 @@ pub fn withdraw_filing<S: Alter>(
     ensures kept { IsClean (state S.Store conn.new)
         → OnErr result ((state S.Store conn.new).committed ≡ (state S.Store conn.old).committed) }
 {
+    // Its clause says that the connection shows what the last commit left.
     let _settled = conn.is_autocommit();
     let mut tx = conn.transaction();
     let done = withdraw_rows(&mut tx, agent, number);

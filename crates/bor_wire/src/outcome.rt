@@ -44,11 +44,14 @@ fn write_reply<W: Write>(writer: &mut Counted<W>, status: u16, bytes: &[u8]) -> 
 ///
 /// With a status other than 503 the bytes that are written, of which a failing writer takes a
 /// front, are the reply to the one input, which each agent receives as it would alone, and the
-/// register left is the one after it; with 503 they are [`UNAVAILABLE`], and nothing changed. What
-/// each agent receives is said of legal registers, and the rest of each whose agents stand in order
-/// of their names, as every legal one's do; that nothing changed with a status of 400 or more or a
-/// failed read, that 503 has [`UNAVAILABLE`] written, and which refusal an input is told that
-/// spells no request, of any register and any keep.
+/// register left is the one after it. With 503 they are [`UNAVAILABLE`], and nothing changed.
+///
+/// Of any keep it is said that 503 has [`UNAVAILABLE`] written, and which refusal an input is told
+/// that spells no request. Of a keep that ends clean it is said
+/// - of any register: that a status of 400 or more, or a failed read, changes nothing;
+/// - of registers whose agents stand in order of their names, as every legal one's do: which reply
+///   is written and which register is left;
+/// - of legal registers: that each agent receives what it would alone.
 ///
 /// Statements on bytes are of readers and writers that tell theirs, as those over memory do: of
 /// another reader it isn't said which request was answered, and of another writer not what was

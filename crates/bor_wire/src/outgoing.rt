@@ -91,7 +91,7 @@ pub fn respond<K: Keep>(alloc: Global, paths: &Paths, keep: &mut K, input: &[u8]
     }
 }
 
-/// The reply to bytes that spell no request.
+// The reply to bytes that spell no request.
 fn refused(alloc: Global, refusal: Refusal) -> Outgoing
     ensures refusal { IsRefusal result refusal }
     ensures status { HasStatus result }
@@ -143,8 +143,8 @@ fn rendered(alloc: Global, mut out: Vec<u8>, reply: &DeskReply) -> Outgoing
     }
 }
 
-/// The reply to a request. The room for a short one is reserved before the desk is asked, so that
-/// no change is made whose reply finds no memory.
+// The reply to a request. The room for a short one is reserved before the desk is asked, so that
+// no change is made whose reply finds no memory.
 fn answered<K: Keep>(alloc: Global, keep: &mut K, asking: &Asking) -> Response
     ensures began { K.is_clean keep.new → K.is_clean keep.old }
     ensures reply { Promised K.shows K.is_clean keep.old keep.new (λ r.
@@ -182,7 +182,7 @@ fn spelled(alloc: Global, paths: &Paths, raw: RawRequest) -> Result<Asking, Wire
     parse_by(alloc, paths, &raw)
 }
 
-/// The reply to a request that was read.
+// The reply to a request that was read.
 fn reply_for<K: Keep>(alloc: Global, paths: &Paths, keep: &mut K, raw: RawRequest) -> Response
     ensures began { K.is_clean keep.new → K.is_clean keep.old }
     ensures reply { Promised K.shows K.is_clean keep.old keep.new (λ r.

@@ -29,7 +29,7 @@ pub struct Exchange<'a> {
 }
 
 impl<'a> Exchange<'a> {
-    // What was found behind the command's name.
+    /// What was found behind the command's name.
     pub(crate) fn read(alloc: Global, found: &ArgMatches<'a>) -> Result<Self, Unread<'a>>
         ensures ok { IfOk result (IsExchange (rows_of (found_of found.now))) }
         ensures fits { OnOk result

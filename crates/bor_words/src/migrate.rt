@@ -15,7 +15,7 @@ pub struct Migrate<'a> {
 }
 
 impl<'a> Migrate<'a> {
-    // What was found behind the command's name.
+    /// What was found behind the command's name.
     pub(crate) fn read(found: &ArgMatches<'a>) -> Self
         ensures { IsMigrate (rows_of (found_of found.now)) result }
     {

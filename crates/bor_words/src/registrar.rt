@@ -23,7 +23,7 @@ pub enum RegistrarSource<'a> {
 }
 
 impl<'a> RegistrarSource<'a> {
-    // What was found behind the command's name.
+    /// What was found behind the command's name.
     pub(crate) fn read(alloc: Global, found: &ArgMatches<'a>) -> Result<Self, Unread<'a>>
         ensures ok { IfOk result (IsRegistrar (rows_of (found_of found.now))) }
         ensures fits { OnOk result

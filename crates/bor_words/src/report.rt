@@ -28,7 +28,7 @@ pub struct Report<'a> {
 }
 
 impl<'a> Report<'a> {
-    // What was found behind the command's name.
+    /// What was found behind the command's name.
     pub(crate) fn read(alloc: Global, found: &ArgMatches<'a>) -> Result<Self, Unread<'a>>
         ensures ok { IfOk result (IsReport (rows_of (found_of found.now))) }
         ensures fits { OnOk result

@@ -25,7 +25,7 @@ pub struct Serve<'a> {
 }
 
 impl<'a> Serve<'a> {
-    // What was found behind the command's name.
+    /// What was found behind the command's name.
     pub(crate) fn read(found: &ArgMatches<'a>) -> Result<Self, Unread<'a>>
         ensures ok { IfOk result (IsServe (rows_of (found_of found.now))) }
         ensures fits { OnOk result

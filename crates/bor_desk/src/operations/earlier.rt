@@ -42,8 +42,8 @@ fn known(statement: &Statement, due: Day) -> Last
     }
 }
 
-// The identifiers of settled statements, and of each of their records what is known of its last
-// one. Agents choose both, so they stand in trees.
+/// The identifiers of settled statements, and of each of their records what is known of its last
+/// one. Agents choose both, so they stand in trees.
 #[derive(Drop)]
 pub(crate) struct Earlier {
     ids: BTreeSet<Ident>,
@@ -51,7 +51,7 @@ pub(crate) struct Earlier {
 }
 
 impl Earlier {
-    // No statement.
+    /// No statement.
     pub(crate) fn new(alloc: Global) -> Earlier
         ensures { AreFound [] result }
     {
@@ -61,14 +61,14 @@ impl Earlier {
         }
     }
 
-    // Whether a statement has the identifier.
+    /// Whether a statement has the identifier.
     pub(crate) fn has_id(&self, id: &Ident) -> bool
         ensures { (live : List Live) → AreFound live self.now → result ≡ has_id id.now live }
     {
         self.ids.contains(id)
     }
 
-    // What is known of the last one of the statement's record, where there is one.
+    /// What is known of the last one of the statement's record, where there is one.
     pub(crate) fn last(
         &self,
         alloc: Global,
@@ -81,7 +81,7 @@ impl Earlier {
         Ok(self.lasts.get(&key).copied())
     }
 
-    // One settled statement more.
+    /// One settled statement more.
     pub(crate) fn add(
         &mut self,
         alloc: Global,

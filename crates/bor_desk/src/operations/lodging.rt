@@ -27,14 +27,17 @@ use bor_register::{FilingLine, State, StoreFault};
 use bor_terms::{AgentName, Day, Ident, LodgeKey};
 use std::alloc::Global;
 
-/// The filings that an agent may have for good, withdrawn ones included.
+/// The most filings that an agent may ever have, withdrawn ones included.
 pub const FILINGS_LIMIT: usize = 999;
 
 /// What an agent is told of a filing that it lodged.
 #[derive(Clone, Copy, PartialEq, Eq)]
 pub struct Lodged {
+    /// Its number, from 1, in order of acceptance.
     pub number: u32,
+    /// The day from which on it is published, unless it is withdrawn.
     pub due: Day,
+    /// Its state on the register's day.
     pub state: State,
     /// Whether the filing is new, and not one that was lodged before in the same way.
     pub fresh: bool,

@@ -9,8 +9,8 @@ use std::alloc::{AllocError, Global};
 use std::io::Read;
 use std::marker::Model;
 
-/// The first room of a buffer that grows. Most heads fit, and the C library gives and takes blocks
-/// below 1 KiB without merging what was freed.
+// The first room of a buffer that grows. Most heads fit, and the C library gives and takes blocks
+// below 1 KiB without merging what was freed.
 const FIRST_ROOM: usize = 960;
 
 /// Room with the bytes that have come at its front. Each byte of it is cleared once, and each read

@@ -4,10 +4,10 @@ ghost use Rattle.std.specs.Prelude.{◌≡◌, ◌≤◌, length, drop, not, nat
 ghost use Rattle.bor_http.specs.Incoming.Head.{blank_len, head_len, line_feeds, line_limit};
 ghost use Rattle.bor_http.specs.Incoming.Steps.{IsScanned};
 
-/// The most line feeds of a head.
+// The most line feeds of a head.
 const LINE_LIMIT: usize = 66;
 
-/// The length of the empty line that stands at `at`, or 0 where none does.
+// The length of the empty line that stands at `at`, or 0 where none does.
 fn blank_at(bytes: &[u8], at: usize) -> usize
     requires { at ≤ length bytes.now }
     ensures { result ≡ blank_len (drop at bytes.now) }
@@ -24,7 +24,7 @@ fn blank_at(bytes: &[u8], at: usize) -> usize
     }
 }
 
-/// The length of the head at the front of the bytes, if it has come.
+// The length of the head at the front of the bytes, if it has come.
 fn head_end(bytes: &[u8]) -> Option<usize>
     ensures value { result ≡ head_len bytes.now }
     ensures within { IfSome result (λ n. n ≤ length bytes.now) }
@@ -40,8 +40,8 @@ fn head_end(bytes: &[u8]) -> Option<usize>
     None
 }
 
-/// The length of the head at the front of the bytes, where a scan found none that ends a line
-/// before `from`.
+/// The length of the head at the front of the bytes, where none of the lines that end before
+/// `from` is followed by an empty one.
 pub(crate) fn head_end_from(bytes: &[u8], from: usize) -> Option<usize>
     requires within { from ≤ length bytes.now }
     requires scanned { IsScanned bytes.now from }

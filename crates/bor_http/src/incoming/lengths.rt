@@ -12,10 +12,10 @@ use crate::incoming::fault::Refusal;
 use crate::incoming::fields::{count_named, find_value};
 use httparse::spans::HeaderSpan;
 
-/// The most bytes of a body.
+// The most bytes of a body.
 const BODY_LIMIT: usize = 1_048_576;
 
-/// The number that the digits give, up to one past the limit, if all are digits.
+// The number that the digits give, up to one past the limit, if all are digits.
 fn decimal(bytes: &[u8]) -> Option<usize>
     ensures { result ≡ (if list_all is_ascii_digit bytes.now
         then Some (min (digits_value 10 bytes.now) (body_limit + 1)) else None) }
@@ -30,7 +30,7 @@ fn decimal(bytes: &[u8]) -> Option<usize>
     Some(value)
 }
 
-/// The length that a value of Content-Length gives.
+// The length that a value of Content-Length gives.
 fn announced(bytes: &[u8]) -> Result<usize, Refusal>
     ensures { result ≡ length_of body_limit bytes.now }
 {

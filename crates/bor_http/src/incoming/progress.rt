@@ -11,7 +11,7 @@ use crate::incoming::lengths::body_length;
 use crate::incoming::request::parse_head;
 use std::alloc::{AllocError, Global};
 
-/// The most bytes of a head.
+// The most bytes of a head.
 const HEAD_LIMIT: usize = 16_384;
 
 /// How much of a request has come.

@@ -12,7 +12,7 @@ use crate::incoming::head::{has_few_lines, head_end_from};
 use std::alloc::Global;
 use std::io::Read;
 
-/// The most bytes of a head.
+// The most bytes of a head.
 const HEAD_LIMIT: usize = 16_384;
 
 /// Reads into an empty buffer until a head is there, and gives its length.
@@ -31,7 +31,7 @@ pub(crate) fn read_head<R: Read>(
         Gives (λ n. n) result (head_at input)) }
     ensures faults { FaultsTell result reader.old.faults reader.new.faults }
 {
-    // Where the scan goes on: no head ends that begins before it.
+    // Where the scan goes on: no line that ends before it is followed by an empty one.
     let mut from = 0;
     'read: loop {
         if let Some(n) = head_end_from(buffer.bytes(), from) {

@@ -20,7 +20,7 @@ use std::alloc::Global;
 use std::io::Read;
 use std::marker::Model;
 
-/// The most fields of a head.
+// The most fields of a head.
 const FIELD_LIMIT: usize = 64;
 
 /// Where the parts of a head are.

@@ -8,7 +8,7 @@ use crate::incoming::Path;
 use matchit::{InsertError, Router};
 use std::alloc::{AllocError, Global};
 
-/// The router that has all paths.
+// The router that has all paths.
 fn router_of_paths(alloc: Global) -> Result<Router<Path>, InsertError>
     ensures { IfOk result (λ paths. paths ≡ router) }
 {
@@ -24,7 +24,7 @@ fn router_of_paths(alloc: Global) -> Result<Router<Path>, InsertError>
     Ok(router)
 }
 
-/// The path of a router that a text matches.
+// The path of a router that a text matches.
 fn matched(router: &Router<Path>, text: &str) -> Option<Path>
     ensures { result ≡ path_in router.now text.now }
 {

@@ -29,7 +29,7 @@ pub enum Route {
     Enrol,
 }
 
-/// The route, where the method is the one that it is asked for by.
+// The route, where the method is the one that it is asked for by.
 fn by(wanted: &Method, method: &[u8], route: Route) -> Option<Route>
     ensures { result ≡ (if bytes_eq wanted.now method.now then Some route else None) }
 {

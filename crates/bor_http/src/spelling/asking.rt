@@ -23,7 +23,7 @@ pub struct Asking {
     pub request: Request,
 }
 
-/// The record that a query names.
+// The record that a query names.
 #[tactic(auto, unfolding(crate::specs::Spelling::Steps::node_by_steps))]
 fn node_named(alloc: Global, pairs: &[QueryPair]) -> Result<Node, WireFault>
     ensures { Finds (λ node. node) result (node_by_steps (pair_texts pairs.now)) }
@@ -35,7 +35,7 @@ fn node_named(alloc: Global, pairs: &[QueryPair]) -> Result<Node, WireFault>
     })
 }
 
-/// The request that a route asks for, from the path, the query and the body.
+// The request that a route asks for, from the path, the query and the body.
 #[tactic(auto, unfolding(crate::specs::Spelling::Steps::request_by_steps))]
 fn request_for(alloc: Global, route: Route, raw: &RawRequest) -> Result<Request, WireFault>
     ensures { Finds (λ request. request) result (request_by_steps route raw.now) }
@@ -84,7 +84,8 @@ pub fn parse(alloc: Global, raw: &RawRequest) -> Result<Asking, WireFault>
     parse_by(alloc, &Paths::new(alloc)?, raw)
 }
 
-/// The same by paths that were made before, for whoever has many requests.
+/// What a message spells, as [`parse`] gives it, by paths that were made before: for whoever has
+/// many requests.
 #[tactic(auto, using(crate::proofs::OnSpelling::Stepwise::stepwise), unfolding(crate::specs::Spelling::Steps::spell_by_steps))]
 pub fn parse_by(alloc: Global, paths: &Paths, raw: &RawRequest) -> Result<Asking, WireFault>
     ensures { Finds asked_view result (spell raw.now) }

@@ -46,7 +46,7 @@ pub(crate) fn count_pairs(pairs: &[QueryPair], name: &str) -> usize
     count
 }
 
-/// The value of the first pair that has the name.
+// The value of the first pair that has the name.
 fn first_value<'a>(pairs: &'a [QueryPair], name: &str) -> Option<&'a str>
     ensures { option_map (λ value. value.now) result ≡ first_text name.now (pair_texts pairs.now) }
 {

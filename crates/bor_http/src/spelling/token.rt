@@ -10,7 +10,7 @@ use crate::incoming::{Name, RawRequest, Refusal, WireFault};
 use bor_terms::Token;
 use std::alloc::Global;
 
-/// The bytes from the first that is no space.
+// The bytes from the first that is no space.
 fn without_spaces(bytes: &[u8]) -> &[u8]
     ensures { result.now ≡ part.skip_spaces bytes.now }
 {
@@ -22,7 +22,7 @@ fn without_spaces(bytes: &[u8]) -> &[u8]
     &[]
 }
 
-/// The token that bytes are, or the refusal.
+// The token that bytes are, or the refusal.
 fn fitting_token(alloc: Global, bytes: &[u8], why: Refusal) -> Result<Token, WireFault>
     ensures { Finds (λ token. token) result (or_refuse why (part.text_in is_token bytes.now)) }
 {
@@ -35,7 +35,7 @@ fn fitting_token(alloc: Global, bytes: &[u8], why: Refusal) -> Result<Token, Wir
     }
 }
 
-/// The token in the value of a field (RFC 6750, 2.1).
+// The token in the value of a field (RFC 6750, 2.1).
 #[tactic(auto, unfolding(crate::specs::Spelling::Parts::bearer_token))]
 fn bearer_token(alloc: Global, value: &[u8]) -> Result<Token, WireFault>
     ensures { Finds (λ token. token) result (or_refuse NoToken (part.bearer_token value.now)) }

@@ -6,7 +6,7 @@ ghost use Rattle.bor_program.specs.Connections.Limits.{reply_nanos, request_nano
 
 use std::time::Duration;
 
-/// How long a client is waited for.
+/// The time that a client has for each phase.
 #[derive(Clone, Copy, PartialEq, Eq)]
 pub struct Limits {
     /// Until its request is read, from the first read on.

@@ -15,7 +15,7 @@ use std::io::{ErrorKind, Read};
 /// The most bytes that are read, or dropped, at once.
 pub(crate) const PART: usize = 16_384;
 
-/// The first room for a request, in which most heads fit.
+// The first room for a request, in which most heads fit.
 const FIRST_ROOM: usize = 960;
 
 /// A client whose request is read: the bytes that have come, and what is known of them.
@@ -35,7 +35,7 @@ pub(crate) enum Taken {
     Blocked,
     /// The rest: the request is whole, or its client has ended it.
     Whole,
-    /// There is no memory to read on.
+    /// Memory was wanting, for the bytes or to look at them.
     Unfit,
     /// The stream failed.
     Failed,
@@ -104,8 +104,8 @@ pub(crate) fn is_blocked(error: &io::Error) -> bool {
     matches!(error.kind(), ErrorKind::WouldBlock | ErrorKind::Interrupted)
 }
 
-// Room for bytes of which so many are wanted: for how many there is some. It is doubled where there
-// is none, and never for more than is wanted.
+// Makes room for bytes that are wanted, and gives for how many there is room now, PART at most.
+// Where there is none it is doubled, but never beyond what is wanted.
 fn make_room(received: &mut Vec<u8>, wanted: usize) -> Result<usize, AllocError>
     requires { 0 < wanted }
     ensures items { received.new.items ≡ received.old.items }

@@ -53,8 +53,8 @@ pub(crate) struct Server<S> {
 }
 
 impl<S: Read + Write + OpenStream + Drop> Server<S> {
-    /// A server of so many connections, of which none has come, and that notes what it answers or
-    /// doesn't.
+    /// A server of so many connections, of which none has come. Where `is_noting` is set, it notes
+    /// each request that it answers, as far as there is memory.
     pub(crate) fn new(alloc: Global, limits: Limits, connections: u32, is_noting: bool) -> Server<S>
         ensures queue { result.queue.items ≡ [] }
         ensures left { result.left ≡ connections }

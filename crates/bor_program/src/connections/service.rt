@@ -22,7 +22,8 @@ pub(crate) struct Service {
 }
 
 impl Service {
-    /// A service that has answered nothing, and notes what it answers or doesn't.
+    /// A service that has answered nothing. Where `is_noting` is set, it notes each request that it
+    /// answers, as far as there is memory.
     pub(crate) fn new(alloc: Global, is_noting: bool) -> Service {
         Service {
             alloc,

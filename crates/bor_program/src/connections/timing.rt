@@ -1,4 +1,4 @@
-//! How long a client is waited for.
+//! Since when a client is in its phase, and since when it is idle.
 
 ghost use Rattle.std.specs.Prelude.{◌≡◌, ◌≢◌, ◌-◌, Some, unwrap_or};
 ghost use Rattle.std.specs.Duration.{as_nanos};

@@ -77,7 +77,7 @@ impl Places {
         }
     }
 
-    /// Whether something may be read or written at this place since this was asked.
+    /// Whether something may be read or written at this place. The mark is taken away.
     pub(crate) fn is_woken(&mut self, place: usize) -> bool {
         if place < PLACES && self.ready[place] {
             self.ready[place] = false;
@@ -99,7 +99,7 @@ pub trait Watch<L: OpenListener> {
     ///
     /// # Errors
     ///
-    /// It can't be watched for them.
+    /// They can't be watched for.
     fn watch_listener(&mut self, listener: &L) -> io::Result<()>
         ensures { does self.old (Listens (is_err result)) self.new };
 
@@ -124,7 +124,7 @@ pub trait Watch<L: OpenListener> {
     ///
     /// # Errors
     ///
-    /// It can't be waited.
+    /// Waiting failed.
     fn wait(&mut self, limit: Option<Duration>, places: &mut Places) -> io::Result<()>
         ensures { does self.old (Waits (is_err result)) self.new };
 
@@ -143,7 +143,7 @@ pub trait Watch<L: OpenListener> {
 ///
 /// # Errors
 ///
-/// It can't be accepted so.
+/// The client can't be accepted, or its stream can't be kept from blocking.
 pub fn accepted<L: OpenListener>(listener: &L) -> io::Result<Option<L::Stream>>
 where
     L::Stream: OpenStream,

@@ -56,7 +56,7 @@ impl Index {
         }
     }
 
-    /// The maps with the statements of an agent's filing, which has this index.
+    /// The maps with the statements of the agent's filing at place `filing`, counted from 0.
     pub(crate) fn with_filing(
         self,
         alloc: Global,
@@ -201,7 +201,7 @@ fn add_series(
     Ok(())
 }
 
-// Puts them under their identifiers.
+// Puts the places of a filing's statements under the statements' identifiers.
 fn add_named(
     alloc: Global,
     named: &mut BTreeMap<StatementKey, Vec<Place>>,

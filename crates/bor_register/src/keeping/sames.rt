@@ -90,7 +90,7 @@ fn add_signed(
     Ok(())
 }
 
-// The same for each identifier.
+// Adds the aliases of an entity that share one of its identifiers.
 fn add_identified(
     sight: &Sight,
     class: &mut Class,
@@ -111,7 +111,7 @@ fn add_identified(
     Ok(())
 }
 
-// The same for each sign of the entity.
+// Adds the aliases of an entity that have one of its signs.
 fn add_signs(
     sight: &Sight,
     class: &mut Class,

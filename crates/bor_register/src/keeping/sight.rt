@@ -45,7 +45,7 @@ fn is_told(sight: &Sight, agent: &AgentName, filings: &[AcceptedFiling], place: 
     }
 }
 
-// The last of the places of which that holds.
+// The last of the places at which the viewer sees a statement, dated at or before the day.
 fn last_told(
     sight: &Sight,
     agent: &AgentName,

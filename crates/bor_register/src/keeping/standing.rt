@@ -54,7 +54,8 @@ fn last_standing(filings: &[AcceptedFiling], places: &[Place]) -> Option<Place>
     None
 }
 
-/// What is known of a record's last live statement, by the places of its statements.
+/// What is known of a record's last live statement, by the places of its statements. `node` names
+/// what the contract speaks of; the body doesn't read it.
 pub(crate) fn last_known(filings: &[AcceptedFiling], places: &[Place], node: &Node) -> Option<Last>
     requires { ArePlaces filings.now (has_record node.now) places.now }
     ensures { result ≡ last_of node.now.declaration node.now.rec (live_of filings.now) }
@@ -65,7 +66,8 @@ pub(crate) fn last_known(filings: &[AcceptedFiling], places: &[Place], node: &No
     }
 }
 
-/// Whether a live statement has the identifier, by the places of those that have had it.
+/// Whether a live statement has the identifier, by the places of those that have had it. `key`
+/// names what the contract speaks of; the body doesn't read it.
 pub(crate) fn any_stands(filings: &[AcceptedFiling], places: &[Place], key: &StatementKey) -> bool
     requires { ArePlaces filings.now (has_key key.now) places.now }
     ensures { result ≡ has_id key.now.id (live_of filings.now) }

@@ -58,7 +58,7 @@ fn member(
     })
 }
 
-/// The filings of an agent, from rows that are its own.
+// The filings of an agent, from rows that are its own.
 fn filings_of(
     alloc: Global,
     filings: &[FilingRow],

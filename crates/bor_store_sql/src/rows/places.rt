@@ -8,8 +8,11 @@ use bor_terms::AgentName;
 /// Where a statement stands: its agent, its filing's number, and its place in the file.
 #[derive(Drop)]
 pub struct At {
+    /// The agent that lodged it.
     pub agent: AgentName,
+    /// The filing's number, from 1.
     pub filing: u32,
+    /// The statement's place in its file, from 1.
     pub place: u32,
 }
 

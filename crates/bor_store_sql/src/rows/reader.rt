@@ -149,7 +149,7 @@ impl TableRow for IdentifierRow {
     }
 }
 
-/// Where a statement stands, by the first three columns.
+// Where a statement stands, by the first three columns.
 #[tactic(auto, using(crate::proofs::OnRows::Utf8::name_utf8))]
 fn place_at(alloc: Global, row: &Row) -> Result<At, RowFault>
     ensures reads { (at : At) → column row.now 0 ≡ Text at.agent
@@ -166,7 +166,7 @@ fn place_at(alloc: Global, row: &Row) -> Result<At, RowFault>
     })
 }
 
-/// A share, by the last four columns of an interest.
+// A share, by the last four columns of an interest.
 #[tactic(auto, using(crate::proofs::OnRows::Shares::low_small))]
 fn span_of(row: &Row) -> Result<Span, RowFault>
     ensures reads { (s : Range) → HasFour row.now 6 (share_columns (Some s)) → IsShare s
@@ -183,7 +183,7 @@ fn span_of(row: &Row) -> Result<Span, RowFault>
     }
 }
 
-/// The share of an interest; none where its columns are null.
+// The share of an interest; none where its columns are null.
 fn share_of(row: &Row) -> Result<Option<Span>, RowFault>
     ensures reads { (o : Option Range) → HasFour row.now 6 (share_columns o) → IfSome o IsShare
         → result ≡ Ok o }
@@ -265,7 +265,7 @@ impl TableRow for StatementRow {
     }
 }
 
-/// The status of a statement; none where it is null.
+// The status of a statement; none where it is null.
 fn status_of(row: &Row) -> Result<Option<Status>, RowFault>
     ensures reads { (o : Option Status) → column row.now 8 ≡ or_null (option_map status_word o)
         → result ≡ Ok o }

@@ -22,25 +22,33 @@ pub struct RegisterRow {
 /// A row of the table `agent`.
 #[derive(Drop)]
 pub struct AgentRow {
+    /// The agent's name.
     pub name: AgentName,
+    /// The agent's token.
     pub token: Token,
 }
 
 /// A row of the table `filing` without its file.
 #[derive(Drop)]
 pub struct FilingRow {
+    /// The agent that lodged it.
     pub agent: AgentName,
     /// From 1; each agent's filings are numbered in order of acceptance.
     pub number: u32,
+    /// The key under which its agent lodged it.
     pub key: LodgeKey,
+    /// The day from which on it is published, unless it is withdrawn.
     pub due: Day,
+    /// Whether its agent has withdrawn it.
     pub withdrawn: bool,
 }
 
 /// A statement with where it stands.
 #[derive(Drop)]
 pub struct Placed {
+    /// Where it stands.
     pub at: At,
+    /// The statement, with its settled status.
     pub statement: Statement,
 }
 
@@ -64,31 +72,47 @@ pub enum Part {
 /// A row of the table `statement`.
 #[derive(Drop)]
 pub struct StatementRow {
+    /// Where the statement stands.
     pub at: At,
+    /// `statementId`
     pub id: Ident,
+    /// `statementDate`
     pub day: Day,
+    /// `declarationSubject`
     pub declaration: Ident,
+    /// `recordId`
     pub rec: Ident,
+    /// The settled status; the table has no statement without one.
     pub status: Option<Status>,
+    /// What the table has of its details.
     pub part: Part,
 }
 
 /// A row of the table `interest`, which has all of an interest but its days.
 #[derive(Drop)]
 pub struct InterestLine {
+    /// Where its statement stands.
     pub at: At,
+    /// Its place in the statement, from 1.
     pub item: u32,
+    /// What kind of interest it is.
     pub kind: InterestKind,
+    /// Whether it is direct or indirect.
     pub directness: Directness,
+    /// The share in percent; `None` where it has none.
     pub share: Option<Span>,
 }
 
 /// A row of the table `period`: the days of an interest that has at least one.
 #[derive(Drop)]
 pub struct PeriodRow {
+    /// Where the interest's statement stands.
     pub at: At,
+    /// The interest's place in the statement, from 1.
     pub item: u32,
+    /// The first day on which it counts; `None` where none is said.
     pub starts: Option<Day>,
+    /// The last day on which it counts; `None` where none is said.
     pub ends: Option<Day>,
 }
 
@@ -96,16 +120,22 @@ pub struct PeriodRow {
 /// `period` where it has a day.
 #[derive(Drop)]
 pub struct InterestRow {
+    /// Where its statement stands.
     pub at: At,
+    /// Its place in the statement, from 1.
     pub item: u32,
+    /// The interest.
     pub interest: Interest,
 }
 
 /// A row of the table `identifier`.
 #[derive(Drop)]
 pub struct IdentifierRow {
+    /// Where its statement stands.
     pub at: At,
+    /// Its place in the statement, from 1.
     pub item: u32,
+    /// The identifier.
     pub identifier: Identifier,
 }
 
