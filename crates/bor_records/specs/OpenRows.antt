@@ -11,7 +11,7 @@ use Rattle.bor_records.specs.Snapshot.{is_dated}
 abbrev pub is_beside : Row → Row → Bool
 is_beside r x = is_same x.agent r.agent && (is_same x.statement.declaration r.statement.declaration && is_same x.statement.rec r.statement.rec)
 
--- whether a row that these rows follow is the latest of its series, and open
+-- `later` are the rows behind r, in order of acceptance. r is open where it is dated by the day, closes nothing, and no row of its record that is dated by the day stands behind it.
 abbrev pub is_open_before : ℤ → Row → List Row → Bool
 is_open_before day r later = is_dated day r && not (is_closed r.status) && not (list_any (λ x. is_beside r x && is_dated day x) later)
 

@@ -26,7 +26,7 @@ pub record OwnExchange : Type 0 where
   pub request : Request
   pub reply : List ℕ
 
--- An exchange is an agent's own where its request has the agent's token. Nobody has it before the agent's enrolment.
+-- An exchange is an agent's own where its request has the agent's token. Before its enrolment an agent has no token, so no exchanges.
 abbrev pub own_then : List ℕ → Register → Spelled → List ℕ → List OwnExchange → List OwnExchange
 own_then name r (Err why) reply rest = rest
 own_then name r (Ok asked) reply rest =

@@ -7,7 +7,7 @@ use Rattle.bor_desk.specs.Runs.{exchange}
 use Rattle.bor_http.specs.Spelling.Spell.{Spelled}
 use Rattle.bor_wire.specs.Rendering.Replies.{Said, refused, answered, bytes_of}
 
--- What is said to an input, by what it spells: of one that spells no request the refusal, whatever the register; else a reply that tells the step's answer.
+-- If the input spells no request, its refusal is said; else a reply that tells the step's answer.
 abbrev pub IsSaid : Register → Spelled → Said → Type 0
 IsSaid r (Err why) said = said ≡ refused why
 IsSaid r (Ok asked) said = (reply : DeskReply) × IsTold (exchange r asked).answer reply × (said ≡ answered reply)
