@@ -12,7 +12,6 @@ ghost use Rattle.bor.specs.Machine.{FindsOrSetsUp, IsDone, IsMoved, failure_of};
 use crate::setup::find_or_set_up;
 use crate::waiting::{Waiting, time};
 use bor_desk::operations::Keep;
-use bor_program::connections::{Limits, serve_within};
 use bor_program::{Failure, Opened, Ports, Registers, Stage};
 use bor_store::{OpenFault, SqlKeep, close_files, connect, migrate};
 use bor_terms::{Day, Token};
@@ -114,13 +113,14 @@ impl<S: Start + Copy> Registers for Host<'_, S> {
     }
 }
 
-impl<S: Start + Copy> Ports for Host<'_, S> {
+impl<'r, S: Start + Copy> Ports for Host<'r, S> {
     type Listener = TcpListener;
+
+    type Waiter = Waiting<'r>;
 
     ghost listens = { λ _ _ _. ⊤ };
 
-    // What the calls of its watch came to is the system's to say.
-    ghost serves = { λ _ _ _ _ _ _ _ _ _. ⊤ };
+    ghost waits = { λ _ _ _. ⊤ };
 
     fn listen(&self, port: u16) -> Option<TcpListener> {
         let address = SocketAddr::from(([127, 0, 0, 1], port));
@@ -128,23 +128,8 @@ impl<S: Start + Copy> Ports for Host<'_, S> {
         Some(TcpListener::from(listener))
     }
 
-    fn serve(
-        &self,
-        register: &mut SqlKeep<FileStore<FileFrom<S>>>,
-        listener: &TcpListener,
-        limits: Limits,
-        connections: u32,
-        log: bool,
-    ) -> u8 {
-        let mut waiting = Waiting::new(self.rt, log);
-        serve_within(
-            self.rt,
-            register,
-            listener,
-            &mut waiting,
-            connections,
-            limits,
-        )
+    fn waiter(&self, log: bool) -> Waiting<'r> {
+        Waiting::new(self.rt, log)
     }
 }
 

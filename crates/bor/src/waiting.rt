@@ -15,7 +15,7 @@ use std::time::{Clock, Duration};
 /// Waits for the sockets of a listener and its clients, and logs on standard error what was
 /// answered, where that is asked for. What it needs is made when it is first asked for.
 #[derive(Drop)]
-pub(crate) struct Waiting<'r> {
+pub struct Waiting<'r> {
     rt: &'r HostRuntime,
     log: bool,
     woken: Duration,

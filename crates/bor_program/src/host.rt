@@ -8,8 +8,8 @@ ghost use Rattle.bor_register.specs.Register.{Register};
 ghost use Rattle.bor_register.specs.declared.fault.StoreFault.{StoreFault};
 ghost use Rattle.bor_desk.specs.Operations.Legality.{IsLegal};
 ghost use Rattle.bor_desk.specs.Operations.Outcomes.{IsFaultOf};
-ghost use Rattle.bor_program.specs.Connections.Serving.{IsServed, IsServedWith};
-ghost use Rattle.bor_program.specs.Connections.Watching.{Act};
+ghost use Rattle.bor_program.specs.Connections.Serving.{IsServed, IsServedOver};
+ghost use Rattle.bor_program.specs.Connections.Streams.{IsOf};
 ghost use Rattle.bor_program.specs.declared.connections.limits.Limits.{Limits};
 ghost use Rattle.bor_http.specs.Spelling.Spell.{Spelled};
 ghost use Rattle.bor_wire.specs.Histories.{IsAlone};
@@ -19,7 +19,7 @@ ghost use Rattle.bor_program.specs.Deeds.{ComesToBe, Deed, Closes, Fails, Moves,
 ghost use Rattle.bor_program.specs.Failures.{IsOpeningOf};
 ghost use Rattle.bor_program.specs.Reporting.{IsReportOf};
 
-use crate::connections::Limits;
+use crate::connections::{Limits, Watch, serve_within};
 use crate::failure::Failure;
 use crate::report::report_in;
 use bor_desk::Text;
@@ -29,8 +29,10 @@ use bor_wire::{Reply, replay};
 use bor_words::Report;
 use std::alloc::{AllocError, Global};
 use std::fs;
-use std::io::{self, Read};
+use std::io::{self, Read, Write};
+use std::net::{OpenListener, OpenStream};
 use std::rt::Files;
+use std::time::Clock;
 
 /// What opens files by their names.
 pub trait NamedFiles {
@@ -70,6 +72,10 @@ pub trait OpenRegister {
 
     /// A call that led from one state to another told this fault.
     ghost tells: { Self → StoreFault → Self → Type 0 };
+
+    /// So many connections were served within these limits, which led from one state to another,
+    /// with this status.
+    ghost serves: { Self → Limits → ℕ → Self → ℕ → Type 0 };
 
     /// The replies to inputs, each answered from the register that the one before it left. What
     /// each agent receives follows from its own exchanges alone, and a report on chains with status
@@ -115,6 +121,26 @@ pub trait OpenRegister {
         ensures text { Promised shows is_clean self.old self.new (λ r.
             IfOk result (IsReportOf asked.now r)) }
         ensures err { IfErr result (λ fault. tells self.old fault self.new) };
+
+    /// Serves so many connections of a listener, each client within these limits, and gives 0, or 3
+    /// where one of them failed, as [`serve_within`] does. A connection has no client only where one
+    /// couldn't be let in, or where serving ended early: clients couldn't be watched for, or waiting
+    /// failed for good.
+    fn serve<R: Clock + AllocGlobal, L: OpenListener, W: Watch<L>>(
+        &mut self,
+        rt: &R,
+        listener: &L,
+        watch: &mut W,
+        connections: u32,
+        limits: Limits,
+    ) -> u8
+    where
+        L::Stream: Read + Write + OpenStream,
+        ensures within { serves self.old limits connections self.new result }
+        ensures served { IsServed shows is_clean self.old self.new connections result }
+        ensures streams { IsServedOver shows is_clean
+            (IsOf L.Stream.remaining L.Stream.contents) W.does
+            self.old self.new watch.old watch.new connections result };
 }
 
 impl<K: Keep> OpenRegister for K {
@@ -125,12 +151,28 @@ impl<K: Keep> OpenRegister for K {
     ghost tells = { λ old fault new. IsFaultOf K.may_tell (K.fault_count old)
         (K.fault_count new) fault };
 
+    ghost serves = { λ _ _ _ _ _. ⊤ };
+
     fn replay(&mut self, alloc: Global, inputs: &[Vec<u8>]) -> Result<Vec<Reply>, AllocError> {
         replay(alloc, self, inputs)
     }
 
     fn report(&mut self, alloc: Global, asked: &Report<'_>) -> Result<Text, StoreFault> {
         report_in(alloc, self, asked)
+    }
+
+    fn serve<R: Clock + AllocGlobal, L: OpenListener, W: Watch<L>>(
+        &mut self,
+        rt: &R,
+        listener: &L,
+        watch: &mut W,
+        connections: u32,
+        limits: Limits,
+    ) -> u8
+    where
+        L::Stream: Read + Write + OpenStream,
+    {
+        serve_within(rt, self, listener, watch, connections, limits)
     }
 }
 
@@ -225,40 +267,26 @@ pub trait Registers {
         ensures { does self.old (Closes path.entry register) self.new };
 }
 
-/// What serves the registers in files on the ports of 127.0.0.1.
+/// What listens on the ports of 127.0.0.1, and waits for what comes there.
 pub trait Ports: Registers {
-    /// A port that is listened on.
-    type Listener: Drop;
+    /// A port that is listened on. It doesn't block.
+    type Listener: OpenListener + Drop;
+
+    /// What waits for the clients of a listener.
+    type Waiter: Watch<Self::Listener> + Drop;
 
     /// This port is listened on by this listener.
     ghost listens: { Self → ℕ → Self.Listener → Type 0 };
 
-    /// Of a listener so many connections were served within these limits, with a log or without, by
-    /// these calls of its watch. It led from one state of a register to another, with this status.
-    ghost serves: { Self → Self.Listener → Limits → ℕ → Bool → List Act → Self.Register
-        → Self.Register → ℕ → Type 0 };
+    /// This waits for clients, with a log of what they are answered or without.
+    ghost waits: { Self → Bool → Self.Waiter → Type 0 };
 
     /// Listens on this port, if that can be done.
     fn listen(&self, port: u16) -> Option<Self::Listener>
         ensures { IfSome result (λ listener. listens self.now port listener) };
 
-    /// Serves so many connections of a listener, each client within these limits, and gives 0, or 3
-    /// where one of them failed. A connection has no client only where one couldn't be let in, or
-    /// where serving ended early: clients couldn't be watched for, or waiting failed for good. With
-    /// `log` each request that was answered has a line on standard error.
-    fn serve(
-        &self,
-        register: &mut Self::Register,
-        listener: &Self::Listener,
-        limits: Limits,
-        connections: u32,
-        log: bool,
-    ) -> u8
-        ensures hosted { (acts : List Act)
-            × serves self.now listener.now limits connections log acts register.old register.new
-            result
-            × IsServedWith Self.Register.shows Self.Register.is_clean acts register.old
-            register.new connections result }
-        ensures served { IsServed Self.Register.shows Self.Register.is_clean register.old
-            register.new connections result };
+    /// What waits for the clients of a listener. Where a log is asked for, each request that was
+    /// answered has a line on standard error.
+    fn waiter(&self, log: bool) -> Self::Waiter
+        ensures { waits self.now log result };
 }

@@ -6,6 +6,7 @@ ghost use Rattle.bor_words.specs.Asked.{IsAsked, IsCommand, IsWrong, MayAskForHe
 ghost use Rattle.bor_words.specs.Unread.{kind_of_answer};
 ghost use Rattle.bor_words.specs.Words.{entered_by};
 ghost use Rattle.bor_words.specs.declared.command.Command.{Command as Asked};
+ghost use Rattle.bor_program.specs.Connections.Streams.{IsOf};
 ghost use Rattle.bor_program.specs.Failures.{IsMetBy, IsMetOn, IsMetPrinting, IsTold, IsWantOfMemory};
 ghost use Rattle.bor_program.specs.Hosting.{IsHosted};
 ghost use Rattle.bor_program.specs.Inputs.{IsReadOf};
@@ -27,6 +28,8 @@ use bor_words::{Command, HELP, Source, Unread};
 use clap::error::ErrorKind;
 use std::convert::AsStr;
 use std::io::{Read, Write};
+use std::net::{OpenListener, OpenStream};
+use std::time::Clock;
 
 /// Does what the words after the program's name ask for, and gives the exit status.
 ///
@@ -35,7 +38,7 @@ use std::io::{Read, Write};
 /// network failed. Standard output has the text of a command, or the help; with status 3 a front of
 /// it. Standard error has what is wrong with the words, or a line on what failed; that line is
 /// missing where it was standard output that failed, or a reply or a connection.
-pub fn run<R: NamedFiles + AllocGlobal, H: Ports, S: AsStr, I: Read, O: Output, E: Write>(
+pub fn run<R: NamedFiles + Clock + AllocGlobal, H: Ports, S: AsStr, I: Read, O: Output, E: Write>(
     rt: &R,
     host: &mut H,
     words: &[S],
@@ -43,6 +46,8 @@ pub fn run<R: NamedFiles + AllocGlobal, H: Ports, S: AsStr, I: Read, O: Output, 
     output: &mut O,
     errors: &mut E,
 ) -> u8
+where
+    <H::Listener as OpenListener>::Stream: Read + Write + OpenStream,
     ensures at_most { result ≤ 3 }
 
     // Words that ask for a command have it done, as it is stated of each command, or memory is
@@ -52,7 +57,8 @@ pub fn run<R: NamedFiles + AllocGlobal, H: Ports, S: AsStr, I: Read, O: Output, 
         × IsTold IsWantOfMemory (E.contents errors.old) (E.contents errors.new))
         ⊎ ((asked : Asked) × IsAsked (entered_by (map S.text words.now)) asked
         × Performs (IsReadOf (R.opens rt.now) R.File.remaining)
-        (IsHosted H.Register.shows H.Register.is_clean H.listens H.serves)
+        (IsHosted H.Register.shows H.Register.is_clean H.Register.serves H.listens H.waits
+        H.Waiter.does (IsOf H.Listener.Stream.remaining H.Listener.Stream.contents))
         H.Register.shows H.Register.is_clean H.Register.tells H.does host.old host.new asked
         (I.remaining input.old) (I.remaining input.new)
         (O.contents output.old) (O.contents output.new) (E.contents errors.old)
@@ -127,7 +133,7 @@ pub fn run<R: NamedFiles + AllocGlobal, H: Ports, S: AsStr, I: Read, O: Output, 
 }
 
 // Does what is asked, and tells on standard error why it could not be done.
-fn perform<R: NamedFiles + AllocGlobal, H: Ports, I: Read, O: Output, E: Write>(
+fn perform<R: NamedFiles + Clock + AllocGlobal, H: Ports, I: Read, O: Output, E: Write>(
     rt: &R,
     host: &mut H,
     command: Command<'_>,
@@ -135,8 +141,11 @@ fn perform<R: NamedFiles + AllocGlobal, H: Ports, I: Read, O: Output, E: Write>(
     output: &mut O,
     errors: &mut E,
 ) -> Status
+where
+    <H::Listener as OpenListener>::Stream: Read + Write + OpenStream,
     ensures done { Performs (IsReadOf (R.opens rt.now) R.File.remaining)
-        (IsHosted H.Register.shows H.Register.is_clean H.listens H.serves)
+        (IsHosted H.Register.shows H.Register.is_clean H.Register.serves H.listens H.waits
+        H.Waiter.does (IsOf H.Listener.Stream.remaining H.Listener.Stream.contents))
         H.Register.shows H.Register.is_clean H.Register.tells H.does host.old host.new command.entry
         (I.remaining input.old) (I.remaining input.new)
         (O.contents output.old) (O.contents output.new) (E.contents errors.old)
@@ -146,7 +155,7 @@ fn perform<R: NamedFiles + AllocGlobal, H: Ports, I: Read, O: Output, E: Write>(
     match command {
         Command::Check(source) => check_told(rt, source, input, output, errors),
         Command::Exchange(asked) => exchange(rt, host, asked, output, errors),
-        Command::Serve(asked) => serve(rt.alloc(), host, asked, output, errors),
+        Command::Serve(asked) => serve(rt, host, asked, output, errors),
         Command::Report(asked) => report(rt.alloc(), host, &asked, output, errors),
         Command::Migrate(asked) => migrate(host, asked, output, errors),
     }

@@ -3,6 +3,7 @@
 ghost use Rattle.std.specs.Prelude.{◌≡◌, ◌≤◌, ◌⊎◌, IfErr, IfOk, OnErr, OnOk};
 ghost use Rattle.std.specs.Io.KnownBytes.{Appends};
 ghost use Rattle.bor_program.specs.Connections.Serving.{IsServed};
+ghost use Rattle.bor_program.specs.Connections.Streams.{IsOf};
 ghost use Rattle.bor_program.specs.Failures.{IsMetListening};
 ghost use Rattle.bor_program.specs.Hosting.{IsHosted};
 ghost use Rattle.bor_program.specs.Performing.{Serves, listening};
@@ -11,25 +12,30 @@ ghost use Rattle.bor_program.specs.Streams.{AppendsPart};
 
 use crate::connections::Limits;
 use crate::failure::Failure;
-use crate::host::{Ports, Stage};
+use crate::host::{OpenRegister, Ports, Stage};
 use crate::output::{Output, write_text};
 use crate::status::Status;
 use bor_words::Serve;
 use std::alloc::Global;
-use std::io::Write;
+use std::io::{Read, Write};
+use std::net::{OpenListener, OpenStream};
+use std::time::Clock;
 
 /// Answers requests over HTTP in the register in a file, of many clients at once, on a port of
 /// 127.0.0.1. Once it listens, it prints that; at the end the register is closed. What the log has
 /// is the host's to write.
-pub fn serve<H: Ports, O: Output, E: Write>(
-    alloc: Global,
+pub fn serve<R: Clock + AllocGlobal, H: Ports, O: Output, E: Write>(
+    rt: &R,
     host: &mut H,
     asked: Serve<'_>,
     output: &mut O,
     errors: &mut E,
 ) -> Status
+where
+    <H::Listener as OpenListener>::Stream: Read + Write + OpenStream,
     ensures done { Serves
-        (IsHosted H.Register.shows H.Register.is_clean H.listens H.serves)
+        (IsHosted H.Register.shows H.Register.is_clean H.Register.serves H.listens H.waits
+        H.Waiter.does (IsOf H.Listener.Stream.remaining H.Listener.Stream.contents))
         H.Register.shows H.Register.is_clean H.does host.old host.new asked.entry
         (O.contents output.old) (O.contents output.new) (E.contents errors.old)
         (E.contents errors.new) (exit_code result) }
@@ -38,7 +44,7 @@ pub fn serve<H: Ports, O: Output, E: Write>(
     host.reach(Stage::Opening(asked.db));
     match host.open(asked.db) {
         Ok(mut register) => {
-            let served = listen(alloc, host, &mut register, asked, output);
+            let served = listen(rt, host, &mut register, asked, output);
             host.close(asked.db, register);
             match served {
                 Ok(status) => status,
@@ -50,16 +56,19 @@ pub fn serve<H: Ports, O: Output, E: Write>(
 }
 
 // Listens on the port, prints that, and serves.
-fn listen<'a, H: Ports, O: Output>(
-    alloc: Global,
+fn listen<'a, R: Clock + AllocGlobal, H: Ports, O: Output>(
+    rt: &R,
     host: &H,
     register: &mut H::Register,
     asked: Serve<'_>,
     output: &mut O,
 ) -> Result<Status, Failure<'a>>
+where
+    <H::Listener as OpenListener>::Stream: Read + Write + OpenStream,
     ensures hosted { IfOk result (λ status.
-        IsHosted H.Register.shows H.Register.is_clean H.listens H.serves asked.entry
-        register.old register.new (exit_code status)) }
+        IsHosted H.Register.shows H.Register.is_clean H.Register.serves H.listens H.waits
+        H.Waiter.does (IsOf H.Listener.Stream.remaining H.Listener.Stream.contents)
+        asked.entry register.old register.new (exit_code status)) }
     ensures ok { IfOk result (λ status.
         IsServed H.Register.shows H.Register.is_clean register.old register.new
         asked.entry.connections (exit_code status)
@@ -73,9 +82,10 @@ fn listen<'a, H: Ports, O: Output>(
     let Some(listener) = host.listen(asked.port) else {
         return Err(Failure::Unlistening);
     };
-    announce(alloc, asked.port, output)?;
+    announce(rt.alloc(), asked.port, output)?;
+    let mut waiter = host.waiter(asked.log);
     let limits = Limits::of_a_server();
-    let served = host.serve(register, &listener, limits, asked.connections, asked.log);
+    let served = register.serve(rt, &listener, &mut waiter, asked.connections, limits);
     Ok(end_of(served))
 }
 

@@ -1,18 +1,17 @@
-//! A machine of registers in memory, and a register that has no memory for replies.
+//! A machine of registers in memory, to whose ports nobody connects.
 
 ghost use Rattle.std.specs.Prelude.{◌≡◌, ⊤, IfErr};
 ghost use Rattle.bor_program.specs.Failures.{IsOpeningOf};
-ghost use Rattle.bor_register.specs.declared.fault.StoreFault.TheVariants as faults;
 
-use crate::clients::{Queue, Ticking, Waits};
-use bor_desk::Text;
-use bor_desk::operations::{Keep, ListKeep, StoreFault};
-use bor_program::connections::{Limits, serve_within};
-use bor_program::{Failure, OpenRegister, Opened, Origin, Ports, Registers, Stage};
+use crate::clients::{Line, Queue};
+use bor_desk::operations::ListKeep;
+use bor_program::connections::{Places, Watch, accepted};
+use bor_program::log::Note;
+use bor_program::{Failure, Opened, Origin, Ports, Registers, Stage};
 use bor_terms::{Day, Token};
-use bor_wire::Reply;
-use bor_words::Report;
-use std::alloc::{AllocError, Global};
+use std::alloc::Global;
+use std::io::{self, ErrorKind};
+use std::time::Duration;
 
 /// A machine in each of whose files there is a new register, unless memory is wanting. Nobody connects to
 /// its ports.
@@ -77,53 +76,43 @@ impl Registers for Machine {
 impl Ports for Machine {
     type Listener = Queue<'static>;
 
+    type Waiter = Nobody;
+
     ghost listens = { λ _ _ _. ⊤ };
 
-    ghost serves = { λ _ _ _ _ _ _ _ _ _. ⊤ };
+    ghost waits = { λ _ _ _. ⊤ };
 
     fn listen(&self, _port: u16) -> Option<Queue<'static>> {
         Some(Queue::new(&[]))
     }
 
-    fn serve(
-        &self,
-        register: &mut ListKeep,
-        listener: &Queue<'static>,
-        limits: Limits,
-        connections: u32,
-        _log: bool,
-    ) -> u8 {
-        let clock = Ticking::new(Some(1));
-        let mut waits = Waits::new(self.alloc, listener);
-        serve_within(
-            &(clock, self.alloc),
-            register,
-            listener,
-            &mut waits,
-            connections,
-            limits,
-        )
+    fn waiter(&self, _log: bool) -> Nobody {
+        Nobody
     }
 }
 
-/// A register for whose replies there is no memory.
+/// What waits for nobody.
 #[derive(Drop)]
-pub(crate) struct Starved {
-    pub(crate) list: ListKeep,
-}
+pub(crate) struct Nobody;
 
-impl OpenRegister for Starved {
-    ghost shows = { λ k r. (⟦<ListKeep as Keep>⟧).shows k.list r };
+impl Watch<Queue<'static>> for Nobody {
+    ghost does = { λ _ _ _. ⊤ };
 
-    ghost is_clean = { λ k. (⟦<ListKeep as Keep>⟧).is_clean k.list };
-
-    ghost tells = { λ _ fault _. fault ≡ faults.Memory };
-
-    fn replay(&mut self, _alloc: Global, _inputs: &[Vec<u8>]) -> Result<Vec<Reply>, AllocError> {
-        Err(AllocError)
+    fn watch_listener(&mut self, _listener: &Queue<'static>) -> io::Result<()> {
+        Err(io::Error::from(ErrorKind::Unsupported))
     }
 
-    fn report(&mut self, _alloc: Global, _asked: &Report<'_>) -> Result<Text, StoreFault> {
-        Err(StoreFault::Memory)
+    fn accept(&mut self, listener: &Queue<'static>) -> io::Result<Option<Line<'static>>> {
+        accepted(listener)
     }
+
+    fn watch(&mut self, _stream: &Line<'static>, _place: usize) -> io::Result<()> {
+        Ok(())
+    }
+
+    fn wait(&mut self, _limit: Option<Duration>, _places: &mut Places) -> io::Result<()> {
+        Err(io::Error::from(ErrorKind::Unsupported))
+    }
+
+    fn note(&mut self, _note: Note) {}
 }

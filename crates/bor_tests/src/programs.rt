@@ -3,7 +3,7 @@
 use crate::asking::{ALDER, keep_of_two, request};
 use crate::checks::{holds, holds_at};
 use crate::failing_keep::FailingKeep;
-use crate::machine::{Machine, Starved};
+use crate::machine::Machine;
 use crate::streams::{Drip, Gate};
 use bor_desk::operations::StoreFault;
 use bor_program::{Failure, OpenRegister, Status, exchange_on, report_on, run};
@@ -13,6 +13,7 @@ use std::alloc::Global;
 use std::io::ErrorKind;
 use std::process::Abort;
 use std::rt::Files;
+use std::time::Clock;
 
 const REPORT: [&str; 11] = [
     "report",
@@ -52,7 +53,7 @@ const EXCHANGE: [&str; 8] = [
 ];
 
 // A run on these words, at a machine that has memory or none for a register, fails.
-fn fails<R: Files + AllocGlobal + Abort>(
+fn fails<R: Files + Clock + AllocGlobal + Abort>(
     rt: &R,
     is_starved: bool,
     words: &[&str],
@@ -68,7 +69,7 @@ fn fails<R: Files + AllocGlobal + Abort>(
 
 // A run on these words with an empty list on standard input fails, writes this much of the text, and tells
 // nothing.
-fn fails_untold<R: Files + AllocGlobal + Abort>(
+fn fails_untold<R: Files + Clock + AllocGlobal + Abort>(
     rt: &R,
     words: &[&str],
     mut output: Gate,
@@ -105,7 +106,7 @@ fn an_output_that_fails_is_not_told(rt: HostRuntime) {
 
 // A run on these words ends as failed, prints nothing, and tells this line alone, of which standard error
 // takes so many bytes.
-fn fails_by_line<R: Files + AllocGlobal + Abort>(
+fn fails_by_line<R: Files + Clock + AllocGlobal + Abort>(
     rt: &R,
     is_starved: bool,
     words: &[&str],
@@ -191,9 +192,6 @@ fn replies_of_a_register_that_fails_end_as_failed(rt: HostRuntime) {
     let mut failing = FailingKeep::new(alloc, list, 0, StoreFault::Store);
     let replies = (1000, UNAVAILABLE);
     ends_by(&rt, alloc, &mut failing, replies, Ok(Status::Failed));
-    let mut starved = Starved { list: failing.keep };
-    let nothing: (usize, &[u8]) = (1000, b"");
-    ends_by(&rt, alloc, &mut starved, nothing, Err(Failure::Memory));
 }
 
 // What is asked for by the words of a report.

@@ -15,8 +15,7 @@ use Rattle.bor_wire.specs.declared.outcome.Outcome.TheVariants.{Replied}
 use Rattle.bor_wire.specs.Exchanges.{IsExchanged}
 use Rattle.bor_wire.specs.Sequences.{AreExchanged, Exchanged, IsRun, keep_left}
 use Rattle.bor_wire.proofs.SequenceLaws.{a_run}
-use Rattle.bor_program.specs.Connections.Watching.{Act}
-use Rattle.bor_program.specs.Connections.Serving.{Answer, Answered, Ended, IsServed, IsServedAs, IsServedOver, IsServedWith, IsServing, absent_in, answers_in, exchange_of, exchanges_of, has_failed, is_absent, told_in, told_on}
+use Rattle.bor_program.specs.Connections.Serving.{Answer, Answered, Ended, IsServed, IsServedAs, IsServing, absent_in, answers_in, exchange_of, exchanges_of, has_failed, is_absent, told_in, told_on}
 
 -- ---- lists
 
@@ -133,9 +132,3 @@ served_by_any shows is_clean Is old new connections told h = record {
   };
   run = h.run;
 }
-
-pub served_with : {K W : Type 0} (shows : K → Register → Type 0) (is_clean : K → Type 0) (Is : Ended → Type 0) (does : W → Act → W → Type 0) (old new : K) (begun left : W) (connections told : ℕ)
-    → (over : IsServedOver shows is_clean Is does old new begun left connections told) → IsServedWith shows is_clean over.acts old new connections told
-unfolding served_by_any
-served_with shows is_clean Is does old new begun left connections told over =
-    record { served = served_by_any shows is_clean Is old new connections told over.served; excused = over.excused }

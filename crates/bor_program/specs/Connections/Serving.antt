@@ -101,11 +101,6 @@ pub record IsServedAs {K : Type 0} (shows : K → Register → Type 0) (is_clean
 abbrev pub IsServed : {K : Type 0} → (K → Register → Type 0) → (K → Type 0) → K → K → ℕ → ℕ → Type 0
 IsServed shows is_clean old new connections told = IsServedAs shows is_clean (λ e. ⊤) old new connections told
 
--- the same, and no client came only where one could not be let in, or where a server may end, as these calls of its watch came out
-pub record IsServedWith {K : Type 0} (shows : K → Register → Type 0) (is_clean : K → Type 0) (acts : List Act) (old new : K) (connections told : ℕ) : Type 0 where
-  pub served : IsServed shows is_clean old new connections told
-  pub excused : IsExcused acts served.absent
-
 -- The same, of what the server asked of its watch: no client came only where one could not be let in, or where the server may end.
 pub record IsServedOver {K W : Type 0} (shows : K → Register → Type 0) (is_clean : K → Type 0) (Is : Ended → Type 0) (does : W → Act → W → Type 0) (old new : K) (begun left : W) (connections told : ℕ) : Type 0 where
   pub served : IsServedAs shows is_clean Is old new connections told

@@ -1,7 +1,0 @@
-use Rattle.bor_program.proofs.OnConnections.Served.{served_with}
-use Rattle.bor.proofs.host.HostPorts.serve.Goals as goal
-
-pub returns-clause-hosted : goal.returns-clause-hosted
-returns-clause-hosted g c =
-    let over = c.serve_within.ensures.streams in
-    (over.acts, tt, served_with _ _ _ _ _ _ _ _ _ _ over)

@@ -1,0 +1,30 @@
+use Rattle.std.proofs.Common.{◌≡◌, ◌⊎◌, inl, inr, ℕ, Bool, true, false, subst, sym}
+use Rattle.std.specs.Prelude.{if◌then◌else◌}
+use Rattle.bor_program.specs.Connections.Serving.{IsServedOver}
+use Rattle.bor_program.specs.Connections.Streams.{IsOf}
+use Rattle.bor_program.proofs.serve.listen.Goals as goal
+
+-- a server gives 0 or 3
+either : (failed : Bool) (status : ℕ) → status ≡ (if failed then 3 else 0) → (status ≡ 0) ⊎ (status ≡ 3)
+either true status h = inr h
+either false status h = inl h
+
+pub returns-clause-hosted : goal.returns-clause-hosted
+returns-clause-hosted g c =
+    let limits = c.of_a_server-limits in
+    let over = c.serve-served.ensures.streams in
+    let same = sym (c.end_of.ensures (either _ _ over.served.served.status)) in
+    record {
+      host = c.args.host.now;
+      listener = c.in-Some.listener;
+      limits = limits.result;
+      begun = c.waiter-waiter.result;
+      ended = c.serve-served.new.watch;
+      port = c.in-Some.ensures;
+      waiter = c.waiter-waiter.ensures;
+      is_within = record { request = limits.ensures.request; reply = limits.ensures.reply; rest = limits.ensures.rest };
+      within = subst (λ n. g.H.Register.OpenRegister.serves c.args.register.now limits.result c.args.asked.connections c.serve-served.new.self n) same
+          c.serve-served.ensures.within;
+      served = subst (λ n. IsServedOver g.H.Register.OpenRegister.shows g.H.Register.OpenRegister.is_clean (IsOf g.H.Listener.Stream.Read.remaining g.H.Listener.Stream.Write.contents)
+          g.H.Waiter.Watch.does c.args.register.now c.serve-served.new.self c.waiter-waiter.result c.serve-served.new.watch c.args.asked.connections n) same over;
+    }
