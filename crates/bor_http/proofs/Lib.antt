@@ -1,3 +1,2 @@
 pub mod OnIncoming
 pub mod OnRoutes
-pub mod OnSpelling

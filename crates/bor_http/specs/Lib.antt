@@ -1,3 +1,2 @@
 pub mod Incoming
 pub mod Routes
-pub mod Spelling

@@ -19,7 +19,7 @@ use Rattle.bor_program.specs.Streams.{AppendsPart}
 use Rattle.bor_records.specs.Promises.{Kept, Promised}
 use Rattle.bor_register.specs.Register.{Register}
 use Rattle.bor_desk.specs.Operations.Legality.{IsLegal}
-use Rattle.bor_http.specs.Spelling.Spell.{Spelled}
+use Rattle.bor_wire.specs.Spelling.Spell.{Spelled}
 use Rattle.bor_wire.specs.Histories.{IsAlone}
 use Rattle.bor_wire.specs.Refused.{IsFull}
 use Rattle.bor_wire.specs.Rendering.Heads.{status_line}

@@ -11,7 +11,7 @@ use Rattle.bor_http.specs.declared.incoming.fault.Path.TheVariants as paths
 use Rattle.bor_http.specs.declared.routes.route.Route.{Route}
 use Rattle.bor_http.specs.declared.routes.route.Route.TheVariants as asks
 use Rattle.bor_http.specs.Routes.Routes.{path_word, route_at}
-use Rattle.bor_http.specs.Spelling.Parts.{path_in}
+use Rattle.bor_wire.specs.Spelling.Parts.{path_in}
 use Rattle.bor_wire.specs.declared.outgoing.Outgoing.{Outgoing}
 use Rattle.bor_wire.specs.Exchanges.{NamesWhoAsks, bytes_out, status_out}
 use Rattle.bor_program.specs.declared.log.Asked.{Asked}

@@ -6,7 +6,7 @@ use Rattle.std.specs.Io.KnownBytes.{Appends, Keeps}
 use Rattle.bor_records.specs.Promises.{Promised}
 use Rattle.bor_register.specs.Register.{Register}
 use Rattle.bor_desk.specs.Operations.Legality.{IsLegal}
-use Rattle.bor_http.specs.Spelling.Spell.{Spelled}
+use Rattle.bor_wire.specs.Spelling.Spell.{Spelled}
 use Rattle.bor_wire.specs.declared.replies.Reply.{Reply}
 use Rattle.bor_wire.specs.declared.replies.Reply.TheVariants.{Full, Unavailable}
 use Rattle.bor_wire.specs.Runs.{AreReplies, AreSpelled, full, register_left, served}

@@ -11,7 +11,7 @@ ghost use Rattle.bor_desk.specs.Operations.Outcomes.{IsFaultOf};
 ghost use Rattle.bor_program.specs.Connections.Serving.{IsServed, IsServedOver};
 ghost use Rattle.bor_program.specs.Connections.Streams.{IsOf};
 ghost use Rattle.bor_program.specs.declared.connections.limits.Limits.{Limits};
-ghost use Rattle.bor_http.specs.Spelling.Spell.{Spelled};
+ghost use Rattle.bor_wire.specs.Spelling.Spell.{Spelled};
 ghost use Rattle.bor_wire.specs.Histories.{IsAlone};
 ghost use Rattle.bor_wire.specs.Reports.{AreReports};
 ghost use Rattle.bor_wire.specs.Runs.{AreReplies, AreSpelled, full, register_left, served};

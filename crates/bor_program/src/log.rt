@@ -9,7 +9,7 @@
 
 ghost use Rattle.std.specs.Prelude.{◌≡◌, ◌↔◌, ◌+◌, ◌/◌, ◌%◌, ◌≤◌, pos, IfOk, IfSome, IsSome, Some, length};
 ghost use Rattle.bor_http.specs.Routes.Routes.{path_word, route_at as route_in};
-ghost use Rattle.bor_http.specs.Spelling.Parts.{path_in};
+ghost use Rattle.bor_wire.specs.Spelling.Parts.{path_in};
 ghost use Rattle.bor_wire.specs.Exchanges.{bytes_out, status_out};
 ghost use Rattle.bor_program.specs.Logging.{agent_text, asked_at, asked_of, asked_path_word, asked_text, clock_text, entry_line, method_word, moment_text, numbers_text, route_method, route_path};
 ghost use Rattle.bor_program.specs.Streams.{AppendsPart};

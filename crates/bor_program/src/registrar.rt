@@ -2,7 +2,7 @@
 
 ghost use Rattle.std.specs.Prelude.{◌≡◌, IfErr, IfOk};
 ghost use Rattle.bor_terms.specs.Texts.{is_token};
-ghost use Rattle.bor_http.specs.Spelling.Parts.{text_in};
+ghost use Rattle.bor_wire.specs.Spelling.Parts.{text_in};
 ghost use Rattle.bor_program.specs.Registrars.{IsToldBy, IsUntold, first_line};
 
 use crate::failure::Failure;

@@ -39,8 +39,8 @@ use Rattle.bor_desk.specs.Runs.{Asked}
 use Rattle.bor_desk.specs.Step.{Answer, exactly, report, told, file_answer, agent_answer, registrar_step, step}
 use Rattle.bor_http.specs.declared.incoming.fault.Refusal as wire
 use Rattle.bor_http.specs.Incoming.Head.{head_end}
-use Rattle.bor_http.specs.Spelling.Refusals.{refusals}
-use Rattle.bor_http.specs.Spelling.Spell.{asked_behind, spelling}
+use Rattle.bor_wire.specs.Spelling.Refusals.{refusals}
+use Rattle.bor_wire.specs.Spelling.Spell.{asked_behind, spelling}
 use Rattle.bor_wire.specs.Rendering.Replies.{Said, refused, answered, status_of}
 use Rattle.bor_wire.specs.Rendering.Statuses.{desk_status}
 use Rattle.bor_wire.specs.Inputs.{IsSaid}

@@ -4,7 +4,7 @@ use Rattle.bor_register.specs.Register.{Register}
 use Rattle.bor_desk.specs.Runs.{Asked}
 use Rattle.bor_desk.specs.declared.request.Request.TheVariants.{Filings}
 use Rattle.bor_http.specs.declared.incoming.fault.Refusal.TheVariants.{NoPath}
-use Rattle.bor_http.specs.Spelling.Spell.{Spelled}
+use Rattle.bor_wire.specs.Spelling.Spell.{Spelled}
 use Rattle.bor_wire.specs.Rendering.Replies.{refused, bytes_of}
 use Rattle.bor_wire.specs.declared.outcome.Outcome.TheVariants.{Replied, ReadFailed, WriteFailed}
 use Rattle.bor_wire.specs.declared.replies.Reply.{Reply}

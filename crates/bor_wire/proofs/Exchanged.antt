@@ -4,7 +4,7 @@ use Rattle.std.specs.Io.KnownBytes.{Keeps}
 use Rattle.bor_records.specs.Promises.{Promised}
 use Rattle.bor_register.specs.Register.{Register, IsOrdered}
 use Rattle.bor_http.specs.declared.incoming.fault.Refusal.{Refusal}
-use Rattle.bor_http.specs.Spelling.Spell.{Spelled}
+use Rattle.bor_wire.specs.Spelling.Spell.{Spelled}
 use Rattle.bor_wire.specs.Rendering.Replies.{refused, status_of, bytes_of}
 use Rattle.bor_wire.specs.declared.rendering.reply.TheConstants.{UNAVAILABLE}
 use Rattle.bor_wire.specs.declared.outcome.Outcome.{Outcome}

@@ -10,7 +10,7 @@ use Rattle.bor_desk.specs.declared.request.Request.{Request}
 use Rattle.bor_desk.specs.Laws.{is_agent}
 use Rattle.bor_desk.specs.Runs.{request_by, occasion_then, told_then}
 use Rattle.bor_desk.proofs.OnOperations.Legality.{empty-legal}
-use Rattle.bor_http.specs.Spelling.Spell.{Spelled}
+use Rattle.bor_wire.specs.Spelling.Spell.{Spelled}
 use Rattle.bor_wire.specs.Inputs.{after}
 use Rattle.bor_wire.specs.Runs.{AreReplies}
 use Rattle.bor_wire.specs.Histories.{history_in, received}

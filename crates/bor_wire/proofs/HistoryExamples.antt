@@ -32,7 +32,7 @@ use Rattle.bor_http.specs.Incoming.Words.{refusal_word}
 use Rattle.bor_wire.specs.Rendering.Bodies.{filing_text, lines_text, published_text, moved_text, enrolled_text, refusal_text}
 use Rattle.bor_wire.specs.Rendering.Heads.{phrase, status_line, field_line, own_line, head_bytes}
 use Rattle.bor_wire.specs.Rendering.Replies.{Said, refused, answered, bytes_of}
-use Rattle.bor_http.specs.Spelling.Spell.{Spelled}
+use Rattle.bor_wire.specs.Spelling.Spell.{Spelled}
 use Rattle.bor_wire.specs.Runs.{AreReplies}
 use Rattle.bor_wire.specs.AllRefusals.{register_refusals}
 use Rattle.bor_wire.specs.Headline.{own_exchanges, replies_in}

@@ -9,7 +9,7 @@ use Rattle.bor_desk.specs.Runs.{Asked, exchange, answers, request_of, told_then,
 use Rattle.bor_desk.proofs.Isolation.{isolated}
 use Rattle.bor_desk.proofs.Lengths.{told_to-length}
 use Rattle.bor_desk.proofs.OneReply.{one_reply}
-use Rattle.bor_http.specs.Spelling.Spell.{Spelled}
+use Rattle.bor_wire.specs.Spelling.Spell.{Spelled}
 use Rattle.bor_wire.specs.Rendering.Replies.{answered, bytes_of}
 use Rattle.bor_wire.specs.Runs.{AreReplies}
 use Rattle.bor_wire.specs.Histories.{AreBytesOf, EachIsReceived, IsAlone, SameHistorySameBytes, asked_in, told_in, received}

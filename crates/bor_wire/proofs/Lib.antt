@@ -1,3 +1,4 @@
+pub mod OnSpelling
 pub mod Outgoings
 pub mod ReportLaws
 pub mod Exchanged

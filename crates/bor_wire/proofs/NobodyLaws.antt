@@ -9,8 +9,8 @@ use Rattle.bor_desk.specs.declared.reply.DeskReply.TheVariants.{Refused}
 use Rattle.bor_desk.specs.Outcomes.{IsTold}
 use Rattle.bor_desk.specs.Step.{step}
 use Rattle.bor_desk.specs.Runs.{Asked, exchange, request_by, request_of, occasion_then, history, told_then, told_to}
-use Rattle.bor_http.specs.Spelling.Spell.{Spelled, Spells}
-use Rattle.bor_http.proofs.OnSpelling.Messages.{one_spelling}
+use Rattle.bor_wire.specs.Spelling.Spell.{Spelled, Spells}
+use Rattle.bor_wire.proofs.OnSpelling.Messages.{one_spelling}
 use Rattle.bor_wire.specs.Rendering.Replies.{Said, answered, bytes_of}
 use Rattle.bor_wire.specs.Inputs.{IsSaid, IsReplyTo, after}
 use Rattle.bor_wire.specs.Runs.{register_left}

@@ -18,8 +18,8 @@ use Rattle.bor_http.specs.declared.incoming.fault.Refusal.TheVariants.{HeadTooLa
 use Rattle.bor_http.specs.Incoming.Message.{Message}
 use Rattle.bor_http.specs.Incoming.Steps.{◌>>=◌}
 use Rattle.bor_http.specs.Incoming.Refusals.{IsMessage}
-use Rattle.bor_http.specs.Spelling.Spell.{Spelled, spell}
-use Rattle.bor_http.proofs.OnSpelling.Messages.{message_spelled, one_spelling}
+use Rattle.bor_wire.specs.Spelling.Spell.{Spelled, spell}
+use Rattle.bor_wire.proofs.OnSpelling.Messages.{message_spelled, one_spelling}
 use Rattle.bor_wire.specs.Rendering.Replies.{Said, refused, answered, bytes_of, status_of}
 use Rattle.bor_wire.specs.Rendering.Statuses.{desk_status, wire_refusal_status}
 use Rattle.bor_wire.specs.declared.outgoing.Outgoing.{Outgoing}

@@ -11,7 +11,7 @@ use Rattle.bor_desk.specs.Step.{Answer, exactly, report, step}
 use Rattle.bor_desk.specs.Outcomes.{IsTold, IsOrderedFor}
 use Rattle.bor_desk.specs.Laws.{may_tell_a_change}
 use Rattle.bor_desk.proofs.Unchanged.{refusal_leaves, reads}
-use Rattle.bor_http.specs.Spelling.Spell.{Spelled}
+use Rattle.bor_wire.specs.Spelling.Spell.{Spelled}
 use Rattle.bor_wire.specs.Rendering.Heads.{status_line, field_line, own_line, line_end, head_bytes}
 use Rattle.bor_wire.specs.Rendering.Replies.{Said, status_of, path_of, body_of, bytes_of}
 use Rattle.bor_wire.specs.Rendering.Statuses.{desk_status}

@@ -32,8 +32,8 @@ use Rattle.bor_desk.specs.Step.{Answer, exactly, told, own_after, agent_answer, 
 use Rattle.bor_desk.proofs.Isolation.{own_filings}
 use Rattle.bor_desk.proofs.OnOperations.Lodgings.{addition_is}
 use Rattle.bor_desk.proofs.Unchanged.{left_by_agent}
-use Rattle.bor_http.specs.Spelling.Spell.{Spelled, Spells}
-use Rattle.bor_http.proofs.OnSpelling.Messages.{one_spelling}
+use Rattle.bor_wire.specs.Spelling.Spell.{Spelled, Spells}
+use Rattle.bor_wire.proofs.OnSpelling.Messages.{one_spelling}
 use Rattle.bor_wire.specs.Rendering.Replies.{Said, answered, status_of, body_of, bytes_of}
 use Rattle.bor_wire.specs.Inputs.{IsSaid, IsReplyTo, after}
 use Rattle.bor_wire.specs.Refused.{HasStatus}

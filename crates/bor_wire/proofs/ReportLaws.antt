@@ -16,7 +16,7 @@ use Rattle.bor_desk.specs.declared.reply.DeskReply.{DeskReply}
 use Rattle.bor_desk.specs.declared.reply.DeskReply.TheVariants as tell
 use Rattle.bor_desk.specs.Step.{report, refused, step}
 use Rattle.bor_desk.specs.Outcomes.{IsTold}
-use Rattle.bor_http.specs.Spelling.Spell.{Spelled}
+use Rattle.bor_wire.specs.Spelling.Spell.{Spelled}
 use Rattle.bor_wire.specs.Rendering.Statuses.{desk_status}
 use Rattle.bor_wire.specs.Rendering.Replies.{Said, answered, status_of}
 use Rattle.bor_wire.specs.Inputs.{IsSaid, after}

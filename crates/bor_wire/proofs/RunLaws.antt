@@ -4,8 +4,8 @@ use Rattle.bor_records.specs.Promises.{Promised}
 use Rattle.bor_register.specs.Register.{Register, IsOrdered, caller_of}
 use Rattle.bor_desk.specs.Operations.Legality.{IsLegal}
 use Rattle.bor_desk.proofs.Steps.{step-stays_legal}
-use Rattle.bor_http.proofs.OnSpelling.Messages.{one_spelling}
-use Rattle.bor_http.specs.Spelling.Spell.{Spelled, Spells}
+use Rattle.bor_wire.proofs.OnSpelling.Messages.{one_spelling}
+use Rattle.bor_wire.specs.Spelling.Spell.{Spelled, Spells}
 use Rattle.bor_wire.specs.declared.replies.Reply.{Reply}
 use Rattle.bor_wire.specs.declared.replies.Reply.TheVariants.{Full, Unavailable}
 use Rattle.bor_wire.specs.Inputs.{IsReplyTo, after}

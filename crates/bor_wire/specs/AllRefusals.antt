@@ -28,8 +28,8 @@ use Rattle.bor_desk.specs.declared.request.Request.{Request}
 use Rattle.bor_desk.specs.declared.request.Request.TheVariants as ask
 use Rattle.bor_http.specs.Incoming.Message.{Parts, IsTakenApart}
 use Rattle.bor_http.specs.Incoming.Head.{head_end}
-use Rattle.bor_http.specs.Spelling.Refusals.{refusals}
-use Rattle.bor_http.specs.Spelling.Spell.{asked_behind, spelling}
+use Rattle.bor_wire.specs.Spelling.Refusals.{refusals}
+use Rattle.bor_wire.specs.Spelling.Spell.{asked_behind, spelling}
 use Rattle.bor_wire.specs.Rendering.Replies.{Said, refused, answered, status_of}
 use Rattle.bor_wire.specs.Inputs.{IsSaid}
 

@@ -9,7 +9,7 @@ use Rattle.bor_desk.specs.Outcomes.{IsTold, agent_of}
 use Rattle.bor_desk.specs.Runs.{Asked, exchange}
 use Rattle.bor_http.specs.Incoming.Counted.{after_fault}
 use Rattle.bor_http.specs.declared.incoming.fault.Refusal.{Refusal}
-use Rattle.bor_http.specs.Spelling.Spell.{Spelled, Spells}
+use Rattle.bor_wire.specs.Spelling.Spell.{Spelled, Spells}
 use Rattle.bor_wire.specs.Rendering.Replies.{Said, refused, answered, status_of, bytes_of}
 use Rattle.bor_wire.specs.declared.rendering.reply.TheConstants.{UNAVAILABLE}
 use Rattle.bor_wire.specs.declared.outcome.Outcome.{Outcome}

@@ -6,7 +6,7 @@ use Rattle.bor_desk.specs.Operations.Solo.{published_beside}
 use Rattle.bor_desk.specs.declared.request.Request.{Request}
 use Rattle.bor_desk.specs.Laws.{is_agent}
 use Rattle.bor_desk.specs.Runs.{Occasion}
-use Rattle.bor_http.specs.Spelling.Spell.{Spelled}
+use Rattle.bor_wire.specs.Spelling.Spell.{Spelled}
 use Rattle.bor_wire.specs.Inputs.{after}
 use Rattle.bor_wire.specs.Runs.{AreReplies, AreSpelled}
 use Rattle.bor_wire.specs.Reports.{AreReports}

@@ -4,7 +4,7 @@ use Rattle.bor_register.specs.Register.{Register}
 use Rattle.bor_desk.specs.declared.reply.DeskReply.{DeskReply}
 use Rattle.bor_desk.specs.Outcomes.{IsTold}
 use Rattle.bor_desk.specs.Runs.{exchange}
-use Rattle.bor_http.specs.Spelling.Spell.{Spelled}
+use Rattle.bor_wire.specs.Spelling.Spell.{Spelled}
 use Rattle.bor_wire.specs.Rendering.Replies.{Said, refused, answered, bytes_of}
 
 -- If the input spells no request, its refusal is said; else a reply that tells the step's answer.

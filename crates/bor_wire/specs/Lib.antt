@@ -1,3 +1,4 @@
+pub mod Spelling
 pub mod Inputs
 pub mod Runs
 pub mod Reports

@@ -4,7 +4,7 @@ use Rattle.bor_register.specs.Register.{Register, caller_of}
 use Rattle.bor_desk.specs.declared.refusal.Refusal.TheVariants.{NoAgent}
 use Rattle.bor_desk.specs.declared.reply.DeskReply.TheVariants.{Refused}
 use Rattle.bor_desk.specs.Runs.{history}
-use Rattle.bor_http.specs.Spelling.Spell.{Spelled, Spells}
+use Rattle.bor_wire.specs.Spelling.Spell.{Spelled, Spells}
 use Rattle.bor_wire.specs.Rendering.Replies.{Said, refused, answered}
 use Rattle.bor_wire.specs.Inputs.{IsSaid, IsReplyTo, after}
 use Rattle.bor_wire.specs.Runs.{register_left}

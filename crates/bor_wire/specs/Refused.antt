@@ -1,7 +1,7 @@
 -- What a refusal leaves.
 use Rattle.std.specs.Prelude.{◌≡◌, ◌≢◌, ◌≤◌, ℕ, List, [], ◌∷◌, ◌++◌}
 use Rattle.bor_register.specs.Register.{Register}
-use Rattle.bor_http.specs.Spelling.Spell.{Spelled}
+use Rattle.bor_wire.specs.Spelling.Spell.{Spelled}
 use Rattle.bor_wire.specs.Rendering.Heads.{status_line}
 use Rattle.bor_wire.specs.Inputs.{after}
 

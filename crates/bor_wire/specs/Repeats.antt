@@ -9,7 +9,7 @@ use Rattle.bor_desk.specs.declared.refusal.Refusal.TheVariants.{KeyReused}
 use Rattle.bor_desk.specs.declared.request.Request.TheVariants.{Lodge}
 use Rattle.bor_desk.specs.declared.reply.DeskReply.TheVariants as tell
 use Rattle.bor_desk.specs.Runs.{Asked}
-use Rattle.bor_http.specs.Spelling.Spell.{Spelled, Spells}
+use Rattle.bor_wire.specs.Spelling.Spell.{Spelled, Spells}
 use Rattle.bor_wire.specs.Rendering.Replies.{Said, answered, status_of, body_of, bytes_of}
 use Rattle.bor_wire.specs.Inputs.{IsSaid, IsReplyTo, after}
 use Rattle.bor_wire.specs.Refused.{HasStatus}

@@ -9,7 +9,7 @@ use Rattle.bor_register.specs.Register.{Register, caller_of}
 use Rattle.bor_desk.specs.Operations.Sight.{seen_by}
 use Rattle.bor_desk.specs.declared.request.Request.TheVariants as ask
 use Rattle.bor_desk.specs.declared.reply.DeskReply.TheVariants as tell
-use Rattle.bor_http.specs.Spelling.Spell.{Spelled}
+use Rattle.bor_wire.specs.Spelling.Spell.{Spelled}
 use Rattle.bor_wire.specs.Rendering.Replies.{Said, answered, status_of, bytes_of}
 use Rattle.bor_wire.specs.Inputs.{IsSaid, after}
 

@@ -16,8 +16,8 @@
 //! own filings, its own exchanges, the day at each of them, and what the others had published then
 //! ([`laws`]).
 //!
-//! A connection serves one request, so each reply has `Connection: close`; [`rendering`] makes its
-//! bytes. Nothing here knows of sockets or of how a register is kept.
+//! What a request asks is spelled out by [`spelling`]. A connection serves one request, so each
+//! reply has `Connection: close`; [`rendering`] makes its bytes. Nothing here knows of sockets or of how a register is kept.
 #![tactic(auto)]
 
 pub mod laws;
@@ -25,10 +25,11 @@ mod outcome;
 mod outgoing;
 pub mod rendering;
 mod replies;
+pub mod spelling;
 
 pub use crate::rendering::{UNAVAILABLE, render};
+pub use crate::spelling::{Asking, parse};
 pub use bor_http::incoming::{Counted, Name, Path, RawRequest, Refusal, WireFault, read_request};
-pub use bor_http::spelling::{Asking, parse};
 pub use outcome::{Outcome, exchange};
 pub use outgoing::{Outgoing, Response, respond};
 pub use replies::{FullReply, Reply, replay};

@@ -9,9 +9,9 @@ ghost use Rattle.bor_wire.specs.Exchanges.{IfRefused, IsExchanged, IsWritten, On
 
 use crate::outgoing::{Outgoing, read_reply};
 use crate::rendering::UNAVAILABLE;
+use crate::spelling::Paths;
 use bor_desk::operations::Keep;
 use bor_http::incoming::{Counted, send};
-use bor_http::spelling::Paths;
 use std::alloc::Global;
 use std::io::{Read, Write};
 

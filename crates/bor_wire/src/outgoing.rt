@@ -7,8 +7,8 @@ ghost use Rattle.bor_desk.specs.Outcomes.{IsOrderedFor, agent_of};
 ghost use Rattle.bor_http.specs.declared.incoming.fault.Refusal as fault;
 ghost use Rattle.bor_http.specs.Incoming.Message.{request_limit};
 ghost use Rattle.bor_http.specs.Incoming.Reading.{TakesAtMost};
-ghost use Rattle.bor_http.specs.Spelling.Spell.{asked_view, spell};
-ghost use Rattle.bor_http.specs.Spelling.Steps.{Finds};
+ghost use Rattle.bor_wire.specs.Spelling.Spell.{asked_view, spell};
+ghost use Rattle.bor_wire.specs.Spelling.Steps.{Finds};
 ghost use Rattle.bor_wire.specs.Rendering.Limits.{reserved};
 ghost use Rattle.bor_wire.specs.Rendering.Statuses.{desk_status};
 ghost use Rattle.bor_wire.specs.Exchanges.{ByOutgoing, GoesOut, GoesOutRefused, HasStatus, IfNoChange, IfRefusing, IsFor, IsRefusal, IsRendered, IsResponse, IsSent, IsToldFor, NamesWhoAsks, OnRefusal, OnSpelled, TellsAnswer, agent_spelled, faults_unread, left_by};
@@ -17,10 +17,10 @@ use crate::rendering::{
     RESERVED, UNAVAILABLE, desk_status, is_long, refusal_status, render, render_refusal,
     render_short,
 };
+use crate::spelling::{Asking, Paths, parse_by};
 use bor_desk::operations::Keep;
 use bor_desk::{Answered, DeskReply, answer_naming};
 use bor_http::incoming::{Counted, RawRequest, Refusal, WireFault, read_request};
-use bor_http::spelling::{Asking, Paths, parse_by};
 use bor_terms::AgentName;
 use std::alloc::Global;
 use std::io::Read;

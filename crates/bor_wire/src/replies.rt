@@ -4,7 +4,7 @@ ghost use Rattle.std.specs.Prelude.{◌≡◌, ℕ, List, IfOk, OnErr, length, m
 ghost use Rattle.bor_records.specs.Promises.{Kept, Promised};
 ghost use Rattle.bor_register.specs.Register.{IsOrdered};
 ghost use Rattle.bor_desk.specs.Operations.Legality.{IsLegal};
-ghost use Rattle.bor_http.specs.Spelling.Spell.{Spelled};
+ghost use Rattle.bor_wire.specs.Spelling.Spell.{Spelled};
 ghost use Rattle.bor_wire.specs.Inputs.{IsReplyTo, after};
 ghost use Rattle.bor_wire.specs.Runs.{AreReplies, AreSpelled, ByReply, register_left, served, full};
 ghost use Rattle.bor_wire.specs.Reports.{AreReports};
@@ -14,9 +14,9 @@ ghost use Rattle.bor_wire.specs.Turns.{InTurn, TakesTurn};
 
 use crate::outgoing::{Outgoing, read_reply};
 use crate::rendering::UNAVAILABLE;
+use crate::spelling::Paths;
 use bor_desk::operations::Keep;
 use bor_http::incoming::Counted;
-use bor_http::spelling::Paths;
 use std::alloc::{AllocError, Global};
 use std::marker::Model;
 

@@ -7,7 +7,7 @@ ghost use Rattle.bor_program.specs.Logging.{IsNoteOf, MayAdd};
 
 use crate::log::Note;
 use bor_desk::operations::Keep;
-use bor_http::spelling::Paths;
+use bor_wire::spelling::Paths;
 use bor_wire::{Outgoing, Response, respond};
 use std::alloc::Global;
 use std::mem;

@@ -1,6 +1,6 @@
 use Rattle.std.proofs.Common.{ap, sym, ◌∙◌}
 use Rattle.bor_http.specs.Routes.Paths.{path_of}
-use Rattle.bor_http.proofs.OnSpelling.Texts.{path_in-text, path_in-other}
+use Rattle.bor_wire.proofs.OnSpelling.Texts.{path_in-text, path_in-other}
 use Rattle.bor_program.proofs.log.path_found.Goals as goal
 
 pub returns-in-Ok : goal.returns-in-Ok

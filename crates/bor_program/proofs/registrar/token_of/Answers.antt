@@ -1,8 +1,8 @@
 use Rattle.std.proofs.Common.{◌∙◌, ap, sym}
 use Rattle.std.proofs.lemmas.Result.{IfOk-weaker}
 use Rattle.bor_terms.specs.Texts.{is_token}
-use Rattle.bor_http.specs.Spelling.Parts.{fitting}
-use Rattle.bor_http.proofs.OnSpelling.Texts.{text_in-text, text_in-other}
+use Rattle.bor_wire.specs.Spelling.Parts.{fitting}
+use Rattle.bor_wire.proofs.OnSpelling.Texts.{text_in-text, text_in-other}
 use Rattle.bor_program.proofs.registrar.token_of.Goals as goal
 
 pub returns-in-Ok : goal.returns-in-Ok

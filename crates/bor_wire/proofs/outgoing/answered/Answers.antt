@@ -1,6 +1,6 @@
 use Rattle.bor_register.specs.Register.{caller_of}
 use Rattle.bor_desk.specs.Outcomes.{agent_of}
-use Rattle.bor_http.specs.Spelling.Spell.{asked_view}
+use Rattle.bor_wire.specs.Spelling.Spell.{asked_view}
 use Rattle.bor_wire.proofs.Outgoings.{rendered_goes, rendered_keeps, rendered_status, named_beside}
 use Rattle.bor_wire.proofs.outgoing.answered.Goals as goal
 

@@ -1,6 +1,6 @@
 use Rattle.std.proofs.Common.{None, Ok, Err, refl}
 use Rattle.bor_records.specs.Promises.{Promised}
-use Rattle.bor_http.specs.Spelling.Spell.{spell}
+use Rattle.bor_wire.specs.Spelling.Spell.{spell}
 use Rattle.bor_wire.specs.Exchanges.{IsFor, agent_spelled}
 use Rattle.bor_wire.proofs.Outgoings.{by_outgoing, if_refusing, nobody_named, on_any, on_spelled, refusal_goes, spelled_known, refused_out, is_that, nothing_out}
 use Rattle.bor_wire.proofs.outgoing.read_reply.Goals as goal

@@ -1,6 +1,6 @@
 use Rattle.std.proofs.Common.{◌≡◌, Ok}
 use Rattle.bor_desk.proofs.Steps.{ordered_for}
-use Rattle.bor_http.specs.Spelling.Spell.{asked_view, spell}
+use Rattle.bor_wire.specs.Spelling.Spell.{asked_view, spell}
 use Rattle.bor_wire.proofs.Outgoings.{if_refusing, nobody_named, refusal_goes, is_that}
 use Rattle.bor_wire.proofs.outgoing.reply_for.Goals as goal
 

@@ -1,6 +1,0 @@
-use Rattle.std.proofs.Common.{◌≡◌, drop}
-use Rattle.bor_http.specs.Spelling.Parts.{skip_spaces}
-use Rattle.bor_http.proofs.spelling.token.without_spaces.Given as goal
-
-abbrev pub invariant-loop-i : goal.invariant-loop-i
-invariant-loop-i l = skip_spaces (drop l.i l.bytes) ≡ skip_spaces l.bytes

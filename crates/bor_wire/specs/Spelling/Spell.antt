@@ -1,0 +1,71 @@
+-- What a whole input spells: a request of whoever has a token, or the first refusal.
+use Rattle.std.specs.Prelude.{◌≡◌, ℕ, ℤ, pos, List, [], drop, Option, Some, None, Result, unwrap_or}
+use Rattle.bods_read.specs.Outcome.{outcome}
+use Rattle.bor_desk.specs.declared.request.Request.{Request}
+use Rattle.bor_desk.specs.declared.request.Request.TheVariants as ask
+use Rattle.bor_desk.specs.Runs.{Asked}
+use Rattle.bor_http.specs.declared.incoming.fault.Refusal.{Refusal}
+use Rattle.bor_http.specs.Incoming.Message.{Parts, Message, IsTakenApart}
+use Rattle.bor_http.specs.declared.routes.route.Route.{Route}
+use Rattle.bor_http.specs.declared.routes.route.Route.TheVariants as routes
+use Rattle.bor_wire.specs.declared.spelling.asking.Asking.{Asking}
+use Rattle.bor_wire.specs.Spelling.Parts as part
+use Rattle.bor_http.specs.Incoming.Head.{head_end}
+use Rattle.bor_http.specs.Incoming.Refusals.{message_of}
+use Rattle.bor_wire.specs.Spelling.Refusals.{lines_of_message, refusals}
+
+abbrev pub Spelled : Type 0
+Spelled = Result Asked Refusal
+
+-- ---- what is asked; where a refusal stands, anything does
+
+abbrev pub text_or_any : Option (List ℕ) → List ℕ
+text_or_any text = unwrap_or text []
+
+abbrev pub day_or_any : Option ℤ → ℤ
+day_or_any day = unwrap_or day (pos 0)
+
+-- the request that a route asks for
+abbrev pub request_of : Option Route → Message → Request
+request_of None m = ask.Filings
+request_of (Some routes.Lodge) m = ask.Lodge (text_or_any (part.key m)) (day_or_any (part.due m)) m.body
+request_of (Some routes.Withdraw) m = ask.Withdraw (text_or_any (part.key m))
+request_of (Some routes.Filings) m = ask.Filings
+request_of (Some routes.File) m = ask.File (text_or_any (part.key m))
+request_of (Some routes.Published) m = ask.Published
+request_of (Some routes.Snapshot) m =
+    ask.Snapshot (text_or_any (part.agent m)) (text_or_any (part.declaration m)) (unwrap_or (part.date_or_none m) None)
+request_of (Some routes.Chains) m =
+    ask.Chains (record {
+      agent = text_or_any (part.agent m);
+      declaration = text_or_any (part.declaration m);
+      rec = text_or_any (part.rec m);
+    }) (unwrap_or (part.date_or_none m) None)
+request_of (Some routes.Day) m = ask.Day (day_or_any (part.date m))
+request_of (Some routes.Enrol) m = ask.Enrol (text_or_any (part.new_name m)) (text_or_any (part.new_token m))
+
+-- the request of a message, and the token of whoever asks
+unfoldable pub asked : Message → Asked
+asked m = record { token = text_or_any (part.token m.parts.fields); request = request_of (part.route m) m }
+
+-- what a message spells: the first of the refusals, or what it asks
+unfoldable pub spell : Message → Spelled
+spell m = outcome (lines_of_message m) (asked m)
+
+-- ---- a whole input
+
+abbrev pub asked_behind : List ℕ → Option ℕ → Option Parts → Asked
+asked_behind input (Some n) (Some parts) = asked (message_of parts (drop n input))
+asked_behind input end head = record { token = []; request = ask.Filings }
+
+-- what an input spells whose head is taken apart so
+unfoldable pub spelling : List ℕ → Option Parts → Spelled
+spelling input head = outcome (refusals input head) (asked_behind input (head_end input) head)
+
+-- the whole input spells this
+abbrev pub Spells : List ℕ → Spelled → Type 0
+Spells input spelled = (head : Option Parts) × IsTakenApart input head × (spelled ≡ spelling input head)
+
+-- a request that was read, without where it lies
+abbrev pub asked_view : Asking → Asked
+asked_view a = record { token = a.token; request = a.request }

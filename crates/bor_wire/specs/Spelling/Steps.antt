@@ -1,0 +1,86 @@
+-- What a message spells, one part looked at after the other: each refuses, or the next is looked at.
+use Rattle.std.specs.Prelude.{◌≡◌, List, Option, Some, None, Result, Ok, Err, ⊤}
+use Rattle.bor_terms.specs.Texts.{is_agent_name, is_ident}
+use Rattle.bor_records.specs.declared.links.node.Node.{Node}
+use Rattle.bor_desk.specs.declared.request.Request.{Request}
+use Rattle.bor_desk.specs.declared.request.Request.TheVariants as ask
+use Rattle.bor_http.specs.declared.incoming.fault.Name.{Name}
+use Rattle.bor_http.specs.declared.incoming.fault.Name.TheVariants as names
+use Rattle.bor_http.specs.declared.incoming.fault.Refusal.{Refusal}
+use Rattle.bor_http.specs.declared.incoming.fault.Refusal.TheVariants.{NoPath, WrongMethod, NoToken, BadQuery}
+use Rattle.bor_http.specs.declared.incoming.fault.WireFault.{WireFault}
+use Rattle.bor_http.specs.declared.incoming.fault.WireFault.TheVariants.{Refused, Read, Memory}
+use Rattle.bor_http.specs.Incoming.Message.{Message}
+use Rattle.bor_http.specs.Incoming.Steps.{◌>>=◌}
+use Rattle.bor_http.specs.declared.routes.route.Route.{Route}
+use Rattle.bor_http.specs.declared.routes.route.Route.TheVariants as routes
+use Rattle.bor_http.specs.Routes.Routes.{route_at}
+use Rattle.bor_wire.specs.Spelling.Parts as part
+use Rattle.bor_wire.specs.Spelling.Query.{TextPair}
+use Rattle.bor_wire.specs.Spelling.Spell.{Spelled}
+
+-- a fault that is told is the refusal that is stated, or want of memory; nothing was read
+abbrev pub Fails : {Y : Type 0} → WireFault → Result Y Refusal → Type 0
+Fails (Refused why) stated = stated ≡ Err why
+Fails Read stated = ⊥
+Fails Memory stated = ⊤
+
+-- what is found, seen by view, is what is stated
+abbrev pub Finds : {X Y : Type 0} → (X → Y) → Result X WireFault → Result Y Refusal → Type 0
+Finds view (Ok x) stated = stated ≡ Ok (view x)
+Finds view (Err fault) stated = Fails fault stated
+
+-- the part, or why there is none
+abbrev pub or_refuse : {A : Type 0} → Refusal → Option A → Result A Refusal
+or_refuse why None = Err why
+or_refuse why (Some x) = Ok x
+
+-- the name's part, or that it is bad
+abbrev pub named : {A : Type 0} → Name → Option A → Result A Refusal
+named name value = or_refuse (BadQuery name) value
+
+-- the record that the pairs of a query name
+unfoldable pub node_by_steps : List TextPair → Result Node Refusal
+node_by_steps pairs = do
+  agent ← named names.Agent (part.once (part.fitting is_agent_name) names.Agent pairs)
+  declaration ← named names.Declaration (part.once (part.fitting is_ident) names.Declaration pairs)
+  rec ← named names.Record (part.once (part.fitting is_ident) names.Record pairs)
+  Ok (record { agent = agent; declaration = declaration; rec = rec })
+
+unfoldable pub request_by_steps : Route → Message → Result Request Refusal
+request_by_steps routes.Lodge m = do
+  key ← named names.Key (part.key m)
+  due ← named names.Due (part.due m)
+  Ok (ask.Lodge key due m.body)
+request_by_steps routes.Withdraw m = do
+  key ← named names.Key (part.key m)
+  Ok (ask.Withdraw key)
+request_by_steps routes.Filings m = Ok ask.Filings
+request_by_steps routes.File m = do
+  key ← named names.Key (part.key m)
+  Ok (ask.File key)
+request_by_steps routes.Published m = Ok ask.Published
+request_by_steps routes.Snapshot m = do
+  agent ← named names.Agent (part.agent m)
+  declaration ← named names.Declaration (part.declaration m)
+  date ← named names.Date (part.date_or_none m)
+  Ok (ask.Snapshot agent declaration date)
+request_by_steps routes.Chains m = do
+  node ← node_by_steps (part.query m)
+  date ← named names.Date (part.date_or_none m)
+  Ok (ask.Chains node date)
+request_by_steps routes.Day m = do
+  date ← named names.Date (part.date m)
+  Ok (ask.Day date)
+request_by_steps routes.Enrol m = do
+  name ← named names.Name (part.new_name m)
+  token ← named names.Token (part.new_token m)
+  Ok (ask.Enrol name token)
+
+unfoldable pub spell_by_steps : Message → Spelled
+spell_by_steps m = do
+  path ← or_refuse NoPath (part.path m)
+  route ← or_refuse (WrongMethod path) (route_at path m.parts.method)
+  token ← or_refuse NoToken (part.token m.parts.fields)
+  request ← request_by_steps route m
+  Ok (record { token = token; request = request })

@@ -1,0 +1,101 @@
+//! The request of a message, and the token of whoever asks.
+ghost use Rattle.bor_wire.specs.Spelling.Spell.{asked_view, spell};
+ghost use Rattle.bor_wire.specs.Spelling.Query.{pair_texts};
+ghost use Rattle.bor_wire.specs.Spelling.Steps.{Finds, node_by_steps, request_by_steps};
+
+use crate::spelling::name::{agent_named, day_if_named, day_named, ident_named};
+use crate::spelling::query::{QueryPair, query_pairs};
+use crate::spelling::target::{key_at, path_at, split_at_first};
+use crate::spelling::token::{new_token, token_at};
+use bor_chains::Node;
+use bor_desk::Request;
+use bor_http::incoming::{Name, RawRequest, Refusal, WireFault};
+use bor_http::routes::{Paths, Route, route_at};
+use bor_terms::{Listed, Token};
+use std::alloc::Global;
+
+/// A request, and the token of whoever asks.
+#[derive(Drop)]
+pub struct Asking {
+    /// The bytes behind `Bearer`.
+    pub token: Token,
+    /// What is asked for.
+    pub request: Request,
+}
+
+// The record that a query names.
+#[tactic(auto, unfolding(crate::specs::Spelling::Steps::node_by_steps))]
+fn node_named(alloc: Global, pairs: &[QueryPair]) -> Result<Node, WireFault>
+    ensures { Finds (λ node. node) result (node_by_steps (pair_texts pairs.now)) }
+{
+    Ok(Node {
+        agent: agent_named(alloc, pairs, Name::Agent)?,
+        declaration: ident_named(alloc, pairs, Name::Declaration)?,
+        rec: ident_named(alloc, pairs, Name::Record)?,
+    })
+}
+
+// The request that a route asks for, from the path, the query and the body.
+#[tactic(auto, unfolding(crate::specs::Spelling::Steps::request_by_steps))]
+fn request_for(alloc: Global, route: Route, raw: &RawRequest) -> Result<Request, WireFault>
+    ensures { Finds (λ request. request) result (request_by_steps route raw.now) }
+{
+    let (path, query) = split_at_first(raw.target(), b'?');
+    let pairs = query_pairs(alloc, query)?;
+    match route {
+        Route::Lodge => Ok(Request::Lodge {
+            key: key_at(alloc, path)?,
+            due: day_named(&pairs, Name::Due)?,
+            file: Listed::new(Vec::from_slice(alloc, raw.body())?),
+        }),
+        Route::Withdraw => Ok(Request::Withdraw {
+            key: key_at(alloc, path)?,
+        }),
+        Route::Filings => Ok(Request::Filings),
+        Route::File => Ok(Request::File {
+            key: key_at(alloc, path)?,
+        }),
+        Route::Published => Ok(Request::Published),
+        Route::Snapshot => Ok(Request::Snapshot {
+            agent: agent_named(alloc, &pairs, Name::Agent)?,
+            declaration: ident_named(alloc, &pairs, Name::Declaration)?,
+            date: day_if_named(&pairs, Name::Date)?,
+        }),
+        Route::Chains => Ok(Request::Chains {
+            entity: node_named(alloc, &pairs)?,
+            date: day_if_named(&pairs, Name::Date)?,
+        }),
+        Route::Day => Ok(Request::Day {
+            date: day_named(&pairs, Name::Date)?,
+        }),
+        Route::Enrol => Ok(Request::Enrol {
+            name: agent_named(alloc, &pairs, Name::Name)?,
+            token: new_token(alloc, raw.body())?,
+        }),
+    }
+}
+
+/// What a message spells: the request and the token of whoever asks, or the first refusal of those
+/// that are about a path, a method, a token and names. Want of memory is answered where it is met;
+/// the reader is not asked, so [`WireFault::Read`] is never answered.
+pub fn parse(alloc: Global, raw: &RawRequest) -> Result<Asking, WireFault>
+    ensures { Finds asked_view result (spell raw.now) }
+{
+    parse_by(alloc, &Paths::new(alloc)?, raw)
+}
+
+/// What a message spells, as [`parse`] gives it, by paths that were made before: for whoever has
+/// many requests.
+#[tactic(auto, using(crate::proofs::OnSpelling::Stepwise::stepwise), unfolding(crate::specs::Spelling::Steps::spell_by_steps))]
+pub fn parse_by(alloc: Global, paths: &Paths, raw: &RawRequest) -> Result<Asking, WireFault>
+    ensures { Finds asked_view result (spell raw.now) }
+{
+    let (path, _) = split_at_first(raw.target(), b'?');
+    let path = path_at(paths, path)?;
+    let Some(route) = route_at(path, raw.method()) else {
+        return Err(WireFault::Refused(Refusal::WrongMethod(path)));
+    };
+    let token = token_at(alloc, raw)?;
+    let request = request_for(alloc, route, raw)?;
+    Ok(Asking { token, request })
+}

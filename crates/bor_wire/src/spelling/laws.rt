@@ -1,0 +1,19 @@
+//! Laws of what inputs spell. Each function does nothing: its contract is the law.
+
+ghost use Rattle.bor_wire.specs.Spelling.Laws.{SpellsOne, MessageSpells, WhatFollowsIsPassedOver};
+
+/// An input spells one thing: a request of whoever has a token, or one refusal.
+pub fn spells_one()
+    ensures { SpellsOne }
+{}
+
+/// `read_request` and `parse` together give what the whole input spells.
+pub fn message_spells()
+    ensures { MessageSpells }
+{}
+
+/// What stands behind a request has no effect, nor what stands behind an input that is refused for
+/// another cause than that it ended.
+pub fn what_follows_is_passed_over()
+    ensures { WhatFollowsIsPassedOver }
+{}

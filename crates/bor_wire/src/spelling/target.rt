@@ -1,0 +1,57 @@
+//! The path and the query of a target, and the key in a path.
+ghost use Rattle.std.specs.Prelude.{◌≡◌, drop};
+ghost use Rattle.form_urlencoded.specs.Form.{split_once};
+ghost use Rattle.bor_http.specs.declared.incoming.fault.Refusal.TheVariants.{NoPath};
+ghost use Rattle.bor_http.specs.declared.incoming.fault.Name.TheVariants.{Key};
+ghost use Rattle.bor_wire.specs.Spelling.Parts.{path_in, key_in};
+ghost use Rattle.bor_wire.specs.Spelling.Steps.{Finds, or_refuse, named};
+
+use bor_http::incoming::{Name, Path, Refusal, WireFault};
+use bor_http::routes::Paths;
+use bor_terms::LodgeKey;
+use std::alloc::Global;
+
+/// The bytes before the first one that is this, and those behind it.
+pub(crate) fn split_at_first(bytes: &[u8], byte: u8) -> (&[u8], &[u8])
+    ensures before { result.0.now ≡ (split_once byte bytes.now).0 }
+    ensures behind { result.1.now ≡ (split_once byte bytes.now).1 }
+{
+    match bytes.iter().position(|b| *b == byte) {
+        Some(i) => (&bytes[..i], &bytes[i + 1..]),
+        None => (bytes, &[]),
+    }
+}
+
+/// The path that bytes are.
+pub(crate) fn path_at(paths: &Paths, text: &[u8]) -> Result<Path, WireFault>
+    ensures { Finds (λ path. path) result (or_refuse NoPath (path_in text.now)) }
+{
+    let Ok(text) = str::from_utf8(text) else {
+        return Err(WireFault::Refused(Refusal::NoPath));
+    };
+    match paths.find(text) {
+        Some(path) => Ok(path),
+        None => Err(WireFault::Refused(Refusal::NoPath)),
+    }
+}
+
+// What stands behind `/filings/`.
+fn behind_filings(path: &[u8]) -> &[u8]
+    ensures { result.now ≡ drop 9 path.now }
+{
+    if path.len() < 9 { &[] } else { &path[9..] }
+}
+
+/// The key in the path of a filing.
+pub(crate) fn key_at(alloc: Global, path: &[u8]) -> Result<LodgeKey, WireFault>
+    ensures { Finds (λ key. key) result (named Key (key_in path.now)) }
+{
+    let (segment, _) = split_at_first(behind_filings(path), b'/');
+    let Ok(text) = str::from_utf8(segment) else {
+        return Err(WireFault::Refused(Refusal::BadQuery(Name::Key)));
+    };
+    match LodgeKey::read(alloc, text)? {
+        Some(key) => Ok(key),
+        None => Err(WireFault::Refused(Refusal::BadQuery(Name::Key))),
+    }
+}
