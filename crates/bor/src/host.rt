@@ -80,7 +80,9 @@ impl<S: Start + Copy> Registers for Host<'_, S> {
         self.told.set(time(self.rt));
         let _ = match stage {
             Stage::Opening(path) => writeln!(errors, "bor: opening {path}"),
-            Stage::Reading(read, all) => writeln!(errors, "bor: read {read} of {all} files"),
+            Stage::Reading { read, files } => {
+                writeln!(errors, "bor: read {read} of {files} files")
+            }
             Stage::Answering(count) => writeln!(errors, "bor: answering {count} requests"),
             Stage::Reporting => writeln!(errors, "bor: reporting"),
         };

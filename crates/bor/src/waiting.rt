@@ -12,6 +12,10 @@ use std::net::{TcpListener, TcpStream};
 use std::os::fd::{AsRawFd, RawFd};
 use std::time::{Clock, Duration};
 
+// The number of a listener among the sockets that are waited for: the first that is no client's
+// place.
+const LISTENER: usize = PLACES;
+
 /// Waits for the sockets of a listener and its clients, and logs on standard error what was
 /// answered, where that is asked for. What it needs is made when it is first asked for.
 #[derive(Drop)]
@@ -59,7 +63,7 @@ impl Watch<TcpListener> for Waiting<'_> {
     ghost does = { λ _ _ _. ⊤ };
 
     fn watch_listener(&mut self, listener: &TcpListener) -> io::Result<()> {
-        self.register(listener.as_raw_fd(), PLACES, Interest::READABLE)
+        self.register(listener.as_raw_fd(), LISTENER, Interest::READABLE)
     }
 
     fn accept(&mut self, listener: &TcpListener) -> io::Result<Option<TcpStream>> {
@@ -82,7 +86,7 @@ impl Watch<TcpListener> for Waiting<'_> {
         self.woken = time(self.rt);
         for event in events.iter() {
             let Token(number) = event.token();
-            if number == PLACES {
+            if number == LISTENER {
                 places.call();
             } else {
                 places.wake(number);

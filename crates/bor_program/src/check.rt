@@ -101,11 +101,11 @@ fn report<'a, O: Output>(alloc: Global, bytes: &[u8], output: &mut O) -> Result<
 {
     let text = check_text(alloc, bytes)?;
     write_text(output, text.bytes.as_slice())?;
-    Ok(end_of(&text))
+    Ok(text_status(&text))
 }
 
 /// How a command ends that printed this text.
-pub fn end_of(text: &Text) -> Status
+pub fn text_status(text: &Text) -> Status
     ensures { exit_code result ≡ report_status text.now.refused }
 {
     if text.refused {

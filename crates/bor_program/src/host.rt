@@ -200,8 +200,13 @@ pub struct Opened<K> {
 pub enum Stage<'a> {
     /// The register in the file of this name is opened next.
     Opening(&'a str),
-    /// Of all files of requests so many were read.
-    Reading(usize, usize),
+    /// So many of all the files of requests were read.
+    Reading {
+        /// How many were read.
+        read: usize,
+        /// How many there are.
+        files: usize,
+    },
     /// So many requests are answered next.
     Answering(usize),
     /// A report is made next.

@@ -51,7 +51,10 @@ pub fn read_inputs<R: NamedFiles + AllocGlobal, H: Registers, E: Write>(
     let mut requests = Vec::new(rt.alloc());
     let mut status = Status::Done;
     for name in files {
-        host.reach(Stage::Reading(requests.len(), files.len()));
+        host.reach(Stage::Reading {
+            read: requests.len(),
+            files: files.len(),
+        });
         match read_input(rt, name) {
             Ok(bytes) => add(&mut requests, bytes)?,
             Err(error) if error.kind() == ErrorKind::OutOfMemory => return Err(Failure::Memory),

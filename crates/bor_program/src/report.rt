@@ -8,7 +8,7 @@ ghost use Rattle.bor_program.specs.Performing.{Reports};
 ghost use Rattle.bor_program.specs.Program.{exit_code};
 ghost use Rattle.bor_program.specs.Reporting.{EndsTelling, IsReportOf, IsToldOf, day_in};
 
-use crate::check::end_of;
+use crate::check::text_status;
 use crate::failure::Failure;
 use crate::host::{OpenRegister, Registers, Stage};
 use crate::output::{Output, write_text};
@@ -70,7 +70,7 @@ pub fn report_on<'a, K: OpenRegister, O: Output>(
 {
     let text = register.report(alloc, asked)?;
     write_text(output, text.bytes.as_slice())?;
-    Ok(end_of(&text))
+    Ok(text_status(&text))
 }
 
 /// The text that tells who stands behind an entity, by the register of a keep.

@@ -86,7 +86,7 @@ where
     let mut waiter = host.waiter(asked.log);
     let limits = Limits::of_a_server();
     let served = register.serve(rt, &listener, &mut waiter, asked.connections, limits);
-    Ok(end_of(served))
+    Ok(server_status(served))
 }
 
 // Prints that the port is listened on.
@@ -102,7 +102,7 @@ fn announce<'a, O: Output>(alloc: Global, port: u16, output: &mut O) -> Result<(
 }
 
 // How a server ended that gave this status: 0, or 3 where a connection failed.
-fn end_of(served: u8) -> Status
+fn server_status(served: u8) -> Status
     ensures { (served ≡ 0) ⊎ (served ≡ 3) → exit_code result ≡ served }
 {
     if served == 0 {

@@ -13,7 +13,7 @@ pub returns-clause-hosted : goal.returns-clause-hosted
 returns-clause-hosted g c =
     let limits = c.of_a_server-limits in
     let over = c.serve-served.ensures.streams in
-    let same = sym (c.end_of.ensures (either _ _ over.served.served.status)) in
+    let same = sym (c.server_status.ensures (either _ _ over.served.served.status)) in
     record {
       host = c.args.host.now;
       listener = c.in-Some.listener;
