@@ -10,3 +10,4 @@ pub mod Examples
 pub mod StepExamples
 pub mod Worlds
 pub mod OnOperations
+pub mod OnMemory

@@ -8,3 +8,4 @@ pub mod Limits
 pub mod CheckReport
 pub mod ChainReport
 pub mod Operations
+pub mod Memory

@@ -10,4 +10,3 @@ pub mod SeenRows
 pub mod Withdrawals
 pub mod Examples
 pub mod OneAgent
-pub mod OnKeeping

@@ -8,4 +8,3 @@ pub mod Withdrawal
 pub mod Forms
 pub mod Places
 pub mod Seen
-pub mod Keeping

@@ -46,7 +46,7 @@ impl AcceptedFiling {
     }
 
     /// Whether the viewer sees it, a filing of the agent, on a day.
-    pub(crate) fn is_visible(&self, viewer: &AgentName, agent: &AgentName, day: Day) -> bool
+    pub fn is_visible(&self, viewer: &AgentName, agent: &AgentName, day: Day) -> bool
         ensures { result ≡ is_visible viewer.now day agent.now self.now }
     {
         if viewer == agent {

@@ -15,8 +15,8 @@
 //!
 //! Who keeps members calls what is told of them here, wherever it gets them from: who has a token
 //! ([`caller_with`]), filings and their lines, live statements ([`last_live`],
-//! [`any_live_has_id`]), the rows that a viewer sees, and what is published. What keeps a register
-//! stands in [`keeping`].
+//! [`any_live_has_id`]), the rows that a viewer sees, and what is published. What a keep of a
+//! register promises stands in [`keeping`].
 #![tactic(auto)]
 
 mod caller;
@@ -42,4 +42,5 @@ pub use member::{
 };
 pub use publication::all_published;
 pub use rows::{all_visible, rows_seen};
+pub use statements::known;
 pub use withdrawal::is_succeeded;

@@ -12,7 +12,7 @@ use bor_terms::{Day, Ident, Listed};
 use std::alloc::{AllocError, Global};
 
 /// What is known of a statement that is due on a day.
-pub(crate) fn known(statement: &Statement, due: Day) -> Last
+pub fn known(statement: &Statement, due: Day) -> Last
     ensures { result ≡ known_of (as_live due statement.now) }
 {
     Last {

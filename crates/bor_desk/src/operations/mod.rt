@@ -29,7 +29,8 @@ mod lodging;
 mod registrar;
 mod withdrawal;
 
-pub use bor_register::keeping::{Keep, ListKeep};
+pub use crate::memory::ListKeep;
+pub use bor_register::keeping::Keep;
 pub use bor_register::{
     AcceptedFiling, Caller, Filing, FilingLine, Member, Outward, State, StoreFault,
 };

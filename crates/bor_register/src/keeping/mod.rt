@@ -1,4 +1,4 @@
-//! What keeps a register, and the register in memory.
+//! What keeps a register, in memory or in tables.
 //!
 //! Any [`Keep`] keeps a register of filings:
 //!
@@ -11,25 +11,10 @@
 //! }
 //! ```
 //!
-//! [`ListKeep`] does in memory:
-//!
-//! ```
-//! let mut keep = ListKeep::new(alloc, registrar, today);
-//! enrol(&mut keep, &alder, &token)?;
-//! assert!(rt; keep.has_agent(&alder)?);
-//! assert_eq!(rt; keep.filings(&alder)?.len(), 0);
-//! ```
-//!
-//! A keep does what it is asked and tests nothing of it: `bor_desk::operations`, which hands all of
-//! this on, says which lodging, which withdrawal and which day may be.
+//! A keep does what it is asked and tests nothing of it: `bor_desk::operations`, which hands this
+//! on, says which lodging, which withdrawal and which day may be. The register in memory is
+//! `bor_desk::memory::ListKeep`.
 
-mod index;
 mod keep;
-mod last_asked;
-mod list_keep;
-mod sames;
-mod sight;
-mod standing;
 
 pub use keep::Keep;
-pub use list_keep::ListKeep;

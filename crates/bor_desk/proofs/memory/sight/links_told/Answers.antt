@@ -1,0 +1,28 @@
+use Rattle.std.proofs.Common.{◌≡◌, ◌↔◌, ◌∙◌, List, Contains, ap, sym, subst}
+use Rattle.std.specs.List.{filter_map}
+use Rattle.bor_records.specs.declared.links.node.Node.{Node}
+use Rattle.bor_records.specs.Links.Nodes.{node_cmp}
+use Rattle.bor_chains.specs.Candidates.{link_at}
+use Rattle.bor_chains.proofs.ByRecord.{links_told, no_links}
+use Rattle.bor_desk.specs.Memory.Indexed.{under}
+use Rattle.bor_desk.specs.Memory.Sighted.{rows_in_sight}
+use Rattle.bor_desk.proofs.OnMemory.Sighted.{links_covered}
+use Rattle.bor_desk.proofs.OnMemory.Told.{told_then}
+use Rattle.bor_desk.proofs.memory.sight.links_told.Goals as goal
+
+pub returns-then-not-is_entity : goal.returns-then-not-is_entity
+returns-then-not-is_entity c =
+    let sight = c.args.sight.now in
+    no_links sight.day (rows_in_sight sight) c.args.node.now c.new.result.items c.new.ensures.items (sym c.is_entity.ensures ∙ c.if-not-is_entity.true)
+
+pub returns : goal.returns
+returns c =
+    let sight = c.args.sight.now in
+    let n : Node = c.args.node.now in
+    let found : c.in_ok-found.found.items ≡ under node_cmp sight.index.now.naming n = c.in_ok-found.ensures ∙ c.naming.ensures in
+    let entity = sym c.is_entity.ensures ∙ c.if-not-is_entity.false in
+    told_then c.links_of.result _ _
+    (λ links h. links_told sight.day (rows_in_sight sight) n c.in_ok-records.records.items links.items (h entity ∙ ap (filter_map (link_at sight.day (rows_in_sight sight) n)) c.deref.ensures.value)
+    (links_covered sight.viewer.now sight.today sight.members.now c.requires.ordered (under node_cmp sight.index.now.naming) c.requires.index.naming n c.in_ok-records.records.items
+    (λ k. subst (λ (ns : List Node). Contains c.in_ok-records.records.items k ↔ Contains ns k) found (c.in_ok-records.ensures.same k))))
+    c.links_of.ensures

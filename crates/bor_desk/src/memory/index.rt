@@ -1,0 +1,336 @@
+//! Maps beside the filings of a register in memory, so that what is asked of a record takes no
+//! scan.
+
+ghost use Rattle.std.specs.Prelude.{◌≡◌, ◌++◌, ◌∷◌, [], OnOk, IfOk, cond, map};
+ghost use Rattle.std.specs.Ordering.{is_eq};
+ghost use Rattle.std.proofs.lemmas.Map.Lookups.{CmpEqualImpliesEq};
+ghost use Rattle.bor_records.specs.Links.Nodes.{node_cmp};
+ghost use Rattle.bor_records.specs.Links.Series.{stated};
+ghost use Rattle.bor_records.specs.Links.Signs.{by_identifier, sign_cmp};
+ghost use Rattle.bor_desk.specs.Memory.Indexed.{AreNoted, IsGrown, IsIndex, IsNoted, key_cmp, key_of, signs_of, subjects_of, under};
+ghost use Rattle.bor_desk.specs.Memory.Sited.{places_from};
+
+use bods_read::{Details, Identifier, Statement};
+use bor_records::links::{Node, Sign};
+use bor_terms::{AgentName, Ident};
+use std::alloc::{AllocError, Global};
+use std::collections::BTreeMap;
+
+/// Where an agent's statement stands: in which of the agent's filings, and where there, both from
+/// 0.
+#[derive(Clone, Copy)]
+pub(crate) struct Place {
+    pub(crate) filing: usize,
+    pub(crate) statement: usize,
+}
+
+/// An agent's statement, by its identifier. The identifier is compared first: most statements are
+/// of few agents.
+#[derive(Drop, PartialEq, Eq, PartialOrd, Ord)]
+pub(crate) struct StatementKey {
+    pub(crate) id: Ident,
+    pub(crate) agent: AgentName,
+}
+
+/// By record and by identifier the places of an agent's statements, in order of acceptance; by
+/// subject the relationships that have named it; by sign the entities that have had it. A place may
+/// have lost its statement, and a record that was found may name something else by now.
+#[derive(Drop)]
+pub(crate) struct Index {
+    pub(crate) series: BTreeMap<Node, Vec<Place>>,
+    pub(crate) named: BTreeMap<StatementKey, Vec<Place>>,
+    pub(crate) naming: BTreeMap<Node, Vec<Node>>,
+    pub(crate) signed: BTreeMap<Sign, Vec<Node>>,
+}
+
+impl Index {
+    /// The maps of no filings.
+    pub(crate) fn new(alloc: Global) -> Index
+        ensures { IsIndex [] result }
+    {
+        Index {
+            series: BTreeMap::new(alloc),
+            named: BTreeMap::new(alloc),
+            naming: BTreeMap::new(alloc),
+            signed: BTreeMap::new(alloc),
+        }
+    }
+
+    /// The maps with the statements of the agent's filing at place `filing`, counted from 0.
+    pub(crate) fn with_filing(
+        self,
+        alloc: Global,
+        agent: &AgentName,
+        filing: usize,
+        statements: &[Statement],
+    ) -> Result<Index, AllocError>
+        ensures { IfOk result (λ index. IsGrown agent.now filing statements.now self index) }
+    {
+        let Index {
+            mut series,
+            mut named,
+            mut naming,
+            mut signed,
+        } = self;
+        add_series(alloc, &mut series, agent, filing, statements)?;
+        add_named(alloc, &mut named, agent, filing, statements)?;
+        add_naming(alloc, &mut naming, agent, statements)?;
+        add_signed(alloc, &mut signed, agent, statements)?;
+        Ok(Index {
+            series,
+            named,
+            naming,
+            signed,
+        })
+    }
+
+    /// The places of a record's statements.
+    pub(crate) fn places_of(&self, node: &Node) -> &[Place]
+        ensures { result.now ≡ under node_cmp self.now.series node.now }
+    {
+        match self.series.get(node) {
+            Some(places) => places,
+            None => &[],
+        }
+    }
+
+    /// The places of the statements with an identifier.
+    pub(crate) fn places_named(&self, key: &StatementKey) -> &[Place]
+        ensures { result.now ≡ under key_cmp self.now.named key.now }
+    {
+        match self.named.get(key) {
+            Some(places) => places,
+            None => &[],
+        }
+    }
+
+    /// The relationships that have named a record as their subject, some maybe more than once.
+    pub(crate) fn naming(&self, subject: &Node) -> &[Node]
+        ensures { result.now ≡ under node_cmp self.now.naming subject.now }
+    {
+        match self.naming.get(subject) {
+            Some(records) => records,
+            None => &[],
+        }
+    }
+
+    /// The entities that have had a sign, some maybe more than once.
+    pub(crate) fn signed(&self, sign: &Sign) -> &[Node]
+        ensures { result.now ≡ under sign_cmp self.now.signed sign.now }
+    {
+        match self.signed.get(sign) {
+            Some(records) => records,
+            None => &[],
+        }
+    }
+}
+
+// Puts a value after those under a key. Most keys have one.
+fn put<K: Ord + Drop, V: Drop>(
+    alloc: Global,
+    map: &mut BTreeMap<K, Vec<V>>,
+    key: K,
+    value: V,
+) -> Result<(), AllocError>
+    ensures at { OnOk result (under K.cmp map.new key ≡ under K.cmp map.old key ++ value ∷ []) }
+    ensures each { OnOk result ((q : K) → under K.cmp map.new q
+        ≡ cond (is_eq (K.cmp key q)) (under K.cmp map.old key ++ value ∷ [])
+        (under K.cmp map.old q)) }
+{
+    let mut items = match map.remove(&key) {
+        Some(items) => items,
+        None => Vec::with_capacity(alloc, 1)?,
+    };
+    items.push(value)?;
+    map.insert(key, items)?;
+    Ok(())
+}
+
+/// A record of an agent's declaration.
+pub(crate) fn node_named(
+    alloc: Global,
+    agent: &AgentName,
+    declaration: &Ident,
+    rec: &Ident,
+) -> Result<Node, AllocError>
+    ensures { IfOk result (λ node.
+        node ≡ record { agent = agent.now; declaration = declaration.now; rec = rec.now }) }
+{
+    Ok(Node {
+        agent: agent.copy(alloc)?,
+        declaration: declaration.copy(alloc)?,
+        rec: rec.copy(alloc)?,
+    })
+}
+
+/// The record that an agent's statement is of.
+pub(crate) fn record_of(
+    alloc: Global,
+    agent: &AgentName,
+    statement: &Statement,
+) -> Result<Node, AllocError>
+    ensures { IfOk result (λ node. node ≡ stated agent.now statement.now) }
+{
+    node_named(alloc, agent, &statement.declaration, &statement.rec)
+}
+
+// Puts the places of a filing's statements under their records.
+fn add_series(
+    alloc: Global,
+    series: &mut BTreeMap<Node, Vec<Place>>,
+    agent: &AgentName,
+    filing: usize,
+    statements: &[Statement],
+) -> Result<(), AllocError>
+    ensures { OnOk result ((n : Node) → under node_cmp series.new n
+        ≡ under node_cmp series.old n
+        ++ places_from (λ s. is_eq (node_cmp (stated agent.now s) n)) filing 0 statements.now) }
+{
+    for (i, statement) in statements.iter().enumerate() {
+        let key = record_of(alloc, agent, statement)?;
+        put(
+            alloc,
+            series,
+            key,
+            Place {
+                filing,
+                statement: i,
+            },
+        )?;
+    }
+    Ok(())
+}
+
+// Puts the places of a filing's statements under the statements' identifiers.
+fn add_named(
+    alloc: Global,
+    named: &mut BTreeMap<StatementKey, Vec<Place>>,
+    agent: &AgentName,
+    filing: usize,
+    statements: &[Statement],
+) -> Result<(), AllocError>
+    ensures { OnOk result ((k : StatementKey) → under key_cmp named.new k
+        ≡ under key_cmp named.old k
+        ++ places_from (λ s. is_eq (key_cmp (key_of agent.now s) k)) filing 0 statements.now) }
+{
+    for (i, statement) in statements.iter().enumerate() {
+        let key = StatementKey {
+            id: statement.id.copy(alloc)?,
+            agent: agent.copy(alloc)?,
+        };
+        put(
+            alloc,
+            named,
+            key,
+            Place {
+                filing,
+                statement: i,
+            },
+        )?;
+    }
+    Ok(())
+}
+
+// Puts a record under each of these keys.
+fn note<K: Ord + Drop>(
+    alloc: Global,
+    map: &mut BTreeMap<K, Vec<Node>>,
+    mut keys: Vec<K>,
+    node: &Node,
+) -> Result<(), AllocError>
+    ensures { OnOk result (CmpEqualImpliesEq K.cmp
+        → IsNoted keys.items node.now (under K.cmp map.old) (under K.cmp map.new)) }
+{
+    while let Some(key) = keys.pop() {
+        put(alloc, map, key, node.copy(alloc)?)?;
+    }
+    Ok(())
+}
+
+// The record that a statement names as its subject.
+fn subjects_of(
+    alloc: Global,
+    agent: &AgentName,
+    statement: &Statement,
+) -> Result<Vec<Node>, AllocError>
+    ensures { IfOk result (λ subjects. subjects.items ≡ subjects_of agent.now statement.now) }
+{
+    let mut subjects = Vec::new(alloc);
+    if let Details::Relationship {
+        subject: Some(subject),
+        ..
+    } = &statement.details
+    {
+        subjects.push(node_named(alloc, agent, &statement.declaration, subject)?)?;
+    }
+    Ok(subjects)
+}
+
+// Puts each relationship under the subject that it names.
+fn add_naming(
+    alloc: Global,
+    naming: &mut BTreeMap<Node, Vec<Node>>,
+    agent: &AgentName,
+    statements: &[Statement],
+) -> Result<(), AllocError>
+    ensures { OnOk result
+        (AreNoted subjects_of agent.now statements.now (under node_cmp naming.old)
+        (under node_cmp naming.new)) }
+{
+    for statement in statements {
+        let keys = subjects_of(alloc, agent, statement)?;
+        let node = record_of(alloc, agent, statement)?;
+        note(alloc, naming, keys, &node)?;
+    }
+    Ok(())
+}
+
+// Adds the signs of identifiers.
+fn push_signs(
+    alloc: Global,
+    signs: &mut Vec<Sign>,
+    identifiers: &[Identifier],
+) -> Result<(), AllocError>
+    ensures { OnOk result (signs.new.items ≡ signs.old.items ++ map by_identifier identifiers.now) }
+{
+    for identifier in identifiers {
+        signs.push(Sign::of_identifier(alloc, identifier)?)?;
+    }
+    Ok(())
+}
+
+// The signs of the entity that a statement makes.
+fn signs_of(
+    alloc: Global,
+    agent: &AgentName,
+    statement: &Statement,
+) -> Result<Vec<Sign>, AllocError>
+    ensures { IfOk result (λ signs. signs.items ≡ signs_of agent.now statement.now) }
+{
+    let mut signs = Vec::new(alloc);
+    if let Details::Entity { identifiers, .. } = &statement.details {
+        let node = record_of(alloc, agent, statement)?;
+        signs.push(Sign::of_node(alloc, &node)?)?;
+        push_signs(alloc, &mut signs, identifiers.as_slice())?;
+    }
+    Ok(signs)
+}
+
+// Puts each entity under its signs.
+fn add_signed(
+    alloc: Global,
+    signed: &mut BTreeMap<Sign, Vec<Node>>,
+    agent: &AgentName,
+    statements: &[Statement],
+) -> Result<(), AllocError>
+    ensures { OnOk result
+        (AreNoted signs_of agent.now statements.now (under sign_cmp signed.old)
+        (under sign_cmp signed.new)) }
+{
+    for statement in statements {
+        let keys = signs_of(alloc, agent, statement)?;
+        let node = record_of(alloc, agent, statement)?;
+        note(alloc, signed, keys, &node)?;
+    }
+    Ok(())
+}

@@ -1,0 +1,490 @@
+//! The register in memory.
+
+ghost use Rattle.std.specs.Prelude.{◌≡◌, ◌+◌, ◌++◌, ◌∷◌, [], ◌%◌, ◌^◌, true, IfOk, IfSome};
+ghost use Rattle.bor_records.specs.Admission.{last_of};
+ghost use Rattle.bor_records.specs.Settling.{has_id};
+ghost use Rattle.bor_records.specs.Links.Answers.{AreLinksInto, AreSame};
+ghost use Rattle.bor_records.specs.Links.Shown.{info_of};
+ghost use Rattle.bor_register.specs.declared.filing.AcceptedFiling.{AcceptedFiling};
+ghost use Rattle.bor_desk.specs.Memory.Indexed.{IsIndex};
+ghost use Rattle.bor_desk.specs.Memory.Sighted.{IsIndexed, in_sight};
+ghost use Rattle.bor_register.specs.Live.{live_of};
+ghost use Rattle.bor_register.specs.Register.{empty_register, filings_of, is_enrolled, with_filings};
+ghost use Rattle.bor_register.specs.Seen.{seen_at};
+
+use crate::memory::index::{Index, StatementKey, node_named};
+use crate::memory::last_asked::{LastAsked, forget};
+use crate::memory::sames::same_told;
+use crate::memory::sight::{Sight, links_told, node_told};
+use crate::memory::standing::{any_stands, last_known};
+use bods_read::Statement;
+use bor_chains::{LinkSource, ListSource};
+use bor_records::links::{Link, Node, NodeInfo};
+use bor_records::{Last, Row};
+use bor_register::keeping::Keep;
+use bor_register::{
+    Caller, Filing, FilingLine, Member, Outward, StoreFault, all_lines, all_published, all_visible,
+    any_live_has_id, caller_with, enrol_member, filing_under, is_enrolled, is_filed, is_succeeded,
+    last_live, line_under, own_filings, push_filing, rows_seen, withdraw_of,
+};
+use bor_terms::{AgentName, Day, Ident, LodgeKey, Token};
+use std::alloc::{AllocError, Global};
+use std::marker::Model;
+
+/// A register in memory: the plain implementation of `Keep`. It has no store that could fail, so
+/// its one fault is want of memory.
+///
+/// Maps beside the filings (`Index`) follow each change, so what is asked of a record is read by
+/// its key, and a report takes what it meets. Where memory is wanting while a filing is added, they
+/// are let go: from then on statements are looked for one by one, and what a viewer sees is listed
+/// as nodes and links where a chain first asks for one of them. These lists are kept until another
+/// viewer or day is asked for, or the register changes.
+#[derive(Drop)]
+pub struct ListKeep {
+    alloc: Global,
+    day: Day,
+    registrar: Token,
+    members: Vec<Member>,
+    index: Option<Index>,
+    last_asked: Option<LastAsked>,
+    faults: u64,
+}
+
+impl Model for ListKeep {
+    ghost use Rattle.std.specs.Prelude.{◌≡◌, IfSome};
+    ghost use Rattle.bor_desk.specs.Memory.Holding.{Holding};
+    ghost use Rattle.bor_desk.specs.Memory.Indexed.{IsIndex};
+    ghost use Rattle.bor_register.specs.Register.{IsOrdered};
+    ghost use Rattle.bor_register.specs.Seen.{seen_at};
+
+    ghost Value = { Holding };
+
+    ghost view = { λ k. record {
+      register = record { day = k.day; registrar = k.registrar; members = k.members.items };
+      faults = k.faults;
+    } };
+
+    // Members stand in the order of their names, and the maps and what was last asked are of the
+    // register as it is.
+    ghost invariant = { λ k. IsOrdered k.members.items
+        × IfSome k.index (λ x. IsIndex k.members.items x)
+        × IfSome k.last_asked
+        (λ o. o.source.shown
+        ≡ seen_at o.viewer o.day
+        (record { day = k.day; registrar = k.registrar; members = k.members.items })) };
+}
+
+impl ListKeep {
+    /// The register with no agents and no filings. It takes no memory.
+    pub fn new(alloc: Global, registrar: Token, day: Day) -> Self
+        ensures holds { result ≡ record { register = empty_register registrar day; faults = 0 } }
+        ensures shown { ⟦<ListKeep as Keep>⟧.shows result (empty_register registrar day) }
+        ensures clean { ⟦<ListKeep as Keep>⟧.is_clean result }
+    {
+        ListKeep {
+            alloc,
+            day,
+            registrar,
+            members: Vec::new(alloc),
+            index: Some(Index::new(alloc)),
+            last_asked: None,
+            faults: 0,
+        }
+    }
+
+    // The nodes and links that the viewer sees on a day. They are taken out, so that they can be
+    // asked.
+    fn take_source(&mut self, viewer: &AgentName, day: Day) -> Result<ListSource, AllocError>
+        ensures kept { self.new ≡ self.old }
+        ensures seen { IfOk result (λ source.
+            source.shown ≡ seen_at viewer.now day self.old.register) }
+    {
+        match self.last_asked.take() {
+            Some(last) if last.is_of(viewer, day) => Ok(last.source),
+            _ => {
+                let rows = all_visible(self.alloc, viewer, self.day, &self.members)?;
+                ListSource::from_rows(self.alloc, &rows, day)
+            }
+        }
+    }
+
+    // Puts them back, where there is memory for the viewer's name.
+    fn put_source(&mut self, viewer: &AgentName, day: Day, source: ListSource)
+        requires { source.shown ≡ seen_at viewer.now day self.old.register }
+        ensures { self.new ≡ self.old }
+    {
+        if let Ok(viewer) = viewer.copy(self.alloc) {
+            self.last_asked = Some(LastAsked {
+                viewer,
+                day,
+                source,
+            });
+        }
+    }
+
+    fn node_listed(
+        &mut self,
+        viewer: &AgentName,
+        day: Day,
+        node: &Node,
+    ) -> Result<Option<NodeInfo>, AllocError>
+        ensures kept { self.new ≡ self.old }
+        ensures told { IfOk result (λ info.
+            info ≡ info_of (seen_at viewer.now day self.old.register) node.now) }
+    {
+        let mut source = self.take_source(viewer, day)?;
+        let told = source.node(node);
+        self.put_source(viewer, day, source);
+        told
+    }
+
+    fn same_listed(
+        &mut self,
+        viewer: &AgentName,
+        day: Day,
+        node: &Node,
+    ) -> Result<Vec<Node>, AllocError>
+        ensures kept { self.new ≡ self.old }
+        ensures told { IfOk result (λ nodes.
+            AreSame (seen_at viewer.now day self.old.register) node.now nodes.items) }
+    {
+        let mut source = self.take_source(viewer, day)?;
+        let told = source.same(node);
+        self.put_source(viewer, day, source);
+        told
+    }
+
+    fn links_listed(
+        &mut self,
+        viewer: &AgentName,
+        day: Day,
+        node: &Node,
+    ) -> Result<Vec<Link>, AllocError>
+        ensures kept { self.new ≡ self.old }
+        ensures told { IfOk result (λ links.
+            AreLinksInto (seen_at viewer.now day self.old.register) node.now links.items) }
+    {
+        let mut source = self.take_source(viewer, day)?;
+        let told = source.links_into(node);
+        self.put_source(viewer, day, source);
+        told
+    }
+
+    // What the viewer sees on a day, where the maps are there.
+    fn sight<'a>(&'a self, viewer: &'a AgentName, day: Day) -> Option<Sight<'a>>
+        ensures { IfSome result (λ sight.
+            IsIndexed sight × (in_sight sight ≡ seen_at viewer.now day self.now.register)) }
+    {
+        match &self.index {
+            Some(index) => Some(Sight {
+                alloc: self.alloc,
+                index,
+                members: &self.members,
+                viewer,
+                today: self.day,
+                day,
+            }),
+            None => None,
+        }
+    }
+
+    fn node_seen(
+        &mut self,
+        viewer: &AgentName,
+        day: Day,
+        node: &Node,
+    ) -> Result<Option<NodeInfo>, AllocError>
+        ensures kept { self.new ≡ self.old }
+        ensures told { IfOk result (λ info.
+            info ≡ info_of (seen_at viewer.now day self.old.register) node.now) }
+    {
+        if let Some(sight) = self.sight(viewer, day) {
+            return node_told(&sight, node);
+        }
+        self.node_listed(viewer, day, node)
+    }
+
+    fn same_seen(
+        &mut self,
+        viewer: &AgentName,
+        day: Day,
+        node: &Node,
+    ) -> Result<Vec<Node>, AllocError>
+        ensures kept { self.new ≡ self.old }
+        ensures told { IfOk result (λ nodes.
+            AreSame (seen_at viewer.now day self.old.register) node.now nodes.items) }
+    {
+        if let Some(sight) = self.sight(viewer, day) {
+            return same_told(&sight, node);
+        }
+        self.same_listed(viewer, day, node)
+    }
+
+    fn links_seen(
+        &mut self,
+        viewer: &AgentName,
+        day: Day,
+        node: &Node,
+    ) -> Result<Vec<Link>, AllocError>
+        ensures kept { self.new ≡ self.old }
+        ensures told { IfOk result (λ links.
+            AreLinksInto (seen_at viewer.now day self.old.register) node.now links.items) }
+    {
+        if let Some(sight) = self.sight(viewer, day) {
+            return links_told(&sight, node);
+        }
+        self.links_listed(viewer, day, node)
+    }
+
+    fn last_of(&self, agent: &AgentName, declaration: &Ident, rec: &Ident) -> Option<Last>
+        ensures { result ≡ last_of declaration.now rec.now
+            (live_of (filings_of agent.now self.now.register.members)) }
+    {
+        let filings = own_filings(&self.members, agent);
+        if let Some(index) = &self.index {
+            if let Ok(node) = node_named(self.alloc, agent, declaration, rec) {
+                return last_known(filings, index.places_of(&node), &node);
+            }
+        }
+        last_live(filings, declaration, rec)
+    }
+
+    fn has_id(&self, agent: &AgentName, id: &Ident) -> bool
+        ensures { result ≡ has_id id.now
+            (live_of (filings_of agent.now self.now.register.members)) }
+    {
+        let filings = own_filings(&self.members, agent);
+        if let Some(index) = &self.index {
+            if let Ok(key) = key_named(self.alloc, agent, id) {
+                return any_stands(filings, index.places_named(&key), &key);
+            }
+        }
+        any_live_has_id(filings, id)
+    }
+
+    // The maps with a filing that is to be added to an agent's, where there is memory for it. They
+    // are taken out.
+    fn take_index(&mut self, agent: &AgentName, statements: &[Statement]) -> Option<Index>
+        ensures kept { self.new ≡ self.old }
+        ensures grown { IfSome result (λ index. (f : AcceptedFiling) → f.statements ≡ statements.now
+            → is_enrolled agent.now self.old.register.members ≡ true
+            → IsIndex (with_filings agent.now
+            (filings_of agent.now self.old.register.members ++ f ∷ [])
+            self.old.register.members) index) }
+    {
+        let filing = own_filings(&self.members, agent).len();
+        match self.index.take() {
+            Some(index) => index
+                .with_filing(self.alloc, agent, filing, statements)
+                .ok(),
+            None => None,
+        }
+    }
+
+    fn want_of_memory(&mut self) -> StoreFault
+        ensures fault { result ≡ StoreFault.Memory }
+        ensures counted { self.new ≡ record self.old { faults = (self.old.faults + 1) % 2 ^ 64 } }
+    {
+        self.faults = self.faults.wrapping_add(1);
+        StoreFault::Memory
+    }
+}
+
+// An agent's statement, by its identifier.
+fn key_named(alloc: Global, agent: &AgentName, id: &Ident) -> Result<StatementKey, AllocError>
+    ensures { IfOk result (λ key. key ≡ record { id = id.now; agent = agent.now }) }
+{
+    Ok(StatementKey {
+        id: id.copy(alloc)?,
+        agent: agent.copy(alloc)?,
+    })
+}
+
+impl Keep for ListKeep {
+    ghost use Rattle.std.specs.Prelude.{◌≡◌};
+    ghost use Rattle.bor_register.specs.declared.fault.StoreFault.TheVariants.{Memory};
+
+    ghost shows = { λ k r. k.register ≡ r };
+
+    ghost is_clean = { λ k. Unit {0} };
+
+    ghost fault_count = { λ k. k.faults };
+
+    ghost may_tell = { λ fault. fault ≡ Memory };
+
+    fn faults(&self) -> u64 {
+        self.faults
+    }
+
+    fn who(&mut self, token: &Token) -> Result<Option<Caller>, StoreFault> {
+        if self.registrar == *token {
+            return Ok(Some(Caller::Registrar));
+        }
+        match caller_with(self.alloc, &self.members, token) {
+            Ok(caller) => Ok(caller),
+            Err(_) => Err(self.want_of_memory()),
+        }
+    }
+
+    fn has_agent(&mut self, agent: &AgentName) -> Result<bool, StoreFault> {
+        Ok(is_enrolled(&self.members, agent))
+    }
+
+    fn day(&mut self) -> Result<Day, StoreFault> {
+        Ok(self.day)
+    }
+
+    fn filing(&mut self, agent: &AgentName, key: &LodgeKey) -> Result<Option<Filing>, StoreFault> {
+        match filing_under(self.alloc, own_filings(&self.members, agent), key) {
+            Ok(filing) => Ok(filing),
+            Err(_) => Err(self.want_of_memory()),
+        }
+    }
+
+    fn line(
+        &mut self,
+        agent: &AgentName,
+        key: &LodgeKey,
+    ) -> Result<Option<FilingLine>, StoreFault> {
+        let filings = own_filings(&self.members, agent);
+        match line_under(self.alloc, filings, key, self.day) {
+            Ok(line) => Ok(line),
+            Err(_) => Err(self.want_of_memory()),
+        }
+    }
+
+    fn has_file(
+        &mut self,
+        agent: &AgentName,
+        key: &LodgeKey,
+        bytes: &[u8],
+    ) -> Result<bool, StoreFault> {
+        Ok(is_filed(own_filings(&self.members, agent), key, bytes))
+    }
+
+    fn filing_count(&mut self, agent: &AgentName) -> Result<usize, StoreFault> {
+        Ok(own_filings(&self.members, agent).len())
+    }
+
+    fn filings(&mut self, agent: &AgentName) -> Result<Vec<FilingLine>, StoreFault> {
+        match all_lines(self.alloc, own_filings(&self.members, agent), self.day) {
+            Ok(lines) => Ok(lines),
+            Err(_) => Err(self.want_of_memory()),
+        }
+    }
+
+    fn last(
+        &mut self,
+        agent: &AgentName,
+        declaration: &Ident,
+        rec: &Ident,
+    ) -> Result<Option<Last>, StoreFault> {
+        Ok(self.last_of(agent, declaration, rec))
+    }
+
+    fn has_statement(&mut self, agent: &AgentName, id: &Ident) -> Result<bool, StoreFault> {
+        Ok(self.has_id(agent, id))
+    }
+
+    fn has_successor(&mut self, agent: &AgentName, number: u32) -> Result<bool, StoreFault> {
+        Ok(is_succeeded(own_filings(&self.members, agent), number))
+    }
+
+    fn rows_of(
+        &mut self,
+        viewer: &AgentName,
+        agent: &AgentName,
+        declaration: &Ident,
+    ) -> Result<Vec<Row>, StoreFault> {
+        let filings = own_filings(&self.members, agent);
+        match rows_seen(self.alloc, viewer, self.day, agent, declaration, filings) {
+            Ok(rows) => Ok(rows),
+            Err(_) => Err(self.want_of_memory()),
+        }
+    }
+
+    fn node(
+        &mut self,
+        viewer: &AgentName,
+        day: Day,
+        node: &Node,
+    ) -> Result<Option<NodeInfo>, StoreFault> {
+        match self.node_seen(viewer, day, node) {
+            Ok(info) => Ok(info),
+            Err(_) => Err(self.want_of_memory()),
+        }
+    }
+
+    fn same(&mut self, viewer: &AgentName, day: Day, node: &Node) -> Result<Vec<Node>, StoreFault> {
+        match self.same_seen(viewer, day, node) {
+            Ok(nodes) => Ok(nodes),
+            Err(_) => Err(self.want_of_memory()),
+        }
+    }
+
+    fn links_into(
+        &mut self,
+        viewer: &AgentName,
+        day: Day,
+        node: &Node,
+    ) -> Result<Vec<Link>, StoreFault> {
+        match self.links_seen(viewer, day, node) {
+            Ok(links) => Ok(links),
+            Err(_) => Err(self.want_of_memory()),
+        }
+    }
+
+    fn published(&mut self) -> Result<Vec<Outward>, StoreFault> {
+        match all_published(self.alloc, &self.members, self.day) {
+            Ok(outwards) => Ok(outwards),
+            Err(_) => Err(self.want_of_memory()),
+        }
+    }
+
+    fn add_filing(
+        &mut self,
+        agent: &AgentName,
+        key: &LodgeKey,
+        due: Day,
+        bytes: &[u8],
+        statements: &[Statement],
+    ) -> Result<u32, StoreFault> {
+        let index = self.take_index(agent, statements);
+        forget(&mut self.last_asked);
+        match push_filing(
+            self.alloc,
+            &mut self.members,
+            agent,
+            key,
+            due,
+            bytes,
+            statements,
+        ) {
+            Ok(number) => {
+                self.index = index;
+                Ok(number)
+            }
+            Err(_) => Err(self.want_of_memory()),
+        }
+    }
+
+    fn withdraw(&mut self, agent: &AgentName, number: u32) -> Result<(), StoreFault> {
+        forget(&mut self.last_asked);
+        withdraw_of(self.alloc, &mut self.members, agent, number);
+        Ok(())
+    }
+
+    fn set_day(&mut self, day: Day) -> Result<(), StoreFault> {
+        forget(&mut self.last_asked);
+        self.day = day;
+        Ok(())
+    }
+
+    fn add_agent(&mut self, agent: &AgentName, token: &Token) -> Result<(), StoreFault> {
+        forget(&mut self.last_asked);
+        match enrol_member(self.alloc, &mut self.members, agent, token) {
+            Ok(()) => Ok(()),
+            Err(_) => Err(self.want_of_memory()),
+        }
+    }
+}

@@ -1,0 +1,24 @@
+//! The register in memory.
+//!
+//! [`ListKeep`] is a `Keep` of `bor_register::keeping` that holds its register in memory. With
+//! `enrol` of that page:
+//!
+//! ```
+//! let mut keep = ListKeep::new(alloc, registrar, today);
+//! enrol(&mut keep, &alder, &token)?;
+//! assert!(rt; keep.has_agent(&alder)?);
+//! assert_eq!(rt; keep.filings(&alder)?.len(), 0);
+//! ```
+//!
+//! Maps beside the filings lead from a record, an identifier, a subject or a sign to the statements
+//! that are asked for. Where memory was wanting for the maps, the statements are looked at one by
+//! one.
+
+mod index;
+mod last_asked;
+mod list_keep;
+mod sames;
+mod sight;
+mod standing;
+
+pub use list_keep::ListKeep;

@@ -1,0 +1,320 @@
+//! What a viewer sees of a register in memory on a day, read by key.
+
+ghost use Rattle.std.specs.Prelude.{◌≡◌, ◌++◌, [], true, None, Some, IfOk, OnOk, filter, map, option_map, option_and_then};
+ghost use Rattle.std.specs.List.{cons_option, filter_map, last_or};
+ghost use Rattle.bor_records.specs.Links.Answers.{AreLinksInto, only_into};
+ghost use Rattle.bor_records.specs.Links.ByKey.{node_at};
+ghost use Rattle.bor_records.specs.Links.Rows.{info_stated, is_entity_info, is_some_info, link_between, node_with, nodes_of};
+ghost use Rattle.bor_records.specs.Links.Shown.{info_of};
+ghost use Rattle.bor_chains.specs.Candidates.{link_at, link_into};
+ghost use Rattle.bor_desk.specs.Memory.Sited.{is_told, passes, sited_at};
+ghost use Rattle.bor_desk.specs.Memory.Sighted.{IsIndexed, as_row, identifiers_in, in_sight, rows_in_sight, statement_open, unless_closed};
+
+use crate::memory::index::{Index, Place, node_named};
+use bods_read::{Details, Identifier, Interest, Statement, Status};
+use bor_records::links::{Link, Node, NodeInfo, OpenNode, holding_of, info_stated, once, stake_of};
+use bor_register::{AcceptedFiling, Member, own_filings};
+use bor_terms::{AgentName, Day, Listed};
+use std::alloc::{AllocError, Global};
+
+/// What a viewer sees of these members on the register's day, `today`, as it is told on a day.
+#[derive(Clone, Copy)]
+pub(crate) struct Sight<'a> {
+    pub(crate) alloc: Global,
+    pub(crate) index: &'a Index,
+    pub(crate) members: &'a [Member],
+    pub(crate) viewer: &'a AgentName,
+    pub(crate) today: Day,
+    pub(crate) day: Day,
+}
+
+// Whether the viewer sees a statement of the agent at this place, dated at or before the day.
+fn is_told(sight: &Sight, agent: &AgentName, filings: &[AcceptedFiling], place: Place) -> bool
+    ensures { result ≡ passes (is_told sight.now.viewer.now sight.now.today sight.now.day agent.now)
+        (sited_at filings.now place) }
+{
+    let Some(filing) = filings.get(place.filing) else {
+        return false;
+    };
+    match filing.statements.as_slice().get(place.statement) {
+        Some(statement) => {
+            filing.is_visible(sight.viewer, agent, sight.today) && statement.day <= sight.day
+        }
+        None => false,
+    }
+}
+
+// The last of the places at which the viewer sees a statement, dated at or before the day.
+fn last_told(
+    sight: &Sight,
+    agent: &AgentName,
+    filings: &[AcceptedFiling],
+    places: &[Place],
+) -> Option<Place>
+    ensures { result ≡ last_or None
+        (filter (λ p. passes (is_told sight.now.viewer.now sight.now.today sight.now.day agent.now)
+        (sited_at filings.now p)) places.now) }
+{
+    let mut next = places.len();
+    while next > 0 {
+        next -= 1;
+        let place = places[next];
+        if is_told(sight, agent, filings, place) {
+            return Some(place);
+        }
+    }
+    None
+}
+
+/// The statement at a place.
+pub(crate) fn statement_at<'a>(filings: &'a [AcceptedFiling], place: Place) -> Option<&'a Statement>
+    ensures { option_map (λ s. s.now) result
+        ≡ option_map (λ x. x.statement) (sited_at filings.now place) }
+{
+    match filings.get(place.filing) {
+        Some(filing) => filing.statements.as_slice().get(place.statement),
+        None => None,
+    }
+}
+
+fn unless_closed<'a>(statement: &'a Statement) -> Option<&'a Statement>
+    ensures { option_map (λ s. s.now) result ≡ unless_closed statement.now }
+{
+    if statement.status == Some(Status::Closed) {
+        None
+    } else {
+        Some(statement)
+    }
+}
+
+// The latest statement of a record that the viewer sees.
+fn latest<'a>(sight: &Sight<'a>, node: &Node) -> Option<&'a Statement>
+    requires { IsIndexed sight.now }
+    ensures { option_and_then unless_closed (option_map (λ s. s.now) result)
+        ≡ statement_open sight.now node.now }
+{
+    let filings = own_filings(sight.members, &node.agent);
+    let places = sight.index.places_of(node);
+    match last_told(sight, &node.agent, filings, places) {
+        Some(place) => statement_at(filings, place),
+        None => None,
+    }
+}
+
+// The statement that a record shows: the latest one, where it isn't closed.
+fn open_statement<'a>(sight: &Sight<'a>, node: &Node) -> Option<&'a Statement>
+    requires { IsIndexed sight.now }
+    ensures { option_map (λ s. s.now) result ≡ statement_open sight.now node.now }
+{
+    match latest(sight, node) {
+        Some(statement) => unless_closed(statement),
+        None => None,
+    }
+}
+
+/// What a chain asks of a node; `None` where it isn't open.
+pub(crate) fn node_told(sight: &Sight, node: &Node) -> Result<Option<NodeInfo>, AllocError>
+    requires { IsIndexed sight.now }
+    ensures { IfOk result (λ info. info ≡ info_of (in_sight sight.now) node.now) }
+{
+    match open_statement(sight, node) {
+        Some(statement) => info_stated(sight.alloc, &statement.details),
+        None => Ok(None),
+    }
+}
+
+// Whether the details are of an entity or a person.
+fn is_node_stated(details: &Details) -> bool
+    ensures { result ≡ is_some_info (info_stated details.now) }
+{
+    !matches!(details, Details::Relationship { .. })
+}
+
+fn is_entity_stated(details: &Details) -> bool
+    ensures { result ≡ is_entity_info (info_stated details.now) }
+{
+    matches!(details, Details::Entity { .. })
+}
+
+// Whether the record is an open entity or person.
+fn is_node(sight: &Sight, node: &Node) -> bool
+    requires { IsIndexed sight.now }
+    ensures { result ≡ is_some_info (info_of (in_sight sight.now) node.now) }
+{
+    match open_statement(sight, node) {
+        Some(statement) => is_node_stated(&statement.details),
+        None => false,
+    }
+}
+
+// Whether the record is an open entity.
+fn is_entity(sight: &Sight, node: &Node) -> bool
+    requires { IsIndexed sight.now }
+    ensures { result ≡ is_entity_info (info_of (in_sight sight.now) node.now) }
+{
+    match open_statement(sight, node) {
+        Some(statement) => is_entity_stated(&statement.details),
+        None => false,
+    }
+}
+
+fn copied(alloc: Global, identifiers: &[Identifier]) -> Result<Listed<Identifier>, AllocError>
+    ensures { IfOk result (λ copied. copied ≡ identifiers.now) }
+{
+    let mut copied = Vec::new(alloc);
+    for identifier in identifiers {
+        copied.push(identifier.copy(alloc)?)?;
+    }
+    Ok(Listed::new(copied))
+}
+
+// An entity's identifiers.
+fn identifiers_in(alloc: Global, details: &Details) -> Result<Listed<Identifier>, AllocError>
+    ensures { IfOk result (λ identifiers. identifiers ≡ identifiers_in details.now) }
+{
+    match details {
+        Details::Entity { identifiers, .. } => copied(alloc, identifiers.as_slice()),
+        _ => Ok(Listed::new(Vec::new(alloc))),
+    }
+}
+
+// What the details of an entity or a person say of its node.
+fn node_with(alloc: Global, node: &Node, details: &Details) -> Result<Option<OpenNode>, AllocError>
+    ensures { IfOk result (λ one. one ≡ node_with node.now details.now) }
+{
+    match info_stated(alloc, details)? {
+        Some(info) => Ok(Some(OpenNode {
+            node: node.copy(alloc)?,
+            info,
+            identifiers: identifiers_in(alloc, details)?,
+        })),
+        None => Ok(None),
+    }
+}
+
+/// A node with its identifiers; `None` where it isn't open.
+pub(crate) fn node_in(sight: &Sight, node: &Node) -> Result<Option<OpenNode>, AllocError>
+    requires { IsIndexed sight.now }
+    ensures { IfOk result (λ one. one ≡ node_at sight.now.day node.now (rows_in_sight sight.now)) }
+{
+    match open_statement(sight, node) {
+        Some(statement) => node_with(sight.alloc, node, &statement.details),
+        None => Ok(None),
+    }
+}
+
+// The link between two records into an open entity: where that is the subject, and the party is
+// open.
+fn link_between(
+    sight: &Sight,
+    node: &Node,
+    party: Node,
+    subject: Node,
+    interests: &[Interest],
+) -> Option<Link>
+    requires { IsIndexed sight.now }
+    ensures { is_entity_info (info_of (in_sight sight.now) node.now) ≡ true
+        → result ≡ only_into node.now
+        (link_between sight.now.day
+        (nodes_of sight.now.day (rows_in_sight sight.now)) party subject interests.now) }
+{
+    if subject != *node {
+        return None;
+    }
+    if !is_node(sight, &party) {
+        return None;
+    }
+    Some(Link {
+        party,
+        subject,
+        stake: stake_of(interests, sight.day),
+        holding: holding_of(interests, sight.day),
+    })
+}
+
+// The link into an open entity that an agent's statement makes.
+fn link_stated(
+    sight: &Sight,
+    node: &Node,
+    agent: &AgentName,
+    statement: &Statement,
+) -> Result<Option<Link>, AllocError>
+    requires { IsIndexed sight.now }
+    ensures { IfOk result (λ link. is_entity_info (info_of (in_sight sight.now) node.now) ≡ true
+        → link ≡ link_into sight.now.day (rows_in_sight sight.now) node.now
+        (as_row agent.now statement.now)) }
+{
+    match &statement.details {
+        Details::Relationship {
+            subject: Some(subject),
+            party: Some(party),
+            interests,
+        } => {
+            let declaration = &statement.declaration;
+            let subject = node_named(sight.alloc, agent, declaration, subject)?;
+            let party = node_named(sight.alloc, agent, declaration, party)?;
+            Ok(link_between(sight, node, party, subject, interests.as_slice()))
+        }
+        _ => Ok(None),
+    }
+}
+
+// The link into an open entity that a record makes.
+fn link_at(sight: &Sight, node: &Node, rec: &Node) -> Result<Option<Link>, AllocError>
+    requires { IsIndexed sight.now }
+    ensures { IfOk result (λ link. is_entity_info (info_of (in_sight sight.now) node.now) ≡ true
+        → link ≡ link_at sight.now.day (rows_in_sight sight.now) node.now rec.now) }
+{
+    match open_statement(sight, rec) {
+        Some(statement) => link_stated(sight, node, &rec.agent, statement),
+        None => Ok(None),
+    }
+}
+
+// Puts a link at the end, where there is one.
+fn push_some(links: &mut Vec<Link>, link: Option<Link>) -> Result<(), AllocError>
+    ensures { OnOk result (links.new.items ≡ links.old.items ++ cons_option link []) }
+{
+    match link {
+        Some(link) => Ok(links.push(link)?),
+        None => Ok(()),
+    }
+}
+
+// The links into an open entity that these records make.
+fn links_of(sight: &Sight, node: &Node, records: &[Node]) -> Result<Vec<Link>, AllocError>
+    requires { IsIndexed sight.now }
+    ensures { IfOk result (λ links. is_entity_info (info_of (in_sight sight.now) node.now) ≡ true
+        → links.items
+        ≡ filter_map (link_at sight.now.day (rows_in_sight sight.now) node.now) records.now) }
+{
+    let mut links = Vec::new(sight.alloc);
+    for one in records {
+        let link = link_at(sight, node, one)?;
+        push_some(&mut links, link)?;
+    }
+    Ok(links)
+}
+
+fn nodes_copied(alloc: Global, nodes: &[Node]) -> Result<Vec<Node>, AllocError>
+    ensures { IfOk result (λ copied. copied.items ≡ nodes.now) }
+{
+    let mut copied = Vec::new(alloc);
+    for node in nodes {
+        copied.push(node.copy(alloc)?)?;
+    }
+    Ok(copied)
+}
+
+/// The links into a node, each once.
+pub(crate) fn links_told(sight: &Sight, node: &Node) -> Result<Vec<Link>, AllocError>
+    requires { IsIndexed sight.now }
+    ensures { IfOk result (λ links. AreLinksInto (in_sight sight.now) node.now links.items) }
+{
+    if !is_entity(sight, node) {
+        return Ok(Vec::new(sight.alloc));
+    }
+    let found = nodes_copied(sight.alloc, sight.index.naming(node))?;
+    let records = once(found)?;
+    links_of(sight, node, &records)
+}
