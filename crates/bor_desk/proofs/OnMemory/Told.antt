@@ -1,7 +1,10 @@
 -- What follows of an answer.
-use Rattle.std.proofs.Common.{Result, Ok, Err, IfOk}
-use Rattle.std.specs.Prelude.{IfSome}
-use Rattle.std.specs.Result.{result_ok}
+use Rattle.std.proofs.Common.{◌≡◌, ℕ, Result, Ok, Err, IfOk, refl, ap, sym, subst}
+use Rattle.std.specs.Prelude.{IfErr, IfSome, OnErr, OnOk}
+use Rattle.std.specs.Result.{result_map_both, result_ok}
+use Rattle.bor_records.specs.Promises.{counted}
+use Rattle.bor_register.specs.declared.fault.StoreFault.{StoreFault}
+use Rattle.bor_register.specs.declared.fault.StoreFault.TheVariants.{Memory}
 
 pub told_then : {T F : Type 0} (r : Result T F) (P Q : T → Type 0) → ((x : T) → P x → Q x) → IfOk r P → IfOk r Q
 told_then (Ok x) P Q f h = f x h
@@ -10,3 +13,22 @@ told_then (Err e) P Q f h = tt
 pub ok_then : {T F : Type 0} (r : Result T F) (P Q : T → Type 0) → ((x : T) → P x → Q x) → IfOk r P → IfSome (result_ok r) Q
 ok_then (Ok x) P Q f h = f x h
 ok_then (Err e) P Q f h = tt
+
+-- what holds whether or not a call failed
+pub either_way : {T F : Type 0} (r : Result T F) (P Q R : Type 0) → OnOk r P → OnErr r Q → (P → R) → (Q → R) → R
+either_way (Ok x) P Q R p q f g = f p
+either_way (Err e) P Q R p q f g = g q
+
+-- ---- an error that is told as want of memory
+
+pub told_answer : {T F : Type 0} (P : T → Type 0) (answer : Result T F) (told : Result T StoreFault) → told ≡ result_map_both (λ x. x) (λ _. Memory) answer → IfOk answer P → IfOk told P
+told_answer P (Ok x) told is h = subst (λ t. IfOk t P) (sym is) h
+told_answer P (Err e) told is h = subst (λ t. IfOk t P) (sym is) tt
+
+pub told_fault : {T F : Type 0} (answer : Result T F) (told : Result T StoreFault) → told ≡ result_map_both (λ x. x) (λ _. Memory) answer → IfErr told (λ fault. fault ≡ Memory)
+told_fault (Ok x) told is = subst (λ t. IfErr t (λ fault. fault ≡ Memory)) (sym is) tt
+told_fault (Err e) told is = subst (λ t. IfErr t (λ fault. fault ≡ Memory)) (sym is) refl
+
+pub told_count : {T F : Type 0} (answer : Result T F) (told : Result T StoreFault) (faults : ℕ) → told ≡ result_map_both (λ x. x) (λ _. Memory) answer → counted answer faults ≡ counted told faults
+told_count (Ok x) told faults is = ap (λ t. counted t faults) (sym is)
+told_count (Err e) told faults is = ap (λ t. counted t faults) (sym is)

@@ -1,7 +1,9 @@
 //! The register in memory.
 
 ghost use Rattle.std.specs.Prelude.{◌≡◌, ◌+◌, ◌++◌, ◌∷◌, [], ◌%◌, ◌^◌, true, IfOk, IfSome};
+ghost use Rattle.std.specs.Result.{result_map_both};
 ghost use Rattle.bor_records.specs.Admission.{last_of};
+ghost use Rattle.bor_records.specs.Promises.{counted};
 ghost use Rattle.bor_records.specs.Settling.{has_id};
 ghost use Rattle.bor_records.specs.Links.Answers.{AreLinksInto, AreSame};
 ghost use Rattle.bor_records.specs.Links.Shown.{info_of};
@@ -288,6 +290,17 @@ impl ListKeep {
         self.faults = self.faults.wrapping_add(1);
         StoreFault::Memory
     }
+
+    // The answer, or want of memory, which is counted.
+    fn told<T>(&mut self, answer: Result<T, AllocError>) -> Result<T, StoreFault>
+        ensures told { result ≡ result_map_both (λ x. x) (λ _. StoreFault.Memory) answer }
+        ensures counts { self.new ≡ record self.old { faults = counted answer self.old.faults } }
+    {
+        match answer {
+            Ok(answer) => Ok(answer),
+            Err(_) => Err(self.want_of_memory()),
+        }
+    }
 }
 
 // An agent's statement, by its identifier.
@@ -320,10 +333,8 @@ impl Keep for ListKeep {
         if self.registrar == *token {
             return Ok(Some(Caller::Registrar));
         }
-        match caller_with(self.alloc, &self.members, token) {
-            Ok(caller) => Ok(caller),
-            Err(_) => Err(self.want_of_memory()),
-        }
+        let caller = caller_with(self.alloc, &self.members, token);
+        self.told(caller)
     }
 
     fn has_agent(&mut self, agent: &AgentName) -> Result<bool, StoreFault> {
@@ -335,10 +346,8 @@ impl Keep for ListKeep {
     }
 
     fn filing(&mut self, agent: &AgentName, key: &LodgeKey) -> Result<Option<Filing>, StoreFault> {
-        match filing_under(self.alloc, own_filings(&self.members, agent), key) {
-            Ok(filing) => Ok(filing),
-            Err(_) => Err(self.want_of_memory()),
-        }
+        let filing = filing_under(self.alloc, own_filings(&self.members, agent), key);
+        self.told(filing)
     }
 
     fn line(
@@ -347,10 +356,8 @@ impl Keep for ListKeep {
         key: &LodgeKey,
     ) -> Result<Option<FilingLine>, StoreFault> {
         let filings = own_filings(&self.members, agent);
-        match line_under(self.alloc, filings, key, self.day) {
-            Ok(line) => Ok(line),
-            Err(_) => Err(self.want_of_memory()),
-        }
+        let line = line_under(self.alloc, filings, key, self.day);
+        self.told(line)
     }
 
     fn has_file(
@@ -367,10 +374,8 @@ impl Keep for ListKeep {
     }
 
     fn filings(&mut self, agent: &AgentName) -> Result<Vec<FilingLine>, StoreFault> {
-        match all_lines(self.alloc, own_filings(&self.members, agent), self.day) {
-            Ok(lines) => Ok(lines),
-            Err(_) => Err(self.want_of_memory()),
-        }
+        let lines = all_lines(self.alloc, own_filings(&self.members, agent), self.day);
+        self.told(lines)
     }
 
     fn last(
@@ -397,10 +402,8 @@ impl Keep for ListKeep {
         declaration: &Ident,
     ) -> Result<Vec<Row>, StoreFault> {
         let filings = own_filings(&self.members, agent);
-        match rows_seen(self.alloc, viewer, self.day, agent, declaration, filings) {
-            Ok(rows) => Ok(rows),
-            Err(_) => Err(self.want_of_memory()),
-        }
+        let rows = rows_seen(self.alloc, viewer, self.day, agent, declaration, filings);
+        self.told(rows)
     }
 
     fn node(
@@ -409,17 +412,13 @@ impl Keep for ListKeep {
         day: Day,
         node: &Node,
     ) -> Result<Option<NodeInfo>, StoreFault> {
-        match self.node_seen(viewer, day, node) {
-            Ok(info) => Ok(info),
-            Err(_) => Err(self.want_of_memory()),
-        }
+        let info = self.node_seen(viewer, day, node);
+        self.told(info)
     }
 
     fn same(&mut self, viewer: &AgentName, day: Day, node: &Node) -> Result<Vec<Node>, StoreFault> {
-        match self.same_seen(viewer, day, node) {
-            Ok(nodes) => Ok(nodes),
-            Err(_) => Err(self.want_of_memory()),
-        }
+        let nodes = self.same_seen(viewer, day, node);
+        self.told(nodes)
     }
 
     fn links_into(
@@ -428,17 +427,13 @@ impl Keep for ListKeep {
         day: Day,
         node: &Node,
     ) -> Result<Vec<Link>, StoreFault> {
-        match self.links_seen(viewer, day, node) {
-            Ok(links) => Ok(links),
-            Err(_) => Err(self.want_of_memory()),
-        }
+        let links = self.links_seen(viewer, day, node);
+        self.told(links)
     }
 
     fn published(&mut self) -> Result<Vec<Outward>, StoreFault> {
-        match all_published(self.alloc, &self.members, self.day) {
-            Ok(outwards) => Ok(outwards),
-            Err(_) => Err(self.want_of_memory()),
-        }
+        let outwards = all_published(self.alloc, &self.members, self.day);
+        self.told(outwards)
     }
 
     fn add_filing(
@@ -482,9 +477,7 @@ impl Keep for ListKeep {
 
     fn add_agent(&mut self, agent: &AgentName, token: &Token) -> Result<(), StoreFault> {
         forget(&mut self.last_asked);
-        match enrol_member(self.alloc, &mut self.members, agent, token) {
-            Ok(()) => Ok(()),
-            Err(_) => Err(self.want_of_memory()),
-        }
+        let made = enrol_member(self.alloc, &mut self.members, agent, token);
+        self.told(made)
     }
 }

@@ -1,14 +1,22 @@
-use Rattle.std.proofs.Common.{refl, subst}
+use Rattle.std.proofs.Common.{◌≡◌, ◌∙◌, IfOk, ap, sym, subst}
 use Rattle.bor_records.specs.Links.Answers.{AreLinksInto}
+use Rattle.bor_records.specs.Promises.{counted}
+use Rattle.bor_desk.specs.Memory.Holding.{Holding}
 use Rattle.bor_register.specs.Register.{Register}
 use Rattle.bor_register.specs.Seen.{seen_at}
+use Rattle.bor_desk.proofs.OnMemory.Told.{told_answer, told_count, told_fault}
 use Rattle.bor_desk.proofs.memory.list_keep.ListKeepKeep.links_into.Goals as goal
 
-pub returns-in-Ok : goal.returns-in-Ok
-returns-in-Ok c = rw c.in-Ok.ensures.kept (record {
-  kept = record { began = λ z. z; same = λ z r. ((λ h. h), (λ h. h)) };
-  counts = refl;
-  told = tt;
-  answer = λ r is z.
-      subst (λ (s : Register). AreLinksInto (seen_at c.args.viewer.now c.args.day s) c.args.node.now c.in-Ok.links.items) is c.in-Ok.ensures.told;
-})
+pub returns : goal.returns
+returns c =
+    let seen = c.links_seen-links.ensures in
+    let told = c.told.ensures in
+    let same : c.told.new.self.register ≡ c.args.self.now.register = ap (λ (h : Holding). h.register) told.counts ∙ ap (λ (h : Holding). h.register) seen.kept in
+    record {
+      kept = record { began = λ z. z; same = λ z r. ((λ h. same ∙ h), (λ h. sym same ∙ h)) };
+      counts = ap (λ (h : Holding). h.faults) told.counts ∙ told_count c.links_seen-links.result c.told.result c.links_seen-links.new.self.faults told.told ∙ ap (λ (h : Holding). counted c.told.result h.faults) seen.kept;
+      told = told_fault c.links_seen-links.result c.told.result told.told;
+      answer = λ r is z.
+          told_answer (λ links. AreLinksInto (seen_at c.args.viewer.now c.args.day r) c.args.node.now links.items) c.links_seen-links.result c.told.result told.told (
+          subst (λ (s : Register). IfOk c.links_seen-links.result (λ links. AreLinksInto (seen_at c.args.viewer.now c.args.day s) c.args.node.now links.items)) is seen.told);
+    }
