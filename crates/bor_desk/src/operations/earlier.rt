@@ -2,12 +2,13 @@
 //! that none is compared with all of them.
 
 ghost use Rattle.std.specs.Prelude.{◌≡◌, ◌++◌, ◌∷◌, [], List, IfOk, OnOk};
-ghost use Rattle.bor_records.specs.Admission.{Live, known_of, last_of};
+ghost use Rattle.bor_records.specs.Admission.{Live, last_of};
 ghost use Rattle.bor_records.specs.Settling.{as_live, has_id};
 ghost use Rattle.bor_desk.specs.Operations.Earlier.{AreFound, record_of};
 
-use bods_read::{Statement, Status};
+use bods_read::Statement;
 use bor_records::Last;
+use bor_register::known;
 use bor_terms::{Day, Ident};
 use std::alloc::{AllocError, Global};
 use std::collections::{BTreeMap, BTreeSet};
@@ -28,17 +29,6 @@ impl RecordKey {
             rec: statement.rec.copy(alloc)?,
             declaration: statement.declaration.copy(alloc)?,
         })
-    }
-}
-
-fn known(statement: &Statement, due: Day) -> Last
-    ensures { result ≡ known_of (as_live due statement.now) }
-{
-    Last {
-        kind: statement.record_type(),
-        status: statement.status.unwrap_or(Status::New),
-        day: statement.day,
-        due,
     }
 }
 
