@@ -26,7 +26,6 @@ pub use joining::joined;
 pub use members::members_of;
 pub use places::At;
 pub use reader::{TableRow, read_rows};
-pub use seen::any_visible;
 pub use timing::with_periods;
 pub use typed::{
     AgentRow, FilingRow, IdentifierRow, InterestLine, InterestRow, Part, PeriodRow, Placed,

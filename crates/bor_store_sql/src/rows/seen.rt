@@ -1,7 +1,6 @@
 //! What callers see of filings and statements, from their rows.
 
 ghost use Rattle.std.specs.Prelude.{◌≡◌};
-ghost use Rattle.std.specs.List.{list_any};
 ghost use Rattle.bor_store_sql.specs.Rows.Seen.{is_line_visible, line_shown, row_placed};
 
 use crate::rows::typed::{FilingRow, Placed};
@@ -55,11 +54,4 @@ impl Placed {
             statement,
         }
     }
-}
-
-/// Whether the viewer sees one of these filings on a day.
-pub fn any_visible(filings: &[FilingRow], viewer: &AgentName, day: Day) -> bool
-    ensures { result ≡ list_any (λ f. is_line_visible viewer.now day f) filings.now }
-{
-    filings.iter().any(|filing| filing.is_visible(viewer, day))
 }
