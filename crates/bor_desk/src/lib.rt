@@ -37,4 +37,4 @@ pub use refusal::Refusal;
 pub use reply::{Answered, DeskReply};
 pub use report::report_text;
 pub use request::Request;
-pub use text::Text;
+pub use text::{Text, settled_word};

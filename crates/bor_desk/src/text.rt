@@ -52,7 +52,8 @@ pub(crate) fn refused_text(alloc: Global, refusal: Refusal) -> Result<Text, Allo
     refused_as(alloc, refusal.name(), refusal.place(), refusal.field())
 }
 
-fn settled_word(status: Option<Status>) -> &'static str
+/// The word of a settled status; no text where the statement has none.
+pub fn settled_word(status: Option<Status>) -> &'static str
     ensures { result.now ≡ settled_word status }
 {
     match status {

@@ -1,12 +1,11 @@
 //! Filings, as their agent and as all see them.
 
-ghost use Rattle.std.specs.Prelude.{◌≡◌};
-ghost use Rattle.bor_desk.specs.Texts.{settled_word};
 ghost use Rattle.bor_wire.specs.Rendering.Values.{line_data, statement_data, outward_data};
 
 use crate::rendering::shown::{Shown, write_array, write_day, write_text};
-use bods_read::{Statement, Status};
+use bods_read::Statement;
 use bor_desk::operations::{FilingLine, Outward};
+use bor_desk::settled_word;
 use json::Writer;
 use std::alloc::AllocError;
 
@@ -22,15 +21,6 @@ impl Shown for FilingLine {
         write_text(out, "key", self.key.as_str())?;
         write_text(out, "state", self.state.as_str())?;
         out.end_object()
-    }
-}
-
-fn settled_word(status: Option<Status>) -> &'static str
-    ensures { result.now ≡ settled_word status }
-{
-    match status {
-        Some(status) => status.as_str(),
-        None => "",
     }
 }
 
