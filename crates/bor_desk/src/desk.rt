@@ -31,8 +31,12 @@ impl From<DeskFault> for DeskReply {
     }
 }
 
-// The date that is asked for, or the register's day.
-fn date_or_day<K: Keep>(keep: &mut K, date: Option<Day>) -> Result<Day, StoreFault>
+/// The date that is asked for, or the register's day.
+///
+/// # Errors
+///
+/// The keep failed.
+pub fn date_or_day<K: Keep>(keep: &mut K, date: Option<Day>) -> Result<Day, StoreFault>
     ensures kept { Kept K.shows K.is_clean keep.old keep.new }
     ensures told { IfErr result K.may_tell }
     ensures accounted { IsCounted result (K.fault_count keep.old) (K.fault_count keep.new) }

@@ -32,7 +32,7 @@ mod request;
 mod text;
 
 pub use check::{FILE_LIMIT, check_text};
-pub use desk::{answer, answer_naming};
+pub use desk::{answer, answer_naming, date_or_day};
 pub use refusal::Refusal;
 pub use reply::{Answered, DeskReply};
 pub use report::report_text;

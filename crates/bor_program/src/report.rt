@@ -1,12 +1,12 @@
 //! `bor report`.
 
-ghost use Rattle.std.specs.Prelude.{◌≡◌, ◌≤◌, IfOk, IfErr, OnOk, Some};
+ghost use Rattle.std.specs.Prelude.{◌≤◌, IfOk, IfErr, OnOk, Some};
 ghost use Rattle.bor_records.specs.Promises.{Kept, Promised};
 ghost use Rattle.bor_desk.specs.Operations.Outcomes.{IsAccounted};
 ghost use Rattle.bor_program.specs.Failures.{IsMetOnKeep};
 ghost use Rattle.bor_program.specs.Performing.{Reports};
 ghost use Rattle.bor_program.specs.Program.{exit_code};
-ghost use Rattle.bor_program.specs.Reporting.{EndsTelling, IsReportOf, IsToldOf, day_in};
+ghost use Rattle.bor_program.specs.Reporting.{EndsTelling, IsReportOf, IsToldOf};
 
 use crate::check::text_status;
 use crate::failure::Failure;
@@ -14,8 +14,7 @@ use crate::host::{OpenRegister, Registers, Stage};
 use crate::output::{Output, write_text};
 use crate::status::Status;
 use bor_desk::operations::{Keep, StoreFault};
-use bor_desk::{Text, report_text};
-use bor_terms::Day;
+use bor_desk::{Text, date_or_day, report_text};
 use bor_words::Report;
 use std::alloc::Global;
 use std::io::Write;
@@ -89,20 +88,6 @@ pub fn report_in<K: Keep>(
     ensures accounted { IsAccounted Some K.may_tell result (K.fault_count keep.old)
         (K.fault_count keep.new) }
 {
-    let day = day_of(keep, asked)?;
+    let day = date_or_day(keep, asked.date)?;
     report_text(alloc, keep, &asked.viewer, &asked.entity, day)
-}
-
-// The day that is asked for, else the register's.
-fn day_of<K: Keep>(keep: &mut K, asked: &Report<'_>) -> Result<Day, StoreFault>
-    ensures kept { Kept K.shows K.is_clean keep.old keep.new }
-    ensures day { Promised K.shows K.is_clean keep.old keep.new (λ r.
-        IfOk result (λ day. day ≡ day_in asked.now.date r.day)) }
-    ensures accounted { IsAccounted Some K.may_tell result (K.fault_count keep.old)
-        (K.fault_count keep.new) }
-{
-    match asked.date {
-        Some(day) => Ok(day),
-        None => keep.day(),
-    }
 }
