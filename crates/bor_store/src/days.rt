@@ -1,44 +1,18 @@
 //! The days of the interests of statements, as rows of the table `period`.
 
-ghost use Rattle.std.specs.Prelude.{◌≡◌, ◌+◌, ◌<◌, ◌^◌, ◌++◌, ◌||◌, is_some, OnOk, IfOk, IfErr};
+ghost use Rattle.std.specs.Prelude.{◌≡◌, ◌++◌, OnOk, IfErr};
 ghost use Rattle.std.specs.List.{flat_map};
-ghost use Rattle.bor_store_sql.specs.Rows.Placed.{interest_rows, interests_of, period_rows, placed_from};
+ghost use Rattle.bor_store_sql.specs.Rows.Placed.{interest_rows, period_rows, placed_from};
 ghost use Rattle.bor_store_sql.specs.Fitting.{standing};
 ghost use Rattle.bor_store_reads.specs.Answering.{IsNoDamage};
 ghost use Rattle.bor_store.specs.Migrating.{days_of};
 
-use bods_read::{Details, Interest, Statement};
+use bods_read::{Interest, Statement};
 use bor_store_reads::ReadError;
 use bor_store_sql::rows::{At, PeriodRow};
+use bor_store_sql::{has_days, interests, next_number};
 use bor_terms::AgentName;
 use std::alloc::Global;
-
-// The number after this one; a table has numbers of 32 bits alone.
-fn next(number: u32) -> Result<u32, ReadError>
-    ensures value { IfOk result (λ next. next ≡ number + 1) }
-    ensures within { IfOk result (λ next. next < 2 ^ 32) }
-    ensures failed { IfErr result IsNoDamage }
-{
-    match number.checked_add(1) {
-        Some(next) => Ok(next),
-        None => Err(ReadError::Store),
-    }
-}
-
-fn interests(details: &Details) -> &[Interest]
-    ensures { result.now ≡ interests_of details.now }
-{
-    match details {
-        Details::Relationship { interests, .. } => interests.as_slice(),
-        _ => &[],
-    }
-}
-
-fn is_said(interest: &Interest) -> bool
-    ensures { result ≡ (is_some interest.now.starts || is_some interest.now.ends) }
-{
-    interest.starts.is_some() || interest.ends.is_some()
-}
 
 // Adds the days of an interest, where it has any.
 fn add_one(
@@ -57,7 +31,7 @@ fn add_one(
     })) }
     ensures failed { IfErr result IsNoDamage }
 {
-    if !is_said(interest) {
+    if !has_days(interest) {
         return Ok(());
     }
     let agent = agent.copy(alloc)?;
@@ -90,7 +64,7 @@ fn add_statement(
 {
     let mut item = 0;
     for interest in interests(&statement.details) {
-        item = next(item)?;
+        item = next_number(item)?;
         add_one(alloc, rows, agent, filing, place, item, interest)?;
     }
     Ok(())
@@ -110,7 +84,7 @@ pub(crate) fn add_days(
 {
     let mut place = 0;
     for statement in statements {
-        place = next(place)?;
+        place = next_number(place)?;
         add_statement(alloc, rows, agent, filing, place, statement)?;
     }
     Ok(())

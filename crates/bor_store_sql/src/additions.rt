@@ -115,8 +115,8 @@ fn put_period<S: Alter>(
     )
 }
 
-// Whether the interest has a day.
-fn is_said(interest: &Interest) -> bool
+/// Whether the interest has a day.
+pub fn has_days(interest: &Interest) -> bool
     ensures { result ≡ (is_some interest.now.starts || is_some interest.now.ends) }
 {
     interest.starts.is_some() || interest.ends.is_some()
@@ -141,7 +141,7 @@ fn insert_period<S: Alter>(
         } ∷ []))
         (state S.Store tx.old.conn.now) (state S.Store tx.new.conn.now) result }
 {
-    if !is_said(interest) {
+    if !has_days(interest) {
         return Ok(());
     }
     put_period(tx, agent, number, place, item, interest)
@@ -173,7 +173,11 @@ fn insert_identifier<S: Alter>(
 }
 
 /// The number after this one; a table has numbers of 32 bits alone.
-pub(crate) fn next(number: u32) -> Result<u32, Error>
+///
+/// # Errors
+///
+/// `TooBig` where the number is the last one.
+pub fn next_number(number: u32) -> Result<u32, Error>
     ensures value { IfOk result (λ next. next ≡ number + 1) }
     ensures within { IfOk result (λ next. next < 2 ^ 32) }
 {
@@ -184,7 +188,7 @@ pub(crate) fn next(number: u32) -> Result<u32, Error>
 }
 
 /// The interests that a relationship has.
-pub(crate) fn interests(details: &Details) -> &[Interest]
+pub fn interests(details: &Details) -> &[Interest]
     ensures { result.now ≡ interests_of details.now }
 {
     match details {
@@ -220,7 +224,7 @@ fn insert_interests<S: Alter>(
 {
     let mut item = 0;
     for interest in interests {
-        item = next(item)?;
+        item = next_number(item)?;
         insert_interest(tx, agent, number, place, item, interest)?;
     }
     Ok(())
@@ -242,7 +246,7 @@ fn insert_periods<S: Alter>(
 {
     let mut item = 0;
     for interest in interests {
-        item = next(item)?;
+        item = next_number(item)?;
         insert_period(tx, agent, number, place, item, interest)?;
     }
     Ok(())
@@ -265,7 +269,7 @@ fn insert_identifiers<S: Alter>(
 {
     let mut item = 0;
     for identifier in identifiers {
-        item = next(item)?;
+        item = next_number(item)?;
         insert_identifier(tx, agent, number, place, item, identifier)?;
     }
     Ok(())
@@ -308,7 +312,7 @@ fn insert_statements<S: Alter>(
 {
     let mut place = 0;
     for statement in statements {
-        place = next(place)?;
+        place = next_number(place)?;
         insert_placed(tx, agent, number, place, statement)?;
     }
     Ok(())

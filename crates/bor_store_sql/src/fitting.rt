@@ -10,7 +10,7 @@ ghost use Rattle.bor_store_sql.specs.Rows.Encoding.{interest_columns, identifier
 ghost use Rattle.bor_store_sql.specs.Fitting.{standing, Pairwise, Fit, statements_kept, Tells, IsRowOf, HasListsOf, IsKept};
 ghost use Rattle.bor_store_sql.specs.Selected.{interests_at, identifiers_at};
 
-use crate::additions::{identifiers, interests, next};
+use crate::additions::{identifiers, interests, next_number};
 use crate::columns::{STATUS, identifier_values, interest_values, statement_values};
 use crate::keyed::{identifiers_of_statement, interests_of_statement, statements_of_filing};
 use crate::rows::value_at;
@@ -82,7 +82,7 @@ fn are_interests(
     }
     let mut item = 0;
     for (index, interest) in interests.iter().enumerate() {
-        item = next(item)?;
+        item = next_number(item)?;
         let values = interest_values(agent, number, place, item, interest);
         if !is_row(&rows[index], &values) {
             return Ok(false);
@@ -111,7 +111,7 @@ fn are_identifiers(
     }
     let mut item = 0;
     for (index, identifier) in identifiers.iter().enumerate() {
-        item = next(item)?;
+        item = next_number(item)?;
         let values = identifier_values(agent, number, place, item, identifier);
         if !is_row(&rows[index], &values) {
             return Ok(false);
@@ -216,7 +216,7 @@ fn keeps_rows<S: Alter>(
     }
     let mut place = 0;
     for (index, statement) in statements.iter().enumerate() {
-        place = next(place)?;
+        place = next_number(place)?;
         if !keeps_statement(conn, &rows[index], agent, number, place, statement)? {
             return Ok(false);
         }

@@ -22,7 +22,7 @@ mod running;
 pub mod texts;
 mod withdrawal;
 
-pub use additions::add_filing;
+pub use additions::{add_filing, has_days, interests, next_number};
 pub use creation::set_up;
 pub use fitting::keeps_statements;
 pub use keyed::{

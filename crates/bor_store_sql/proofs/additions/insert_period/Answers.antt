@@ -9,14 +9,14 @@ use Rattle.bor_store_sql.proofs.Lists.{none_said, one_said}
 use Rattle.bor_store_sql.proofs.Moves.{in_other_words, left_so, none_moves, said_so}
 use Rattle.bor_store_sql.proofs.additions.insert_period.Goals as goal
 
-pub returns-then-not-is_said : goal.returns-then-not-is_said
-returns-then-not-is_said g c =
+pub returns-then-not-has_days : goal.returns-then-not-has_days
+returns-then-not-has_days g c =
     let old = state g.S.Store c.args.tx.now.conn.now in
     let at : At = record { agent = c.args.agent.now; filing = c.args.number; place = c.args.place } in
     let row : InterestRow = record { at = at; item = c.args.item; interest = c.args.interest.now } in
     record {
       same_reference = refl;
-      steps = none_moves (Changes Any (with_period_rows (row ∷ []))) old (left_so (with_period_rows (row ∷ [])) old.now (none_said row (sym c.is_said.ensures ∙ c.if-not-is_said.true)));
+      steps = none_moves (Changes Any (with_period_rows (row ∷ []))) old (left_so (with_period_rows (row ∷ [])) old.now (none_said row (sym c.has_days.ensures ∙ c.if-not-has_days.true)));
     }
 
 pub returns : goal.returns
@@ -28,5 +28,5 @@ returns g c =
     record {
       same_reference = c.put_period.ensures.same_reference;
       steps = in_other_words (Changes Any (with_period_row (period_of row))) (Changes Any (with_period_rows (row ∷ []))) old new c.put_period.result
-          (said_so (with_period_row (period_of row)) (with_period_rows (row ∷ [])) old.now new.now (one_said row (sym c.is_said.ensures ∙ c.if-not-is_said.false))) c.put_period.ensures.steps;
+          (said_so (with_period_row (period_of row)) (with_period_rows (row ∷ [])) old.now new.now (one_said row (sym c.has_days.ensures ∙ c.if-not-has_days.false))) c.put_period.ensures.steps;
     }
