@@ -1,7 +1,7 @@
 //! What the files of a register's live filings say of the days of interests, over tables of either
 //! version.
 
-ghost use Rattle.std.specs.Prelude.{◌≡◌, false, map, List, IfOk, All, MatchResult, Err, Ok, Some, option_map, slice_get};
+ghost use Rattle.std.specs.Prelude.{◌≡◌, false, MatchResult, Err, Ok, Some, option_map};
 ghost use Rattle.sqlite.specs.Held.{state};
 ghost use Rattle.bods_read.specs.File.{reading};
 ghost use Rattle.bods_read.specs.declared.fault.FileFault.{FileFault};
@@ -10,45 +10,19 @@ ghost use Rattle.bor_register.specs.Register.{Register};
 ghost use Rattle.bor_register.specs.declared.filing.AcceptedFiling.{AcceptedFiling};
 ghost use Rattle.bor_store_sql.specs.Rows.Placed.{filing_lines};
 ghost use Rattle.bor_store_sql.specs.Shown.{IsClean, ShowsLists};
-ghost use Rattle.bor_store_reads.specs.Answering.{IsNoDamage, ReadsOnly};
+ghost use Rattle.bor_store_reads.specs.Answering.{ReadsOnly};
 ghost use Rattle.bor_store_reads.specs.declared.fault.ReadError.TheVariants as errors;
 ghost use Rattle.bor_store.specs.Migrating.{AnswersEither, FileSays, FilesSay, Gathers, GathersAll, LineSays, LinesSay, filed_at};
 
 use crate::days::add_days;
 use bods_read::{ReadFault, Statement, read_file};
 use bor_register::Filing;
-use bor_store_reads::ReadError;
-use bor_store_sql::rows::{FilingRow, PeriodRow, TableRow, first_row, read_rows};
+use bor_store_reads::{ReadError, all_values, first_value};
+use bor_store_sql::rows::{FilingRow, PeriodRow};
 use bor_store_sql::{all_filings, file_by_number, keeps_statements};
 use bor_terms::AgentName;
-use sqlite::{Alter, Connection, Error, Row};
+use sqlite::{Alter, Connection};
 use std::alloc::Global;
-
-// The value of the first row; none where no row was found.
-fn first<T: TableRow + Drop>(
-    alloc: Global,
-    found: Result<Vec<Row>, Error>,
-) -> Result<Option<T>, ReadError>
-    ensures { (xs : List T) → IfOk found (λ rows. rows.items ≡ map T.columns xs)
-        → All T.is_formed xs
-        → MatchResult result (λ x. x ≡ slice_get xs 0) IsNoDamage }
-{
-    let rows = found?;
-    Ok(first_row(alloc, rows.as_slice())?)
-}
-
-// The values of all rows, in order.
-fn all<T: TableRow + Drop>(
-    alloc: Global,
-    found: Result<Vec<Row>, Error>,
-) -> Result<Vec<T>, ReadError>
-    ensures { (xs : List T) → IfOk found (λ rows. rows.items ≡ map T.columns xs)
-        → All T.is_formed xs
-        → MatchResult result (λ values. values.items ≡ xs) IsNoDamage }
-{
-    let rows = found?;
-    Ok(read_rows(alloc, rows.as_slice())?)
-}
 
 // The agent's filing with this number, with its file.
 fn found_file<S: Alter>(
@@ -63,7 +37,7 @@ fn found_file<S: Alter>(
         (state S.Store conn.new) result (λ r file.
         file ≡ option_map filing_shown (filed_at agent.now number r.members)) }
 {
-    first(alloc, file_by_number(conn, agent.as_str(), number))
+    first_value(alloc, file_by_number(conn, agent.as_str(), number))
 }
 
 // All filings without their files, by agent and number.
@@ -77,7 +51,7 @@ fn found_lines<S: Alter>(
         (state S.Store conn.new) result (λ r lines.
         lines.items ≡ filing_lines r.members) }
 {
-    all(alloc, all_filings(conn))
+    all_values(alloc, all_filings(conn))
 }
 
 // The statements that a file is read to.

@@ -7,7 +7,7 @@ ghost use Rattle.bor_store_reads.specs.Answering.{ReadsAs};
 
 use crate::fault::ReadError;
 use crate::register::read_register;
-use crate::values::{any, first};
+use crate::values::{any, first_value};
 use bor_register::Caller;
 use bor_store_sql::rows::AgentRow;
 use bor_store_sql::{agent_by_name, agent_by_token};
@@ -25,7 +25,7 @@ fn found_agent<S: Alter>(
     ensures { ReadsAs (state S.Store conn.old) (state S.Store conn.new) result (λ r agent.
         option_map (λ a. a.name) agent ≡ agent_with token.now r.members) }
 {
-    first(alloc, agent_by_token(conn, token.as_str()))
+    first_value(alloc, agent_by_token(conn, token.as_str()))
 }
 
 /// Who has the token; `None` where nobody has.

@@ -14,7 +14,7 @@ ghost use Rattle.bor_store_reads.specs.Asking.{part_identifiers, part_interests}
 use crate::fault::ReadError;
 use crate::known::{Known, known_of};
 use crate::register::read_day;
-use crate::values::all;
+use crate::values::all_values;
 use bor_records::Row;
 use bor_store_sql::rows::{
     At, IdentifierRow, InterestLine, InterestRow, Part, PeriodRow, Placed, StatementRow, joined,
@@ -39,7 +39,7 @@ fn statements<S: Alter>(
     ensures { ReadsAs (state S.Store conn.old) (state S.Store conn.new) result (λ r rows.
         rows.items ≡ map bare (in_declaration declaration.now (placed_of agent.now r))) }
 {
-    all(
+    all_values(
         alloc,
         statements_of_declaration(conn, agent.as_str(), declaration.as_str()),
     )
@@ -55,7 +55,7 @@ fn lines_of_one<S: Alter>(
     ensures { ReadsAs (state S.Store conn.old) (state S.Store conn.new) result (λ r rows.
         rows.items ≡ map line_of (interests_at at.now r.members)) }
 {
-    all(
+    all_values(
         alloc,
         interests_of_statement(conn, at.agent.as_str(), at.filing, at.place),
     )
@@ -71,7 +71,7 @@ fn periods_of_one<S: Alter>(
     ensures { ReadsAs (state S.Store conn.old) (state S.Store conn.new) result (λ r rows.
         rows.items ≡ flat_map period_rows (interests_at at.now r.members)) }
 {
-    all(
+    all_values(
         alloc,
         periods_of_statement(conn, at.agent.as_str(), at.filing, at.place),
     )
@@ -139,7 +139,7 @@ pub fn identifiers_of_one<S: Alter>(
     ensures { ReadsAs (state S.Store conn.old) (state S.Store conn.new) result (λ r rows.
         rows.items ≡ identifiers_at at.now r.members) }
 {
-    all(
+    all_values(
         alloc,
         identifiers_of_statement(conn, at.agent.as_str(), at.filing, at.place),
     )

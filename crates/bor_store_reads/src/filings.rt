@@ -9,7 +9,7 @@ ghost use Rattle.bor_store_reads.specs.Answering.{ReadsAs};
 
 use crate::fault::ReadError;
 use crate::register::read_day;
-use crate::values::{all, first, flag};
+use crate::values::{all_values, first_value, flag};
 use bor_register::{Filing, FilingLine};
 use bor_store_sql::rows::{FilingRow, lines_of};
 use bor_store_sql::{filing_by_key, filings_of_agent, last_filing, line_by_key, same_bytes};
@@ -28,7 +28,7 @@ pub fn read_filing<S: Alter>(
     ensures { ReadsAs (state S.Store conn.old) (state S.Store conn.new) result (λ r filing.
         filing ≡ option_map filing_shown (filing_keyed key.now (filings_of agent.now r.members))) }
 {
-    first(alloc, filing_by_key(conn, agent.as_str(), key.as_str()))
+    first_value(alloc, filing_by_key(conn, agent.as_str(), key.as_str()))
 }
 
 // The row of the agent's filing under a key.
@@ -43,7 +43,7 @@ fn found_line<S: Alter>(
         row ≡ option_map (filing_row agent.now)
         (filing_keyed key.now (filings_of agent.now r.members))) }
 {
-    first(alloc, line_by_key(conn, agent.as_str(), key.as_str()))
+    first_value(alloc, line_by_key(conn, agent.as_str(), key.as_str()))
 }
 
 /// The line of the agent's filing under a key, on the register's day; `None` where it has lodged
@@ -90,7 +90,7 @@ fn found_last<S: Alter>(
     ensures { ReadsAs (state S.Store conn.old) (state S.Store conn.new) result (λ r row.
         unwrap_or (option_map (λ f. f.number) row) 0 ≡ length (filings_of agent.now r.members)) }
 {
-    first(alloc, last_filing(conn, agent.as_str()))
+    first_value(alloc, last_filing(conn, agent.as_str()))
 }
 
 /// How many filings the agent has, withdrawn ones included: the number of the last one.
@@ -119,7 +119,7 @@ fn found_lines<S: Alter>(
     ensures { ReadsAs (state S.Store conn.old) (state S.Store conn.new) result (λ r rows.
         rows.items ≡ map (filing_row agent.now) (filings_of agent.now r.members)) }
 {
-    all(alloc, filings_of_agent(conn, agent.as_str()))
+    all_values(alloc, filings_of_agent(conn, agent.as_str()))
 }
 
 /// The lines of the agent's filings on the register's day, by number.

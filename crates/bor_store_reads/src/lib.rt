@@ -31,4 +31,5 @@ pub use register::read_day;
 pub use statements::{has_statement, read_last};
 pub use successors::has_successor;
 pub use tables::has_more;
+pub use values::{all_values, first_value};
 pub use views::{read_published, read_visible};

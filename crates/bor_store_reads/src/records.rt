@@ -7,7 +7,7 @@ ghost use Rattle.bor_store_sql.specs.Selected.{identified_by, in_record, in_seri
 ghost use Rattle.bor_store_reads.specs.Answering.{ReadsAs};
 
 use crate::fault::ReadError;
-use crate::values::{all, first};
+use crate::values::{all_values, first_value};
 use bor_store_sql::rows::{At, IdentifierRow, StatementRow};
 use bor_store_sql::{
     identifiers_by_id, statement_by_place, statements_of_record, statements_of_series,
@@ -29,7 +29,7 @@ pub fn read_series<S: Alter>(
     ensures { ReadsAs (state S.Store conn.old) (state S.Store conn.new) result (λ r rows.
         rows.items ≡ map bare (in_series declaration.now rec.now (placed_of agent.now r))) }
 {
-    all(
+    all_values(
         alloc,
         statements_of_series(conn, agent.as_str(), declaration.as_str(), rec.as_str()),
     )
@@ -47,7 +47,7 @@ pub fn read_record<S: Alter>(
     ensures { ReadsAs (state S.Store conn.old) (state S.Store conn.new) result (λ r rows.
         rows.items ≡ map bare (in_record rec.now (placed_of agent.now r))) }
 {
-    all(alloc, statements_of_record(conn, agent, rec))
+    all_values(alloc, statements_of_record(conn, agent, rec))
 }
 
 /// The rows of the agent's live relationship statements of a declaration that name this record as
@@ -63,7 +63,7 @@ pub fn read_subject<S: Alter>(
     ensures { ReadsAs (state S.Store conn.old) (state S.Store conn.new) result (λ r rows.
         rows.items ≡ map bare (with_subject declaration.now rec.now (placed_of agent.now r))) }
 {
-    all(
+    all_values(
         alloc,
         statements_of_subject(conn, agent.as_str(), declaration.as_str(), rec.as_str()),
     )
@@ -79,7 +79,7 @@ pub fn read_place<S: Alter>(
     ensures { ReadsAs (state S.Store conn.old) (state S.Store conn.new) result (λ r row.
         row ≡ option_map bare (slice_get (standing_at at.now r.members) 0)) }
 {
-    first(
+    first_value(
         alloc,
         statement_by_place(conn, at.agent.as_str(), at.filing, at.place),
     )
@@ -97,5 +97,5 @@ pub fn read_identified<S: Alter>(
     ensures { ReadsAs (state S.Store conn.old) (state S.Store conn.new) result (λ r rows.
         rows.items ≡ identified_by scheme.now id.now r.members) }
 {
-    all(alloc, identifiers_by_id(conn, scheme, id))
+    all_values(alloc, identifiers_by_id(conn, scheme, id))
 }

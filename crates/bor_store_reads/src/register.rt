@@ -6,7 +6,7 @@ ghost use Rattle.bor_store_sql.specs.Rows.Placed.{register_row};
 ghost use Rattle.bor_store_reads.specs.Answering.{ReadsAs};
 
 use crate::fault::ReadError;
-use crate::values::first;
+use crate::values::first_value;
 use bor_store_sql::all_register;
 use bor_store_sql::rows::RegisterRow;
 use bor_terms::Day;
@@ -21,7 +21,7 @@ fn found_register<S: Alter>(
     ensures { ReadsAs (state S.Store conn.old) (state S.Store conn.new) result (λ r row.
         row ≡ Some (register_row r)) }
 {
-    first(alloc, all_register(conn))
+    first_value(alloc, all_register(conn))
 }
 
 /// The register's row.

@@ -13,7 +13,7 @@ ghost use Rattle.bor_store_sql.specs.Selected.{in_series, numbered, placed_of};
 ghost use Rattle.bor_store_reads.specs.Answering.{ReadsAs};
 
 use crate::fault::ReadError;
-use crate::values::{any, first};
+use crate::values::{any, first_value};
 use bor_records::Last;
 use bor_store_sql::rows::{FilingRow, StatementRow};
 use bor_store_sql::{last_of_series, line_by_number, statement_by_id};
@@ -47,7 +47,7 @@ pub(crate) fn found_statement<S: Alter>(
         row ≡ option_map bare
         (last_or None (in_series declaration.now rec.now (placed_of agent.now r)))) }
 {
-    first(
+    first_value(
         alloc,
         last_of_series(conn, agent.as_str(), declaration.as_str(), rec.as_str()),
     )
@@ -65,7 +65,7 @@ pub(crate) fn found_filing<S: Alter>(
         row ≡ option_map (filing_row agent.now)
         (slice_get (numbered number (filings_of agent.now r.members)) 0)) }
 {
-    first(alloc, line_by_number(conn, agent.as_str(), number))
+    first_value(alloc, line_by_number(conn, agent.as_str(), number))
 }
 
 /// What is known of the record's last live statement; `rec` is its identifier. `None` where the

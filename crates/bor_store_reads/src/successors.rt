@@ -12,7 +12,7 @@ ghost use Rattle.bor_store_reads.specs.Answering.{ReadsAs};
 
 use crate::fault::ReadError;
 use crate::statements::found_statement;
-use crate::values::all;
+use crate::values::all_values;
 use bor_store_sql::rows::StatementRow;
 use bor_store_sql::statements_of_filing;
 use bor_terms::AgentName;
@@ -30,7 +30,7 @@ fn found_statements<S: Alter>(
     ensures { ReadsAs (state S.Store conn.old) (state S.Store conn.new) result (λ r rows.
         rows.items ≡ map bare (in_filing number (placed_of agent.now r))) }
 {
-    all(alloc, statements_of_filing(conn, agent.as_str(), number))
+    all_values(alloc, statements_of_filing(conn, agent.as_str(), number))
 }
 
 // Whether the last statement of this one's record stands in a filing after the one with this

@@ -8,7 +8,7 @@ ghost use Rattle.bor_store_sql.specs.Rows.Placed.{agent_row, bare, filing_lines,
 ghost use Rattle.bor_store_reads.specs.Answering.{ReadsAs};
 
 use crate::fault::ReadError;
-use crate::values::{all, any};
+use crate::values::{all_values, any};
 use bor_register::Member;
 use bor_store_sql::rows::{
     AgentRow, FilingRow, IdentifierRow, InterestLine, InterestRow, PeriodRow, Placed, StatementRow,
@@ -27,7 +27,7 @@ fn agents<S: Alter>(conn: &mut Connection<S>, alloc: Global) -> Result<Vec<Agent
     ensures { ReadsAs (state S.Store conn.old) (state S.Store conn.new) result (λ r rows.
         rows.items ≡ map agent_row r.members) }
 {
-    all(alloc, all_agents(conn))
+    all_values(alloc, all_agents(conn))
 }
 
 // The rows of all filings without their files, by agent and number.
@@ -36,7 +36,7 @@ fn filings<S: Alter>(conn: &mut Connection<S>, alloc: Global) -> Result<Vec<Fili
     ensures { ReadsAs (state S.Store conn.old) (state S.Store conn.new) result (λ r rows.
         rows.items ≡ filing_lines r.members) }
 {
-    all(alloc, all_filings(conn))
+    all_values(alloc, all_filings(conn))
 }
 
 // The rows of all statements, by agent, filing and place.
@@ -48,7 +48,7 @@ fn statements<S: Alter>(
     ensures { ReadsAs (state S.Store conn.old) (state S.Store conn.new) result (λ r rows.
         rows.items ≡ map bare (placed r.members)) }
 {
-    all(alloc, all_statements(conn))
+    all_values(alloc, all_statements(conn))
 }
 
 // The rows of all interests without their days, by the place of their statement.
@@ -60,7 +60,7 @@ fn interest_lines<S: Alter>(
     ensures { ReadsAs (state S.Store conn.old) (state S.Store conn.new) result (λ r rows.
         rows.items ≡ map line_of (flat_map interest_rows (placed r.members))) }
 {
-    all(alloc, all_interests(conn))
+    all_values(alloc, all_interests(conn))
 }
 
 // The rows of the days of all interests, by the place of their statement.
@@ -69,7 +69,7 @@ fn periods<S: Alter>(conn: &mut Connection<S>, alloc: Global) -> Result<Vec<Peri
     ensures { ReadsAs (state S.Store conn.old) (state S.Store conn.new) result (λ r rows.
         rows.items ≡ flat_map period_rows (flat_map interest_rows (placed r.members))) }
 {
-    all(alloc, all_periods(conn))
+    all_values(alloc, all_periods(conn))
 }
 
 // All interests, by the place of their statement.
@@ -95,7 +95,7 @@ fn identifiers<S: Alter>(
     ensures { ReadsAs (state S.Store conn.old) (state S.Store conn.new) result (λ r rows.
         rows.items ≡ flat_map identifier_rows (placed r.members)) }
 {
-    all(alloc, all_identifiers(conn))
+    all_values(alloc, all_identifiers(conn))
 }
 
 // All live statements, by agent, filing and place.

@@ -11,7 +11,11 @@ use sqlite::{Error, Row};
 use std::alloc::Global;
 
 /// The value of the first row; none where no row was found.
-pub(crate) fn first<T: TableRow + Drop>(
+///
+/// # Errors
+///
+/// An error in place of rows, want of memory, or a row that has no value of the type.
+pub fn first_value<T: TableRow + Drop>(
     alloc: Global,
     found: Result<Vec<Row>, Error>,
 ) -> Result<Option<T>, ReadError>
@@ -23,7 +27,11 @@ pub(crate) fn first<T: TableRow + Drop>(
 }
 
 /// The values of all rows, in order.
-pub(crate) fn all<T: TableRow + Drop>(
+///
+/// # Errors
+///
+/// An error in place of rows, want of memory, or a row that has no value of the type.
+pub fn all_values<T: TableRow + Drop>(
     alloc: Global,
     found: Result<Vec<Row>, Error>,
 ) -> Result<Vec<T>, ReadError>

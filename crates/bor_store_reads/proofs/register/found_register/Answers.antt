@@ -12,4 +12,4 @@ pub returns : goal.returns
 returns g c =
     told register_row_columns IsFormedRegisterRow (state g.S.Store c.args.conn.now) (state g.S.Store c.all_register.new.conn) c.all_register.result (λ r. register_columns r ∷ []) c.all_register.ensures.mode c.all_register.ensures.finds
     (λ r. register_row r ∷ []) (λ r. refl) (λ r stored. All-cons IsFormedRegisterRow (register_row r) [] (register_formed r stored.formed) (All-nil IsFormedRegisterRow))
-    c.first.result (λ xs x. x ≡ slice_get xs 0) c.first.ensures
+    c.first_value.result (λ xs x. x ≡ slice_get xs 0) c.first_value.ensures

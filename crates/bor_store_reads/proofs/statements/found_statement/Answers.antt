@@ -25,7 +25,7 @@ returns g c =
     let old = state g.S.Store c.args.conn.now in
     let new = state g.S.Store c.last_of_series.new.conn in
     let series : Register → List Placed = λ r. in_series declaration rec_is (placed_of agent r) in
-    in_words old new c.first.result (λ r x. x ≡ slice_get (map bare (last (series r))) 0) (λ r x. x ≡ option_map bare (last_or None (series r)))
+    in_words old new c.first_value.result (λ r x. x ≡ slice_get (map bare (last (series r))) 0) (λ r x. x ≡ option_map bare (last_or None (series r)))
     (λ r x stored is. is ∙ last_found bare (series r))
     (told statement_columns IsFormedStatementRow old new c.last_of_series.result (λ r. map (λ p. statement_columns (bare p)) (last (in_series c.as_str-2.result.now c.as_str-3.result.now (placed_of c.as_str.result.now r)))) c.last_of_series.ensures.mode c.last_of_series.ensures.finds
     (λ r. map bare (last (series r)))
@@ -33,4 +33,4 @@ returns g c =
     ∙ ap₂ (λ d i. map (λ p. statement_columns (bare p)) (last (in_series d i (placed_of agent r)))) c.as_str-2.ensures.value c.as_str-3.ensures.value
     ∙ sym (map-map statement_columns bare (last (series r))))
     (λ r stored. all_bare_formed (last (series r)) (all_taken IsFormedPlaced (series r) (All-filter (λ (p : Placed). is_of declaration rec_is p.statement) IsFormedPlaced (placed_of agent r) (own_formed agent r stored))))
-    c.first.result (λ xs x. x ≡ slice_get xs 0) c.first.ensures)
+    c.first_value.result (λ xs x. x ≡ slice_get xs 0) c.first_value.ensures)
