@@ -185,33 +185,24 @@ impl Found {
     }
 
     /// The same with the row that this record shows; nothing where memory is wanting.
-    pub(crate) fn with_row(self, alloc: Global, node: Node, row: Option<Row>) -> Option<Found>
+    pub(crate) fn with_row(mut self, alloc: Global, node: Node, row: Option<Row>) -> Option<Found>
         ensures { IfSome result (λ found. (r : Register) → IsStored r → AreOf r self
             → row ≡ open_at self.view.day node (rows_seen self.view r) → AreOf r found) }
     {
-        let Found {
-            view,
-            filings,
-            mut rows,
-            mut places,
-            lists,
-            many,
-        } = self;
-        match put_place(alloc, &mut places, &node, &row) {
-            Ok(()) => {}
-            Err(_) => return None,
-        }
-        match rows.insert(node, row) {
-            Ok(_) => Some(Found {
-                view,
-                filings,
-                rows,
-                places,
-                lists,
-                many,
-            }),
+        match self.put_row(alloc, node, row) {
+            Ok(()) => Some(self),
             Err(_) => None,
         }
+    }
+
+    // Puts the row that this record shows, and the record under its place.
+    fn put_row(&mut self, alloc: Global, node: Node, row: Option<Row>) -> Result<(), AllocError>
+        ensures { OnOk result ((r : Register) → IsStored r → AreOf r self.old
+            → row ≡ open_at self.old.view.day node (rows_seen self.old.view r) → AreOf r self.new) }
+    {
+        put_place(alloc, &mut self.places, &node, &row)?;
+        self.rows.insert(node, row)?;
+        Ok(())
     }
 
     /// The record of the statement at a place.
