@@ -1,6 +1,6 @@
 //! What a report was last told, for one viewer and day.
 
-ghost use Rattle.std.specs.Prelude.{◌≡◌, Option, Some, IfOk, IfSome, OnOk};
+ghost use Rattle.std.specs.Prelude.{◌≡◌, None, Option, Some, IfOk, IfSome, OnOk};
 ghost use Rattle.bor_records.specs.declared.links.node.NodeInfo.{NodeInfo};
 ghost use Rattle.bor_records.specs.declared.links.node.OpenNode.{OpenNode};
 ghost use Rattle.bor_records.specs.Links.ByKey.{node_at};
@@ -23,6 +23,7 @@ use bor_store_sql::rows::At;
 use bor_terms::AgentName;
 use std::alloc::{AllocError, Global};
 use std::collections::BTreeMap;
+use std::mem::drop;
 
 /// A filing, by its number and its agent.
 #[derive(Drop, PartialEq, Eq, PartialOrd, Ord)]
@@ -200,9 +201,9 @@ impl Found {
         ensures { OnOk result ((r : Register) → IsStored r → AreOf r self.old
             → row ≡ open_at self.old.view.day node (rows_seen self.old.view r) → AreOf r self.new) }
     {
-        put_place(alloc, &mut self.places, &node, &row)?;
-        self.rows.insert(node, row)?;
-        Ok(())
+        let placed = put_place(alloc, &mut self.places, &node, &row);
+        drop(self.rows.insert(node, row)?);
+        placed
     }
 
     /// The record of the statement at a place.
@@ -219,6 +220,21 @@ impl Found {
         match self.places.get(&key) {
             Some(node) => Ok(Some(node.copy(alloc)?)),
             None => Ok(None),
+        }
+    }
+}
+
+/// What was found, which is taken out where it is for this view.
+pub(crate) fn taken(found: &mut Option<Found>, view: &View) -> Option<Found>
+    ensures left { result ≡ None → found.new ≡ found.old }
+    ensures view { IfSome result (λ one. one.view ≡ view.now) }
+    ensures was { IfSome result (λ one. found.old ≡ Some one) }
+{
+    match found.take() {
+        Some(one) if one.view.is(view) => Some(one),
+        other => {
+            *found = other;
+            None
         }
     }
 }

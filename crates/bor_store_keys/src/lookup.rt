@@ -18,7 +18,7 @@ ghost use Rattle.bor_store_keys.specs.Finding.{Holds};
 ghost use Rattle.bor_store_keys.specs.Signed.{record_standing};
 ghost use Rattle.bor_store_keys.specs.Viewed.{rows_seen, seen};
 
-use crate::found::{FilingKey, Found};
+use crate::found::{FilingKey, Found, taken};
 use crate::view::View;
 use bor_chains::ListSource;
 use bor_records::Row;
@@ -32,6 +32,7 @@ use bor_terms::{AgentName, Day};
 use sqlite::{Alter, Connection};
 use std::alloc::{AllocError, Global};
 use std::marker::Model;
+use std::mem::drop;
 
 /// A connection to a register's tables, with what a report was last told over it: of one viewer and
 /// day the filings that are seen and what nodes show, with where it stands. So a report reads each
@@ -292,9 +293,8 @@ impl<S: Alter + Drop> Lookup<S> {
             (filings_of key.agent r.members) key.number) }
         ensures { self.new ≡ self.old }
     {
-        match self.found.take() {
-            Some(found) if found.view.is(view) => self.found = found.with_filing(key, seen),
-            other => self.found = other,
+        if let Some(found) = taken(&mut self.found, view) {
+            self.found = found.with_filing(key, seen);
         }
     }
 
@@ -352,9 +352,9 @@ impl<S: Alter + Drop> Lookup<S> {
             row ≡ open_at view.now.day node (rows_seen view.now r)) }
         ensures { self.new ≡ self.old }
     {
-        match self.found.take() {
-            Some(found) if found.view.is(view) => self.found = found.with_row(alloc, node, row),
-            other => self.found = other,
+        match taken(&mut self.found, view) {
+            Some(found) => self.found = found.with_row(alloc, node, row),
+            None => drop(row),
         }
     }
 
@@ -365,17 +365,10 @@ impl<S: Alter + Drop> Lookup<S> {
         ensures today { IfSome result (λ _.
             Holds (state S.Store self.old) (λ r. view.now.today ≡ r.day)) }
     {
-        match self.found.take() {
-            Some(mut found) if found.view.is(view) => {
-                let most = found.most();
-                self.found = Some(found);
-                most
-            }
-            other => {
-                self.found = other;
-                None
-            }
-        }
+        let mut found = taken(&mut self.found, view)?;
+        let most = found.most();
+        self.found = Some(found);
+        most
     }
 
     // Notes all rows that the viewer sees, as lists; nothing where memory is wanting.
@@ -398,17 +391,10 @@ impl<S: Alter + Drop> Lookup<S> {
         ensures lists { IfSome result (λ lists.
             Holds (state S.Store self.old) (λ r. lists.shown ≡ seen view.now r)) }
     {
-        match self.found.take() {
-            Some(mut found) if found.view.is(view) => {
-                let lists = found.take_lists();
-                self.found = Some(found);
-                lists
-            }
-            other => {
-                self.found = other;
-                None
-            }
-        }
+        let mut found = taken(&mut self.found, view)?;
+        let lists = found.take_lists();
+        self.found = Some(found);
+        lists
     }
 
     /// Puts back the lists that were taken out.
