@@ -4,9 +4,11 @@ ghost use Rattle.std.specs.Prelude.{◌≡◌, false, IfOk, option_and_then};
 ghost use Rattle.sqlite.specs.Held.{state};
 ghost use Rattle.bor_records.specs.Links.ByKey.{node_at};
 ghost use Rattle.bor_records.specs.Links.Rows.{is_entity_info, is_some_info, node_in};
+ghost use Rattle.bor_records.specs.Links.Series.{open_at};
 ghost use Rattle.bor_records.specs.Links.Shown.{info_of};
 ghost use Rattle.bor_register.specs.Seen.{seen_at};
 ghost use Rattle.bor_store_reads.specs.Answering.{ReadsAs};
+ghost use Rattle.bor_store_keys.specs.Finding.{Holds};
 ghost use Rattle.bor_store_keys.specs.Viewed.{rows_seen, seen};
 
 use crate::listed::node_listed;
@@ -20,6 +22,7 @@ use bor_store_reads::ReadError;
 use bor_terms::{AgentName, Day};
 use sqlite::Alter;
 use std::alloc::{AllocError, Global};
+use std::mem::drop;
 
 // The node that a row makes.
 fn node_made(alloc: Global, row: &Option<Row>) -> Result<Option<OpenNode>, AllocError>
@@ -28,6 +31,24 @@ fn node_made(alloc: Global, row: &Option<Row>) -> Result<Option<OpenNode>, Alloc
     match row {
         Some(row) => node_of(alloc, row),
         None => Ok(None),
+    }
+}
+
+// Notes the row that a record shows; nothing where memory is wanting.
+fn note_shown<S: Alter + Drop>(
+    lookup: &mut Lookup<S>,
+    alloc: Global,
+    view: &View,
+    node: &Node,
+    row: Option<Row>,
+)
+    requires { Holds (state S.Store lookup.old) (λ r.
+        row ≡ open_at view.now.day node.now (rows_seen view.now r)) }
+    ensures { lookup.new ≡ lookup.old }
+{
+    match node.copy(alloc) {
+        Ok(node) => lookup.note_row(alloc, view, node, row),
+        Err(_) => drop(row),
     }
 }
 
@@ -43,8 +64,9 @@ fn node_read<S: Alter + Drop>(
         one ≡ node_at view.now.day node.now (rows_seen view.now r)) }
 {
     let row = open_row(lookup, alloc, view, node)?;
-    let one = node_made(alloc, &row)?;
-    lookup.note_row(alloc, view, node.copy(alloc)?, row);
+    let made = node_made(alloc, &row);
+    note_shown(lookup, alloc, view, node, row);
+    let one = made?;
     Ok(one)
 }
 
