@@ -73,9 +73,9 @@ pub trait OpenRegister {
     /// A call that led from one state to another told this fault.
     ghost tells: { Self → StoreFault → Self → Type 0 };
 
-    /// So many connections were served within these limits, which led from one state to another,
-    /// with this status.
-    ghost serves: { Self → Limits → ℕ → Self → ℕ → Type 0 };
+    /// So many connections of this listener were served within these limits, which led from one
+    /// state to another, with this status.
+    ghost serves: { {L : Type 0} → Self → L → Limits → ℕ → Self → ℕ → Type 0 };
 
     /// The replies to inputs, each answered from the register that the one before it left. What
     /// each agent receives follows from its own exchanges alone, and a report on chains with status
@@ -136,7 +136,7 @@ pub trait OpenRegister {
     ) -> u8
     where
         L::Stream: Read + Write + OpenStream,
-        ensures within { serves self.old limits connections self.new result }
+        ensures within { serves self.old listener.now limits connections self.new result }
         ensures served { IsServed shows is_clean self.old self.new connections result }
         ensures streams { IsServedOver shows is_clean
             (IsOf L.Stream.remaining L.Stream.contents) W.does
@@ -151,7 +151,7 @@ impl<K: Keep> OpenRegister for K {
     ghost tells = { λ old fault new. IsFaultOf K.may_tell (K.fault_count old)
         (K.fault_count new) fault };
 
-    ghost serves = { λ _ _ _ _ _. ⊤ };
+    ghost serves = { λ _ _ _ _ _ _. ⊤ };
 
     fn replay(&mut self, alloc: Global, inputs: &[Vec<u8>]) -> Result<Vec<Reply>, AllocError> {
         replay(alloc, self, inputs)
