@@ -1,23 +1,14 @@
 -- What reading comes to: the value where no line of the table of faults fails, and otherwise the first
 -- line that does.
 use Rattle.std.specs.Prelude.{◌≡◌, ◌+◌, ℕ, List, [], ◌∷◌, ◌++◌, Result, Ok, Err, Bool, if◌then◌else◌}
+pub use Rattle.bor_terms.specs.Tables.{outcome, table}
 use Rattle.bods_read.specs.declared.fault.Fault.{Fault}
 use Rattle.bods_read.specs.declared.trouble.Trouble.{Trouble}
 use Rattle.bods_read.specs.declared.trouble.Trouble.TheVariants as troubles
 
--- the first of the faults, or the value where there is none
-abbrev pub outcome : {F X : Type 0} → List F → X → Result X F
-outcome [] x = Ok x
-outcome (fault ∷ more) x = Err fault
-
 -- a line of the table: it fails with this fault unless the test holds
 abbrev pub unless : Bool → Fault → List Fault
 unless holds fault = if holds then [] else fault ∷ []
-
--- the failing lines of a table, one line after the other, each looked at whatever the others say
-abbrev pub table : {F : Type 0} → List (List F) → List F
-table [] = []
-table (lines ∷ more) = lines ++ table more
 
 -- the lines about each item, with its place, from this place on
 abbrev pub lines_from : {F D : Type 0} → (ℕ → D → List F) → ℕ → List D → List F

@@ -2,6 +2,7 @@
 use Rattle.std.specs.Prelude.{◌⊎◌, ℤ, ℕ, List, Option, Some, None, Result, MatchResult}
 use Rattle.std.specs.Io.KnownBytes.{Keeps}
 use Rattle.bor_records.specs.Promises.{Promised}
+use Rattle.bor_records.specs.declared.links.node.Node.{Node}
 use Rattle.bor_register.specs.Register.{Register}
 use Rattle.bor_desk.specs.Operations.Sight.{seen_by}
 use Rattle.bor_desk.specs.Step.{chains_answer}
@@ -17,9 +18,13 @@ abbrev pub day_in : Option ℤ → ℤ → ℤ
 day_in (Some day) today = day
 day_in None today = today
 
+-- the entity that is asked for
+abbrev pub entity_of : Report → Node
+entity_of asked = record { agent = asked.agent; declaration = asked.declaration; rec = asked.rec }
+
 -- the text tells who stands behind the entity, in what the viewer sees of the register
 abbrev pub IsReportOf : Report → Register → Text → Type 0
-IsReportOf asked r text = IsTextOf (chains_answer (seen_by asked.viewer r) asked.entity (day_in asked.date r.day)) text
+IsReportOf asked r text = IsTextOf (chains_answer (seen_by asked.viewer r) (entity_of asked) (day_in asked.date r.day)) text
 
 -- of a register that was opened and what is left of it: the text tells it of each register that was shown
 abbrev pub IsToldOf : {K : Type 0} → (K → Register → Type 0) → (K → Type 0) → K → K → Report → Text → Type 0

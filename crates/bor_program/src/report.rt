@@ -1,12 +1,12 @@
 //! `bor report`.
 
-ghost use Rattle.std.specs.Prelude.{◌≤◌, IfOk, IfErr, OnOk, Some};
+ghost use Rattle.std.specs.Prelude.{◌≡◌, ◌≤◌, IfOk, IfErr, OnOk, Some};
 ghost use Rattle.bor_records.specs.Promises.{Kept, Promised};
 ghost use Rattle.bor_desk.specs.Operations.Outcomes.{IsAccounted};
 ghost use Rattle.bor_program.specs.Failures.{IsMetOnKeep};
 ghost use Rattle.bor_program.specs.Performing.{Reports};
 ghost use Rattle.bor_program.specs.Program.{exit_code};
-ghost use Rattle.bor_program.specs.Reporting.{EndsTelling, IsReportOf, IsToldOf};
+ghost use Rattle.bor_program.specs.Reporting.{EndsTelling, IsReportOf, IsToldOf, entity_of};
 
 use crate::check::text_status;
 use crate::failure::Failure;
@@ -15,8 +15,9 @@ use crate::output::{Output, write_text};
 use crate::status::Status;
 use bor_desk::operations::{Keep, StoreFault};
 use bor_desk::{Text, date_or_day, report_text};
+use bor_records::links::Node;
 use bor_words::Report;
-use std::alloc::Global;
+use std::alloc::{AllocError, Global};
 use std::io::Write;
 
 /// Prints who stands behind an entity, by the register in a file, which is closed then.
@@ -88,6 +89,18 @@ pub fn report_in<K: Keep>(
     ensures accounted { IsAccounted Some K.may_tell result (K.fault_count keep.old)
         (K.fault_count keep.new) }
 {
+    let entity = entity_of(alloc, asked)?;
     let day = date_or_day(keep, asked.date)?;
-    report_text(alloc, keep, &asked.viewer, &asked.entity, day)
+    report_text(alloc, keep, &asked.viewer, &entity, day)
+}
+
+// The entity that is asked for.
+fn entity_of(alloc: Global, asked: &Report<'_>) -> Result<Node, AllocError>
+    ensures { IfOk result (λ entity. entity ≡ entity_of asked.now) }
+{
+    Ok(Node {
+        agent: asked.agent.copy(alloc)?,
+        declaration: asked.declaration.copy(alloc)?,
+        rec: asked.rec.copy(alloc)?,
+    })
 }

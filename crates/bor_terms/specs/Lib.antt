@@ -4,3 +4,4 @@ pub mod Points
 pub mod Span
 pub mod Shown
 pub mod Period
+pub mod Tables

@@ -8,7 +8,7 @@ use Rattle.bor_terms.specs.Texts.{is_same}
 use Rattle.bods_read.specs.declared.fault.FileFault.{FileFault}
 use Rattle.bods_read.specs.declared.statement.Statement.{Statement}
 use Rattle.bods_read.specs.File.{statements, reading, reading_of, reading_in, value_of}
-use Rattle.bods_read.specs.Outcome.{outcome}
+use Rattle.bor_terms.specs.Tables.{outcome}
 use Rattle.bor_records.specs.Admission.{line}
 use Rattle.bor_records.specs.Links.Rows.{is_entity_info, shown_of}
 use Rattle.bor_records.specs.Links.Shown.{Shown, info_of}

@@ -8,7 +8,7 @@ use Rattle.bods_read.specs.declared.fault.FileFault.{FileFault}
 use Rattle.bods_read.specs.declared.fault.FileFault.TheVariants.{NotJson}
 use Rattle.bods_read.specs.declared.statement.Statement.{Statement}
 use Rattle.bods_read.specs.File.{faults, reading, value_of}
-use Rattle.bods_read.specs.Outcome.{table}
+use Rattle.bor_terms.specs.Tables.{table}
 use Rattle.bor_records.specs.Admission.{Live, line}
 use Rattle.bor_records.specs.Links.Rows.{is_entity_info, shown_of}
 use Rattle.bor_records.specs.Links.Shown.{info_of}

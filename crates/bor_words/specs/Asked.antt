@@ -73,9 +73,9 @@ pub record IsServe (rows : List Row) (asked : Serve) : Type 0 where
 pub record IsReport (rows : List Row) (asked : Report) : Type 0 where
   pub db : asked.db.now ≡ given (codes "db") rows
   pub viewer : asked.viewer ≡ given (codes "viewer") rows
-  pub agent : asked.entity.agent ≡ given (codes "agent") rows
-  pub declaration : asked.entity.declaration ≡ given (codes "declaration") rows
-  pub rec : asked.entity.rec ≡ given (codes "record") rows
+  pub agent : asked.agent ≡ given (codes "agent") rows
+  pub declaration : asked.declaration ≡ given (codes "declaration") rows
+  pub rec : asked.rec ≡ given (codes "record") rows
   pub date : asked.date ≡ option_and_then day_of (first_of (codes "date") rows)
 
 -- what is asked of a migration

@@ -9,8 +9,7 @@ ghost use Rattle.bor_words.specs.Values.{first_unfit, report_values};
 use crate::matches::given;
 use crate::unread::Unread;
 use crate::values::{agent_name, date, ident};
-use bor_records::links::Node;
-use bor_terms::{AgentName, Day};
+use bor_terms::{AgentName, Day, Ident};
 use clap::ArgMatches;
 use std::alloc::Global;
 
@@ -21,8 +20,12 @@ pub struct Report<'a> {
     pub db: &'a str,
     /// Who asks: its own filings and the published ones are seen.
     pub viewer: AgentName,
-    /// The entity.
-    pub entity: Node,
+    /// The agent that lodged the entity.
+    pub agent: AgentName,
+    /// The declaration that the entity stands in.
+    pub declaration: Ident,
+    /// The entity's record.
+    pub rec: Ident,
     /// The day; the register's where it is left out.
     pub date: Option<Day>,
 }
@@ -38,16 +41,16 @@ impl<'a> Report<'a> {
             (report_values (rows_of (found_of found.now)))) }
     {
         let viewer = agent_name(alloc, found, "viewer")?;
-        let entity = Node {
-            agent: agent_name(alloc, found, "agent")?,
-            declaration: ident(alloc, found, "declaration")?,
-            rec: ident(alloc, found, "record")?,
-        };
+        let agent = agent_name(alloc, found, "agent")?;
+        let declaration = ident(alloc, found, "declaration")?;
+        let rec = ident(alloc, found, "record")?;
         let date = date(found, "date")?;
         Ok(Report {
             db: given(found, "db"),
             viewer,
-            entity,
+            agent,
+            declaration,
+            rec,
             date,
         })
     }

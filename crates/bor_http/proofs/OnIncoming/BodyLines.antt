@@ -6,7 +6,7 @@ use Rattle.std.specs.Option.{option_map_or}
 use Rattle.std.specs.Str.Parse.{digits_value}
 use Rattle.std.proofs.lemmas.Bool.Decides.{nat_tests}
 use Rattle.std.proofs.lemmas.List.Sums.{sum_by-append}
-use Rattle.bods_read.specs.Outcome.{table, outcome}
+use Rattle.bor_terms.specs.Tables.{table, outcome}
 use Rattle.bor_http.specs.declared.incoming.fault.Refusal.{Refusal}
 use Rattle.bor_http.specs.declared.incoming.fault.Refusal.TheVariants.{BadLength, BodyTooLarge, CutShort}
 use Rattle.bor_http.specs.Incoming.Message.{Parts, Message, FieldText, is_named, is_numeral, how_many, first_value, body_limit}

@@ -5,7 +5,7 @@ use Rattle.std.specs.Option.{IfSome, option_map_or, is_none}
 use Rattle.std.proofs.lemmas.Bool.Decides.{nat_tests}
 use Rattle.httparse.specs.Grammar.{ReadsRequest}
 use Rattle.httparse.proofs.GrammarLemmas.{request_unique}
-use Rattle.bods_read.specs.Outcome.{table, outcome}
+use Rattle.bor_terms.specs.Tables.{table, outcome}
 use Rattle.bor_http.specs.declared.incoming.fault.Refusal.{Refusal}
 use Rattle.bor_http.specs.declared.incoming.fault.Refusal.TheVariants.{HeadTooLarge, CutShort, BadHead}
 use Rattle.bor_http.specs.declared.incoming.fault.WireFault.{WireFault}

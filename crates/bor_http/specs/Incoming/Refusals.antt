@@ -3,7 +3,7 @@ use Rattle.std.specs.Prelude.{◌≡◌, ℕ, ◌&&◌, ◌||◌, not, nat_lt, B
 use Rattle.std.specs.List.{filter, list_any}
 use Rattle.std.specs.Option.{is_none}
 use Rattle.std.specs.Str.Parse.{digits_value}
-use Rattle.bods_read.specs.Outcome.{table, outcome}
+use Rattle.bor_terms.specs.Tables.{table, outcome}
 use Rattle.bor_http.specs.declared.incoming.fault.Refusal.{Refusal}
 use Rattle.bor_http.specs.declared.incoming.fault.Refusal.TheVariants.{HeadTooLarge, CutShort, BadHead, BadLength, BodyTooLarge}
 use Rattle.bor_http.specs.Incoming.Head.{head_end, head_limit, line_limit, line_feeds}

@@ -2,7 +2,7 @@
 use Rattle.std.proofs.Common.{◌≡◌, ◌≢◌, ℕ, List, [], ◌∷◌, ◌++◌, length, take, drop, Option, Some, None, Err, Bool, true, false, not, ◌&&◌, refl, sym, ap, subst, ◌∙◌}
 use Rattle.std.specs.Prelude.{Result, nat_lt}
 use Rattle.std.specs.Option.{is_none}
-use Rattle.bods_read.specs.Outcome.{table, outcome}
+use Rattle.bor_terms.specs.Tables.{table, outcome}
 use Rattle.bor_desk.specs.Runs.{Asked}
 use Rattle.bor_http.specs.declared.incoming.fault.Refusal.{Refusal}
 use Rattle.bor_http.specs.declared.incoming.fault.Refusal.TheVariants.{HeadTooLarge, CutShort, BadHead}

@@ -2,7 +2,7 @@
 use Rattle.std.proofs.Common.{◌≡◌, ℕ, List, [], ◌∷◌, Option, Some, None, Ok, refl, sym, ap, ◌∙◌}
 use Rattle.std.specs.Prelude.{unwrap_or, option_and_then, pos}
 use Rattle.std.specs.Option.{is_none}
-use Rattle.bods_read.specs.Outcome.{table, outcome}
+use Rattle.bor_terms.specs.Tables.{table, outcome}
 use Rattle.bor_records.specs.declared.links.node.Node.{Node}
 use Rattle.bor_desk.specs.declared.request.Request.{Request}
 use Rattle.bor_desk.specs.declared.request.Request.TheVariants as ask

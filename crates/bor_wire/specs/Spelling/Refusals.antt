@@ -1,7 +1,7 @@
 -- The order of refusals: a table of what may stand against an input, of which the first line that holds is the answer. Its lines 1 to 6, on the head and the body, are in `Incoming/Refusals`.
 use Rattle.std.specs.Prelude.{ℕ, List, [], ◌∷◌, ◌++◌, drop, Option, Some, None}
 use Rattle.std.specs.Option.{is_none}
-use Rattle.bods_read.specs.Outcome.{table}
+use Rattle.bor_terms.specs.Tables.{table}
 use Rattle.bor_http.specs.declared.incoming.fault.Path.{Path}
 use Rattle.bor_http.specs.declared.incoming.fault.Name.{Name}
 use Rattle.bor_http.specs.declared.incoming.fault.Name.TheVariants as names

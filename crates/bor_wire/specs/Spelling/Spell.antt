@@ -1,6 +1,6 @@
 -- What a whole input spells: a request of whoever has a token, or the first refusal.
 use Rattle.std.specs.Prelude.{◌≡◌, ℕ, ℤ, pos, List, [], drop, Option, Some, None, Result, unwrap_or}
-use Rattle.bods_read.specs.Outcome.{outcome}
+use Rattle.bor_terms.specs.Tables.{outcome}
 use Rattle.bor_desk.specs.declared.request.Request.{Request}
 use Rattle.bor_desk.specs.declared.request.Request.TheVariants as ask
 use Rattle.bor_desk.specs.Runs.{Asked}
