@@ -2,9 +2,10 @@
 
 ghost use Rattle.std.specs.Prelude.{◌≡◌, ◌+◌, ◌<◌, false, true, length, IfOk, IfErr, OnErr};
 ghost use Rattle.sqlite.specs.Held.{state};
+ghost use Rattle.sqlite.specs.State.{HasCleanDisk};
 ghost use Rattle.bor_register.specs.Limits.{filings_limit};
 ghost use Rattle.bor_register.specs.Register.{Register, is_enrolled, filings_of};
-ghost use Rattle.bor_store_sql.specs.Shown.{IsClean, ShowsIn};
+ghost use Rattle.bor_store_sql.specs.Shown.{IsClean, IsUp, ShowsIn};
 ghost use Rattle.bor_store_sql.specs.Changing.{added};
 ghost use Rattle.bor_store_reads.specs.Answering.{IsNoDamage, ReadsAs};
 ghost use Rattle.bor_store.specs.Telling.{IsNextFiling};
@@ -49,6 +50,8 @@ pub(crate) fn add_next_filing<S: Alter>(
 ) -> Result<u32, ReadError>
     requires { conn.old.in_transaction ≡ false }
     ensures mode { conn.new.in_transaction ≡ false }
+    ensures clean { HasCleanDisk (state S.Store conn.new) → HasCleanDisk (state S.Store conn.old) }
+    ensures up { IfOk result (λ _. IsUp (state S.Store conn.new)) }
     ensures began { IsClean (state S.Store conn.new) → IsClean (state S.Store conn.old) }
     ensures made { IsClean (state S.Store conn.new) → (r : Register)
         → ShowsIn r (state S.Store conn.old)

@@ -12,6 +12,7 @@ ghost use Rattle.bor_register.specs.Register.{filings_of};
 ghost use Rattle.bor_register.specs.Rows.{visible};
 ghost use Rattle.bor_store_sql.specs.Rows.Placed.{bare, placed};
 ghost use Rattle.bor_store_sql.specs.Selected.{identified_by, identifiers_at, in_record, in_series, interests_at, placed_of, standing_at, with_subject};
+ghost use Rattle.bor_store_sql.specs.Shown.{IsUp};
 ghost use Rattle.bor_store_reads.specs.Answering.{ReadsAs};
 ghost use Rattle.bor_store_reads.specs.Asking.{is_number_seen};
 ghost use Rattle.bor_store_keys.specs.Finding.{Holds};
@@ -238,8 +239,9 @@ impl<S: Alter + Drop> Lookup<S> {
     // Whether there are more live statements than so many.
     fn has_more(&mut self, most: u32) -> Result<bool, ReadError>
         requires { self.old.in_transaction ≡ false }
-        ensures { ReadsAs (state S.Store self.old) (state S.Store self.new) result (λ r more.
+        ensures reads { ReadsAs (state S.Store self.old) (state S.Store self.new) result (λ r more.
             more ≡ not (nat_le (length (placed r.members)) most)) }
+        ensures up { IfOk result (λ _. IsUp (state S.Store self.new)) }
     {
         has_more(&mut self.conn, most)
     }
@@ -432,7 +434,7 @@ impl<S: Alter + Drop> Lookup<S> {
 
     /// Where many records were read one by one, and the register isn't much larger, reads and notes
     /// all that the viewer sees. Where memory is wanting for it, records are read one by one as
-    /// before.
+    /// before; the store is asked once more then, since it may have shut.
     pub(crate) fn list_where_many(&mut self, alloc: Global, view: &View) -> Result<(), ReadError>
         requires { self.old.in_transaction ≡ false }
         ensures { ReadsAs (state S.Store self.old) (state S.Store self.new) result
@@ -442,7 +444,10 @@ impl<S: Alter + Drop> Lookup<S> {
             return Ok(());
         };
         match self.list(alloc, view, most) {
-            Err(ReadError::Memory) => Ok(()),
+            Err(ReadError::Memory) => {
+                self.has_more(most)?;
+                Ok(())
+            }
             told => told,
         }
     }

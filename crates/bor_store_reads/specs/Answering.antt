@@ -1,12 +1,12 @@
 -- What a read answers.
-use Rattle.std.specs.Prelude.{◌≡◌, ◌≢◌, false, Result, MatchResult}
-use Rattle.sqlite.specs.State.{State}
+use Rattle.std.specs.Prelude.{◌≡◌, ◌≢◌, false, Result, IfOk, MatchResult}
+use Rattle.sqlite.specs.State.{State, HasCleanDisk}
 use Rattle.bor_register.specs.Register.{Register}
 use Rattle.bor_register.specs.declared.fault.StoreFault.{StoreFault}
 use Rattle.bor_register.specs.declared.fault.StoreFault.TheVariants as store_faults
 use Rattle.bor_store_sql.specs.declared.rows.fault.RowFault.{RowFault}
 use Rattle.bor_store_sql.specs.declared.rows.fault.RowFault.TheVariants as row_faults
-use Rattle.bor_store_sql.specs.Shown.{IsClean, ShowsIn}
+use Rattle.bor_store_sql.specs.Shown.{IsClean, ShowsIn, StaysUp}
 use Rattle.bor_store_reads.specs.declared.fault.ReadError.{ReadError}
 use Rattle.bor_store_reads.specs.declared.fault.ReadError.TheVariants as errors
 
@@ -19,10 +19,11 @@ abbrev pub of_row : RowFault → ReadError
 of_row row_faults.Memory = errors.Memory
 of_row row_faults.Damaged = errors.Damaged
 
--- Reading changes nothing: no transaction is left open; a connection that ends clean began clean, and what was written
--- stays as it was.
+-- Reading changes nothing: no transaction is left open; a disk that has returned what was written had done so before; a
+-- connection that ends clean began clean, and what was written stays as it was.
 pub record ReadsOnly (old new : State) : Type 0 where
   pub mode : new.in_transaction ≡ false
+  pub clean : HasCleanDisk new → HasCleanDisk old
   pub began : IsClean new → IsClean old
   pub kept : IsClean new → new.committed ≡ old.committed
 
@@ -30,9 +31,10 @@ pub record ReadsOnly (old new : State) : Type 0 where
 abbrev pub Answers : {X : Type 0} → State → State → Result X ReadError → (Register → X → Type 0) → Type 0
 Answers old new result P = IsClean new → (r : Register) → ShowsIn r old → MatchResult result (P r) IsNoDamage
 
--- A read: it changes nothing, and this holds of what it answers of the register that is shown.
+-- A read: it changes nothing, and this holds of what it answers of the register that is shown. Where it answers, a connection that was open is open.
 pub record ReadsAs {X : Type 0} (old new : State) (result : Result X ReadError) (P : Register → X → Type 0) : Type 0 where
   pub reads : ReadsOnly old new
+  pub up : IfOk result (λ x. StaysUp old new)
   pub answer : Answers old new result P
 
 -- the fault of a keep that an error is told as

@@ -1,8 +1,9 @@
 //! Agents, by name and by token.
 
-ghost use Rattle.std.specs.Prelude.{◌≡◌, false, option_map};
+ghost use Rattle.std.specs.Prelude.{◌≡◌, false, IfOk, option_map};
 ghost use Rattle.sqlite.specs.Held.{state};
 ghost use Rattle.bor_register.specs.Register.{agent_with, caller_of, is_enrolled};
+ghost use Rattle.bor_store_sql.specs.Shown.{IsUp};
 ghost use Rattle.bor_store_reads.specs.Answering.{ReadsAs};
 
 use crate::fault::ReadError;
@@ -28,15 +29,16 @@ fn found_agent<S: Alter>(
     first_value(alloc, agent_by_token(conn, token.as_str()))
 }
 
-/// Who has the token; `None` where nobody has.
+/// Who has the token; `None` where nobody has. It is told by a connection that is open.
 pub fn read_who<S: Alter>(
     conn: &mut Connection<S>,
     alloc: Global,
     token: &Token,
 ) -> Result<Option<Caller>, ReadError>
     requires { conn.old.in_transaction ≡ false }
-    ensures { ReadsAs (state S.Store conn.old) (state S.Store conn.new) result (λ r caller.
+    ensures reads { ReadsAs (state S.Store conn.old) (state S.Store conn.new) result (λ r caller.
         caller ≡ caller_of token.now r) }
+    ensures up { IfOk result (λ _. IsUp (state S.Store conn.new)) }
 {
     if read_register(conn, alloc)?.registrar == *token {
         return Ok(Some(Caller::Registrar));

@@ -1,8 +1,9 @@
 //! The register's day and the registrar's token.
 
-ghost use Rattle.std.specs.Prelude.{◌≡◌, false, Some};
+ghost use Rattle.std.specs.Prelude.{◌≡◌, false, IfOk, Some};
 ghost use Rattle.sqlite.specs.Held.{state};
 ghost use Rattle.bor_store_sql.specs.Rows.Placed.{register_row};
+ghost use Rattle.bor_store_sql.specs.Shown.{IsUp};
 ghost use Rattle.bor_store_reads.specs.Answering.{ReadsAs};
 
 use crate::fault::ReadError;
@@ -18,8 +19,9 @@ fn found_register<S: Alter>(
     alloc: Global,
 ) -> Result<Option<RegisterRow>, ReadError>
     requires { conn.old.in_transaction ≡ false }
-    ensures { ReadsAs (state S.Store conn.old) (state S.Store conn.new) result (λ r row.
+    ensures reads { ReadsAs (state S.Store conn.old) (state S.Store conn.new) result (λ r row.
         row ≡ Some (register_row r)) }
+    ensures up { IfOk result (λ _. IsUp (state S.Store conn.new)) }
 {
     first_value(alloc, all_register(conn))
 }
@@ -30,8 +32,9 @@ pub(crate) fn read_register<S: Alter>(
     alloc: Global,
 ) -> Result<RegisterRow, ReadError>
     requires { conn.old.in_transaction ≡ false }
-    ensures { ReadsAs (state S.Store conn.old) (state S.Store conn.new) result (λ r row.
+    ensures reads { ReadsAs (state S.Store conn.old) (state S.Store conn.new) result (λ r row.
         row ≡ register_row r) }
+    ensures up { IfOk result (λ _. IsUp (state S.Store conn.new)) }
 {
     match found_register(conn, alloc)? {
         Some(row) => Ok(row),

@@ -1,10 +1,11 @@
 //! Whole tables, whether there are more statements than a number, and the members of the register
 //! that the tables are.
 
-ghost use Rattle.std.specs.Prelude.{◌≡◌, false, length, map, nat_le, not};
+ghost use Rattle.std.specs.Prelude.{◌≡◌, false, IfOk, length, map, nat_le, not};
 ghost use Rattle.std.specs.List.{flat_map};
 ghost use Rattle.sqlite.specs.Held.{state};
 ghost use Rattle.bor_store_sql.specs.Rows.Placed.{agent_row, bare, filing_lines, identifier_rows, interest_rows, line_of, period_rows, placed, without_files};
+ghost use Rattle.bor_store_sql.specs.Shown.{IsUp};
 ghost use Rattle.bor_store_reads.specs.Answering.{ReadsAs};
 
 use crate::fault::ReadError;
@@ -116,11 +117,12 @@ fn placed<S: Alter>(conn: &mut Connection<S>, alloc: Global) -> Result<Vec<Place
     )?)
 }
 
-/// Whether there are more live statements than so many.
+/// Whether there are more live statements than so many. It is told by a connection that is open.
 pub fn has_more<S: Alter>(conn: &mut Connection<S>, most: u32) -> Result<bool, ReadError>
     requires { conn.old.in_transaction ≡ false }
-    ensures { ReadsAs (state S.Store conn.old) (state S.Store conn.new) result (λ r more.
+    ensures reads { ReadsAs (state S.Store conn.old) (state S.Store conn.new) result (λ r more.
         more ≡ not (nat_le (length (placed r.members)) most)) }
+    ensures up { IfOk result (λ _. IsUp (state S.Store conn.new)) }
 {
     any(more_statements(conn, most))
 }

@@ -1,6 +1,6 @@
 //! The values of the rows that a query finds.
 
-ghost use Rattle.std.specs.Prelude.{◌≡◌, List, [], ◌∷◌, Bool, false, unwrap_or, map, not, length, ◌==◌, All, IfOk, MatchResult, slice_get};
+ghost use Rattle.std.specs.Prelude.{◌≡◌, List, [], ◌∷◌, Bool, false, unwrap_or, map, not, length, ◌==◌, All, IfOk, IsOk, MatchResult, OnOk, slice_get};
 ghost use Rattle.sqlite.specs.Order.{Row as SqlRow};
 ghost use Rattle.bor_store_sql.specs.Rows.Encoding.{truth};
 ghost use Rattle.bor_store_reads.specs.Answering.{IsNoDamage};
@@ -19,8 +19,9 @@ pub fn first_value<T: TableRow + Drop>(
     alloc: Global,
     found: Result<Vec<Row>, Error>,
 ) -> Result<Option<T>, ReadError>
-    ensures { (xs : List T) → IfOk found (λ rows. rows.items ≡ map T.columns xs)
+    ensures value { (xs : List T) → IfOk found (λ rows. rows.items ≡ map T.columns xs)
         → All T.is_formed xs → MatchResult result (λ x. x ≡ slice_get xs 0) IsNoDamage }
+    ensures found { OnOk result (IsOk found) }
 {
     let rows = found?;
     Ok(first_row(alloc, rows.as_slice())?)
@@ -35,8 +36,9 @@ pub fn all_values<T: TableRow + Drop>(
     alloc: Global,
     found: Result<Vec<Row>, Error>,
 ) -> Result<Vec<T>, ReadError>
-    ensures { (xs : List T) → IfOk found (λ rows. rows.items ≡ map T.columns xs)
+    ensures values { (xs : List T) → IfOk found (λ rows. rows.items ≡ map T.columns xs)
         → All T.is_formed xs → MatchResult result (λ values. values.items ≡ xs) IsNoDamage }
+    ensures found { OnOk result (IsOk found) }
 {
     let rows = found?;
     Ok(read_rows(alloc, rows.as_slice())?)
@@ -44,8 +46,9 @@ pub fn all_values<T: TableRow + Drop>(
 
 /// Whether a row was found.
 pub(crate) fn any(found: Result<Vec<Row>, Error>) -> Result<bool, ReadError>
-    ensures { (xs : List SqlRow) → IfOk found (λ rows. rows.items ≡ xs)
+    ensures any { (xs : List SqlRow) → IfOk found (λ rows. rows.items ≡ xs)
         → MatchResult result (λ any. any ≡ not (length xs == 0)) IsNoDamage }
+    ensures found { OnOk result (IsOk found) }
 {
     let rows = found?;
     Ok(!rows.as_slice().is_empty())
@@ -53,8 +56,9 @@ pub(crate) fn any(found: Result<Vec<Row>, Error>) -> Result<bool, ReadError>
 
 /// The truth value of the first row; false where no row was found.
 pub(crate) fn flag(found: Result<Vec<Row>, Error>) -> Result<bool, ReadError>
-    ensures { (bs : List Bool) → IfOk found (λ rows. rows.items ≡ map (λ b. truth b ∷ []) bs)
+    ensures flag { (bs : List Bool) → IfOk found (λ rows. rows.items ≡ map (λ b. truth b ∷ []) bs)
         → MatchResult result (λ flag. flag ≡ unwrap_or (slice_get bs 0) false) IsNoDamage }
+    ensures found { OnOk result (IsOk found) }
 {
     let rows = found?;
     Ok(first_flag(rows.as_slice())?)

@@ -58,6 +58,8 @@ of_now r s shows = record {
 pub finds_both : (text : List ℕ) (params given : Row) (rows_of : Register → List Row) (old new : State) (result : Result (Vec Row Global) Error) → Asked text given old new result → given ≡ params
     → ((r : Register) (rows : List Row) → ShowsLists r old → Shows text params old new rows → rows ≡ rows_of r) → FindsBoth old new result rows_of
 finds_both text params given rows_of old new result asked is found = record {
+  clean = asked.clean;
+  up = asked.up;
   began = asked.began;
   kept = asked.kept;
   rows = λ clean r shows. go result r shows (subst (λ row. IfOk result (λ rows. Shows text row old new rows.items)) is (asked.shown clean));

@@ -8,7 +8,7 @@ use Rattle.sqlite.specs.Store.{Ghosts}
 use Rattle.sqlite.specs.Tree.{Trees}
 use Rattle.sqlite.specs.declared.error.Error.{Error}
 use Rattle.bor_store_sql.specs.Ran.{Ends, Moved, Moves}
-use Rattle.bor_store_sql.specs.Shown.{IsClean}
+use Rattle.bor_store_sql.specs.Shown.{IsClean, IsUp}
 use Rattle.bor_store_sql.proofs.Moves.{was_clean}
 
 module _ (old new : State) (Commits : Trees → Type 0) (survives : Survives old new Commits) where
@@ -19,6 +19,7 @@ module _ (old new : State) (Commits : Trees → Type 0) (survives : Survives old
     clean = was_clean old new Commits survives;
     was_open = λ clean up. (back clean).was_open up;
     committed = λ clean. tt;
+    up = λ clean. tt;
     undone = λ clean up. ((back clean).undone up).1;
   }
 
@@ -38,12 +39,14 @@ module _ (old new : State) (Commits : Trees → Type 0) (survives : Survives old
     clean = was_clean old new Commits survives;
     was_open = λ clean up. (ok clean).1.was_open;
     committed = λ clean. (went, (ok clean).1.committed_is);
+    up = λ clean. (ok clean).1.is_open;
     undone = λ clean up. tt;
   }
   committed done (Err e) went ok err = record {
     clean = was_clean old new Commits survives;
     was_open = λ clean up. failed_open e (err clean) up;
     committed = λ clean. tt;
+    up = λ clean. tt;
     undone = λ clean up. failed_committed e (err clean) up;
   }
 
@@ -61,8 +64,15 @@ left_by : (Makes : Database → Database → Type 0) (start mid new : State) (do
 left_by Makes start mid new done (Ok x) clean up moved ends = tt
 left_by Makes start mid new done (Err e) clean up moved ends = ends.undone clean up ∙ moved.committed (ends.was_open clean up)
 
+-- it is open then
+where_up : (mid new : State) (done result : Result (Unit {0}) Error) → Ends mid new done result → OnOk result (IsUp new)
+where_up mid new done (Ok x) ends = ends.up
+where_up mid new done (Err e) ends = tt
+
 -- what a caller knows of a transaction of its own
 pub record Ended (Makes : Database → Database → Type 0) (old new : State) (result : Result (Unit {0}) Error) : Type 0 where
+  pub clean : HasCleanDisk new → HasCleanDisk old
+  pub up : OnOk result (IsUp new)
   pub began : IsClean new → IsClean old
   pub kept : IsClean new → OnErr result (new.committed ≡ old.committed)
   pub made : IsClean new → OnOk result (Makes old.committed new.committed)
@@ -78,6 +88,8 @@ ended g Makes was began mid new done result settled begun moves ends =
     by_moves g Makes was mid new done result settled moves ends =
         let start = record (state g was) { in_transaction = true } in
         record {
+          clean = λ clean. moves.clean (ends.clean clean);
+          up = where_up mid new done result ends;
           began = λ clean. (moves.clean (ends.clean clean.0), (moves.inside (ends.clean clean.0) refl).was_open (ends.was_open clean.0 clean.1));
           kept = λ clean. left_by Makes start mid new done result clean.0 clean.1 (moves.inside (ends.clean clean.0) refl) ends;
           made = λ clean. made_by Makes start mid new done result (state g was).committed settled clean.0 clean.1 (moves.inside (ends.clean clean.0) refl) ends;

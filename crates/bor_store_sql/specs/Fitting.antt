@@ -2,7 +2,7 @@
 use Rattle.std.specs.Prelude.{◌≡◌, ◌⊎◌, ◌↔◌, ◌+◌, ℕ, Bool, IsTrue, List, [], ◌∷◌, map, Option, Some, None, Result, IfOk, slice_set}
 use Rattle.std.specs.List.{flat_map}
 use Rattle.sqlite.specs.Order.{Row, column}
-use Rattle.sqlite.specs.State.{State}
+use Rattle.sqlite.specs.State.{State, HasCleanDisk}
 use Rattle.sqlite.specs.Values.{bound_value}
 use Rattle.sqlite.specs.declared.error.Error.{Error}
 use Rattle.bods_read.specs.declared.statement.Statement.{Statement}
@@ -50,6 +50,7 @@ statements_kept agent number r = flat_map (λ f. f.statements) (numbered number 
 
 -- The tables, of either version, are asked whether something holds of the register. They are left as they were, and the answer is whether it holds, or there is an error.
 pub record Tells (old new : State) (result : Result Bool Error) (Holds : Register → Type 0) : Type 0 where
+  pub clean : HasCleanDisk new → HasCleanDisk old
   pub began : IsClean new → IsClean old
   pub kept : IsClean new → new.committed ≡ old.committed
   pub told : IsClean new → (r : Register) → ShowsLists r old → IfOk result (λ b. IsTrue b ↔ Holds r)

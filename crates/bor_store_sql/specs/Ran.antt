@@ -27,9 +27,10 @@ pub record Moves (Makes : Database → Database → Type 0) (old new : State) (r
   pub clean : HasCleanDisk new → HasCleanDisk old
   pub inside : HasCleanDisk new → IsTrue old.in_transaction → Moved Makes old new result
 
--- A transaction ends: it is committed where all went well that was done in it, and else undone.
+-- A transaction ends: it is committed where all went well that was done in it, and the connection is open then; else it is undone.
 pub record Ends (old new : State) (done result : Result (Unit {0}) Error) : Type 0 where
   pub clean : HasCleanDisk new → HasCleanDisk old
   pub was_open : HasCleanDisk new → IsTrue new.is_open → IsTrue old.is_open
   pub committed : HasCleanDisk new → OnOk result (IsOk done × (new.committed ≡ old.now))
+  pub up : HasCleanDisk new → OnOk result (IsTrue new.is_open)
   pub undone : HasCleanDisk new → IsTrue new.is_open → OnErr result (new.committed ≡ old.committed)

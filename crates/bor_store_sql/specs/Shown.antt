@@ -26,6 +26,14 @@ pub record Has (t : Contents) (db : Database) : Type 0 where
 abbrev pub IsClean : State → Type 0
 IsClean s = HasCleanDisk s × IsTrue s.is_open
 
+-- where the disk has returned what was written, the connection is open
+abbrev pub IsUp : State → Type 0
+IsUp s = HasCleanDisk s → IsTrue s.is_open
+
+-- where the disk has returned what was written, a connection that was open is open
+abbrev pub StaysUp : State → State → Type 0
+StaysUp old new = HasCleanDisk new → IsTrue old.is_open → IsTrue new.is_open
+
 -- what the last commit left is the register
 pub record ShowsIn (r : Register) (s : State) : Type 0 where
   pub has : Has (contents r) s.committed

@@ -2,8 +2,9 @@
 
 ghost use Rattle.std.specs.Prelude.{◌≡◌, ◌+◌, ◌<◌, ◌^◌, false, true, [], ◌∷◌, All, is_some, ◌||◌, length, IfOk, OnOk, OnErr};
 ghost use Rattle.sqlite.specs.Held.{state};
+ghost use Rattle.sqlite.specs.State.{HasCleanDisk};
 ghost use Rattle.bor_store_sql.specs.Rows.Placed.{bare, period_of, placed_from, interests_from, identifiers_from, interests_of, identifiers_of};
-ghost use Rattle.bor_store_sql.specs.Shown.{Steps, IsClean, ShowsIn};
+ghost use Rattle.bor_store_sql.specs.Shown.{Steps, IsClean, ShowsIn, IsUp};
 ghost use Rattle.bor_store_sql.specs.Changing.{Any, live_filing, with_filing_row, with_statement_row, with_interest_rows, with_identifier_rows, with_period_row, with_period_rows, with_one_placed, with_placed, with_live_filing, added};
 ghost use Rattle.bor_register.specs.Register.{Register, is_enrolled, filings_of};
 ghost use Rattle.bor_store_sql.specs.Rows.Stored.{IsCounted, AreCounted};
@@ -351,6 +352,8 @@ pub fn add_filing<S: Alter>(
 ) -> Result<(), Error>
     requires { conn.old.in_transaction ≡ false }
     ensures mode { conn.new.in_transaction ≡ false }
+    ensures clean { HasCleanDisk (state S.Store conn.new) → HasCleanDisk (state S.Store conn.old) }
+    ensures up { OnOk result (IsUp (state S.Store conn.new)) }
     ensures began { IsClean (state S.Store conn.new) → IsClean (state S.Store conn.old) }
     ensures made { IsClean (state S.Store conn.new) → (r : Register)
         → ShowsIn r (state S.Store conn.old)

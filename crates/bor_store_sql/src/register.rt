@@ -2,9 +2,10 @@
 
 ghost use Rattle.std.specs.Prelude.{◌≡◌, false, OnOk, OnErr};
 ghost use Rattle.sqlite.specs.Held.{state};
+ghost use Rattle.sqlite.specs.State.{HasCleanDisk};
 ghost use Rattle.bor_register.specs.Register.{Register, is_enrolled, new_member};
 ghost use Rattle.bor_store_sql.specs.Rows.Encoding.{agent_columns};
-ghost use Rattle.bor_store_sql.specs.Shown.{Steps, IsClean, ShowsIn};
+ghost use Rattle.bor_store_sql.specs.Shown.{Steps, IsClean, ShowsIn, IsUp};
 ghost use Rattle.bor_store_sql.specs.Changing.{Any, IsOneRegister, with_day, with_agent_row, enrolled};
 
 use crate::columns::{agent_values, day_value};
@@ -37,6 +38,8 @@ fn insert_agent<S: Alter>(
 pub fn set_day<S: Alter>(conn: &mut Connection<S>, day: Day) -> Result<(), Error>
     requires { conn.old.in_transaction ≡ false }
     ensures mode { conn.new.in_transaction ≡ false }
+    ensures clean { HasCleanDisk (state S.Store conn.new) → HasCleanDisk (state S.Store conn.old) }
+    ensures up { OnOk result (IsUp (state S.Store conn.new)) }
     ensures began { IsClean (state S.Store conn.new) → IsClean (state S.Store conn.old) }
     ensures made { IsClean (state S.Store conn.new) → (r : Register)
         → ShowsIn r (state S.Store conn.old)
@@ -61,6 +64,8 @@ pub fn add_agent<S: Alter>(
 ) -> Result<(), Error>
     requires { conn.old.in_transaction ≡ false }
     ensures mode { conn.new.in_transaction ≡ false }
+    ensures clean { HasCleanDisk (state S.Store conn.new) → HasCleanDisk (state S.Store conn.old) }
+    ensures up { OnOk result (IsUp (state S.Store conn.new)) }
     ensures began { IsClean (state S.Store conn.new) → IsClean (state S.Store conn.old) }
     ensures made { IsClean (state S.Store conn.new) → (r : Register)
         → ShowsIn r (state S.Store conn.old)

@@ -2,7 +2,8 @@
 
 ghost use Rattle.std.specs.Prelude.{◌≡◌, false, OnOk, OnErr};
 ghost use Rattle.sqlite.specs.Held.{state};
-ghost use Rattle.bor_store_sql.specs.Shown.{Steps, IsClean, ShowsIn};
+ghost use Rattle.sqlite.specs.State.{HasCleanDisk};
+ghost use Rattle.bor_store_sql.specs.Shown.{Steps, IsClean, ShowsIn, IsUp};
 ghost use Rattle.bor_store_sql.specs.Changing.{IsOnce, withdrawn_in, withdrawn};
 ghost use Rattle.bor_register.specs.Register.{Register};
 
@@ -36,6 +37,8 @@ pub fn withdraw_filing<S: Alter>(
 ) -> Result<(), Error>
     requires { conn.old.in_transaction ≡ false }
     ensures mode { conn.new.in_transaction ≡ false }
+    ensures clean { HasCleanDisk (state S.Store conn.new) → HasCleanDisk (state S.Store conn.old) }
+    ensures up { OnOk result (IsUp (state S.Store conn.new)) }
     ensures began { IsClean (state S.Store conn.new) → IsClean (state S.Store conn.old) }
     ensures made { IsClean (state S.Store conn.new) → (r : Register)
         → ShowsIn r (state S.Store conn.old)

@@ -1,9 +1,10 @@
-use Rattle.std.proofs.Common.{List, Vec, [], IsTrue, not, ap, ◌∙◌, arith}
+use Rattle.std.proofs.Common.{List, Vec, [], IsTrue, not, ap, ◌∙◌}
 use Rattle.std.specs.declared.alloc.Global.{Global}
 use Rattle.sqlite.specs.Order.{Row}
 use Rattle.sqlite.specs.Held.{state}
 use Rattle.bor_store_sql.proofs.Finding.{settled_shown}
-use Rattle.bor_store_sql.proofs.Keeping.{left_by}
+use Rattle.bor_store_sql.proofs.Keeping.{left_by, up_by}
+use Rattle.bor_store_sql.proofs.Moves.{was_clean}
 use Rattle.bor_store.specs.Opening.{version_text}
 use Rattle.bor_store.proofs.Adopting.{version_asks, versions_told}
 use Rattle.bor_store.proofs.adoption.version_rows.Goals as goal
@@ -17,7 +18,9 @@ returns-clause-asked g c =
     let new = state g.S.Store c.query_all.new.self in
     let auto : IsTrue c.is_autocommit-settled.result = c.is_autocommit-settled.ensures.value ∙ ap not c.requires in
     record {
-      began = λ clean. (let disk = clean.0 in omega (arith, c.query_all.ensures.survives.clean, disk), (left_by old new version_text version_asks [] rows_in c.query_all.result (c.query_all.ensures.ok clean.0) (c.query_all.ensures.err clean.0)).was_open clean.1);
+      clean = was_clean old new _ c.query_all.ensures.survives;
+      up = up_by old new version_text version_asks [] rows_in c.query_all.result c.query_all.ensures.ok;
+      began = λ clean. (was_clean old new _ c.query_all.ensures.survives clean.0, (left_by old new version_text version_asks [] rows_in c.query_all.result (c.query_all.ensures.ok clean.0) (c.query_all.ensures.err clean.0)).was_open clean.1);
       kept = λ clean. (left_by old new version_text version_asks [] rows_in c.query_all.result (c.query_all.ensures.ok clean.0) (c.query_all.ensures.err clean.0)).committed clean.1;
       shown = λ clean. settled_shown version_text [] old new
           (c.is_autocommit-settled.ensures.settled auto ((left_by old new version_text version_asks [] rows_in c.query_all.result (c.query_all.ensures.ok clean.0) (c.query_all.ensures.err clean.0)).was_open clean.1)) c.query_all.result (c.query_all.ensures.ok clean.0);

@@ -29,4 +29,4 @@ returns-clause-answer g c =
     (λ r. map filing_shown (numbered number (filings_of agent r.members)))
     (λ r. ap (λ a. map (λ f. shown_columns (filing_shown f)) (numbered number (filings_of a r.members))) c.as_str.ensures.value ∙ sym (map-map shown_columns filing_shown (numbered number (filings_of agent r.members))))
     (λ r stored. all_mapped IsFormedFiling IsFormedShown filing_shown shown_formed (numbered number (filings_of agent r.members)) (All-filter (λ (f : AcceptedFiling). f.number == number) IsFormedFiling (filings_of agent r.members) (formed-filings_of agent r.members stored.formed.members)))
-    c.first_value.result (λ xs x. x ≡ slice_get xs 0) c.first_value.ensures)
+    c.first_value.result (λ xs x. x ≡ slice_get xs 0) c.first_value.ensures.value)

@@ -12,4 +12,4 @@ returns-clause-answer g c =
     told_either line_columns IsFormedFilingRow (state g.S.Store c.args.conn.now) (state g.S.Store c.all_filings.new.conn) c.all_filings.result (λ r. map line_columns (filing_lines r.members)) c.all_filings.ensures.both (λ r. filing_lines r.members)
     (λ r. refl)
     (λ r stored. lines_formed r.members stored.formed.members)
-    c.all_values.result (λ xs values. values.items ≡ xs) c.all_values.ensures
+    c.all_values.result (λ xs values. values.items ≡ xs) c.all_values.ensures.values

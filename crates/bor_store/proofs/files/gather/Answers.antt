@@ -10,6 +10,7 @@ use Rattle.bor_store.proofs.files.gather.Goals as goal
 pub loop-line-preserved : goal.loop-line-preserved
 loop-line-preserved g c = record {
   mode = c.add_line.ensures.reads.mode;
+  clean = λ clean. c.loop-line.invariant.clean (c.add_line.ensures.reads.clean clean);
   began = λ clean. c.loop-line.invariant.began (c.add_line.ensures.reads.began clean);
   kept = λ clean. c.add_line.ensures.reads.kept clean ∙ c.loop-line.invariant.kept (c.add_line.ensures.reads.began clean);
   gathered = λ clean r shows.

@@ -26,4 +26,4 @@ returns g c =
     (told agent_row_columns IsFormedAgentRow old new c.agent_by_token.result (λ r. map agent_columns (with_token c.as_str.result.now r.members)) c.agent_by_token.ensures.mode c.agent_by_token.ensures.finds
     (λ r. map agent_row (with_token token r.members)) (λ r. ap (λ t. map agent_columns (with_token t r.members)) c.as_str.ensures.value ∙ sym (map-map agent_row_columns agent_row (with_token token r.members)))
     (λ r stored. agents_formed (with_token token r.members) (All-filter (λ (m : Member). is_same m.token token) IsFormedMember r.members stored.formed.members))
-    c.first_value.result (λ xs x. x ≡ slice_get xs 0) c.first_value.ensures)
+    c.first_value.result (λ xs x. x ≡ slice_get xs 0) c.first_value.ensures.value c.first_value.ensures.found)

@@ -21,4 +21,4 @@ returns g c =
     (λ r. map line_of (interests_at at r.members))
     (λ r. ap (λ a. map interest_columns (interests_at (shown a) r.members)) c.as_str.ensures.value ∙ sym (map-map interest_line_columns line_of (interests_at at r.members)))
     (λ r stored. all_lines_formed (interests_at at r.members) (all_interests_formed (filter (λ p. same_place p.at at) (placed r.members)) (All-filter (λ (p : Placed). same_place p.at at) IsFormedPlaced (placed r.members) (placed_formed r stored))))
-    c.all_values.result (λ xs values. values.items ≡ xs) c.all_values.ensures
+    c.all_values.result (λ xs values. values.items ≡ xs) c.all_values.ensures.values c.all_values.ensures.found

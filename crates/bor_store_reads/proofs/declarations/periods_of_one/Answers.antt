@@ -21,4 +21,4 @@ returns g c =
     (λ r. flat_map period_rows (interests_at at r.members))
     (λ r. ap (λ a. map period_columns (flat_map period_rows (interests_at (shown a) r.members))) c.as_str.ensures.value)
     (λ r stored. all_periods_formed (interests_at at r.members) (all_interests_formed (filter (λ p. same_place p.at at) (placed r.members)) (All-filter (λ (p : Placed). same_place p.at at) IsFormedPlaced (placed r.members) (placed_formed r stored))))
-    c.all_values.result (λ xs values. values.items ≡ xs) c.all_values.ensures
+    c.all_values.result (λ xs values. values.items ≡ xs) c.all_values.ensures.values c.all_values.ensures.found

@@ -7,12 +7,15 @@ use Rattle.bor_store_reads.specs.Asking.{is_number_seen}
 use Rattle.bor_store_reads.proofs.Declared.{next_seen, nothing_seen}
 use Rattle.bor_store_reads.proofs.Found.{still_shows}
 use Rattle.bor_store_reads.proofs.FoundFilings.{own_numbered}
+use Rattle.bor_store_reads.proofs.Reading.{both_up, same_up}
 use Rattle.bor_store_reads.proofs.declarations.seen.Goals as goal
 
 pub loop-placed-init : goal.loop-placed-init
 loop-placed-init g c = record {
   whole = search rules;
   mode = search rules;
+  clean = λ clean. clean;
+  up = same_up (state g.S.Store c.args.conn.now);
   began = search rules;
   kept = search rules;
   told = λ clean r shows. nothing_seen c.args.viewer.now c.args.day c.args.agent.now (filings_of c.args.agent.now r.members) (own_numbered c.args.agent.now r.members shows.stored.numbered);
@@ -25,6 +28,8 @@ loop-placed-preserved g c =
     record {
       whole = (let was = c.loop-placed.invariant.whole in let gone = c.in-Some.ensures.steps.1 in let short = ap length steps in omega arith);
       mode = c.known_of.ensures.reads.reads.mode;
+      clean = λ clean. c.loop-placed.invariant.clean (c.known_of.ensures.reads.reads.clean clean);
+      up = both_up (state g.S.Store c.args.conn.now) (state g.S.Store c.loop-placed.conn) (state g.S.Store c.known_of.new.conn) c.loop-placed.invariant.up c.known_of.ensures.reads.reads.clean c.in_ok-known.ensures.reads.up;
       began = λ clean. c.loop-placed.invariant.began (c.known_of.ensures.reads.reads.began clean);
       kept = λ clean. c.known_of.ensures.reads.reads.kept clean ∙ c.loop-placed.invariant.kept (c.known_of.ensures.reads.reads.began clean);
       told = λ clean r shows.

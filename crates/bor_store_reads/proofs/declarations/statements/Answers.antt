@@ -21,4 +21,4 @@ returns g c =
     (λ r. map bare (in_declaration declaration (placed_of agent r)))
     (λ r. ap₂ (λ a d. map (λ p. statement_columns (bare p)) (in_declaration d (placed_of a r))) c.as_str.ensures.value c.as_str-2.ensures.value ∙ sym (map-map statement_columns bare (in_declaration declaration (placed_of agent r))))
     (λ r stored. all_bare_formed (in_declaration declaration (placed_of agent r)) (All-filter (λ (p : Placed). is_same p.statement.declaration declaration) IsFormedPlaced (placed_of agent r) (own_formed agent r stored)))
-    c.all_values.result (λ xs values. values.items ≡ xs) c.all_values.ensures
+    c.all_values.result (λ xs values. values.items ≡ xs) c.all_values.ensures.values c.all_values.ensures.found

@@ -25,4 +25,4 @@ returns g c =
     (λ r. map (filing_row agent) (last (filings_of agent r.members)))
     (λ r. ap (λ a. map (λ f. line_columns (filing_row a f)) (last (filings_of a r.members))) c.as_str.ensures.value ∙ sym (map-map line_columns (filing_row agent) (last (filings_of agent r.members))))
     (own_rows_formed agent c.as_str.ensures.form last (λ fs h. all_taken IsFormedFiling fs h))
-    c.first_value.result (λ xs x. x ≡ slice_get xs 0) c.first_value.ensures)
+    c.first_value.result (λ xs x. x ≡ slice_get xs 0) c.first_value.ensures.value c.first_value.ensures.found)

@@ -26,4 +26,4 @@ returns g c =
     (λ r. map (filing_row agent) (keyed key (filings_of agent r.members)))
     (λ r. ap₂ (λ a k. map (λ f. line_columns (filing_row a f)) (keyed k (filings_of a r.members))) c.as_str.ensures.value c.as_str-2.ensures.value ∙ sym (map-map line_columns (filing_row agent) (keyed key (filings_of agent r.members))))
     (own_rows_formed agent c.as_str.ensures.form (keyed key) (All-filter (λ (f : AcceptedFiling). is_same f.key key) IsFormedFiling))
-    c.first_value.result (λ xs x. x ≡ slice_get xs 0) c.first_value.ensures)
+    c.first_value.result (λ xs x. x ≡ slice_get xs 0) c.first_value.ensures.value c.first_value.ensures.found)

@@ -18,4 +18,4 @@ returns g c =
     (λ r. map (filing_row agent) (filings_of agent r.members))
     (λ r. ap (λ a. map (λ f. line_columns (filing_row a f)) (filings_of a r.members)) c.as_str.ensures.value ∙ sym (map-map line_columns (filing_row agent) (filings_of agent r.members)))
     (own_rows_formed agent c.as_str.ensures.form (λ fs. fs) (λ fs h. h))
-    c.all_values.result (λ xs values. values.items ≡ xs) c.all_values.ensures
+    c.all_values.result (λ xs values. values.items ≡ xs) c.all_values.ensures.values c.all_values.ensures.found

@@ -24,4 +24,4 @@ returns g c =
     (λ r. ap₂ (λ a k. map (λ (f : AcceptedFiling). truth (is_same f.bytes bytes) ∷ []) (keyed k (filings_of a r.members))) c.as_str.ensures.value c.as_str-2.ensures.value ∙ sym (map-map (λ (b : Bool). truth b ∷ []) same (keyed key (filings_of agent r.members))))
     (λ r. has_bytes bytes (filing_keyed key (filings_of agent r.members)))
     (λ r. ap (λ o. unwrap_or o false) (keyed_first same key (filings_of agent r.members)) ∙ bytes_are bytes (filing_keyed key (filings_of agent r.members)))
-    c.flag.result c.flag.ensures
+    c.flag.result c.flag.ensures.flag c.flag.ensures.found

@@ -22,4 +22,4 @@ returns g c =
     (λ r. map filing_shown (keyed key (filings_of agent r.members)))
     (λ r. ap₂ (λ a k. map (λ f. shown_columns (filing_shown f)) (keyed k (filings_of a r.members))) c.as_str.ensures.value c.as_str-2.ensures.value ∙ sym (map-map shown_columns filing_shown (keyed key (filings_of agent r.members))))
     (own_shown_formed agent key)
-    c.first_value.result (λ xs x. x ≡ slice_get xs 0) c.first_value.ensures)
+    c.first_value.result (λ xs x. x ≡ slice_get xs 0) c.first_value.ensures.value c.first_value.ensures.found)

@@ -21,4 +21,4 @@ returns g c =
     (λ r. identified_by scheme id r.members)
     (λ r. refl)
     (λ r stored. All-filter (λ (i : IdentifierRow). is_same i.identifier.scheme scheme && is_same i.identifier.id id) IsFormedIdentifierRow (flat_map identifier_rows (placed r.members)) (all_identifiers_formed (placed r.members) (placed_formed r stored)))
-    c.all_values.result (λ xs values. values.items ≡ xs) c.all_values.ensures
+    c.all_values.result (λ xs values. values.items ≡ xs) c.all_values.ensures.values c.all_values.ensures.found

@@ -27,4 +27,4 @@ returns g c =
     (λ r. map bare (standing_at at r.members))
     (λ r. ap (λ a. map (λ p. statement_columns (bare p)) (standing_at (shown a) r.members)) c.as_str.ensures.value ∙ sym (map-map statement_columns bare (standing_at at r.members)))
     (λ r stored. all_bare_formed (standing_at at r.members) (All-filter (λ (p : Placed). same_place p.at at) IsFormedPlaced (placed r.members) (placed_formed r stored)))
-    c.first_value.result (λ xs x. x ≡ slice_get xs 0) c.first_value.ensures)
+    c.first_value.result (λ xs x. x ≡ slice_get xs 0) c.first_value.ensures.value c.first_value.ensures.found)

@@ -21,4 +21,4 @@ returns g c =
     (λ r. map bare (in_record rec_is (placed_of agent r)))
     (λ r. sym (map-map statement_columns bare (in_record rec_is (placed_of agent r))))
     (λ r stored. all_bare_formed (in_record rec_is (placed_of agent r)) (All-filter (λ (p : Placed). is_same p.statement.rec rec_is) IsFormedPlaced (placed_of agent r) (own_formed agent r stored)))
-    c.all_values.result (λ xs values. values.items ≡ xs) c.all_values.ensures
+    c.all_values.result (λ xs values. values.items ≡ xs) c.all_values.ensures.values c.all_values.ensures.found

@@ -26,4 +26,4 @@ returns g c =
     ∙ ap₂ (λ d i. map (λ p. statement_columns (bare p)) (in_series d i (placed_of agent r))) c.as_str-2.ensures.value c.as_str-3.ensures.value
     ∙ sym (map-map statement_columns bare (series r)))
     (λ r stored. all_bare_formed (series r) (All-filter (λ (p : Placed). is_of declaration rec_is p.statement) IsFormedPlaced (placed_of agent r) (own_formed agent r stored)))
-    c.all_values.result (λ xs values. values.items ≡ xs) c.all_values.ensures
+    c.all_values.result (λ xs values. values.items ≡ xs) c.all_values.ensures.values c.all_values.ensures.found

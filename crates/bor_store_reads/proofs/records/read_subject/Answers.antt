@@ -27,4 +27,4 @@ returns g c =
     ∙ ap₂ (λ d i. map (λ p. statement_columns (bare p)) (with_subject d i (placed_of agent r))) c.as_str-2.ensures.value c.as_str-3.ensures.value
     ∙ sym (map-map statement_columns bare (named r)))
     (λ r stored. all_bare_formed (named r) (All-filter (λ (p : Placed). is_same p.statement.declaration declaration && names_subject rec_is p.statement.details) IsFormedPlaced (placed_of agent r) (own_formed agent r stored)))
-    c.all_values.result (λ xs values. values.items ≡ xs) c.all_values.ensures
+    c.all_values.result (λ xs values. values.items ≡ xs) c.all_values.ensures.values c.all_values.ensures.found

@@ -27,4 +27,4 @@ returns g c =
     (λ r. map (filing_row agent) (numbered number (filings_of agent r.members)))
     (λ r. ap (λ a. map (λ f. line_columns (filing_row a f)) (numbered number (filings_of a r.members))) c.as_str.ensures.value ∙ sym (map-map line_columns (filing_row agent) (numbered number (filings_of agent r.members))))
     (own_rows_formed agent c.as_str.ensures.form (numbered number) (All-filter (λ (f : AcceptedFiling). f.number == number) IsFormedFiling))
-    c.first_value.result (λ xs x. x ≡ slice_get xs 0) c.first_value.ensures)
+    c.first_value.result (λ xs x. x ≡ slice_get xs 0) c.first_value.ensures.value c.first_value.ensures.found)

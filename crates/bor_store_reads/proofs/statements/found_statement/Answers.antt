@@ -33,4 +33,4 @@ returns g c =
     ∙ ap₂ (λ d i. map (λ p. statement_columns (bare p)) (last (in_series d i (placed_of agent r)))) c.as_str-2.ensures.value c.as_str-3.ensures.value
     ∙ sym (map-map statement_columns bare (last (series r))))
     (λ r stored. all_bare_formed (last (series r)) (all_taken IsFormedPlaced (series r) (All-filter (λ (p : Placed). is_of declaration rec_is p.statement) IsFormedPlaced (placed_of agent r) (own_formed agent r stored))))
-    c.first_value.result (λ xs x. x ≡ slice_get xs 0) c.first_value.ensures)
+    c.first_value.result (λ xs x. x ≡ slice_get xs 0) c.first_value.ensures.value c.first_value.ensures.found)

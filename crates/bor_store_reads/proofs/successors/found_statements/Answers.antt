@@ -21,4 +21,4 @@ returns g c =
     (λ r. map bare (in_filing number (placed_of agent r)))
     (λ r. ap (λ a. map (λ p. statement_columns (bare p)) (in_filing number (placed_of a r))) c.as_str.ensures.value ∙ sym (map-map statement_columns bare (in_filing number (placed_of agent r))))
     (λ r stored. all_bare_formed (in_filing number (placed_of agent r)) (All-filter (λ (p : Placed). p.at.filing == number) IsFormedPlaced (placed_of agent r) (own_formed agent r stored)))
-    c.all_values.result (λ xs values. values.items ≡ xs) c.all_values.ensures
+    c.all_values.result (λ xs values. values.items ≡ xs) c.all_values.ensures.values c.all_values.ensures.found

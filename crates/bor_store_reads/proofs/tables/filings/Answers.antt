@@ -12,4 +12,4 @@ returns g c =
     told line_columns IsFormedFilingRow (state g.S.Store c.args.conn.now) (state g.S.Store c.all_filings.new.conn) c.all_filings.result (λ r. map line_columns (filing_lines r.members)) c.all_filings.ensures.mode c.all_filings.ensures.finds (λ r. filing_lines r.members)
     (λ r. refl)
     (λ r stored. lines_formed r.members stored.formed.members)
-    c.all_values.result (λ xs values. values.items ≡ xs) c.all_values.ensures
+    c.all_values.result (λ xs values. values.items ≡ xs) c.all_values.ensures.values c.all_values.ensures.found

@@ -15,4 +15,4 @@ returns g c =
     (λ r. map line_of (flat_map interest_rows (placed r.members)))
     (λ r. sym (map-map interest_line_columns line_of (flat_map interest_rows (placed r.members))))
     (λ r stored. all_lines_formed (flat_map interest_rows (placed r.members)) (all_interests_formed (placed r.members) (placed_formed r stored)))
-    c.all_values.result (λ xs values. values.items ≡ xs) c.all_values.ensures
+    c.all_values.result (λ xs values. values.items ≡ xs) c.all_values.ensures.values c.all_values.ensures.found

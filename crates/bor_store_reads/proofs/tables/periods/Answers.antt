@@ -14,4 +14,4 @@ returns g c =
     (λ r. flat_map period_rows (flat_map interest_rows (placed r.members)))
     (λ r. refl)
     (λ r stored. all_periods_formed (flat_map interest_rows (placed r.members)) (all_interests_formed (placed r.members) (placed_formed r stored)))
-    c.all_values.result (λ xs values. values.items ≡ xs) c.all_values.ensures
+    c.all_values.result (λ xs values. values.items ≡ xs) c.all_values.ensures.values c.all_values.ensures.found

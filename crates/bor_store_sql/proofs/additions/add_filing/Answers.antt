@@ -35,6 +35,8 @@ returns g c =
     let counted = λ (clean : HasCleanDisk (state g.S.Store c.conn-1.given.0)). where_done (AreCounted ss) mid (state g.S.Store c.conn-1.given.0) c.insert_rows-done.result c.finish.result (subst (λ h. Ends mid (state g.S.Store h) c.insert_rows-done.result c.finish.result) same c.finish.ensures.ends) clean c.insert_rows-done.ensures.counted in
     record {
       mode = subst (λ h. h.in_transaction ≡ false) same c.finish.ensures.mode;
+      clean = it.clean;
+      up = it.up;
       began = it.began;
       made = λ clean r shows enrolled room next formed. on_ok c.finish.result (both_ok _ _ c.finish.result (it.made clean) (counted clean.0)) (λ known. record { has = added_has agent number key due bytes ss r enrolled next _ (known.0 (contents r) shows.has (tt {0})); stored = added_stored agent key due bytes ss r shows.stored room c.as_str-lodge_key.ensures.form is are_bytes formed known.1 });
       kept = it.kept;

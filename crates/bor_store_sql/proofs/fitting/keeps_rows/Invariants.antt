@@ -1,5 +1,6 @@
 use Rattle.std.proofs.Common.{◌≡◌, false, take}
 use Rattle.sqlite.specs.Held.{state}
+use Rattle.sqlite.specs.State.{HasCleanDisk}
 use Rattle.bor_register.specs.Register.{Register}
 use Rattle.bor_store_sql.specs.Fitting.{IsKept, Pairwise}
 use Rattle.bor_store_sql.specs.Shown.{IsClean, ShowsLists}
@@ -10,6 +11,7 @@ abbrev pub invariant-loop-index : goal.invariant-loop-index
 invariant-loop-index g l = record {
   mode : l.conn.in_transaction ≡ false;
   counted : l.place ≡ l.index;
+  clean : HasCleanDisk (state g.S.Store l.conn) → HasCleanDisk (state g.S.Store l.fn.conn);
   began : IsClean (state g.S.Store l.conn) → IsClean (state g.S.Store l.fn.conn);
   kept : IsClean (state g.S.Store l.conn) → (state g.S.Store l.conn).committed ≡ (state g.S.Store l.fn.conn).committed;
   fits : IsClean (state g.S.Store l.conn) → (r : Register) → ShowsLists r (state g.S.Store l.fn.conn) → Pairwise (IsKept l.agent l.number r.members) 1 (take l.index l.statements) (take l.index l.rows);

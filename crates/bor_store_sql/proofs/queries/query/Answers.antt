@@ -5,7 +5,7 @@ use Rattle.sqlite.specs.Held.{state}
 use Rattle.sqlite.specs.State.{HasCleanDisk}
 use Rattle.sqlite.specs.Values.{bound}
 use Rattle.bor_store_sql.proofs.Finding.{settled_shown}
-use Rattle.bor_store_sql.proofs.Keeping.{left_by}
+use Rattle.bor_store_sql.proofs.Keeping.{left_by, up_by}
 use Rattle.bor_store_sql.proofs.Moves.{was_clean}
 use Rattle.bor_store_sql.proofs.queries.query.Goals as goal
 
@@ -21,6 +21,8 @@ returns-clause-asked g c =
     let auto : IsTrue c.is_autocommit-settled.result = c.is_autocommit-settled.ensures.value ∙ ap not c.requires.settled in
     let left = λ (disk : HasCleanDisk new). left_by old new text c.requires.asks params rows_in c.query_all.result (c.query_all.ensures.ok disk) (c.query_all.ensures.err disk) in
     record {
+      clean = was_clean old new _ c.query_all.ensures.survives;
+      up = up_by old new text c.requires.asks params rows_in c.query_all.result c.query_all.ensures.ok;
       began = λ clean. (was_clean old new _ c.query_all.ensures.survives clean.0, (left clean.0).was_open clean.1);
       kept = λ clean. (left clean.0).committed clean.1;
       shown = λ clean. settled_shown text params old new (c.is_autocommit-settled.ensures.settled auto ((left clean.0).was_open clean.1)) c.query_all.result (c.query_all.ensures.ok clean.0);

@@ -24,6 +24,8 @@ returns g c =
     let it = subst (λ h. Ended (Changes Any (with_agent_row (agent_columns (new_member name token)))) (state g.S.Store was) (state g.S.Store h) c.finish.result) same ends in
     record {
       mode = subst (λ h. h.in_transaction ≡ false) same c.finish.ensures.mode;
+      clean = it.clean;
+      up = it.up;
       began = it.began;
       made = λ clean r shows fresh. on_ok c.finish.result (it.made clean) (λ makes. record { has = enrolled_has name token r _ (makes (contents r) shows.has (tt {0})); stored = enrolled_stored name token r shows.stored fresh c.as_str-name.ensures.form c.as_str-secret.ensures.form });
       kept = it.kept;

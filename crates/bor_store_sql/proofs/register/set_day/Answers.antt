@@ -22,6 +22,8 @@ returns g c =
     let it = subst (λ h. Ended (Changes (IsOneRegister day) (with_day day)) (state g.S.Store was) (state g.S.Store h) c.finish.result) same ends in
     record {
       mode = subst (λ h. h.in_transaction ≡ false) same c.finish.ensures.mode;
+      clean = it.clean;
+      up = it.up;
       began = it.began;
       made = λ clean r shows. on_ok c.finish.result (it.made clean) (λ makes. record { has = dated_has day r _ (makes (contents r) shows.has (one_register day r)); stored = dated_stored day r is shows.stored });
       kept = it.kept;

@@ -21,6 +21,8 @@ returns g c =
     let it = subst (λ h. Ended (Changes (IsOnce agent number) (withdrawn_in agent number)) (state g.S.Store was) (state g.S.Store h) c.finish.result) same ends in
     record {
       mode = subst (λ h. h.in_transaction ≡ false) same c.finish.ensures.mode;
+      clean = it.clean;
+      up = it.up;
       began = it.began;
       made = λ clean r shows. on_ok c.finish.result (it.made clean) (λ makes. record { has = now_has agent number r _ shows.stored (makes (contents r) shows.has (once agent number r.members shows.stored.ordered shows.stored.numbered)); stored = still_stored agent number r shows.stored });
       kept = it.kept;
