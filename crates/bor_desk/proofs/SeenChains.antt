@@ -3,21 +3,21 @@ use Rattle.std.proofs.Common.{◌≡◌, ◌≢◌, ℕ, ℤ, cond, inl, inr, Op
 use Rattle.bor_records.specs.declared.links.node.Node.{Node}
 use Rattle.bor_records.specs.declared.links.node.NodeInfo.{NodeInfo}
 use Rattle.bor_records.specs.declared.links.node.NodeInfo.TheVariants.{Entity, Person}
-use Rattle.bor_records.specs.Promises.{Kept, Promised}
+use Rattle.bor_records.specs.Promises.{Kept, Lasts, Promised}
 use Rattle.bor_chains.specs.declared.line.PersonLine.{PersonLine}
 use Rattle.bor_chains.specs.declared.fault.ChainFault.{ChainFault}
 use Rattle.bor_chains.specs.declared.fault.ChainFault.TheVariants as chains
 use Rattle.bor_records.specs.Links.Shown.{Shown, info_of, IsEntity}
 use Rattle.bor_records.specs.Links.Rows.{is_entity_info, shown_of}
 use Rattle.bor_chains.specs.Chains.{AreJoined}
-use Rattle.bor_chains.specs.Promises.{chain_counted, OnNoEntity, OnSource}
+use Rattle.bor_chains.specs.Promises.{chain_counted, IfToldBy, OnNoEntity, OnSource}
 use Rattle.bor_register.specs.declared.fault.StoreFault.{StoreFault}
 use Rattle.bor_register.specs.Register.{Register}
 use Rattle.bor_register.specs.Seen.{seen_at}
 use Rattle.bor_desk.specs.declared.operations.keep_source.KeepSource.{KeepSource}
 use Rattle.bor_desk.specs.Operations.Sight.{seen_by}
 use Rattle.bor_desk.specs.Operations.Outlook.{Outlook}
-use Rattle.bor_desk.specs.Operations.Outcomes.{ByStore, IsFaultOf, IsAccounted}
+use Rattle.bor_desk.specs.Operations.Outcomes.{ByStore, IfAnswered, IsFaultOf, IsAccounted}
 use Rattle.bor_desk.proofs.OnOperations.SeenLinks.{numbers_make_no_links}
 use Rattle.bor_desk.specs.declared.refusal.Refusal.TheVariants.{NoEntity}
 use Rattle.bor_desk.specs.declared.refusal.DeskFault.{DeskFault}
@@ -75,6 +75,16 @@ pub persons-accounted : {P : Type 0} (may_tell : StoreFault → Type 0) (fault :
 persons-accounted may_tell fault (Ok persons) before after is_err is counts told moved = absurd cc
 persons-accounted may_tell fault (Err given) before after is_err is counts told moved = refusal-accounted may_tell fault given before after is counts told moved
 
+-- what holds where there is a report or no such entity holds where the answer is no fault of the store
+refusal-answered : {F : Type 0} (into : F → StoreFault → Type 0) (P : Type 0) (fault : ChainFault F) (given : DeskFault) → IsOfChains into fault given → IfToldBy {T = Vec PersonLine Global} (Err fault) P → ByStore (failed given) P (λ f. Unit {0})
+refusal-answered into P chains.NoEntity given is p = subst (λ (g : DeskFault). ByStore (failed g) P (λ f. Unit {0})) (sym is) p
+refusal-answered into P (chains.Source f) given is p = subst (λ (g : DeskFault). ByStore (failed g) P (λ f. Unit {0})) (sym is.2) tt
+refusal-answered into P chains.Memory given is p = subst (λ (g : DeskFault). ByStore (failed g) P (λ f. Unit {0})) (sym is) tt
+
+pub persons-answered : {Q F : Type 0} (into : F → StoreFault → Type 0) (P : Type 0) (fault : ChainFault F) (made : Result Q DeskFault) → IsErr made → IsErrAnd made (IsOfChains into fault) → IfToldBy {T = Vec PersonLine Global} (Err fault) P → IfAnswered failed made P
+persons-answered into P fault (Ok persons) is_err is p = absurd cc
+persons-answered into P fault (Err given) is_err is p = refusal-answered into P fault given is p
+
 -- ---- a source that borrows a keep
 
 -- what such a source shows
@@ -103,3 +113,17 @@ pub keep-accounted : {K P : Type 0} (faults : K → ℕ) (may_tell : StoreFault 
     IsAccounted failed may_tell made (faults old) (faults new)
 keep-accounted {K} faults may_tell made old new x y begins ends accounted =
     subst (λ (k : K). IsAccounted failed may_tell made (faults old) (faults k)) (sym ends) (subst (λ (k : K). IsAccounted failed may_tell made (faults k) (faults y.keep.now)) begins accounted)
+
+-- a source that lasts has a keep that does
+pub keep-lasts : {K : Type 0} (is_clean is_sound : K → Type 0) (old new : K) (x y : KeepSource K) → x.keep.now ≡ old → new ≡ y.keep.now → Lasts (λ (z : KeepSource K). is_clean z.keep.now) (λ z. is_sound z.keep.now) x y → Lasts is_clean is_sound old new
+keep-lasts {K} is_clean is_sound old new x y begins ends lasts =
+    subst (λ (k : K). Lasts is_clean is_sound old k) (sym ends) (subst (λ (k : K). Lasts is_clean is_sound k y.keep.now) begins (record { sound = lasts.sound; clean = lasts.clean }))
+
+pub keep-lasts_so : {K P : Type 0} (is_clean is_sound : K → Type 0) (made : Result P DeskFault) (old new : K) (x y : KeepSource K) → x.keep.now ≡ old → new ≡ y.keep.now → IfAnswered failed made (Lasts (λ (z : KeepSource K). is_clean z.keep.now) (λ z. is_sound z.keep.now) x y) →
+    IfAnswered failed made (Lasts is_clean is_sound old new)
+keep-lasts_so is_clean is_sound (Ok persons) old new x y begins ends lasts = keep-lasts is_clean is_sound old new x y begins ends lasts
+keep-lasts_so is_clean is_sound (Err given) old new x y begins ends lasts = at (failed given) lasts
+  where
+    at : (store : Option StoreFault) → ByStore store (Lasts (λ (z : KeepSource _). is_clean z.keep.now) (λ z. is_sound z.keep.now) x y) (λ f. Unit {0}) → ByStore store (Lasts is_clean is_sound old new) (λ f. Unit {0})
+    at None h = keep-lasts is_clean is_sound old new x y begins ends h
+    at (Some f) h = tt

@@ -49,6 +49,10 @@ IsLeft reply shown r after = ByStore (fault_of reply) (shown after) (λ fault. s
 abbrev pub IsReplyAccounted : (StoreFault → Type 0) → DeskReply → ℕ → ℕ → Type 0
 IsReplyAccounted may_tell reply before after = ByStore (fault_of reply) (after ≡ before) (IsFaultOf may_tell before after)
 
+-- P, where the reply is no fault of the store
+abbrev pub IfReplied : DeskReply → Type 0 → Type 0
+IfReplied reply P = ByStore (fault_of reply) P (λ fault. Unit {0})
+
 -- ---- which agent is answered
 
 -- the agent that a caller is; none where it is the registrar, or nobody

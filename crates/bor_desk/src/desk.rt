@@ -2,13 +2,13 @@
 
 ghost use Rattle.std.specs.Prelude.{◌≡◌, IfOk, IfErr, unwrap_or, true, false};
 ghost use Rattle.bor_register.specs.Register.{Register, IsOrdered, caller_of, is_enrolled, filings_of, filing_keyed};
-ghost use Rattle.bor_records.specs.Promises.{Promised, Sure, Kept};
+ghost use Rattle.bor_records.specs.Promises.{Promised, Sure, Kept, Lasts};
 ghost use Rattle.bor_desk.specs.Operations.Legality.{IsLegal};
 ghost use Rattle.bor_desk.specs.Operations.Sight.{seen_by, sight_of};
 ghost use Rattle.bor_desk.specs.Operations.Outcomes.{IsCounted};
 ghost use Rattle.bor_desk.specs.Step.{step, agent_answer, agent_step, may_change_own, registrar_step, file_answer, chains_answer, snapshot_answer};
 ghost use Rattle.bor_desk.specs.Laws.{IsToldAlone};
-ghost use Rattle.bor_desk.specs.Outcomes.{IsAnswered, IsLeft, IsNamed, IsOrderedFor, IsReplyAccounted, agent_of, reply_of, denial};
+ghost use Rattle.bor_desk.specs.Outcomes.{IfReplied, IsAnswered, IsLeft, IsNamed, IsOrderedFor, IsReplyAccounted, agent_of, reply_of, denial};
 
 use crate::operations::{Caller, Keep, StoreFault, advance, enrol, lodge, withdraw};
 use crate::refusal::{DeskFault, Refusal};
@@ -40,6 +40,7 @@ pub fn date_or_day<K: Keep>(keep: &mut K, date: Option<Day>) -> Result<Day, Stor
     ensures kept { Kept K.shows K.is_clean keep.old keep.new }
     ensures told { IfErr result K.may_tell }
     ensures accounted { IsCounted result (K.fault_count keep.old) (K.fault_count keep.new) }
+    ensures lasts { IfOk result (λ _. Lasts K.is_clean K.is_sound keep.old keep.new) }
     ensures answer { Promised K.shows K.is_clean keep.old keep.new (λ r.
         IfOk result (λ day. day ≡ unwrap_or date r.day)) }
 {
@@ -55,6 +56,8 @@ fn file_for<K: Keep>(keep: &mut K, name: &AgentName, key: &LodgeKey) -> Result<D
     ensures kept { Kept K.shows K.is_clean keep.old keep.new }
     ensures accounted { IsReplyAccounted K.may_tell (reply_of result) (K.fault_count keep.old)
         (K.fault_count keep.new) }
+    ensures lasts { IfReplied (reply_of result)
+        (Lasts K.is_clean K.is_sound keep.old keep.new) }
     ensures answer { Promised K.shows K.is_clean keep.old keep.new (λ r.
         IsAnswered (reply_of result)
         (file_answer (filing_keyed key.now (filings_of name.now r.members)))) }
@@ -77,6 +80,8 @@ fn snapshot_for<K: Keep>(
     ensures kept { Kept K.shows K.is_clean keep.old keep.new }
     ensures accounted { IsReplyAccounted K.may_tell (reply_of result) (K.fault_count keep.old)
         (K.fault_count keep.new) }
+    ensures lasts { IfReplied (reply_of result)
+        (Lasts K.is_clean K.is_sound keep.old keep.new) }
     ensures answer { Promised K.shows K.is_clean keep.old keep.new (λ r.
         IsOrdered r.members → IsAnswered (reply_of result)
         (snapshot_answer (seen_by viewer.now r) agent.now declaration.now (unwrap_or date r.day))) }
@@ -100,6 +105,8 @@ fn chains_for<K: Keep>(
     ensures kept { Kept K.shows K.is_clean keep.old keep.new }
     ensures accounted { IsReplyAccounted K.may_tell (reply_of result) (K.fault_count keep.old)
         (K.fault_count keep.new) }
+    ensures lasts { IfReplied (reply_of result)
+        (Lasts K.is_clean K.is_sound keep.old keep.new) }
     ensures answer { Promised K.shows K.is_clean keep.old keep.new (λ r.
         IsAnswered (reply_of result)
         (chains_answer (seen_by viewer.now r) entity.now (unwrap_or date r.day))) }
@@ -125,6 +132,8 @@ fn tell_agent<K: Keep>(
     ensures kept { Kept K.shows K.is_clean keep.old keep.new }
     ensures accounted { IsReplyAccounted K.may_tell (reply_of result) (K.fault_count keep.old)
         (K.fault_count keep.new) }
+    ensures lasts { IfReplied (reply_of result)
+        (Lasts K.is_clean K.is_sound keep.old keep.new) }
     ensures answer { Promised K.shows K.is_clean keep.old keep.new (λ r.
         IsOrderedFor request.now r
         → IsAnswered (reply_of result) (agent_answer (sight_of name.now r) request.now)) }
@@ -163,6 +172,8 @@ fn answer_agent<K: Keep>(
         (agent_step r name.now request.now).register) }
     ensures accounted { IsReplyAccounted K.may_tell (reply_of result) (K.fault_count keep.old)
         (K.fault_count keep.new) }
+    ensures lasts { IfReplied (reply_of result)
+        (Lasts K.is_clean K.is_sound keep.old keep.new) }
 {
     match request {
         Request::Lodge { key, due, file } => Ok(DeskReply::Lodged(lodge(
@@ -190,6 +201,8 @@ fn answer_registrar<K: Keep>(
         IsLeft (reply_of result) (K.shows keep.new) r (registrar_step r request.now).register) }
     ensures accounted { IsReplyAccounted K.may_tell (reply_of result) (K.fault_count keep.old)
         (K.fault_count keep.new) }
+    ensures lasts { IfReplied (reply_of result)
+        (Lasts K.is_clean K.is_sound keep.old keep.new) }
 {
     match request {
         Request::Day { date } => Ok(DeskReply::Day(advance(keep, *date)?)),
@@ -242,6 +255,7 @@ pub fn answer_naming<K: Keep>(
         IsNamed result.reply result.agent (agent_of (caller_of token.now r))) }
     ensures accounted { IsReplyAccounted K.may_tell result.reply (K.fault_count keep.old)
         (K.fault_count keep.new) }
+    ensures up { IfReplied result.reply (K.is_sound keep.new → K.is_clean keep.new) }
 {
     match keep.who(token) {
         Err(fault) => named(None, Err(DeskFault::Failed(fault))),
@@ -259,7 +273,8 @@ pub fn answer_naming<K: Keep>(
 /// The refusals are, in their order: `NoAgent` where nobody has the token; `NotRegistrar` where an
 /// agent asks for the registrar's doing; `NotAgent` where the registrar asks for anything else;
 /// then the operation's own. A refusal leaves the register as it was, and so does `Failed`. No call
-/// of the keep is made that the request doesn't need.
+/// of the keep is made that the request doesn't need. A keep whose store has shut, or shuts
+/// meanwhile, is answered for by `Failed` alone.
 ///
 /// What is left is said of every register, and so is what is told, but for snapshots: what one
 /// tells is said of registers whose agents stand in order of their names, as every legal one's do.
@@ -274,6 +289,7 @@ pub fn answer<K: Keep>(alloc: Global, keep: &mut K, token: &Token, request: &Req
         IsLegal r → IsToldAlone result (caller_of token.now r) r request.now) }
     ensures accounted { IsReplyAccounted K.may_tell result (K.fault_count keep.old)
         (K.fault_count keep.new) }
+    ensures up { IfReplied result (K.is_sound keep.new → K.is_clean keep.new) }
     ensures legal { Promised K.shows K.is_clean keep.old keep.new (λ r.
         IsLegal r → (left : Register) × K.shows keep.new left × IsLegal left) }
 {

@@ -103,19 +103,19 @@ pub record FailsToListen (port : ℕ) (output printed errors told : Known) (stat
   pub line : IsTold (IsMetListening output printed) errors told
 
 -- The line is printed, and the port that it names is served as is asked for: so many connections, from the register that was opened on. The status tells whether one failed, and nothing else is told.
-pub record ServesFrom {K : Type 0} (Hosts : Serve → K → K → ℕ → Type 0) (shows : K → Register → Type 0) (is_clean : K → Type 0) (opened left : K) (asked : Serve) (output printed errors told : Known) (status : ℕ) : Type 0 where
+pub record ServesFrom {K : Type 0} (Hosts : Serve → K → K → ℕ → Type 0) (shows : K → Register → Type 0) (is_clean is_sound : K → Type 0) (opened left : K) (asked : Serve) (output printed errors told : Known) (status : ℕ) : Type 0 where
   pub hosted : Hosts asked opened left status
-  pub served : IsServed shows is_clean opened left asked.connections status
+  pub served : IsServed shows is_clean is_sound opened left asked.connections status
   pub line : Appends output printed (listening asked.port)
   pub silent : Keeps errors told
 
 -- The register in the file is opened and served, and what is left of it is closed there, the same where the port can't be listened on; or it can't be opened.
-abbrev pub Serves : {M K : Type 0} → (Serve → K → K → ℕ → Type 0) → (K → Register → Type 0) → (K → Type 0) → (M → Deed K → M → Type 0) → M → M → Serve → Known → Known → Known → Known → ℕ → Type 0
-Serves {M} {K} Hosts shows is_clean does begun ended asked output printed errors told status =
+abbrev pub Serves : {M K : Type 0} → (Serve → K → K → ℕ → Type 0) → (K → Register → Type 0) → (K → Type 0) → (K → Type 0) → (M → Deed K → M → Type 0) → M → M → Serve → Known → Known → Known → Known → ℕ → Type 0
+Serves {M} {K} Hosts shows is_clean is_sound does begun ended asked output printed errors told status =
     FailsToOpen does begun ended asked.db output printed errors told status
     ⊎ ((opened : K) × (left : K) × Visits does begun ended asked.db (λ Done. Done (Opens asked.db opened)) left
     × (((left ≡ opened) × FailsToListen asked.port output printed errors told status)
-    ⊎ ServesFrom Hosts shows is_clean opened left asked output printed errors told status))
+    ⊎ ServesFrom Hosts shows is_clean is_sound opened left asked output printed errors told status))
 
 -- A text on the register that was opened is printed, or nothing; where that fails, the line of the failure is told.
 pub record TellsFrom {K : Type 0} (shows : K → Register → Type 0) (is_clean : K → Type 0) (tells : K → StoreFault → K → Type 0) (opened left : K) (asked : Report) (output printed errors told : Known) (status : ℕ) : Type 0 where
@@ -145,16 +145,16 @@ pub record Migrates {M K : Type 0} (does : M → Deed K → M → Type 0) (begun
   pub line : status ≡ 3 → IsTold (IsMetIn asked.db output printed) errors told
 
 -- What the command does, over whatever registers are opened and files are read, and what is done to files; but for a check it leaves standard input alone, and a check leaves the registers in files alone.
-abbrev pub Performs : {M K : Type 0} → (Bor Words → List ℕ → Type 0) → (Serve → K → K → ℕ → Type 0) → (K → Register → Type 0) → (K → Type 0) → (K → StoreFault → K → Type 0) → (M → Deed K → M → Type 0) → M → M → Command → Known → Known → Known → Known → Known → Known → ℕ → Type 0
-Performs Reads Hosts shows is_clean tells does begun ended (command.Check source) input rest output printed errors told status =
+abbrev pub Performs : {M K : Type 0} → (Bor Words → List ℕ → Type 0) → (Serve → K → K → ℕ → Type 0) → (K → Register → Type 0) → (K → Type 0) → (K → Type 0) → (K → StoreFault → K → Type 0) → (M → Deed K → M → Type 0) → M → M → Command → Known → Known → Known → Known → Known → Known → ℕ → Type 0
+Performs Reads Hosts shows is_clean is_sound tells does begun ended (command.Check source) input rest output printed errors told status =
     (ended ≡ begun) × Checks source input rest output printed errors told status
-Performs Reads Hosts shows is_clean tells does begun ended (command.Exchange asked) input rest output printed errors told status =
+Performs Reads Hosts shows is_clean is_sound tells does begun ended (command.Exchange asked) input rest output printed errors told status =
     Keeps input rest × ExchangesOnceTold Reads shows is_clean does begun ended asked output printed errors told status
-Performs Reads Hosts shows is_clean tells does begun ended (command.Serve asked) input rest output printed errors told status =
-    Keeps input rest × Serves Hosts shows is_clean does begun ended asked output printed errors told status
-Performs Reads Hosts shows is_clean tells does begun ended (command.Report asked) input rest output printed errors told status =
+Performs Reads Hosts shows is_clean is_sound tells does begun ended (command.Serve asked) input rest output printed errors told status =
+    Keeps input rest × Serves Hosts shows is_clean is_sound does begun ended asked output printed errors told status
+Performs Reads Hosts shows is_clean is_sound tells does begun ended (command.Report asked) input rest output printed errors told status =
     Keeps input rest × Reports shows is_clean tells does begun ended asked output printed errors told status
-Performs Reads Hosts shows is_clean tells does begun ended (command.Migrate asked) input rest output printed errors told status =
+Performs Reads Hosts shows is_clean is_sound tells does begun ended (command.Migrate asked) input rest output printed errors told status =
     Keeps input rest × Migrates does begun ended asked output printed errors told status
 
 -- ---- what status 1 stands for

@@ -67,8 +67,11 @@ pub trait OpenRegister {
     /// The state shows this register.
     ghost shows: { Self → Register → Type 0 };
 
-    /// What keeps it has returned what was written.
+    /// What keeps it has returned what was written, and is open.
     ghost is_clean: { Self → Type 0 };
+
+    /// What keeps it has returned what was written. It may have shut since.
+    ghost is_sound: { Self → Type 0 };
 
     /// A call that led from one state to another told this fault.
     ghost tells: { Self → StoreFault → Self → Type 0 };
@@ -137,8 +140,8 @@ pub trait OpenRegister {
     where
         L::Stream: Read + Write + OpenStream,
         ensures within { serves self.old listener.now limits connections self.new result }
-        ensures served { IsServed shows is_clean self.old self.new connections result }
-        ensures streams { IsServedOver shows is_clean
+        ensures served { IsServed shows is_clean is_sound self.old self.new connections result }
+        ensures streams { IsServedOver shows is_clean is_sound
             (IsOf L.Stream.remaining L.Stream.contents) W.does
             self.old self.new watch.old watch.new connections result };
 }
@@ -147,6 +150,8 @@ impl<K: Keep> OpenRegister for K {
     ghost shows = { K.shows };
 
     ghost is_clean = { K.is_clean };
+
+    ghost is_sound = { K.is_sound };
 
     ghost tells = { λ old fault new. IsFaultOf K.may_tell (K.fault_count old)
         (K.fault_count new) fault };

@@ -39,11 +39,11 @@ pub record IsNextFiling (number count : ℕ) (r : Register) (s : State) : Type 0
 
 -- what each keep promises of a read
 abbrev pub ReadsKeep : {K X : Type 0} → Keep K → K → K → Result X StoreFault → (Register → X → Type 0) → Type 0
-ReadsKeep keep old new result P = Reads keep.shows keep.is_clean keep.fault_count keep.may_tell old new result P
+ReadsKeep keep old new result P = Reads keep.shows keep.is_clean keep.is_sound keep.fault_count keep.may_tell old new result P
 
 -- what each keep promises of a change
 abbrev pub ChangesKeep : {K X : Type 0} → Keep K → K → K → Result X StoreFault → (Register → Register) → Type 0
-ChangesKeep keep old new result change = Changes keep.shows keep.is_clean keep.fault_count keep.may_tell old new result change
+ChangesKeep keep old new result change = Changes keep.shows keep.is_clean keep.is_sound keep.fault_count keep.may_tell old new result change
 
 -- what each keep asks for: it holds of the register that is shown
 abbrev pub IsSure : {K : Type 0} → Keep K → K → (Register → Type 0) → Type 0

@@ -2,6 +2,7 @@
 
 ghost use Rattle.std.specs.Prelude.{◌≡◌, ⊤, ◌+◌, ◌<◌, ◌++◌, ◌∷◌, [], None, IfOk, length, map, option_map, true, false, Result};
 ghost use Rattle.sqlite.specs.Held.{state};
+ghost use Rattle.sqlite.specs.State.{HasCleanDisk};
 ghost use Rattle.bor_records.specs.Links.Answers.{AreLinksInto, AreSame};
 ghost use Rattle.bor_records.specs.Links.Shown.{info_of};
 ghost use Rattle.bor_records.specs.Admission.{last_of};
@@ -85,11 +86,13 @@ fn fault_of(error: Error) -> StoreFault
     }
 }
 
-#[tactic(auto, using(bor_store_reads::proofs::Found::still_shows, crate::proofs::Kept::still_kept, crate::proofs::Undamaged::undamaged_told, crate::proofs::Undamaged::undamaged_made))]
+#[tactic(auto, using(bor_store_reads::proofs::Found::still_shows, crate::proofs::Kept::still_kept, crate::proofs::Lasting::lasts_told, crate::proofs::Lasting::up_told, crate::proofs::Undamaged::undamaged_told, crate::proofs::Undamaged::undamaged_made))]
 impl<S: Alter + Drop> Keep for SqlKeep<S> {
     ghost shows = { λ k r. ShowsIn r (state S.Store k.conn) };
 
     ghost is_clean = { λ k. IsClean (state S.Store k.conn) };
+
+    ghost is_sound = { λ k. HasCleanDisk (state S.Store k.conn) };
 
     ghost fault_count = { λ k. k.faults };
 
@@ -102,6 +105,8 @@ impl<S: Alter + Drop> Keep for SqlKeep<S> {
     fn who(&mut self, token: &Token) -> Result<Option<Caller>, StoreFault>
         ensures reads { ReadsKeep ⟦<SqlKeep<S> as Keep>⟧ self.old self.new result (λ r caller.
             caller ≡ caller_of token.now r) }
+        ensures up { let keep = ⟦<SqlKeep<S> as Keep>⟧ in
+            IfOk result (λ _. keep.is_sound self.new → keep.is_clean self.new) }
         ensures undamaged { IsUndamaged ⟦<SqlKeep<S> as Keep>⟧ self.old self.new result }
     {
         let answer = read_who(self.conn.connection(), self.alloc, token);

@@ -79,6 +79,8 @@ impl<K: Keep> Keep for FailingKeep<K> {
 
     ghost is_clean = { λ k. K.is_clean k.keep };
 
+    ghost is_sound = { λ k. K.is_sound k.keep };
+
     ghost fault_count = { λ k. k.faults };
 
     ghost may_tell = { λ fault. Unit {0} };

@@ -24,7 +24,7 @@ use Rattle.bor_wire.specs.Rendering.Replies.{Said, refused, answered, bytes_of, 
 use Rattle.bor_wire.specs.Rendering.Statuses.{desk_status, wire_refusal_status}
 use Rattle.bor_wire.specs.declared.outgoing.Outgoing.{Outgoing}
 use Rattle.bor_wire.specs.declared.outgoing.Outgoing.TheVariants.{Full, Unavailable}
-use Rattle.bor_wire.specs.Exchanges.{ByOutgoing, GoesOut, HasStatus, IfRefusing, IsFor, IsRefusal, IsRendered, IsSent, IsSpelled, OnRefusal, OnSpelled}
+use Rattle.bor_wire.specs.Exchanges.{ByOutgoing, GoesOut, HasStatus, IfAsked, IfRefusing, IsFor, IsRefusal, IsRendered, IsSent, IsSpelled, OnRefusal, OnSpelled}
 use Rattle.bor_wire.specs.Refused.{IsFull}
 use Rattle.bor_wire.proofs.RefusalLaws.{line_first, refused_leaves}
 
@@ -39,6 +39,20 @@ pub by_outgoing : {K : Type 0} (shows : K → Register → Type 0) (is_clean : K
     → ByOutgoing (Some o) known (λ t status bytes. Promised shows is_clean old new (λ r. IsOrdered r.members → IsSent (shows new) r t status bytes)) (Promised shows is_clean old new (shows new))
 by_outgoing shows is_clean old new (Full status bytes) known s spells h kept = (s, spells, h)
 by_outgoing shows is_clean old new Unavailable known s spells h kept = kept
+
+-- nothing has to hold
+pub asks_nothing : (s : Spelled) → IfAsked s (Unit {0})
+asks_nothing (Ok asked) = tt
+asks_nothing (Err why) = tt
+
+-- what holds whatever is spelled
+pub asked_all : (P : Type 0) (s : Spelled) → P → IfAsked s P
+asked_all P (Ok asked) h = h
+asked_all P (Err why) h = tt
+
+pub asked_so : (P Q : Type 0) (s : Spelled) → (P → Q) → IfAsked s P → IfAsked s Q
+asked_so P Q (Ok asked) so h = so h
+asked_so P Q (Err why) so h = tt
 
 -- what holds whatever goes out
 pub if_refusing : (o : Outgoing) (P : Type 0) → P → IfRefusing o P
@@ -129,3 +143,7 @@ nothing_out (Some input) = λ why spells. tt
 pub refusal_goes : (o : Outgoing) (shown : Register → Type 0) (r : Register) (why : Refusal) → IsRefusal o why → shown r → GoesOut o shown r (Err why)
 refusal_goes (Full status bytes) shown r why h is = (refused why, refl, h.1, h.0, is)
 refusal_goes Unavailable shown r why h is = is
+
+pub on_spelled_so : (known : Option (List ℕ)) (P Q : Spelled → Type 0) → ((spelled : Spelled) → P spelled → Q spelled) → OnSpelled known P → OnSpelled known Q
+on_spelled_so None P Q so h = tt
+on_spelled_so (Some input) P Q so h = λ spelled spells. so spelled (h spelled spells)

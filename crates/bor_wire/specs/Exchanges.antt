@@ -141,6 +141,28 @@ bytes_out outgoing.Unavailable = UNAVAILABLE.now
 abbrev pub IsResponse : (Register → Type 0) → Register → List ℕ → Outgoing → Type 0
 IsResponse shown r input out = IsExchanged (Replied (status_out out)) shown r (Some input) (Some []) (Some (bytes_out out))
 
+-- ---- whom the store answers
+
+-- P, where a request is spelled
+abbrev pub IfAsked : Spelled → Type 0 → Type 0
+IfAsked (Ok asked) P = P
+IfAsked (Err why) P = Unit {0}
+
+-- P, where a whole reply goes out
+abbrev pub IfFull : Outgoing → Type 0 → Type 0
+IfFull (outgoing.Full status bytes) P = P
+IfFull outgoing.Unavailable P = Unit {0}
+
+abbrev pub IfWhole : Option Outgoing → Type 0 → Type 0
+IfWhole (Some out) P = IfFull out P
+IfWhole None P = Unit {0}
+
+-- P, where the reply has another status than 503
+abbrev pub IfAnswered : Outcome → Type 0 → Type 0
+IfAnswered (Replied status) P = status ≢ 503 → P
+IfAnswered ReadFailed P = Unit {0}
+IfAnswered (WriteFailed status) P = status ≢ 503 → P
+
 -- ---- whom it is for
 
 -- the agent that has the token which is spelled; none where the registrar or nobody has it, and where no request is spelled

@@ -7,7 +7,7 @@ ghost use Rattle.bor_wire.specs.Nobody.{NobodysInputs};
 ghost use Rattle.bor_wire.specs.Repeats.{RepeatsActOnce};
 ghost use Rattle.bor_wire.specs.ReportBytes.{BytesGivePersons};
 ghost use Rattle.bor_wire.specs.Sequences.{ExchangesAreARun};
-ghost use Rattle.bor_wire.specs.Turns.{FrontsAreRuns};
+ghost use Rattle.bor_wire.specs.Turns.{AnswersAreRuns, FrontsAreRuns};
 
 use bor_desk::operations::Keep;
 
@@ -84,4 +84,12 @@ pub fn exchanges_are_a_run<K: Keep>()
 /// `in_turn` of [`replay`](crate::replay) gives such exchanges, with the keep after each.
 pub fn fronts_are_runs<K: Keep>()
     ensures { FrontsAreRuns K.shows K.is_clean }
+{}
+
+/// Exchanges one after the other are a run up to each request that was answered with another status
+/// than 503, if the keep's store had returned what was written by then. So where a store shuts, the
+/// replies before keep their promises, and no request is answered any more: `in_turn` of
+/// [`replay`](crate::replay) gives such exchanges, with the keep after each.
+pub fn answers_are_runs<K: Keep>()
+    ensures { AnswersAreRuns K.shows K.is_clean K.is_sound }
 {}

@@ -7,11 +7,11 @@ ghost use Rattle.bor_desk.specs.Outcomes.{IsOrderedFor, agent_of};
 ghost use Rattle.bor_http.specs.declared.incoming.fault.Refusal as fault;
 ghost use Rattle.bor_http.specs.Incoming.Message.{request_limit};
 ghost use Rattle.bor_http.specs.Incoming.Reading.{TakesAtMost};
-ghost use Rattle.bor_wire.specs.Spelling.Spell.{asked_view, spell};
+ghost use Rattle.bor_wire.specs.Spelling.Spell.{Spelled, Spells, asked_view, spell};
 ghost use Rattle.bor_wire.specs.Spelling.Steps.{Finds};
 ghost use Rattle.bor_wire.specs.Rendering.Limits.{reserved};
 ghost use Rattle.bor_wire.specs.Rendering.Statuses.{desk_status};
-ghost use Rattle.bor_wire.specs.Exchanges.{ByOutgoing, GoesOut, GoesOutRefused, HasStatus, IfNoChange, IfRefusing, IsFor, IsRefusal, IsRendered, IsResponse, IsSent, IsToldFor, NamesWhoAsks, OnRefusal, OnSpelled, TellsAnswer, agent_spelled, faults_unread, left_by};
+ghost use Rattle.bor_wire.specs.Exchanges.{ByOutgoing, IfAsked, IfFull, IfWhole, GoesOut, GoesOutRefused, HasStatus, IfNoChange, IfRefusing, IsFor, IsRefusal, IsRendered, IsResponse, IsSent, IsToldFor, NamesWhoAsks, OnRefusal, OnSpelled, TellsAnswer, agent_spelled, faults_unread, left_by};
 
 use crate::rendering::{
     RESERVED, UNAVAILABLE, desk_status, is_long, refusal_status, render, render_refusal,
@@ -69,13 +69,16 @@ pub struct Response {
 }
 
 /// Answers the request in these bytes: an [`exchange`](crate::exchange) over them, whose reply
-/// stays in memory. It names the agent that is answered.
+/// stays in memory. It names the agent that is answered. A keep whose store has shut, or shuts
+/// meanwhile, answers a request with 503.
 pub fn respond<K: Keep>(alloc: Global, paths: &Paths, keep: &mut K, input: &[u8]) -> Response
     ensures began { K.is_clean keep.new → K.is_clean keep.old }
     ensures exchanged { Promised K.shows K.is_clean keep.old keep.new (λ r.
         IsOrdered r.members → IsResponse (K.shows keep.new) r input.now result.outgoing) }
     ensures refused_kept { Promised K.shows K.is_clean keep.old keep.new (λ r.
         IfRefusing result.outgoing (K.shows keep.new r)) }
+    ensures up { (spelled : Spelled) → Spells input.now spelled → IfAsked spelled
+        (IfFull result.outgoing (K.is_sound keep.new → K.is_clean keep.new)) }
     ensures agent { Promised K.shows K.is_clean keep.old keep.new (λ r.
         NamesWhoAsks r input.now result) }
     ensures status { HasStatus result.outgoing }
@@ -114,6 +117,7 @@ fn asked<K: Keep>(
         IsOrderedFor asking.now.request r → TellsAnswer result.1 r (asked_view asking.now)) }
     ensures left { Promised K.shows K.is_clean keep.old keep.new (λ r.
         K.shows keep.new (left_by result.1 r (asked_view asking.now))) }
+    ensures up { IfSome result.1 (λ _. K.is_sound keep.new → K.is_clean keep.new) }
     ensures agent { Promised K.shows K.is_clean keep.old keep.new (λ r.
         IsToldFor result.1 result.0 (agent_of (caller_of asking.now.token r))) }
     ensures status { IfSome result.1 (λ reply. desk_status reply ≢ 503) }
@@ -152,6 +156,7 @@ fn answered<K: Keep>(alloc: Global, keep: &mut K, asking: &Asking) -> Response
         → GoesOut result.outgoing (K.shows keep.new) r (Ok (asked_view asking.now))) }
     ensures kept { Promised K.shows K.is_clean keep.old keep.new (λ r.
         IfRefusing result.outgoing (K.shows keep.new r)) }
+    ensures up { IfFull result.outgoing (K.is_sound keep.new → K.is_clean keep.new) }
     ensures agent { Promised K.shows K.is_clean keep.old keep.new (λ r.
         IsFor result.outgoing result.agent (agent_of (caller_of asking.now.token r))) }
     ensures status { HasStatus result.outgoing }
@@ -189,6 +194,8 @@ fn reply_for<K: Keep>(alloc: Global, paths: &Paths, keep: &mut K, raw: RawReques
         IsOrdered r.members → GoesOut result.outgoing (K.shows keep.new) r (spell raw)) }
     ensures kept { Promised K.shows K.is_clean keep.old keep.new (λ r.
         IfRefusing result.outgoing (K.shows keep.new r)) }
+    ensures up { IfAsked (spell raw)
+        (IfFull result.outgoing (K.is_sound keep.new → K.is_clean keep.new)) }
     ensures agent { Promised K.shows K.is_clean keep.old keep.new (λ r.
         IsFor result.outgoing result.agent (agent_spelled r (spell raw))) }
     ensures refused { (why : fault.Refusal) → spell raw ≡ Err why → IsRefusal result.outgoing why }
@@ -222,6 +229,8 @@ pub(crate) fn read_reply<K: Keep, R: Read>(
         (Promised K.shows K.is_clean keep.old keep.new (K.shows keep.new)) }
     ensures kept { Promised K.shows K.is_clean keep.old keep.new (λ r.
         IfNoChange result.1 (K.shows keep.new r)) }
+    ensures up { OnSpelled (R.remaining reader.old.inner) (λ spelled. IfAsked spelled
+        (IfWhole result.1 (K.is_sound keep.new → K.is_clean keep.new))) }
     ensures agent { OnSpelled (R.remaining reader.old.inner) (λ spelled.
         Promised K.shows K.is_clean keep.old keep.new (λ r.
         IfSome result.1 (λ out. IsFor out result.0 (agent_spelled r spelled)))) }

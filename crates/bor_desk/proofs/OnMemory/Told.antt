@@ -10,6 +10,10 @@ pub told_then : {T F : Type 0} (r : Result T F) (P Q : T → Type 0) → ((x : T
 told_then (Ok x) P Q f h = f x h
 told_then (Err e) P Q f h = tt
 
+pub told_always : {T F : Type 0} {P : Type 0} (r : Result T F) → P → IfOk r (λ x. P)
+told_always (Ok x) h = h
+told_always (Err e) h = tt
+
 pub ok_then : {T F : Type 0} (r : Result T F) (P Q : T → Type 0) → ((x : T) → P x → Q x) → IfOk r P → IfSome (result_ok r) Q
 ok_then (Ok x) P Q f h = f x h
 ok_then (Err e) P Q f h = tt

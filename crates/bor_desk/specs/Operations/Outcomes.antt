@@ -52,12 +52,17 @@ abbrev pub IsAccounted : {A E : Type 0} → (E → Option StoreFault) → (Store
 IsAccounted store may_tell (Ok answer) before after = after ≡ before
 IsAccounted store may_tell (Err fault) before after = ByStore (store fault) (after ≡ before) (IsFaultOf may_tell before after)
 
--- ---- parts of an operation, for clauses of private functions alone
-
 -- a call that asks the keep alone moves the count where it answers a fault
 abbrev pub IsCounted : {A : Type 0} → Result A StoreFault → ℕ → ℕ → Type 0
 IsCounted (Ok answer) before after = after ≡ before
 IsCounted (Err fault) before after = after ≢ before
+
+-- P, where the answer is no fault of the store
+abbrev pub IfAnswered : {A E : Type 0} → (E → Option StoreFault) → Result A E → Type 0 → Type 0
+IfAnswered store (Ok answer) P = P
+IfAnswered store (Err fault) P = ByStore (store fault) P (λ f. Unit {0})
+
+-- ---- parts of an operation, for clauses of private functions alone
 
 -- an error says what the definition gives, but for a fault of the store
 abbrev pub Refuses : {B E : Type 0} → (E → Option StoreFault) → E → Result B E → Type 0

@@ -321,6 +321,8 @@ impl Keep for ListKeep {
 
     ghost is_clean = { λ k. Unit {0} };
 
+    ghost is_sound = { λ k. Unit {0} };
+
     ghost fault_count = { λ k. k.faults };
 
     ghost may_tell = { λ fault. fault ≡ Memory };

@@ -46,6 +46,8 @@ impl<'a, K: Keep> LinkSource for KeepSource<'a, K> {
 
     ghost is_clean = { λ x. K.is_clean x.keep.now };
 
+    ghost is_sound = { λ x. K.is_sound x.keep.now };
+
     ghost fault_count = { λ x. K.fault_count x.keep.now };
 
     ghost may_tell = { λ fault. K.may_tell fault };

@@ -9,12 +9,12 @@ ghost use Rattle.bor_register.specs.declared.filing.AcceptedFiling.{AcceptedFili
 ghost use Rattle.bor_register.specs.Register.{Register, is_enrolled, filings_of, filing_keyed};
 ghost use Rattle.bor_register.specs.Live.{accepted, live_of};
 ghost use Rattle.bor_register.specs.Publication.{state_of_live, line_of};
-ghost use Rattle.bor_records.specs.Promises.{Kept, Promised, Reads, Sure};
+ghost use Rattle.bor_records.specs.Promises.{Kept, Lasts, Promised, Reads, Sure};
 ghost use Rattle.bor_desk.specs.declared.operations.fault.LodgeFault.TheVariants as lodge_faults;
 ghost use Rattle.bor_register.specs.Limits.{filings_limit};
 ghost use Rattle.bor_desk.specs.Operations.Earlier.{AreFound};
 ghost use Rattle.bor_desk.specs.Operations.Lodging.{as_read, told_settled, told_verdict, settled_reading, repeated, addition, lodge_step};
-ghost use Rattle.bor_desk.specs.Operations.Outcomes.{of_lodging, IsOutcome, IsAccounted, IsDone, IsMade};
+ghost use Rattle.bor_desk.specs.Operations.Outcomes.{of_lodging, IsOutcome, IfAnswered, IsAccounted, IsDone, IsMade};
 ghost use Rattle.bor_desk.specs.Operations.Legality.{IsLegal};
 ghost use Rattle.bor_desk.specs.Operations.Sight.{sight_of};
 
@@ -62,7 +62,8 @@ fn is_taken<K: Keep>(
     earlier: &Earlier,
     id: &Ident,
 ) -> Result<bool, StoreFault>
-    ensures { Reads K.shows K.is_clean K.fault_count K.may_tell keep.old keep.new result (λ r taken.
+    ensures { Reads K.shows K.is_clean K.is_sound K.fault_count K.may_tell keep.old keep.new
+        result (λ r taken.
         (live : List Live) → AreFound live earlier.now →
         taken ≡ has_id id.now (live_of (filings_of agent.now r.members) ++ live)) }
 {
@@ -80,7 +81,8 @@ fn last<K: Keep>(
     statement: &Statement,
     in_file: Option<Last>,
 ) -> Result<Option<Last>, StoreFault>
-    ensures { Reads K.shows K.is_clean K.fault_count K.may_tell keep.old keep.new result (λ r last.
+    ensures { Reads K.shows K.is_clean K.is_sound K.fault_count K.may_tell keep.old keep.new
+        result (λ r last.
         (live : List Live) → in_file ≡ last_of statement.now.declaration statement.now.rec live →
         last ≡ last_of statement.now.declaration statement.now.rec
         (live_of (filings_of agent.now r.members) ++ live)) }
@@ -105,6 +107,8 @@ fn settled_status<K: Keep>(
     ensures kept { Kept K.shows K.is_clean keep.old keep.new }
     ensures accounted { IsAccounted of_lodging K.may_tell result (K.fault_count keep.old)
         (K.fault_count keep.new) }
+    ensures lasts { IfAnswered of_lodging result
+        (Lasts K.is_clean K.is_sound keep.old keep.new) }
     ensures answer { Promised K.shows K.is_clean keep.old keep.new (λ r.
         (live : List Live) → AreFound live earlier.now →
         IsDone of_lodging (λ status. status) result (told_verdict place
@@ -132,6 +136,8 @@ fn settle<K: Keep>(
     ensures kept { Kept K.shows K.is_clean keep.old keep.new }
     ensures accounted { IsAccounted of_lodging K.may_tell result (K.fault_count keep.old)
         (K.fault_count keep.new) }
+    ensures lasts { IfAnswered of_lodging result
+        (Lasts K.is_clean K.is_sound keep.old keep.new) }
     ensures answer { Promised K.shows K.is_clean keep.old keep.new (λ r.
         IsDone of_lodging (λ _. statements.new) result
         (told_settled (settled (live_of (filings_of agent.now r.members)) due statements.old))) }
@@ -158,6 +164,8 @@ fn settled<K: Keep>(
     ensures kept { Kept K.shows K.is_clean keep.old keep.new }
     ensures accounted { IsAccounted of_lodging K.may_tell result (K.fault_count keep.old)
         (K.fault_count keep.new) }
+    ensures lasts { IfAnswered of_lodging result
+        (Lasts K.is_clean K.is_sound keep.old keep.new) }
     ensures answer { Promised K.shows K.is_clean keep.old keep.new (λ r.
         IsDone of_lodging (λ statements. statements.items) result
         (settled_reading (live_of (filings_of agent.now r.members)) due (reading bytes.now))) }
@@ -179,6 +187,8 @@ fn repeat<K: Keep>(
     ensures kept { Kept K.shows K.is_clean keep.old keep.new }
     ensures accounted { IsAccounted of_lodging K.may_tell result (K.fault_count keep.old)
         (K.fault_count keep.new) }
+    ensures lasts { IfAnswered of_lodging result
+        (Lasts K.is_clean K.is_sound keep.old keep.new) }
     ensures answer { Promised K.shows K.is_clean keep.old keep.new (λ r.
         (f : AcceptedFiling) → filing_keyed key.now (filings_of agent.now r.members) ≡ Some f →
         line.now ≡ line_of r.day f
@@ -200,6 +210,8 @@ fn day_for<K: Keep>(keep: &mut K, agent: &AgentName, due: Day) -> Result<Day, Lo
     ensures kept { Kept K.shows K.is_clean keep.old keep.new }
     ensures accounted { IsAccounted of_lodging K.may_tell result (K.fault_count keep.old)
         (K.fault_count keep.new) }
+    ensures lasts { IfAnswered of_lodging result
+        (Lasts K.is_clean K.is_sound keep.old keep.new) }
     ensures answer { Promised K.shows K.is_clean keep.old keep.new (λ r.
         IsDone of_lodging (λ day. day) result
         (if nat_le filings_limit (length (filings_of agent.now r.members))
@@ -234,6 +246,8 @@ fn prepare<K: Keep>(
     ensures kept { Kept K.shows K.is_clean keep.old keep.new }
     ensures accounted { IsAccounted of_lodging K.may_tell result (K.fault_count keep.old)
         (K.fault_count keep.new) }
+    ensures lasts { IfAnswered of_lodging result
+        (Lasts K.is_clean K.is_sound keep.old keep.new) }
     ensures answer { Promised K.shows K.is_clean keep.old keep.new (λ r.
         (key : List ℕ) → IsDone of_lodging
         (λ new. accepted (filings_of agent.now r.members) key due bytes.now new.statements.items)
@@ -268,6 +282,8 @@ fn lodge_new<K: Keep>(
         (lodge_step r agent.now key.now due bytes.now)) }
     ensures accounted { IsAccounted of_lodging K.may_tell result (K.fault_count keep.old)
         (K.fault_count keep.new) }
+    ensures lasts { IfAnswered of_lodging result
+        (Lasts K.is_clean K.is_sound keep.old keep.new) }
 {
     let new = prepare(alloc, keep, agent, due, bytes)?;
     let number = keep.add_filing(agent, key, due, bytes, &new.statements)?;
@@ -307,6 +323,8 @@ pub fn lodge<K: Keep>(
         (lodge_step r agent.now key.now due bytes.now)) }
     ensures accounted { IsAccounted of_lodging K.may_tell result (K.fault_count keep.old)
         (K.fault_count keep.new) }
+    ensures lasts { IfAnswered of_lodging result
+        (Lasts K.is_clean K.is_sound keep.old keep.new) }
     ensures legal { Promised K.shows K.is_clean keep.old keep.new (λ r.
         IsLegal r → (left : Register) × K.shows keep.new left × IsLegal left) }
 {

@@ -2,9 +2,9 @@
 
 ghost use Rattle.std.specs.Prelude.{◌≡◌};
 ghost use Rattle.bor_register.specs.Register.{Register, is_taken};
-ghost use Rattle.bor_records.specs.Promises.{Promised, Reads};
+ghost use Rattle.bor_records.specs.Promises.{Lasts, Promised, Reads};
 ghost use Rattle.bor_desk.specs.Operations.Registrar.{advance_step, enrol_step};
-ghost use Rattle.bor_desk.specs.Operations.Outcomes.{of_advance, of_enrolment, IsOutcome, IsAccounted};
+ghost use Rattle.bor_desk.specs.Operations.Outcomes.{of_advance, of_enrolment, IsOutcome, IfAnswered, IsAccounted};
 ghost use Rattle.bor_desk.specs.Operations.Legality.{IsLegal};
 
 use crate::operations::fault::{AdvanceFault, EnrolFault};
@@ -22,6 +22,8 @@ pub fn advance<K: Keep>(keep: &mut K, day: Day) -> Result<Day, AdvanceFault>
         IsOutcome of_advance result (K.shows keep.new) r (advance_step r day)) }
     ensures accounted { IsAccounted of_advance K.may_tell result (K.fault_count keep.old)
         (K.fault_count keep.new) }
+    ensures lasts { IfAnswered of_advance result
+        (Lasts K.is_clean K.is_sound keep.old keep.new) }
     ensures legal { Promised K.shows K.is_clean keep.old keep.new (λ r.
         IsLegal r → (left : Register) × K.shows keep.new left × IsLegal left) }
 {
@@ -35,7 +37,8 @@ pub fn advance<K: Keep>(keep: &mut K, day: Day) -> Result<Day, AdvanceFault>
 // Whether an agent or the registrar has the token.
 #[tactic(auto, using(bor_register::proofs::Callers::callers))]
 fn is_taken<K: Keep>(keep: &mut K, token: &Token) -> Result<bool, StoreFault>
-    ensures { Reads K.shows K.is_clean K.fault_count K.may_tell keep.old keep.new result (λ r taken.
+    ensures { Reads K.shows K.is_clean K.is_sound K.fault_count K.may_tell keep.old keep.new
+        result (λ r taken.
         taken ≡ is_taken token.now r) }
 {
     Ok(keep.who(token)?.is_some())
@@ -52,6 +55,8 @@ pub fn enrol<K: Keep>(keep: &mut K, name: AgentName, token: Token) -> Result<Age
         IsOutcome of_enrolment result (K.shows keep.new) r (enrol_step r name token)) }
     ensures accounted { IsAccounted of_enrolment K.may_tell result (K.fault_count keep.old)
         (K.fault_count keep.new) }
+    ensures lasts { IfAnswered of_enrolment result
+        (Lasts K.is_clean K.is_sound keep.old keep.new) }
     ensures legal { Promised K.shows K.is_clean keep.old keep.new (λ r.
         IsLegal r → (left : Register) × K.shows keep.new left × IsLegal left) }
 {

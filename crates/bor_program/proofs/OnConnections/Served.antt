@@ -14,7 +14,9 @@ use Rattle.bor_desk.specs.Operations.Legality.{IsLegal}
 use Rattle.bor_wire.specs.declared.outcome.Outcome.TheVariants.{Replied}
 use Rattle.bor_wire.specs.Exchanges.{IsExchanged}
 use Rattle.bor_wire.specs.Sequences.{AreExchanged, Exchanged, IsRun, keep_left}
+use Rattle.bor_wire.specs.Turns.{AreOpen, IsOpen}
 use Rattle.bor_wire.proofs.SequenceLaws.{a_run}
+use Rattle.bor_wire.proofs.TurnLaws.{open_more}
 use Rattle.bor_program.specs.Connections.Serving.{Answer, Answered, Ended, IsServed, IsServedAs, IsServing, absent_in, answers_in, exchange_of, exchanges_of, has_failed, is_absent, told_in, told_on}
 
 -- ---- lists
@@ -43,12 +45,13 @@ each_more shows is_clean keep (x ∷ es) e h last = (h.0, each_more shows is_cle
 
 -- ---- the server
 
-pub nothing_served : {K : Type 0} (shows : K → Register → Type 0) (is_clean : K → Type 0) (Is : Ended → Type 0) (keep : K) (connections : ℕ) → IsServing shows is_clean Is keep keep [] connections connections 0 0
-nothing_served shows is_clean Is keep connections = record {
+pub nothing_served : {K : Type 0} (shows : K → Register → Type 0) (is_clean is_sound : K → Type 0) (Is : Ended → Type 0) (keep : K) (connections : ℕ) → IsServing shows is_clean is_sound Is keep keep [] connections connections 0 0
+nothing_served shows is_clean is_sound Is keep connections = record {
   answered = [];
   ended = [];
   count = omega arith;
   each = tt;
+  are_open = tt;
   left = refl;
   told_once = IsPermutation-refl [];
   ended_so = All-nil Is;
@@ -57,11 +60,12 @@ nothing_served shows is_clean Is keep connections = record {
 }
 
 -- a request was answered
-pub answers : {K : Type 0} (shows : K → Register → Type 0) (is_clean : K → Type 0) (Is : Ended → Type 0) (old keep new : K) (telling : List Answer) (connections pending absent told : ℕ) (answer : Answer)
-    → IsServing shows is_clean Is old keep telling connections pending absent told → (is_clean new → is_clean keep)
+pub answers : {K : Type 0} (shows : K → Register → Type 0) (is_clean is_sound : K → Type 0) (Is : Ended → Type 0) (old keep new : K) (telling : List Answer) (connections pending absent told : ℕ) (answer : Answer)
+    → IsServing shows is_clean is_sound Is old keep telling connections pending absent told → (is_clean new → is_clean keep)
     → Promised shows is_clean keep new (λ r. IsLegal r → IsExchanged (Replied answer.status) (shows new) r (Some answer.request) (Some []) (Some answer.reply))
-    → IsServing shows is_clean Is old new (answer ∷ telling) connections pending absent told
-answers {K} shows is_clean Is old keep new telling connections pending absent told answer h began exchanged =
+    → IsOpen is_clean is_sound (exchange_of (record { answer = answer; keep = new }))
+    → IsServing shows is_clean is_sound Is old new (answer ∷ telling) connections pending absent told
+answers {K} shows is_clean is_sound Is old keep new telling connections pending absent told answer h began exchanged up =
     let one : Answered K = record { answer = answer; keep = new } in
     let es : List (Exchanged K) = exchanges_of h.answered in
     let more : exchanges_of (h.answered ++ one ∷ []) ≡ es ++ exchange_of one ∷ [] = map-append exchange_of h.answered (one ∷ []) in
@@ -73,6 +77,7 @@ answers {K} shows is_clean Is old keep new telling connections pending absent to
       ended = h.ended;
       count = h.count;
       each = subst (AreExchanged shows is_clean old) (sym more) each;
+      are_open = subst (AreOpen is_clean is_sound) (sym more) (open_more is_clean is_sound es (exchange_of one) h.are_open up);
       left = ap (keep_left old) more ∙ left_more old es (exchange_of one);
       told_once = subst (λ l. IsPermutation l (answer ∷ telling ++ told_in h.ended)) (sym front) (
           IsPermutation-trans (answers_in h.answered ++ answer ∷ []) (answer ∷ answers_in h.answered) (answer ∷ (telling ++ told_in h.ended))
@@ -85,14 +90,15 @@ answers {K} shows is_clean Is old keep new telling connections pending absent to
     }
 
 -- some connections ended
-pub ends : {K : Type 0} (shows : K → Register → Type 0) (is_clean : K → Type 0) (Is : Ended → Type 0) (old keep : K) (telling rest : List Answer) (connections pending left absent more told : ℕ) (ended : List Ended)
-    → IsServing shows is_clean Is old keep telling connections pending absent told → All Is ended → length ended + left ≡ pending → absent_in ended ≡ more → IsPermutation telling (rest ++ told_in ended)
-    → IsServing shows is_clean Is old keep rest connections left (more + absent) (if list_any has_failed ended then 3 else told)
-ends shows is_clean Is old keep telling rest connections pending left absent more told ended h so count gone once = record {
+pub ends : {K : Type 0} (shows : K → Register → Type 0) (is_clean is_sound : K → Type 0) (Is : Ended → Type 0) (old keep : K) (telling rest : List Answer) (connections pending left absent more told : ℕ) (ended : List Ended)
+    → IsServing shows is_clean is_sound Is old keep telling connections pending absent told → All Is ended → length ended + left ≡ pending → absent_in ended ≡ more → IsPermutation telling (rest ++ told_in ended)
+    → IsServing shows is_clean is_sound Is old keep rest connections left (more + absent) (if list_any has_failed ended then 3 else told)
+ends shows is_clean is_sound Is old keep telling rest connections pending left absent more told ended h so count gone once = record {
   answered = h.answered;
   ended = ended ++ h.ended;
   count = omega (arith, h.count, count, length-append ended h.ended);
   each = h.each;
+  are_open = h.are_open;
   left = h.left;
   told_once =
       subst (IsPermutation (answers_in h.answered)) (append_assoc rest (told_in ended) (told_in h.ended) ∙ ap (λ l. rest ++ l) (sym (told_in-append ended h.ended)))
@@ -111,19 +117,20 @@ a_run_to : {K : Type 0} (shows : K → Register → Type 0) (is_clean : K → Ty
     → Promised shows is_clean old new (λ r. IsLegal r → IsRun (shows new) r es)
 a_run_to shows is_clean old new es each left = subst (λ k. Promised shows is_clean old k (λ r. IsLegal r → IsRun (shows k) r es)) left (a_run shows is_clean old es each)
 
-pub all_served : {K : Type 0} (shows : K → Register → Type 0) (is_clean : K → Type 0) (Is : Ended → Type 0) (old new : K) (connections absent told : ℕ)
-    → IsServing shows is_clean Is old new [] connections 0 absent told → (served : IsServedAs shows is_clean Is old new connections told) × (served.absent ≡ absent)
-all_served shows is_clean Is old new connections absent told h = (record { absent = absent; served = h; run = a_run_to shows is_clean old new (exchanges_of h.answered) h.each h.left }, refl)
+pub all_served : {K : Type 0} (shows : K → Register → Type 0) (is_clean is_sound : K → Type 0) (Is : Ended → Type 0) (old new : K) (connections absent told : ℕ)
+    → IsServing shows is_clean is_sound Is old new [] connections 0 absent told → (served : IsServedAs shows is_clean is_sound Is old new connections told) × (served.absent ≡ absent)
+all_served shows is_clean is_sound Is old new connections absent told h = (record { absent = absent; served = h; run = a_run_to shows is_clean old new (exchanges_of h.answered) h.each h.left }, refl)
 
-pub served_by_any : {K : Type 0} (shows : K → Register → Type 0) (is_clean : K → Type 0) (Is : Ended → Type 0) (old new : K) (connections told : ℕ)
-    → IsServedAs shows is_clean Is old new connections told → IsServed shows is_clean old new connections told
-served_by_any shows is_clean Is old new connections told h = record {
+pub served_by_any : {K : Type 0} (shows : K → Register → Type 0) (is_clean is_sound : K → Type 0) (Is : Ended → Type 0) (old new : K) (connections told : ℕ)
+    → IsServedAs shows is_clean is_sound Is old new connections told → IsServed shows is_clean is_sound old new connections told
+served_by_any shows is_clean is_sound Is old new connections told h = record {
   absent = h.absent;
   served = record {
     answered = h.served.answered;
     ended = h.served.ended;
     count = h.served.count;
     each = h.served.each;
+    are_open = h.served.are_open;
     left = h.served.left;
     told_once = h.served.told_once;
     ended_so = All-weaker Is _ (λ e is. tt) h.served.ended h.served.ended_so;

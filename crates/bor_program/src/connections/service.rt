@@ -2,7 +2,8 @@
 
 ghost use Rattle.bor_records.specs.Promises.{Promised};
 ghost use Rattle.bor_register.specs.Register.{IsOrdered};
-ghost use Rattle.bor_wire.specs.Exchanges.{IsResponse};
+ghost use Rattle.bor_wire.specs.Exchanges.{IfAsked, IfFull, IsResponse};
+ghost use Rattle.bor_wire.specs.Spelling.Spell.{Spelled, Spells};
 ghost use Rattle.bor_program.specs.Logging.{IsNoteOf, MayAdd};
 
 use crate::log::Note;
@@ -43,6 +44,8 @@ impl Service {
         ensures began { K.is_clean keep.new → K.is_clean keep.old }
         ensures exchanged { Promised K.shows K.is_clean keep.old keep.new (λ r.
             IsOrdered r.members → IsResponse (K.shows keep.new) r request.now result) }
+        ensures up { (spelled : Spelled) → Spells request.now spelled → IfAsked spelled
+            (IfFull result (K.is_sound keep.new → K.is_clean keep.new)) }
         ensures noted { MayAdd (IsNoteOf
             (Promised K.shows K.is_clean keep.old keep.new) request.now result)
             self.old.notes.items self.new.notes.items }

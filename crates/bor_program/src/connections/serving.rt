@@ -28,8 +28,8 @@ pub fn serve_on<R: Clock + AllocGlobal, K: Keep, L: OpenListener, W: Watch<L>>(
 ) -> u8
 where
     L::Stream: Read + Write + OpenStream,
-    ensures served { IsServed K.shows K.is_clean keep.old keep.new connections result }
-    ensures streams { IsServedOver K.shows K.is_clean
+    ensures served { IsServed K.shows K.is_clean K.is_sound keep.old keep.new connections result }
+    ensures streams { IsServedOver K.shows K.is_clean K.is_sound
         (IsOf L.Stream.remaining L.Stream.contents) W.does
         keep.old keep.new watch.old watch.new connections result }
 {
@@ -45,8 +45,9 @@ where
 
 /// Serves this many connections of a listener, up to 256 at once, and gives 0, or 3 where one
 /// failed: it couldn't be let in, its request didn't come in time, its reply wasn't taken in time,
-/// or the reply was 503. A connection that fails is one of them. Where a client comes in and all
-/// places are taken, the one that was idle for the longest gives way.
+/// or the reply was 503, as each is where the store has shut. A connection that fails is one of
+/// them. Where a client comes in and all places are taken, the one that was idle for the longest
+/// gives way.
 ///
 /// A request is answered as soon as it is whole, or its client has ended it. The listener doesn't
 /// block. A wait for a client may last for ever, where no other is there. Nothing else waits for
@@ -61,8 +62,8 @@ pub fn serve_within<R: Clock + AllocGlobal, K: Keep, L: OpenListener, W: Watch<L
 ) -> u8
 where
     L::Stream: Read + Write + OpenStream,
-    ensures served { IsServed K.shows K.is_clean keep.old keep.new connections result }
-    ensures streams { IsServedOver K.shows K.is_clean
+    ensures served { IsServed K.shows K.is_clean K.is_sound keep.old keep.new connections result }
+    ensures streams { IsServedOver K.shows K.is_clean K.is_sound
         (IsOf L.Stream.remaining L.Stream.contents) W.does
         keep.old keep.new watch.old watch.new connections result }
 {
@@ -84,8 +85,8 @@ fn run<R: Clock, K: Keep, L: OpenListener, W: Watch<L>>(
 where
     L::Stream: Read + Write + OpenStream,
     requires { AreHeld L.Stream.remaining L.Stream.contents server.old.queue.items }
-    ensures { Runs K.shows K.is_clean W.does L.Stream.remaining L.Stream.contents keep.old keep.new
-        watch.old watch.new server.old server.new }
+    ensures { Runs K.shows K.is_clean K.is_sound W.does L.Stream.remaining L.Stream.contents
+        keep.old keep.new watch.old watch.new server.old server.new }
 {
     if watch.watch_listener(listener).is_err() {
         return;

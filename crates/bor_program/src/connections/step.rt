@@ -28,7 +28,7 @@ pub(crate) fn step<K: Keep, S: Read + Write + OpenStream + Drop>(
 ) -> Step<S>
     requires { IsHeld S.remaining S.contents phase }
     ensures held { IsHeld S.remaining S.contents (phase_of result) }
-    ensures step { IsStep K.shows K.is_clean S.remaining S.contents keep.old keep.new
+    ensures step { IsStep K.shows K.is_clean K.is_sound S.remaining S.contents keep.old keep.new
         (telling phase) (telling (phase_of result)) }
 {
     match phase {
@@ -46,7 +46,7 @@ fn read_on<K: Keep, S: Read + Write + OpenStream + Drop>(
 ) -> Step<S>
     requires { IsHeld S.remaining S.contents (Phase.Reading reading) }
     ensures held { IsHeld S.remaining S.contents (phase_of result) }
-    ensures step { IsStep K.shows K.is_clean S.remaining S.contents keep.old keep.new []
+    ensures step { IsStep K.shows K.is_clean K.is_sound S.remaining S.contents keep.old keep.new []
         (telling (phase_of result)) }
 {
     match reading.read(service.alloc()) {
@@ -102,7 +102,7 @@ pub(crate) fn steps<K: Keep, S: Read + Write + OpenStream + Drop>(
 ) -> Step<S>
     requires { IsHeld S.remaining S.contents phase }
     ensures held { IsHeld S.remaining S.contents (phase_of result) }
-    ensures step { IsStep K.shows K.is_clean S.remaining S.contents keep.old keep.new
+    ensures step { IsStep K.shows K.is_clean K.is_sound S.remaining S.contents keep.old keep.new
         (telling phase) (telling (phase_of result)) }
 {
     for _ in 0..STEPS {

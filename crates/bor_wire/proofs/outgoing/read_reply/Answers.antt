@@ -1,8 +1,8 @@
-use Rattle.std.proofs.Common.{None, Ok, Err, refl}
+use Rattle.std.proofs.Common.{None, Some, Ok, Err, refl}
 use Rattle.bor_records.specs.Promises.{Promised}
 use Rattle.bor_wire.specs.Spelling.Spell.{spell}
-use Rattle.bor_wire.specs.Exchanges.{IsFor, agent_spelled}
-use Rattle.bor_wire.proofs.Outgoings.{by_outgoing, if_refusing, nobody_named, on_any, on_spelled, refusal_goes, spelled_known, refused_out, is_that, nothing_out}
+use Rattle.bor_wire.specs.Exchanges.{IfAsked, IfWhole, IsFor, agent_spelled}
+use Rattle.bor_wire.proofs.Outgoings.{asks_nothing, by_outgoing, if_refusing, nobody_named, on_any, on_spelled, refusal_goes, spelled_known, refused_out, is_that, nothing_out}
 use Rattle.bor_wire.proofs.outgoing.read_reply.Goals as goal
 
 pub returns-in-Ok-clause-reply : goal.returns-in-Ok-clause-reply
@@ -60,3 +60,23 @@ returns-in-Err-Memory-clause-agent g c = on_any (g.R.Read.remaining c.args.reade
 
 pub returns-in-Err-Read-clause-agent : goal.returns-in-Err-Read-clause-agent
 returns-in-Err-Read-clause-agent g c = on_any (g.R.Read.remaining c.args.reader.now.inner) _ (λ spelled r is clean. tt)
+
+pub returns-in-Ok-clause-up : goal.returns-in-Ok-clause-up
+returns-in-Ok-clause-up g c =
+    let keep = g.K.Keep in
+    on_spelled (g.R.Read.remaining c.args.reader.now.inner) (Ok c.in-Ok.raw)
+    (λ spelled. IfAsked spelled (IfWhole (Some c.reply_for-agent.result.outgoing) (keep.is_sound c.reply_for-agent.new.keep → keep.is_clean c.reply_for-agent.new.keep)))
+    c.in-Ok.ensures.request c.reply_for-agent.ensures.up
+
+pub returns-in-Err-Refused-clause-up : goal.returns-in-Err-Refused-clause-up
+returns-in-Err-Refused-clause-up g c =
+    let keep = g.K.Keep in
+    on_spelled (g.R.Read.remaining c.args.reader.now.inner) (Err c.in-Err-Refused.refusal)
+    (λ spelled. IfAsked spelled (IfWhole (Some c.refused.result) (keep.is_sound c.args.keep.now → keep.is_clean c.args.keep.now)))
+    (rw c.in-Err-Refused.field-0-is at c.in-Err-Refused.ensures.request) tt
+
+pub returns-in-Err-Memory-clause-up : goal.returns-in-Err-Memory-clause-up
+returns-in-Err-Memory-clause-up g c = on_any (g.R.Read.remaining c.args.reader.now.inner) _ asks_nothing
+
+pub returns-in-Err-Read-clause-up : goal.returns-in-Err-Read-clause-up
+returns-in-Err-Read-clause-up g c = on_any (g.R.Read.remaining c.args.reader.now.inner) _ asks_nothing

@@ -28,3 +28,6 @@ returns-in-Ok-clause-agent g c = λ r is clean. rw c.in-Ok.ensures (c.answered.e
 
 pub returns-in-Err-Refused-clause-agent : goal.returns-in-Err-Refused-clause-agent
 returns-in-Err-Refused-clause-agent g c = λ r is clean. rw (rw c.in-Err-Refused.field-0-is at c.in-Err-Refused.ensures) (nobody_named c.refused.result)
+
+pub returns-in-Ok-clause-up : goal.returns-in-Ok-clause-up
+returns-in-Ok-clause-up g c = rw c.in-Ok.ensures c.answered.ensures.up

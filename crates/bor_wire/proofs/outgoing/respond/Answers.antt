@@ -9,3 +9,6 @@ returns-in-Some-clause-exchanged g c =
 pub returns-in-Some-clause-agent : goal.returns-in-Some-clause-agent
 returns-in-Some-clause-agent g c = λ r is clean spelled spells.
     (rw c.new-reader.ensures.inner at (rw c.in-Some.is at c.read_reply-agent.ensures.agent)) spelled spells r is clean
+
+pub returns-in-Some-clause-up : goal.returns-in-Some-clause-up
+returns-in-Some-clause-up g c = λ spelled spells. (rw c.new-reader.ensures.inner at (rw c.in-Some.is at c.read_reply-agent.ensures.up)) spelled spells

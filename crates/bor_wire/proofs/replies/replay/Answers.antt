@@ -33,8 +33,8 @@ loop-input-preserved g c =
           (legal_reply keep.shows keep.is_clean c.loop-input.keep c.reply_to-reply.new.keep c.reply_to-reply.result c.deref.result.now c.reply_to-reply.ensures.reply));
       turns =
           rw (c.push_reserved.ensures.items, more, ← c.input-item.is, ← c.deref.ensures.value)
-          (in_turn_more keep.shows keep.is_clean c.args.keep.now c.loop-input.keep c.reply_to-reply.new.keep so_far c.loop-input.replies.items c.deref.result.now c.reply_to-reply.result
-          inv.turns c.reply_to-reply.ensures.began c.reply_to-reply.ensures.turn);
+          (in_turn_more keep.shows keep.is_clean keep.is_sound c.args.keep.now c.loop-input.keep c.reply_to-reply.new.keep so_far c.loop-input.replies.items c.deref.result.now c.reply_to-reply.result
+          inv.turns c.reply_to-reply.ensures.began c.reply_to-reply.ensures.turn c.reply_to-reply.ensures.up);
     }
 
 pub returns-clause-replies : goal.returns-clause-replies

@@ -20,3 +20,8 @@ pub invariant_of-result : goal.invariant_of-result
 invariant_of-result g c =
     let went = c.in-Some-Full in
     rw went.field-0-is at (rw went.is at c.read_reply-outgoing.ensures.status)
+
+pub returns-in-Some-Full-clause-up : goal.returns-in-Some-Full-clause-up
+returns-in-Some-Full-clause-up g c = λ spelled spells.
+    let went = c.in-Some-Full in
+    (rw went.field-0-is at (rw c.new-reader.ensures.inner at (rw went.is at c.read_reply-outgoing.ensures.up))) spelled spells

@@ -6,7 +6,7 @@ use Rattle.bor_register.specs.Live.{live_of}
 use Rattle.bor_desk.specs.Operations.Earlier.{AreFound}
 use Rattle.bor_desk.specs.Operations.Lodging.{told_settled}
 use Rattle.bor_desk.specs.Operations.Outcomes.{of_lodging, Refuses}
-use Rattle.bor_records.proofs.KeptLaws.{kept_then}
+use Rattle.bor_records.proofs.KeptLaws.{kept_then, lasts_then}
 use Rattle.bor_desk.proofs.OnOperations.Lodgings.{so_far-more, so_far-refused, live_so_far}
 use Rattle.bor_desk.proofs.operations.lodging.settle.Goals as goal
 
@@ -31,6 +31,7 @@ loop-i-preserved g c =
     let next = as_settled c.in_ok-status.status (get_or ss c.loop-i.i c.index-statements-i-in-loop-i.result) in
     record {
       kept = kept_then keep.shows keep.is_clean _ _ _ inv.kept c.in_ok-status.ensures.kept;
+      lasts = lasts_then keep.is_clean keep.is_sound _ _ _ inv.lasts c.in_ok-status.ensures.lasts;
       counted = c.in_ok-status.ensures.accounted ∙ inv.counted;
       found = subst (λ live. AreFound live c.add.new.self) (live_so_far c.args.due ss c.loop-i.i next c.index-statements-i-in-loop-i-2.result lt)
           (c.in_ok-add.ensures (map (as_live c.args.due) (take c.loop-i.i ss)) inv.found);

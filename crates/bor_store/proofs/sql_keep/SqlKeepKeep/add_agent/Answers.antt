@@ -1,8 +1,11 @@
+use Rattle.std.specs.Prelude.{OnOk}
 use Rattle.std.proofs.Common.{sym, subst}
 use Rattle.sqlite.specs.Held.{state}
+use Rattle.sqlite.specs.State.{HasCleanDisk}
 use Rattle.bor_records.specs.Promises.{left_by}
 use Rattle.bor_store_sql.specs.Changing.{enrolled}
-use Rattle.bor_store_sql.specs.Shown.{IsClean, ShowsIn}
+use Rattle.bor_store_sql.specs.Shown.{IsClean, IsUp, ShowsIn}
+use Rattle.bor_store.proofs.Lasting.{lasts_made}
 use Rattle.bor_store.proofs.Filing.{any_fault, change_left, counted_made}
 use Rattle.bor_store.proofs.sql_keep.SqlKeepKeep.add_agent.Goals as goal
 
@@ -14,6 +17,9 @@ returns-clause-changes g c =
     let began : IsClean (state g.S.Store c.made.new.self.conn) → IsClean (state g.S.Store c.args.self.now.conn) = λ clean. subst (λ k. IsClean (state g.S.Store k)) same (made.began (subst (λ k. IsClean (state g.S.Store k)) told.conn clean)) in
     record {
       began = began;
+      lasts = lasts_made (λ k. state g.S.Store k.conn) c.args.self.now c.made.new.self
+          (λ clean. subst (λ k. HasCleanDisk (state g.S.Store k)) same (made.clean (subst (λ k. HasCleanDisk (state g.S.Store k)) told.conn clean))) c.add_agent-made.result c.made.result told.told
+          (subst (λ k. OnOk c.add_agent-made.result (IsUp (state g.S.Store k))) (sym told.conn) made.up);
       counts = counted_made c.add_agent-made.result c.made.result c.args.self.now.faults c.made.new.self.faults told.told told.counts;
       told = any_fault c.made.result;
       changed = λ r shows clean.

@@ -1,9 +1,12 @@
+use Rattle.std.specs.Prelude.{IfOk}
 use Rattle.std.proofs.Common.{sym, subst, length}
 use Rattle.sqlite.specs.Held.{state}
+use Rattle.sqlite.specs.State.{HasCleanDisk}
 use Rattle.bor_records.specs.Promises.{left_by}
 use Rattle.bor_register.specs.Register.{filings_of}
-use Rattle.bor_store_sql.specs.Shown.{IsClean, ShowsIn}
+use Rattle.bor_store_sql.specs.Shown.{IsClean, IsUp, ShowsIn}
 use Rattle.bor_store_sql.specs.Changing.{added}
+use Rattle.bor_store.proofs.Lasting.{lasts_told, stays_up}
 use Rattle.bor_store.proofs.Filing.{left_shown, counted_told, any_fault}
 use Rattle.bor_store.proofs.sql_keep.SqlKeepKeep.add_filing.Goals as goal
 
@@ -15,6 +18,9 @@ returns-clause-changes g c =
     let began : IsClean (state g.S.Store c.told.new.self.conn) → IsClean (state g.S.Store c.args.self.now.conn) = λ clean. subst (λ k. IsClean (state g.S.Store k)) same (made.began (subst (λ k. IsClean (state g.S.Store k)) told.conn clean)) in
     record {
       began = began;
+      lasts = lasts_told (λ k. state g.S.Store k.conn) c.args.self.now c.told.new.self
+          (λ clean. subst (λ k. HasCleanDisk (state g.S.Store k)) same (made.clean (subst (λ k. HasCleanDisk (state g.S.Store k)) told.conn clean))) c.add_next_filing-made.result c.told.result told.told
+          (stays_up c.add_next_filing-made.result (state g.S.Store c.args.self.now.conn) (state g.S.Store c.told.new.self.conn) (subst (λ k. IfOk c.add_next_filing-made.result (λ x. IsUp (state g.S.Store k))) (sym told.conn) made.up));
       counts = counted_told c.add_next_filing-made.result c.told.result c.args.self.now.faults c.told.new.self.faults told.told told.counts;
       told = any_fault c.told.result;
       changed = λ r shows clean.

@@ -1,10 +1,12 @@
 use Rattle.std.proofs.Common.{sym, subst}
-use Rattle.std.specs.Prelude.{◌↔◌}
+use Rattle.std.specs.Prelude.{◌↔◌, IfOk}
 use Rattle.sqlite.specs.Held.{state}
+use Rattle.sqlite.specs.State.{HasCleanDisk}
 use Rattle.bor_records.specs.Links.Answers.{AreLinksInto}
 use Rattle.bor_register.specs.Seen.{seen_at}
-use Rattle.bor_store_sql.specs.Shown.{IsClean, ShowsIn}
+use Rattle.bor_store_sql.specs.Shown.{IsClean, ShowsIn, StaysUp}
 use Rattle.bor_store.proofs.Kept.{still_kept}
+use Rattle.bor_store.proofs.Lasting.{lasts_told}
 use Rattle.bor_store.proofs.Reading.{told_answer, told_count, told_fault}
 use Rattle.bor_store.proofs.sql_keep.SqlKeepKeep.links_into.Goals as goal
 
@@ -18,6 +20,9 @@ returns-clause-reads g c =
         same = λ clean r. subst (λ k. ShowsIn r (state g.S.Store c.args.self.now.conn) ↔ ShowsIn r (state g.S.Store k)) (sym told.conn)
             (still_kept r (state g.S.Store c.args.self.now.conn) (state g.S.Store c.read_links_into-answer.new.lookup) (read.reads.kept (subst (λ k. IsClean (state g.S.Store k)) told.conn clean)));
       };
+      lasts = lasts_told (λ k. state g.S.Store k.conn) c.args.self.now c.told.new.self
+          (λ clean. read.reads.clean (subst (λ k. HasCleanDisk (state g.S.Store k)) told.conn clean)) c.read_links_into-answer.result c.told.result told.told
+          (subst (λ k. IfOk c.read_links_into-answer.result (λ x. StaysUp (state g.S.Store c.args.self.now.conn) (state g.S.Store k))) (sym told.conn) read.up);
       counts = told_count c.read_links_into-answer.result c.told.result c.args.self.now.faults c.told.new.self.faults told.told told.counts;
       told = told_fault c.told.result;
       answer = λ r shows clean.

@@ -4,7 +4,7 @@ use Rattle.bor_records.specs.Promises.{counted}
 use Rattle.bor_desk.specs.Memory.Holding.{Holding}
 use Rattle.bor_register.specs.Register.{Register}
 use Rattle.bor_register.specs.Seen.{seen_at}
-use Rattle.bor_desk.proofs.OnMemory.Told.{told_answer, told_count, told_fault}
+use Rattle.bor_desk.proofs.OnMemory.Told.{told_always, told_answer, told_count, told_fault}
 use Rattle.bor_desk.proofs.memory.list_keep.ListKeepKeep.links_into.Goals as goal
 
 pub returns : goal.returns
@@ -14,6 +14,7 @@ returns c =
     let same : c.told.new.self.register ≡ c.args.self.now.register = ap (λ (h : Holding). h.register) told.counts ∙ ap (λ (h : Holding). h.register) seen.kept in
     record {
       kept = record { began = λ z. z; same = λ z r. ((λ h. same ∙ h), (λ h. sym same ∙ h)) };
+      lasts = told_always c.told.result (record { sound = λ sound. sound; clean = λ sound clean. clean });
       counts = ap (λ (h : Holding). h.faults) told.counts ∙ told_count c.links_seen-links.result c.told.result c.links_seen-links.new.self.faults told.told ∙ ap (λ (h : Holding). counted c.told.result h.faults) seen.kept;
       told = told_fault c.links_seen-links.result c.told.result told.told;
       answer = λ r is z.

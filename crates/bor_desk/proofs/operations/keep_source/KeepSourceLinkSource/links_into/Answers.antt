@@ -1,6 +1,7 @@
 use Rattle.std.proofs.Common.{List, ℕ, ℤ, IfOk, subst}
 use Rattle.bor_records.specs.Links.Answers.{AreLinksInto}
 use Rattle.bor_register.specs.Seen.{seen_at}
+use Rattle.bor_desk.proofs.OnMemory.Told.{told_then}
 use Rattle.bor_desk.proofs.operations.keep_source.KeepSourceLinkSource.links_into.Goals as goal
 
 pub returns-clause-reads : goal.returns-clause-reads
@@ -12,6 +13,7 @@ returns-clause-reads g c = record {
       (λ h. (h.0, h.1, (c.links_into.ensures.kept.same z m.register).1 h.2)),
     );
   };
+  lasts = told_then c.links_into.result _ _ (λ links lasts. record { sound = lasts.sound; clean = lasts.clean }) c.links_into.ensures.lasts;
   counts = c.links_into.ensures.counts;
   told = c.links_into.ensures.told;
   answer = λ m h z.
