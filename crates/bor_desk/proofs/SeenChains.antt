@@ -17,7 +17,7 @@ use Rattle.bor_register.specs.Seen.{seen_at}
 use Rattle.bor_desk.specs.declared.operations.keep_source.KeepSource.{KeepSource}
 use Rattle.bor_desk.specs.Operations.Sight.{seen_by}
 use Rattle.bor_desk.specs.Operations.Outlook.{Outlook}
-use Rattle.bor_desk.specs.Operations.Outcomes.{ByStore, IfAnswered, IsFaultOf, IsAccounted}
+use Rattle.bor_desk.specs.Operations.Outcomes.{ByStore, IfAnswered, IsFaultOf, IsAccounted, MayTell, TellsFaultOf}
 use Rattle.bor_desk.proofs.OnOperations.SeenLinks.{numbers_make_no_links}
 use Rattle.bor_desk.specs.declared.refusal.Refusal.TheVariants.{NoEntity}
 use Rattle.bor_desk.specs.declared.refusal.DeskFault.{DeskFault}
@@ -63,17 +63,29 @@ persons-refused into items day viewer r n fault (Err given) none is_err gives = 
 -- ---- whose fault it is
 
 -- a fault of the source is the keep's, and counted; any other leaves the count
-refusal-accounted : (may_tell : StoreFault → Type 0) (fault : ChainFault StoreFault) (given : DeskFault) (before after : ℕ) → IsOfChains (λ f s. s ≡ f) fault given →
-    after ≡ chain_counted {T = Vec PersonLine Global} (Err fault) before → OnSource fault may_tell → OnSource fault (λ _. after ≢ before) → ByStore (failed given) (after ≡ before) (IsFaultOf may_tell before after)
-refusal-accounted may_tell chains.NoEntity given before after is counts told moved = subst (λ (g : DeskFault). ByStore (failed g) (after ≡ before) (IsFaultOf may_tell before after)) (sym is) counts
-refusal-accounted may_tell (chains.Source f) given before after is counts told moved =
-    subst (λ (g : DeskFault). ByStore (failed g) (after ≡ before) (IsFaultOf may_tell before after)) (sym is.2) (inr (subst may_tell (sym is.1) told, moved))
-refusal-accounted may_tell chains.Memory given before after is counts told moved = subst (λ (g : DeskFault). ByStore (failed g) (after ≡ before) (IsFaultOf may_tell before after)) (sym is) (inl (refl, counts))
+refusal-accounted : (fault : ChainFault StoreFault) (given : DeskFault) (before after : ℕ) → IsOfChains (λ f s. s ≡ f) fault given →
+    after ≡ chain_counted {T = Vec PersonLine Global} (Err fault) before → OnSource fault (λ _. after ≢ before) → ByStore (failed given) (after ≡ before) (IsFaultOf before after)
+refusal-accounted chains.NoEntity given before after is counts moved = subst (λ (g : DeskFault). ByStore (failed g) (after ≡ before) (IsFaultOf before after)) (sym is) counts
+refusal-accounted (chains.Source f) given before after is counts moved = subst (λ (g : DeskFault). ByStore (failed g) (after ≡ before) (IsFaultOf before after)) (sym is.2) (inr moved)
+refusal-accounted chains.Memory given before after is counts moved = subst (λ (g : DeskFault). ByStore (failed g) (after ≡ before) (IsFaultOf before after)) (sym is) (inl (refl, counts))
 
-pub persons-accounted : {P : Type 0} (may_tell : StoreFault → Type 0) (fault : ChainFault StoreFault) (made : Result P DeskFault) (before after : ℕ) →
-    IsErr made → IsErrAnd made (IsOfChains (λ f s. s ≡ f) fault) → after ≡ chain_counted {T = Vec PersonLine Global} (Err fault) before → OnSource fault may_tell → OnSource fault (λ _. after ≢ before) → IsAccounted failed may_tell made before after
-persons-accounted may_tell fault (Ok persons) before after is_err is counts told moved = absurd cc
-persons-accounted may_tell fault (Err given) before after is_err is counts told moved = refusal-accounted may_tell fault given before after is counts told moved
+pub persons-accounted : {P : Type 0} (fault : ChainFault StoreFault) (made : Result P DeskFault) (before after : ℕ) →
+    IsErr made → IsErrAnd made (IsOfChains (λ f s. s ≡ f) fault) → after ≡ chain_counted {T = Vec PersonLine Global} (Err fault) before → OnSource fault (λ _. after ≢ before) → IsAccounted failed made before after
+persons-accounted fault (Ok persons) before after is_err is counts moved = absurd cc
+persons-accounted fault (Err given) before after is_err is counts moved = refusal-accounted fault given before after is counts moved
+
+-- and one that the keep may tell
+refusal-told : (may_tell : StoreFault → Type 0) (fault : ChainFault StoreFault) (given : DeskFault) (before after : ℕ) → IsOfChains (λ f s. s ≡ f) fault given → OnSource fault may_tell →
+    after ≡ chain_counted {T = Vec PersonLine Global} (Err fault) before → OnSource fault (λ _. after ≢ before) → ByStore (failed given) (Unit {0}) (MayTell may_tell before after)
+refusal-told may_tell chains.NoEntity given before after is told counts moved = subst (λ (g : DeskFault). ByStore (failed g) (Unit {0}) (MayTell may_tell before after)) (sym is) tt
+refusal-told may_tell (chains.Source f) given before after is told counts moved =
+    subst (λ (g : DeskFault). ByStore (failed g) (Unit {0}) (MayTell may_tell before after)) (sym is.2) (inr (subst may_tell (sym is.1) told, moved))
+refusal-told may_tell chains.Memory given before after is told counts moved = subst (λ (g : DeskFault). ByStore (failed g) (Unit {0}) (MayTell may_tell before after)) (sym is) (inl (refl, counts))
+
+pub persons-told : {P : Type 0} (may_tell : StoreFault → Type 0) (fault : ChainFault StoreFault) (made : Result P DeskFault) (before after : ℕ) → IsErr made → IsErrAnd made (IsOfChains (λ f s. s ≡ f) fault) → OnSource fault may_tell →
+    after ≡ chain_counted {T = Vec PersonLine Global} (Err fault) before → OnSource fault (λ _. after ≢ before) → TellsFaultOf failed may_tell made before after
+persons-told may_tell fault (Ok persons) before after is_err is told counts moved = absurd cc
+persons-told may_tell fault (Err given) before after is_err is told counts moved = refusal-told may_tell fault given before after is told counts moved
 
 -- what holds where there is a report or no such entity holds where the answer is no fault of the store
 refusal-answered : {F : Type 0} (into : F → StoreFault → Type 0) (P : Type 0) (fault : ChainFault F) (given : DeskFault) → IsOfChains into fault given → IfToldBy {T = Vec PersonLine Global} (Err fault) P → ByStore (failed given) P (λ f. Unit {0})
@@ -109,10 +121,10 @@ keep-promised {K} shows is_clean old new x y viewer day P is_viewer is_day begin
     λ r h clean. told r (is_viewer, is_day, subst (λ (k : K). shows k r) (sym begins) h) (subst is_clean ends clean)
 
 -- the source's count is the keep's
-pub keep-accounted : {K P : Type 0} (faults : K → ℕ) (may_tell : StoreFault → Type 0) (made : Result P DeskFault) (old new : K) (x y : KeepSource K) → x.keep.now ≡ old → new ≡ y.keep.now → IsAccounted failed may_tell made (faults x.keep.now) (faults y.keep.now) →
-    IsAccounted failed may_tell made (faults old) (faults new)
-keep-accounted {K} faults may_tell made old new x y begins ends accounted =
-    subst (λ (k : K). IsAccounted failed may_tell made (faults old) (faults k)) (sym ends) (subst (λ (k : K). IsAccounted failed may_tell made (faults k) (faults y.keep.now)) begins accounted)
+pub keep-accounted : {K P : Type 0} (faults : K → ℕ) (made : Result P DeskFault) (old new : K) (x y : KeepSource K) → x.keep.now ≡ old → new ≡ y.keep.now → IsAccounted failed made (faults x.keep.now) (faults y.keep.now) →
+    IsAccounted failed made (faults old) (faults new)
+keep-accounted {K} faults made old new x y begins ends accounted =
+    subst (λ (k : K). IsAccounted failed made (faults old) (faults k)) (sym ends) (subst (λ (k : K). IsAccounted failed made (faults k) (faults y.keep.now)) begins accounted)
 
 -- a source that lasts has a keep that does
 pub keep-lasts : {K : Type 0} (is_clean is_sound : K → Type 0) (old new : K) (x y : KeepSource K) → x.keep.now ≡ old → new ≡ y.keep.now → Lasts (λ (z : KeepSource K). is_clean z.keep.now) (λ z. is_sound z.keep.now) x y → Lasts is_clean is_sound old new
@@ -127,3 +139,9 @@ keep-lasts_so is_clean is_sound (Err given) old new x y begins ends lasts = at (
     at : (store : Option StoreFault) → ByStore store (Lasts (λ (z : KeepSource _). is_clean z.keep.now) (λ z. is_sound z.keep.now) x y) (λ f. Unit {0}) → ByStore store (Lasts is_clean is_sound old new) (λ f. Unit {0})
     at None h = keep-lasts is_clean is_sound old new x y begins ends h
     at (Some f) h = tt
+
+-- what is told by the source's count is told by the keep's
+pub keep-told : {K P : Type 0} (faults : K → ℕ) (may_tell : StoreFault → Type 0) (made : Result P DeskFault) (old new : K) (x y : KeepSource K) → x.keep.now ≡ old → new ≡ y.keep.now → TellsFaultOf failed may_tell made (faults x.keep.now) (faults y.keep.now) →
+    TellsFaultOf failed may_tell made (faults old) (faults new)
+keep-told {K} faults may_tell made old new x y begins ends told =
+    subst (λ (k : K). TellsFaultOf failed may_tell made (faults old) (faults k)) (sym ends) (subst (λ (k : K). TellsFaultOf failed may_tell made (faults k) (faults y.keep.now)) begins told)

@@ -8,7 +8,7 @@ use Rattle.bor_register.specs.declared.caller.Caller.{Caller}
 use Rattle.bor_register.specs.declared.caller.Caller.TheVariants.{Agent}
 use Rattle.bor_register.specs.declared.fault.StoreFault.{StoreFault}
 use Rattle.bor_register.specs.Register.{Register, IsOrdered}
-use Rattle.bor_desk.specs.Operations.Outcomes.{ByStore, IsFaultOf}
+use Rattle.bor_desk.specs.Operations.Outcomes.{ByStore, IsFaultOf, MayTell}
 use Rattle.bor_desk.specs.declared.request.Request.{Request}
 use Rattle.bor_desk.specs.declared.request.Request.TheVariants as ask
 use Rattle.bor_desk.specs.declared.reply.DeskReply.{DeskReply}
@@ -46,8 +46,12 @@ abbrev pub IsLeft : DeskReply → (Register → Type 0) → Register → Registe
 IsLeft reply shown r after = ByStore (fault_of reply) (shown after) (λ fault. shown r)
 
 -- a reply that tells a fault of the store tells it as what it is, by whether the keep's count of faults moved; any other leaves the count
-abbrev pub IsReplyAccounted : (StoreFault → Type 0) → DeskReply → ℕ → ℕ → Type 0
-IsReplyAccounted may_tell reply before after = ByStore (fault_of reply) (after ≡ before) (IsFaultOf may_tell before after)
+abbrev pub IsReplyAccounted : DeskReply → ℕ → ℕ → Type 0
+IsReplyAccounted reply before after = ByStore (fault_of reply) (after ≡ before) (IsFaultOf before after)
+
+-- such a fault is want of memory, or one that the keep may tell, by whether the count moved
+abbrev pub TellsFault : (StoreFault → Type 0) → DeskReply → ℕ → ℕ → Type 0
+TellsFault may_tell reply before after = ByStore (fault_of reply) (Unit {0}) (MayTell may_tell before after)
 
 -- P, where the reply is no fault of the store
 abbrev pub IfReplied : DeskReply → Type 0 → Type 0

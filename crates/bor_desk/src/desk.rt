@@ -8,7 +8,7 @@ ghost use Rattle.bor_desk.specs.Operations.Sight.{seen_by, sight_of};
 ghost use Rattle.bor_desk.specs.Operations.Outcomes.{IsCounted};
 ghost use Rattle.bor_desk.specs.Step.{step, agent_answer, agent_step, may_change_own, registrar_step, file_answer, chains_answer, snapshot_answer};
 ghost use Rattle.bor_desk.specs.Laws.{IsToldAlone};
-ghost use Rattle.bor_desk.specs.Outcomes.{IfReplied, IsAnswered, IsLeft, IsNamed, IsOrderedFor, IsReplyAccounted, agent_of, reply_of, denial};
+ghost use Rattle.bor_desk.specs.Outcomes.{IfReplied, IsAnswered, IsLeft, IsNamed, IsOrderedFor, IsReplyAccounted, TellsFault, agent_of, reply_of, denial};
 
 use crate::operations::{Caller, Keep, StoreFault, advance, enrol, lodge, withdraw};
 use crate::refusal::{DeskFault, Refusal};
@@ -38,7 +38,8 @@ impl From<DeskFault> for DeskReply {
 /// The keep failed.
 pub fn date_or_day<K: Keep>(keep: &mut K, date: Option<Day>) -> Result<Day, StoreFault>
     ensures kept { Kept K.shows K.is_clean keep.old keep.new }
-    ensures told { IfErr result K.may_tell }
+    ensures told { Promised K.shows K.is_clean keep.old keep.new (λ r.
+        IfErr result K.may_tell) }
     ensures accounted { IsCounted result (K.fault_count keep.old) (K.fault_count keep.new) }
     ensures lasts { IfOk result (λ _. Lasts K.is_clean K.is_sound keep.old keep.new) }
     ensures answer { Promised K.shows K.is_clean keep.old keep.new (λ r.
@@ -54,8 +55,11 @@ pub fn date_or_day<K: Keep>(keep: &mut K, date: Option<Day>) -> Result<Day, Stor
 #[tactic(auto, using(crate::proofs::Steps::file_told, crate::proofs::Steps::file_missing))]
 fn file_for<K: Keep>(keep: &mut K, name: &AgentName, key: &LodgeKey) -> Result<DeskReply, DeskFault>
     ensures kept { Kept K.shows K.is_clean keep.old keep.new }
-    ensures accounted { IsReplyAccounted K.may_tell (reply_of result) (K.fault_count keep.old)
+    ensures accounted { IsReplyAccounted (reply_of result) (K.fault_count keep.old)
         (K.fault_count keep.new) }
+    ensures told { Promised K.shows K.is_clean keep.old keep.new (λ r.
+        TellsFault K.may_tell (reply_of result) (K.fault_count keep.old)
+        (K.fault_count keep.new)) }
     ensures lasts { IfReplied (reply_of result)
         (Lasts K.is_clean K.is_sound keep.old keep.new) }
     ensures answer { Promised K.shows K.is_clean keep.old keep.new (λ r.
@@ -78,8 +82,11 @@ fn snapshot_for<K: Keep>(
     date: Option<Day>,
 ) -> Result<DeskReply, DeskFault>
     ensures kept { Kept K.shows K.is_clean keep.old keep.new }
-    ensures accounted { IsReplyAccounted K.may_tell (reply_of result) (K.fault_count keep.old)
+    ensures accounted { IsReplyAccounted (reply_of result) (K.fault_count keep.old)
         (K.fault_count keep.new) }
+    ensures told { Promised K.shows K.is_clean keep.old keep.new (λ r.
+        TellsFault K.may_tell (reply_of result) (K.fault_count keep.old)
+        (K.fault_count keep.new)) }
     ensures lasts { IfReplied (reply_of result)
         (Lasts K.is_clean K.is_sound keep.old keep.new) }
     ensures answer { Promised K.shows K.is_clean keep.old keep.new (λ r.
@@ -103,8 +110,11 @@ fn chains_for<K: Keep>(
     date: Option<Day>,
 ) -> Result<DeskReply, DeskFault>
     ensures kept { Kept K.shows K.is_clean keep.old keep.new }
-    ensures accounted { IsReplyAccounted K.may_tell (reply_of result) (K.fault_count keep.old)
+    ensures accounted { IsReplyAccounted (reply_of result) (K.fault_count keep.old)
         (K.fault_count keep.new) }
+    ensures told { Promised K.shows K.is_clean keep.old keep.new (λ r.
+        TellsFault K.may_tell (reply_of result) (K.fault_count keep.old)
+        (K.fault_count keep.new)) }
     ensures lasts { IfReplied (reply_of result)
         (Lasts K.is_clean K.is_sound keep.old keep.new) }
     ensures answer { Promised K.shows K.is_clean keep.old keep.new (λ r.
@@ -130,8 +140,11 @@ fn tell_agent<K: Keep>(
 ) -> Result<DeskReply, DeskFault>
     requires { may_change_own request.now ≡ false }
     ensures kept { Kept K.shows K.is_clean keep.old keep.new }
-    ensures accounted { IsReplyAccounted K.may_tell (reply_of result) (K.fault_count keep.old)
+    ensures accounted { IsReplyAccounted (reply_of result) (K.fault_count keep.old)
         (K.fault_count keep.new) }
+    ensures told { Promised K.shows K.is_clean keep.old keep.new (λ r.
+        TellsFault K.may_tell (reply_of result) (K.fault_count keep.old)
+        (K.fault_count keep.new)) }
     ensures lasts { IfReplied (reply_of result)
         (Lasts K.is_clean K.is_sound keep.old keep.new) }
     ensures answer { Promised K.shows K.is_clean keep.old keep.new (λ r.
@@ -170,8 +183,11 @@ fn answer_agent<K: Keep>(
     ensures left { Promised K.shows K.is_clean keep.old keep.new (λ r.
         IsLeft (reply_of result) (K.shows keep.new) r
         (agent_step r name.now request.now).register) }
-    ensures accounted { IsReplyAccounted K.may_tell (reply_of result) (K.fault_count keep.old)
+    ensures accounted { IsReplyAccounted (reply_of result) (K.fault_count keep.old)
         (K.fault_count keep.new) }
+    ensures told { Promised K.shows K.is_clean keep.old keep.new (λ r.
+        TellsFault K.may_tell (reply_of result) (K.fault_count keep.old)
+        (K.fault_count keep.new)) }
     ensures lasts { IfReplied (reply_of result)
         (Lasts K.is_clean K.is_sound keep.old keep.new) }
 {
@@ -199,8 +215,11 @@ fn answer_registrar<K: Keep>(
         IsAnswered (reply_of result) (registrar_step r request.now).answer) }
     ensures left { Promised K.shows K.is_clean keep.old keep.new (λ r.
         IsLeft (reply_of result) (K.shows keep.new) r (registrar_step r request.now).register) }
-    ensures accounted { IsReplyAccounted K.may_tell (reply_of result) (K.fault_count keep.old)
+    ensures accounted { IsReplyAccounted (reply_of result) (K.fault_count keep.old)
         (K.fault_count keep.new) }
+    ensures told { Promised K.shows K.is_clean keep.old keep.new (λ r.
+        TellsFault K.may_tell (reply_of result) (K.fault_count keep.old)
+        (K.fault_count keep.new)) }
     ensures lasts { IfReplied (reply_of result)
         (Lasts K.is_clean K.is_sound keep.old keep.new) }
 {
@@ -253,8 +272,11 @@ pub fn answer_naming<K: Keep>(
         (step r (caller_of token.now r) request.now).register) }
     ensures agent { Promised K.shows K.is_clean keep.old keep.new (λ r.
         IsNamed result.reply result.agent (agent_of (caller_of token.now r))) }
-    ensures accounted { IsReplyAccounted K.may_tell result.reply (K.fault_count keep.old)
+    ensures accounted { IsReplyAccounted result.reply (K.fault_count keep.old)
         (K.fault_count keep.new) }
+    ensures told { Promised K.shows K.is_clean keep.old keep.new (λ r.
+        TellsFault K.may_tell result.reply (K.fault_count keep.old)
+        (K.fault_count keep.new)) }
     ensures up { IfReplied result.reply (K.is_sound keep.new → K.is_clean keep.new) }
 {
     match keep.who(token) {
@@ -287,8 +309,11 @@ pub fn answer<K: Keep>(alloc: Global, keep: &mut K, token: &Token, request: &Req
         IsLeft result (K.shows keep.new) r (step r (caller_of token.now r) request.now).register) }
     ensures alone { Promised K.shows K.is_clean keep.old keep.new (λ r.
         IsLegal r → IsToldAlone result (caller_of token.now r) r request.now) }
-    ensures accounted { IsReplyAccounted K.may_tell result (K.fault_count keep.old)
+    ensures accounted { IsReplyAccounted result (K.fault_count keep.old)
         (K.fault_count keep.new) }
+    ensures told { Promised K.shows K.is_clean keep.old keep.new (λ r.
+        TellsFault K.may_tell result (K.fault_count keep.old)
+        (K.fault_count keep.new)) }
     ensures up { IfReplied result (K.is_sound keep.new → K.is_clean keep.new) }
     ensures legal { Promised K.shows K.is_clean keep.old keep.new (λ r.
         IsLegal r → (left : Register) × K.shows keep.new left × IsLegal left) }

@@ -6,7 +6,7 @@ ghost use Rattle.bor_terms.specs.Day.{IsSpelling};
 ghost use Rattle.bor_records.specs.Links.Rows.{shown_of};
 ghost use Rattle.bor_records.specs.Promises.{Kept, Lasts, Promised};
 ghost use Rattle.bor_desk.specs.Operations.Sight.{seen_by};
-ghost use Rattle.bor_desk.specs.Operations.Outcomes.{IfAnswered, IsAccounted};
+ghost use Rattle.bor_desk.specs.Operations.Outcomes.{IfAnswered, IsAccounted, TellsFaultOf};
 ghost use Rattle.bor_desk.specs.Refusals.{failed};
 ghost use Rattle.bor_desk.specs.Step.{chains_answer};
 ghost use Rattle.bor_desk.specs.Outcomes.{AreFound};
@@ -34,8 +34,10 @@ pub(crate) fn persons_seen<K: Keep>(
     ensures answer { Promised K.shows K.is_clean keep.old keep.new (λ r.
         AreFound (λ persons. persons.items) result
         (shown_of day (seen_by viewer.now r)) entity.now day) }
-    ensures accounted { IsAccounted failed K.may_tell result (K.fault_count keep.old)
+    ensures accounted { IsAccounted failed result (K.fault_count keep.old)
         (K.fault_count keep.new) }
+    ensures told { Promised K.shows K.is_clean keep.old keep.new (λ r.
+        TellsFaultOf failed K.may_tell result (K.fault_count keep.old) (K.fault_count keep.new)) }
     ensures lasts { IfAnswered failed result (Lasts K.is_clean K.is_sound keep.old keep.new) }
 {
     let mut source = KeepSource::new(keep, viewer, day);
@@ -128,8 +130,10 @@ pub fn report_text<K: Keep>(
     ensures kept { Kept K.shows K.is_clean keep.old keep.new }
     ensures text { Promised K.shows K.is_clean keep.old keep.new (λ r.
         IfOk result (λ text. IsTextOf (chains_answer (seen_by viewer.now r) entity.now day) text)) }
-    ensures accounted { IsAccounted Some K.may_tell result (K.fault_count keep.old)
+    ensures accounted { IsAccounted Some result (K.fault_count keep.old)
         (K.fault_count keep.new) }
+    ensures told { Promised K.shows K.is_clean keep.old keep.new (λ r.
+        TellsFaultOf Some K.may_tell result (K.fault_count keep.old) (K.fault_count keep.new)) }
     ensures lasts { IfAnswered Some result (Lasts K.is_clean K.is_sound keep.old keep.new) }
 {
     match persons_seen(alloc, keep, viewer, entity, day) {

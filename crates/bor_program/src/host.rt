@@ -7,7 +7,7 @@ ghost use Rattle.bor_records.specs.Promises.{Kept, Promised};
 ghost use Rattle.bor_register.specs.Register.{Register};
 ghost use Rattle.bor_register.specs.declared.fault.StoreFault.{StoreFault};
 ghost use Rattle.bor_desk.specs.Operations.Legality.{IsLegal};
-ghost use Rattle.bor_desk.specs.Operations.Outcomes.{IsFaultOf};
+ghost use Rattle.bor_desk.specs.Operations.Outcomes.{IsFaultOf, MayTell};
 ghost use Rattle.bor_program.specs.Connections.Serving.{IsServed, IsServedOver};
 ghost use Rattle.bor_program.specs.Connections.Streams.{IsOf};
 ghost use Rattle.bor_program.specs.declared.connections.limits.Limits.{Limits};
@@ -153,8 +153,9 @@ impl<K: Keep> OpenRegister for K {
 
     ghost is_sound = { K.is_sound };
 
-    ghost tells = { λ old fault new. IsFaultOf K.may_tell (K.fault_count old)
-        (K.fault_count new) fault };
+    ghost tells = { λ old fault new. IsFaultOf (K.fault_count old) (K.fault_count new) fault
+        × Promised K.shows K.is_clean old new (λ r.
+        MayTell K.may_tell (K.fault_count old) (K.fault_count new) fault) };
 
     ghost serves = { λ _ _ _ _ _ _. ⊤ };
 

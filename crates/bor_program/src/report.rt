@@ -2,7 +2,7 @@
 
 ghost use Rattle.std.specs.Prelude.{◌≡◌, ◌≤◌, IfOk, IfErr, OnOk, Some};
 ghost use Rattle.bor_records.specs.Promises.{Kept, Promised};
-ghost use Rattle.bor_desk.specs.Operations.Outcomes.{IsAccounted};
+ghost use Rattle.bor_desk.specs.Operations.Outcomes.{IsAccounted, TellsFaultOf};
 ghost use Rattle.bor_program.specs.Failures.{IsMetOnKeep};
 ghost use Rattle.bor_program.specs.Performing.{Reports};
 ghost use Rattle.bor_program.specs.Program.{exit_code};
@@ -86,8 +86,9 @@ pub fn report_in<K: Keep>(
     ensures kept { Kept K.shows K.is_clean keep.old keep.new }
     ensures text { Promised K.shows K.is_clean keep.old keep.new (λ r.
         IfOk result (IsReportOf asked.now r)) }
-    ensures accounted { IsAccounted Some K.may_tell result (K.fault_count keep.old)
-        (K.fault_count keep.new) }
+    ensures accounted { IsAccounted Some result (K.fault_count keep.old) (K.fault_count keep.new) }
+    ensures told { Promised K.shows K.is_clean keep.old keep.new (λ r.
+        TellsFaultOf Some K.may_tell result (K.fault_count keep.old) (K.fault_count keep.new)) }
 {
     let entity = entity_of(alloc, asked)?;
     let day = date_or_day(keep, asked.date)?;

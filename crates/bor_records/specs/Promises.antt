@@ -29,18 +29,18 @@ abbrev pub left_by : {T F V : Type 0} → Result T F → V → V → V
 left_by (Ok x) changed v = changed
 left_by (Err e) changed v = v
 
--- What a read promises: what was shown is shown, an answer leaves a clean state clean, a fault is one that may be told and adds one to the count, and P holds of an answer.
+-- What a read promises: what was shown is shown, an answer leaves a clean state clean, a fault adds one to the count and is one that may be told, and P holds of an answer.
 pub record Reads {S V T F : Type 0} (shows : S → V → Type 0) (is_clean is_sound : S → Type 0) (faults : S → ℕ) (may_tell : F → Type 0) (old new : S) (result : Result T F) (P : V → T → Type 0) : Type 0 where
   pub kept : Kept shows is_clean old new
   pub lasts : IfOk result (λ x. Lasts is_clean is_sound old new)
   pub counts : faults new ≡ counted result (faults old)
-  pub told : IfErr result may_tell
+  pub told : Promised shows is_clean old new (λ v. IfErr result may_tell)
   pub answer : Promised shows is_clean old new (λ v. IfOk result (P v))
 
--- What a change promises: what was shown is now what the change makes of it, or as it was where a fault is answered. A fault is one that may be told and adds one to the count, a state that ends clean began clean, and an answer leaves a clean state clean.
+-- What a change promises: what was shown is now what the change makes of it, or as it was where a fault is answered. A fault adds one to the count and is one that may be told, a state that ends clean began clean, and an answer leaves a clean state clean.
 pub record Changes {S V T F : Type 0} (shows : S → V → Type 0) (is_clean is_sound : S → Type 0) (faults : S → ℕ) (may_tell : F → Type 0) (old new : S) (result : Result T F) (change : V → V) : Type 0 where
   pub began : is_clean new → is_clean old
   pub lasts : IfOk result (λ x. Lasts is_clean is_sound old new)
   pub counts : faults new ≡ counted result (faults old)
-  pub told : IfErr result may_tell
+  pub told : Promised shows is_clean old new (λ v. IfErr result may_tell)
   pub changed : Promised shows is_clean old new (λ v. shows new (left_by result (change v) v))

@@ -1,6 +1,6 @@
 -- What a change leaves and tells.
 use Rattle.std.proofs.Common.{◌≡◌, ℕ, Result, Ok, Err, sym, subst, refl, ◌∙◌, ap}
-use Rattle.std.specs.Prelude.{IfOk, IfErr, OnErr, OnOk, ⊤}
+use Rattle.std.specs.Prelude.{IfOk, OnErr, OnOk}
 use Rattle.sqlite.specs.State.{State}
 use Rattle.sqlite.specs.declared.error.Error.{Error}
 use Rattle.bor_records.specs.Promises.{counted, left_by}
@@ -25,10 +25,6 @@ counted_same (Err error) n = refl
 
 pub counted_told : (made : Result ℕ ReadError) (told : Result ℕ StoreFault) (n m : ℕ) → told ≡ tells made → m ≡ counted made n → m ≡ counted told n
 counted_told made told n m e is = is ∙ counted_same made n ∙ ap (λ (t : Result ℕ StoreFault). counted t n) (sym e)
-
-pub any_fault : {X : Type 0} (told : Result X StoreFault) → IfErr told (λ fault. ⊤)
-any_fault (Ok x) = tt
-any_fault (Err fault) = tt
 
 -- ---- of a change but the addition of a filing
 

@@ -1,6 +1,6 @@
 -- What is told of a read over a connection.
 use Rattle.std.proofs.Common.{◌≡◌, ℕ, Result, Ok, Err, sym, subst, ap, ◌∙◌}
-use Rattle.std.specs.Prelude.{IfOk, IfErr, MatchResult, ⊤}
+use Rattle.std.specs.Prelude.{IfOk, MatchResult}
 use Rattle.bor_records.specs.Promises.{counted}
 use Rattle.bor_register.specs.declared.fault.StoreFault.{StoreFault}
 use Rattle.bor_store_reads.specs.declared.fault.ReadError.{ReadError}
@@ -14,7 +14,3 @@ told_answer P (Err error) told is h = subst (λ t. IfOk t P) (sym is) tt
 pub told_count : {X : Type 0} (answer : Result X ReadError) (told : Result X StoreFault) (n m : ℕ) → told ≡ tells answer → m ≡ counted answer n → m ≡ counted told n
 told_count {X} (Ok x) told n m e is = is ∙ ap (λ (t : Result X StoreFault). counted t n) (sym e)
 told_count {X} (Err error) told n m e is = is ∙ ap (λ (t : Result X StoreFault). counted t n) (sym e)
-
-pub told_fault : {X : Type 0} (told : Result X StoreFault) → IfErr told (λ fault. ⊤)
-told_fault (Ok x) = tt
-told_fault (Err fault) = tt

@@ -1,10 +1,8 @@
--- How an error of the tables is told as a fault of a keep, and what a keep over tables promises.
-use Rattle.std.specs.Prelude.{◌≡◌, ◌≢◌, ℕ, ◌+◌, if◌then◌else◌, Result, Ok, Err, IfErr}
+-- How an error of the tables is told as a fault of a keep.
+use Rattle.std.specs.Prelude.{◌≡◌, ◌≢◌, ℕ, ◌+◌, if◌then◌else◌, Result, Ok, Err}
 use Rattle.sqlite.specs.State.{State}
 use Rattle.sqlite.specs.declared.error.Error.{Error}
-use Rattle.bor_records.specs.Promises.{Changes, Promised, Reads, Sure}
 use Rattle.bor_register.specs.Register.{Register}
-use Rattle.bor_register.specs.declared.keeping.keep.Keep.{Ghosts as Keep}
 use Rattle.bor_register.specs.declared.fault.StoreFault.{StoreFault}
 use Rattle.bor_register.specs.declared.fault.StoreFault.TheVariants as store_faults
 use Rattle.bor_store_sql.specs.Shown.{ShowsIn}
@@ -34,21 +32,3 @@ tells_made (Err error) = Err (store_fault_of error)
 pub record IsNextFiling (number count : ℕ) (r : Register) (s : State) : Type 0 where
   pub next : number ≡ count + 1
   pub shown : ShowsIn r s
-
--- ---- what a keep over tables promises of each call
-
--- what each keep promises of a read
-abbrev pub ReadsKeep : {K X : Type 0} → Keep K → K → K → Result X StoreFault → (Register → X → Type 0) → Type 0
-ReadsKeep keep old new result P = Reads keep.shows keep.is_clean keep.is_sound keep.fault_count keep.may_tell old new result P
-
--- what each keep promises of a change
-abbrev pub ChangesKeep : {K X : Type 0} → Keep K → K → K → Result X StoreFault → (Register → Register) → Type 0
-ChangesKeep keep old new result change = Changes keep.shows keep.is_clean keep.is_sound keep.fault_count keep.may_tell old new result change
-
--- what each keep asks for: it holds of the register that is shown
-abbrev pub IsSure : {K : Type 0} → Keep K → K → (Register → Type 0) → Type 0
-IsSure keep old P = Sure keep.shows keep.is_clean old P
-
--- and what one over tables promises beside: where a register was shown, no fault is of damage
-abbrev pub IsUndamaged : {K X : Type 0} → Keep K → K → K → Result X StoreFault → Type 0
-IsUndamaged keep old new result = Promised keep.shows keep.is_clean old new (λ r. IfErr result TellsNoDamage)

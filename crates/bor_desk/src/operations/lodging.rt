@@ -14,7 +14,7 @@ ghost use Rattle.bor_desk.specs.declared.operations.fault.LodgeFault.TheVariants
 ghost use Rattle.bor_register.specs.Limits.{filings_limit};
 ghost use Rattle.bor_desk.specs.Operations.Earlier.{AreFound};
 ghost use Rattle.bor_desk.specs.Operations.Lodging.{as_read, told_settled, told_verdict, settled_reading, repeated, addition, lodge_step};
-ghost use Rattle.bor_desk.specs.Operations.Outcomes.{of_lodging, IsOutcome, IfAnswered, IsAccounted, IsDone, IsMade};
+ghost use Rattle.bor_desk.specs.Operations.Outcomes.{of_lodging, IsOutcome, IfAnswered, IsAccounted, TellsFaultOf, IsDone, IsMade};
 ghost use Rattle.bor_desk.specs.Operations.Legality.{IsLegal};
 ghost use Rattle.bor_desk.specs.Operations.Sight.{sight_of};
 
@@ -105,8 +105,11 @@ fn settled_status<K: Keep>(
     place: u32,
 ) -> Result<Status, LodgeFault>
     ensures kept { Kept K.shows K.is_clean keep.old keep.new }
-    ensures accounted { IsAccounted of_lodging K.may_tell result (K.fault_count keep.old)
+    ensures accounted { IsAccounted of_lodging result (K.fault_count keep.old)
         (K.fault_count keep.new) }
+    ensures told { Promised K.shows K.is_clean keep.old keep.new (λ r.
+        TellsFaultOf of_lodging K.may_tell result (K.fault_count keep.old)
+        (K.fault_count keep.new)) }
     ensures lasts { IfAnswered of_lodging result
         (Lasts K.is_clean K.is_sound keep.old keep.new) }
     ensures answer { Promised K.shows K.is_clean keep.old keep.new (λ r.
@@ -134,8 +137,11 @@ fn settle<K: Keep>(
 ) -> Result<(), LodgeFault>
     requires few { length statements.old ≤ statements_limit }
     ensures kept { Kept K.shows K.is_clean keep.old keep.new }
-    ensures accounted { IsAccounted of_lodging K.may_tell result (K.fault_count keep.old)
+    ensures accounted { IsAccounted of_lodging result (K.fault_count keep.old)
         (K.fault_count keep.new) }
+    ensures told { Promised K.shows K.is_clean keep.old keep.new (λ r.
+        TellsFaultOf of_lodging K.may_tell result (K.fault_count keep.old)
+        (K.fault_count keep.new)) }
     ensures lasts { IfAnswered of_lodging result
         (Lasts K.is_clean K.is_sound keep.old keep.new) }
     ensures answer { Promised K.shows K.is_clean keep.old keep.new (λ r.
@@ -162,8 +168,11 @@ fn settled<K: Keep>(
     bytes: &[u8],
 ) -> Result<Vec<Statement>, LodgeFault>
     ensures kept { Kept K.shows K.is_clean keep.old keep.new }
-    ensures accounted { IsAccounted of_lodging K.may_tell result (K.fault_count keep.old)
+    ensures accounted { IsAccounted of_lodging result (K.fault_count keep.old)
         (K.fault_count keep.new) }
+    ensures told { Promised K.shows K.is_clean keep.old keep.new (λ r.
+        TellsFaultOf of_lodging K.may_tell result (K.fault_count keep.old)
+        (K.fault_count keep.new)) }
     ensures lasts { IfAnswered of_lodging result
         (Lasts K.is_clean K.is_sound keep.old keep.new) }
     ensures answer { Promised K.shows K.is_clean keep.old keep.new (λ r.
@@ -185,8 +194,11 @@ fn repeat<K: Keep>(
     line: &FilingLine,
 ) -> Result<Lodged, LodgeFault>
     ensures kept { Kept K.shows K.is_clean keep.old keep.new }
-    ensures accounted { IsAccounted of_lodging K.may_tell result (K.fault_count keep.old)
+    ensures accounted { IsAccounted of_lodging result (K.fault_count keep.old)
         (K.fault_count keep.new) }
+    ensures told { Promised K.shows K.is_clean keep.old keep.new (λ r.
+        TellsFaultOf of_lodging K.may_tell result (K.fault_count keep.old)
+        (K.fault_count keep.new)) }
     ensures lasts { IfAnswered of_lodging result
         (Lasts K.is_clean K.is_sound keep.old keep.new) }
     ensures answer { Promised K.shows K.is_clean keep.old keep.new (λ r.
@@ -208,8 +220,11 @@ fn repeat<K: Keep>(
 // The register's day, where the agent may have one more filing and the due day isn't past.
 fn day_for<K: Keep>(keep: &mut K, agent: &AgentName, due: Day) -> Result<Day, LodgeFault>
     ensures kept { Kept K.shows K.is_clean keep.old keep.new }
-    ensures accounted { IsAccounted of_lodging K.may_tell result (K.fault_count keep.old)
+    ensures accounted { IsAccounted of_lodging result (K.fault_count keep.old)
         (K.fault_count keep.new) }
+    ensures told { Promised K.shows K.is_clean keep.old keep.new (λ r.
+        TellsFaultOf of_lodging K.may_tell result (K.fault_count keep.old)
+        (K.fault_count keep.new)) }
     ensures lasts { IfAnswered of_lodging result
         (Lasts K.is_clean K.is_sound keep.old keep.new) }
     ensures answer { Promised K.shows K.is_clean keep.old keep.new (λ r.
@@ -244,8 +259,11 @@ fn prepare<K: Keep>(
     bytes: &[u8],
 ) -> Result<Prepared, LodgeFault>
     ensures kept { Kept K.shows K.is_clean keep.old keep.new }
-    ensures accounted { IsAccounted of_lodging K.may_tell result (K.fault_count keep.old)
+    ensures accounted { IsAccounted of_lodging result (K.fault_count keep.old)
         (K.fault_count keep.new) }
+    ensures told { Promised K.shows K.is_clean keep.old keep.new (λ r.
+        TellsFaultOf of_lodging K.may_tell result (K.fault_count keep.old)
+        (K.fault_count keep.new)) }
     ensures lasts { IfAnswered of_lodging result
         (Lasts K.is_clean K.is_sound keep.old keep.new) }
     ensures answer { Promised K.shows K.is_clean keep.old keep.new (λ r.
@@ -280,8 +298,11 @@ fn lodge_new<K: Keep>(
     ensures step { Promised K.shows K.is_clean keep.old keep.new (λ r.
         IsOutcome of_lodging result (K.shows keep.new) r
         (lodge_step r agent.now key.now due bytes.now)) }
-    ensures accounted { IsAccounted of_lodging K.may_tell result (K.fault_count keep.old)
+    ensures accounted { IsAccounted of_lodging result (K.fault_count keep.old)
         (K.fault_count keep.new) }
+    ensures told { Promised K.shows K.is_clean keep.old keep.new (λ r.
+        TellsFaultOf of_lodging K.may_tell result (K.fault_count keep.old)
+        (K.fault_count keep.new)) }
     ensures lasts { IfAnswered of_lodging result
         (Lasts K.is_clean K.is_sound keep.old keep.new) }
 {
@@ -321,8 +342,11 @@ pub fn lodge<K: Keep>(
     ensures step { Promised K.shows K.is_clean keep.old keep.new (λ r.
         IsOutcome of_lodging result (K.shows keep.new) r
         (lodge_step r agent.now key.now due bytes.now)) }
-    ensures accounted { IsAccounted of_lodging K.may_tell result (K.fault_count keep.old)
+    ensures accounted { IsAccounted of_lodging result (K.fault_count keep.old)
         (K.fault_count keep.new) }
+    ensures told { Promised K.shows K.is_clean keep.old keep.new (λ r.
+        TellsFaultOf of_lodging K.may_tell result (K.fault_count keep.old)
+        (K.fault_count keep.new)) }
     ensures lasts { IfAnswered of_lodging result
         (Lasts K.is_clean K.is_sound keep.old keep.new) }
     ensures legal { Promised K.shows K.is_clean keep.old keep.new (λ r.

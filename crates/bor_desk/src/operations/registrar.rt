@@ -4,7 +4,7 @@ ghost use Rattle.std.specs.Prelude.{◌≡◌};
 ghost use Rattle.bor_register.specs.Register.{Register, is_taken};
 ghost use Rattle.bor_records.specs.Promises.{Lasts, Promised, Reads};
 ghost use Rattle.bor_desk.specs.Operations.Registrar.{advance_step, enrol_step};
-ghost use Rattle.bor_desk.specs.Operations.Outcomes.{of_advance, of_enrolment, IsOutcome, IfAnswered, IsAccounted};
+ghost use Rattle.bor_desk.specs.Operations.Outcomes.{of_advance, of_enrolment, IsOutcome, IfAnswered, IsAccounted, TellsFaultOf};
 ghost use Rattle.bor_desk.specs.Operations.Legality.{IsLegal};
 
 use crate::operations::fault::{AdvanceFault, EnrolFault};
@@ -20,8 +20,11 @@ pub fn advance<K: Keep>(keep: &mut K, day: Day) -> Result<Day, AdvanceFault>
     ensures began { K.is_clean keep.new → K.is_clean keep.old }
     ensures step { Promised K.shows K.is_clean keep.old keep.new (λ r.
         IsOutcome of_advance result (K.shows keep.new) r (advance_step r day)) }
-    ensures accounted { IsAccounted of_advance K.may_tell result (K.fault_count keep.old)
+    ensures accounted { IsAccounted of_advance result (K.fault_count keep.old)
         (K.fault_count keep.new) }
+    ensures told { Promised K.shows K.is_clean keep.old keep.new (λ r.
+        TellsFaultOf of_advance K.may_tell result (K.fault_count keep.old)
+        (K.fault_count keep.new)) }
     ensures lasts { IfAnswered of_advance result
         (Lasts K.is_clean K.is_sound keep.old keep.new) }
     ensures legal { Promised K.shows K.is_clean keep.old keep.new (λ r.
@@ -53,8 +56,11 @@ pub fn enrol<K: Keep>(keep: &mut K, name: AgentName, token: Token) -> Result<Age
     ensures began { K.is_clean keep.new → K.is_clean keep.old }
     ensures step { Promised K.shows K.is_clean keep.old keep.new (λ r.
         IsOutcome of_enrolment result (K.shows keep.new) r (enrol_step r name token)) }
-    ensures accounted { IsAccounted of_enrolment K.may_tell result (K.fault_count keep.old)
+    ensures accounted { IsAccounted of_enrolment result (K.fault_count keep.old)
         (K.fault_count keep.new) }
+    ensures told { Promised K.shows K.is_clean keep.old keep.new (λ r.
+        TellsFaultOf of_enrolment K.may_tell result (K.fault_count keep.old)
+        (K.fault_count keep.new)) }
     ensures lasts { IfAnswered of_enrolment result
         (Lasts K.is_clean K.is_sound keep.old keep.new) }
     ensures legal { Promised K.shows K.is_clean keep.old keep.new (λ r.

@@ -6,7 +6,7 @@ ghost use Rattle.bor_register.specs.Publication.{line_of};
 ghost use Rattle.bor_records.specs.Promises.{Kept, Lasts, Promised};
 ghost use Rattle.bor_desk.specs.Operations.Sight.{sight_of};
 ghost use Rattle.bor_desk.specs.Operations.Withdrawing.{line_withdrawn, withdrawal, withdraw_step};
-ghost use Rattle.bor_desk.specs.Operations.Outcomes.{of_withdrawal, IsOutcome, IfAnswered, IsAccounted, IsDone};
+ghost use Rattle.bor_desk.specs.Operations.Outcomes.{of_withdrawal, IsOutcome, IfAnswered, IsAccounted, TellsFaultOf, IsDone};
 ghost use Rattle.bor_desk.specs.Operations.Legality.{IsLegal};
 
 use crate::operations::fault::WithdrawFault;
@@ -21,8 +21,11 @@ fn withdrawable<K: Keep>(
     key: &LodgeKey,
 ) -> Result<FilingLine, WithdrawFault>
     ensures kept { Kept K.shows K.is_clean keep.old keep.new }
-    ensures accounted { IsAccounted of_withdrawal K.may_tell result (K.fault_count keep.old)
+    ensures accounted { IsAccounted of_withdrawal result (K.fault_count keep.old)
         (K.fault_count keep.new) }
+    ensures told { Promised K.shows K.is_clean keep.old keep.new (λ r.
+        TellsFaultOf of_withdrawal K.may_tell result (K.fault_count keep.old)
+        (K.fault_count keep.new)) }
     ensures lasts { IfAnswered of_withdrawal result
         (Lasts K.is_clean K.is_sound keep.old keep.new) }
     ensures answer { Promised K.shows K.is_clean keep.old keep.new (λ r.
@@ -59,8 +62,11 @@ pub fn withdraw<K: Keep>(
     ensures began { K.is_clean keep.new → K.is_clean keep.old }
     ensures step { Promised K.shows K.is_clean keep.old keep.new (λ r.
         IsOutcome of_withdrawal result (K.shows keep.new) r (withdraw_step r agent.now key.now)) }
-    ensures accounted { IsAccounted of_withdrawal K.may_tell result (K.fault_count keep.old)
+    ensures accounted { IsAccounted of_withdrawal result (K.fault_count keep.old)
         (K.fault_count keep.new) }
+    ensures told { Promised K.shows K.is_clean keep.old keep.new (λ r.
+        TellsFaultOf of_withdrawal K.may_tell result (K.fault_count keep.old)
+        (K.fault_count keep.new)) }
     ensures lasts { IfAnswered of_withdrawal result
         (Lasts K.is_clean K.is_sound keep.old keep.new) }
     ensures legal { Promised K.shows K.is_clean keep.old keep.new (λ r.

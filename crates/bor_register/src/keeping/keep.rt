@@ -42,7 +42,7 @@ pub trait Keep {
     /// How many calls have answered a fault, modulo 2^64.
     ghost fault_count: { Self → ℕ };
 
-    /// The faults that its calls may answer.
+    /// The faults that its calls may answer where a register is shown and they end clean.
     ghost may_tell: { StoreFault → Type 0 };
 
     /// How many calls have answered a fault, modulo 2^64.

@@ -1,5 +1,5 @@
 use Rattle.std.proofs.Common.{◌∙◌, sym, Ok}
-use Rattle.bor_desk.proofs.SeenChains.{persons-answered, persons-found, persons-refused, persons-accounted, keep-kept, keep-lasts, keep-lasts_so, keep-promised, keep-accounted}
+use Rattle.bor_desk.proofs.SeenChains.{persons-answered, persons-found, persons-refused, persons-accounted, keep-kept, keep-lasts, keep-lasts_so, keep-promised, keep-accounted, keep-told, persons-told}
 use Rattle.bor_desk.proofs.report.persons_seen.Goals as goal
 
 pub returns-in_err-persons_of-clause-kept : goal.returns-in_err-persons_of-clause-kept
@@ -21,8 +21,8 @@ returns-in_err-persons_of-clause-accounted g c =
     let ends = c.keep-1.given.1 (sym source.same_reference ∙ sym c.persons_of.ensures.same_reference) in
     let told = c.from_residual.ensures in
     let walk = c.in_err-persons_of.ensures in
-    keep-accounted g.K.Keep.fault_count g.K.Keep.may_tell c.from_residual.result _ _ c.new-source.result c.persons_of.new.source source.keep ends
-    (persons-accounted g.K.Keep.may_tell c.in_err-persons_of.field-0.0 c.from_residual.result _ _ told.0 told.1 walk.counts walk.told walk.honest)
+    keep-accounted g.K.Keep.fault_count c.from_residual.result _ _ c.new-source.result c.persons_of.new.source source.keep ends
+    (persons-accounted c.in_err-persons_of.field-0.0 c.from_residual.result _ _ told.0 told.1 walk.counts walk.honest)
 
 pub returns-clause-kept : goal.returns-clause-kept
 returns-clause-kept g c =
@@ -40,7 +40,7 @@ returns-clause-answer g c =
 pub returns-clause-accounted : goal.returns-clause-accounted
 returns-clause-accounted g c =
     let ends = c.keep-1.given.1 (sym c.new-source.ensures.same_reference ∙ sym c.persons_of.ensures.same_reference) in
-    keep-accounted g.K.Keep.fault_count g.K.Keep.may_tell (Ok c.in_ok-persons_of.field-0) _ _ c.new-source.result c.persons_of.new.source c.new-source.ensures.keep ends c.in_ok-persons_of.ensures.counts
+    keep-accounted g.K.Keep.fault_count (Ok c.in_ok-persons_of.field-0) _ _ c.new-source.result c.persons_of.new.source c.new-source.ensures.keep ends c.in_ok-persons_of.ensures.counts
 
 pub returns-in_err-persons_of-clause-lasts : goal.returns-in_err-persons_of-clause-lasts
 returns-in_err-persons_of-clause-lasts g c =
@@ -54,3 +54,12 @@ pub returns-clause-lasts : goal.returns-clause-lasts
 returns-clause-lasts g c =
     let ends = c.keep-1.given.1 (sym c.new-source.ensures.same_reference ∙ sym c.persons_of.ensures.same_reference) in
     keep-lasts g.K.Keep.is_clean g.K.Keep.is_sound _ _ c.new-source.result c.persons_of.new.source c.new-source.ensures.keep ends c.in_ok-persons_of.ensures.lasts
+
+pub returns-in_err-persons_of-clause-told : goal.returns-in_err-persons_of-clause-told
+returns-in_err-persons_of-clause-told g c =
+    let source = c.new-source.ensures in
+    let ends = c.keep-1.given.1 (sym source.same_reference ∙ sym c.persons_of.ensures.same_reference) in
+    let told = c.from_residual.ensures in
+    keep-promised g.K.Keep.shows g.K.Keep.is_clean _ _ c.new-source.result c.persons_of.new.source c.args.viewer.now c.args.day _ source.viewer source.day source.keep ends
+    (λ r shown clean. keep-told g.K.Keep.fault_count g.K.Keep.may_tell c.from_residual.result _ _ c.new-source.result c.persons_of.new.source source.keep ends
+    (persons-told g.K.Keep.may_tell c.in_err-persons_of.field-0.0 c.from_residual.result _ _ told.0 told.1 (c.in_err-persons_of.ensures.told _ shown clean) c.in_err-persons_of.ensures.counts c.in_err-persons_of.ensures.honest))

@@ -6,11 +6,12 @@ use Rattle.bor_records.specs.Promises.{left_by}
 use Rattle.bor_store_sql.specs.Changing.{enrolled}
 use Rattle.bor_store_sql.specs.Shown.{IsClean, IsUp, ShowsIn}
 use Rattle.bor_store.proofs.Lasting.{lasts_made}
-use Rattle.bor_store.proofs.Filing.{any_fault, change_left, counted_made}
+use Rattle.bor_store.proofs.Filing.{change_left, counted_made}
+use Rattle.bor_store.proofs.Undamaged.{undamaged_made}
 use Rattle.bor_store.proofs.sql_keep.SqlKeepKeep.add_agent.Goals as goal
 
-pub returns-clause-changes : goal.returns-clause-changes
-returns-clause-changes g c =
+pub returns : goal.returns
+returns g c =
     let made = c.add_agent-made.ensures in
     let told = c.made.ensures in
     let same = c.connection.ensures.value in
@@ -21,7 +22,7 @@ returns-clause-changes g c =
           (λ clean. subst (λ k. HasCleanDisk (state g.S.Store k)) same (made.clean (subst (λ k. HasCleanDisk (state g.S.Store k)) told.conn clean))) c.add_agent-made.result c.made.result told.told
           (subst (λ k. OnOk c.add_agent-made.result (IsUp (state g.S.Store k))) (sym told.conn) made.up);
       counts = counted_made c.add_agent-made.result c.made.result c.args.self.now.faults c.made.new.self.faults told.told told.counts;
-      told = any_fault c.made.result;
+      told = λ r shows clean. undamaged_made c.add_agent-made.result c.made.result told.told;
       changed = λ r shows clean.
           (let ended = subst (λ k. IsClean (state g.S.Store k)) told.conn clean in
           let shown = subst (λ k. ShowsIn r (state g.S.Store k)) (sym same) shows in

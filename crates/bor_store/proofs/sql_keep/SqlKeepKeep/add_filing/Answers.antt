@@ -7,7 +7,8 @@ use Rattle.bor_register.specs.Register.{filings_of}
 use Rattle.bor_store_sql.specs.Shown.{IsClean, IsUp, ShowsIn}
 use Rattle.bor_store_sql.specs.Changing.{added}
 use Rattle.bor_store.proofs.Lasting.{lasts_told, stays_up}
-use Rattle.bor_store.proofs.Filing.{left_shown, counted_told, any_fault}
+use Rattle.bor_store.proofs.Filing.{left_shown, counted_told}
+use Rattle.bor_store.proofs.Undamaged.{undamaged_said}
 use Rattle.bor_store.proofs.sql_keep.SqlKeepKeep.add_filing.Goals as goal
 
 pub returns-clause-changes : goal.returns-clause-changes
@@ -22,7 +23,9 @@ returns-clause-changes g c =
           (λ clean. subst (λ k. HasCleanDisk (state g.S.Store k)) same (made.clean (subst (λ k. HasCleanDisk (state g.S.Store k)) told.conn clean))) c.add_next_filing-made.result c.told.result told.told
           (stays_up c.add_next_filing-made.result (state g.S.Store c.args.self.now.conn) (state g.S.Store c.told.new.self.conn) (subst (λ k. IfOk c.add_next_filing-made.result (λ x. IsUp (state g.S.Store k))) (sym told.conn) made.up));
       counts = counted_told c.add_next_filing-made.result c.told.result c.args.self.now.faults c.told.new.self.faults told.told told.counts;
-      told = any_fault c.told.result;
+      told = λ r shows clean.
+          undamaged_said c.add_next_filing-made.result c.told.result told.told
+          (made.undamaged (subst (λ k. IsClean (state g.S.Store k)) told.conn clean) r (subst (λ k. ShowsIn r (state g.S.Store k)) (sym same) shows));
       changed = λ r shows clean.
           (let ended = subst (λ k. IsClean (state g.S.Store k)) told.conn clean in
           let shown = subst (λ k. ShowsIn r (state g.S.Store k)) (sym same) shows in

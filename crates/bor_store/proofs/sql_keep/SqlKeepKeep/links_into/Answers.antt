@@ -7,11 +7,12 @@ use Rattle.bor_register.specs.Seen.{seen_at}
 use Rattle.bor_store_sql.specs.Shown.{IsClean, ShowsIn, StaysUp}
 use Rattle.bor_store.proofs.Kept.{still_kept}
 use Rattle.bor_store.proofs.Lasting.{lasts_told}
-use Rattle.bor_store.proofs.Reading.{told_answer, told_count, told_fault}
+use Rattle.bor_store.proofs.Reading.{told_answer, told_count}
+use Rattle.bor_store.proofs.Undamaged.{undamaged_told}
 use Rattle.bor_store.proofs.sql_keep.SqlKeepKeep.links_into.Goals as goal
 
-pub returns-clause-reads : goal.returns-clause-reads
-returns-clause-reads g c =
+pub returns : goal.returns
+returns g c =
     let read = c.read_links_into-answer.ensures in
     let told = c.told.ensures in
     record {
@@ -24,7 +25,8 @@ returns-clause-reads g c =
           (λ clean. read.reads.clean (subst (λ k. HasCleanDisk (state g.S.Store k)) told.conn clean)) c.read_links_into-answer.result c.told.result told.told
           (subst (λ k. IfOk c.read_links_into-answer.result (λ x. StaysUp (state g.S.Store c.args.self.now.conn) (state g.S.Store k))) (sym told.conn) read.up);
       counts = told_count c.read_links_into-answer.result c.told.result c.args.self.now.faults c.told.new.self.faults told.told told.counts;
-      told = told_fault c.told.result;
+      told = λ r shows clean.
+          undamaged_told _ c.read_links_into-answer.result c.told.result told.told (read.answer (subst (λ k. IsClean (state g.S.Store k)) told.conn clean) r shows);
       answer = λ r shows clean.
           told_answer (λ links. AreLinksInto (seen_at c.args.viewer.now c.args.day r) c.args.node.now links.items) c.read_links_into-answer.result c.told.result told.told
           (read.answer (subst (λ k. IsClean (state g.S.Store k)) told.conn clean) r shows);

@@ -16,7 +16,7 @@ returns c =
       kept = record { began = λ z. z; same = λ z r. ((λ h. same ∙ h), (λ h. sym same ∙ h)) };
       lasts = told_always c.told.result (record { sound = λ sound. sound; clean = λ sound clean. clean });
       counts = ap (λ (h : Holding). h.faults) told.counts ∙ told_count c.links_seen-links.result c.told.result c.links_seen-links.new.self.faults told.told ∙ ap (λ (h : Holding). counted c.told.result h.faults) seen.kept;
-      told = told_fault c.links_seen-links.result c.told.result told.told;
+      told = λ r is z. told_fault c.links_seen-links.result c.told.result told.told;
       answer = λ r is z.
           told_answer (λ links. AreLinksInto (seen_at c.args.viewer.now c.args.day r) c.args.node.now links.items) c.links_seen-links.result c.told.result told.told (
           subst (λ (s : Register). IfOk c.links_seen-links.result (λ links. AreLinksInto (seen_at c.args.viewer.now c.args.day s) c.args.node.now links.items)) is seen.told);

@@ -15,7 +15,7 @@ returns-clause-reads g c = record {
   };
   lasts = told_then c.links_into.result _ _ (λ links lasts. record { sound = lasts.sound; clean = lasts.clean }) c.links_into.ensures.lasts;
   counts = c.links_into.ensures.counts;
-  told = c.links_into.ensures.told;
+  told = λ m h z. c.links_into.ensures.told m.register h.2 z;
   answer = λ m h z.
       subst (λ (viewer : List ℕ). IfOk c.links_into.result (λ links. AreLinksInto (seen_at viewer m.day m.register) c.args.node.now links.items)) h.0
       (subst (λ (day : ℤ). IfOk c.links_into.result (λ links. AreLinksInto (seen_at c.args.self.now.viewer.now day m.register) c.args.node.now links.items)) h.1
