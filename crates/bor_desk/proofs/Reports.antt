@@ -53,7 +53,7 @@ told-err : (given : DeskFault) (made : Result Text StoreFault) → ((fault : Sto
 told-err (Refused why) made only h = h.err
 told-err (Failed fault) made only h = subst (λ (m : Result Text StoreFault). IfErr m (λ f. f ≡ Memory)) (sym h) (only fault refl)
 
-memory_only : (before after : ℕ) (fault : StoreFault) → machine.MayTell (λ f. f ≡ Memory) before after fault → fault ≡ Memory
+memory_only : (before after : ℕ) (fault : StoreFault) → machine.IsTellable (λ f. f ≡ Memory) before after fault → fault ≡ Memory
 memory_only before after fault (inl h) = h.0
 memory_only before after fault (inr h) = h.0
 

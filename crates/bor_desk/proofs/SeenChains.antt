@@ -3,7 +3,7 @@ use Rattle.std.proofs.Common.{◌≡◌, ◌≢◌, ℕ, ℤ, cond, inl, inr, Op
 use Rattle.bor_records.specs.declared.links.node.Node.{Node}
 use Rattle.bor_records.specs.declared.links.node.NodeInfo.{NodeInfo}
 use Rattle.bor_records.specs.declared.links.node.NodeInfo.TheVariants.{Entity, Person}
-use Rattle.bor_records.specs.Promises.{Kept, Lasts, Promised}
+use Rattle.bor_records.specs.Promises.{Kept, StaysClean, Promised}
 use Rattle.bor_chains.specs.declared.line.PersonLine.{PersonLine}
 use Rattle.bor_chains.specs.declared.fault.ChainFault.{ChainFault}
 use Rattle.bor_chains.specs.declared.fault.ChainFault.TheVariants as chains
@@ -17,7 +17,7 @@ use Rattle.bor_register.specs.Seen.{seen_at}
 use Rattle.bor_desk.specs.declared.operations.keep_source.KeepSource.{KeepSource}
 use Rattle.bor_desk.specs.Operations.Sight.{seen_by}
 use Rattle.bor_desk.specs.Operations.Outlook.{Outlook}
-use Rattle.bor_desk.specs.Operations.Outcomes.{ByStore, IfAnswered, IsFaultOf, IsAccounted, MayTell, TellsFaultOf}
+use Rattle.bor_desk.specs.Operations.Outcomes.{ByStore, UnlessFailed, IsFaultOf, IsAccounted, IsTellable, TellsFaultOf}
 use Rattle.bor_desk.proofs.OnOperations.SeenLinks.{numbers_make_no_links}
 use Rattle.bor_desk.specs.declared.refusal.Refusal.TheVariants.{NoEntity}
 use Rattle.bor_desk.specs.declared.refusal.DeskFault.{DeskFault}
@@ -76,11 +76,11 @@ persons-accounted fault (Err given) before after is_err is counts moved = refusa
 
 -- and one that the keep may tell
 refusal-told : (may_tell : StoreFault → Type 0) (fault : ChainFault StoreFault) (given : DeskFault) (before after : ℕ) → IsOfChains (λ f s. s ≡ f) fault given → OnSource fault may_tell →
-    after ≡ chain_counted {T = Vec PersonLine Global} (Err fault) before → OnSource fault (λ _. after ≢ before) → ByStore (failed given) (Unit {0}) (MayTell may_tell before after)
-refusal-told may_tell chains.NoEntity given before after is told counts moved = subst (λ (g : DeskFault). ByStore (failed g) (Unit {0}) (MayTell may_tell before after)) (sym is) tt
+    after ≡ chain_counted {T = Vec PersonLine Global} (Err fault) before → OnSource fault (λ _. after ≢ before) → ByStore (failed given) (Unit {0}) (IsTellable may_tell before after)
+refusal-told may_tell chains.NoEntity given before after is told counts moved = subst (λ (g : DeskFault). ByStore (failed g) (Unit {0}) (IsTellable may_tell before after)) (sym is) tt
 refusal-told may_tell (chains.Source f) given before after is told counts moved =
-    subst (λ (g : DeskFault). ByStore (failed g) (Unit {0}) (MayTell may_tell before after)) (sym is.2) (inr (subst may_tell (sym is.1) told, moved))
-refusal-told may_tell chains.Memory given before after is told counts moved = subst (λ (g : DeskFault). ByStore (failed g) (Unit {0}) (MayTell may_tell before after)) (sym is) (inl (refl, counts))
+    subst (λ (g : DeskFault). ByStore (failed g) (Unit {0}) (IsTellable may_tell before after)) (sym is.2) (inr (subst may_tell (sym is.1) told, moved))
+refusal-told may_tell chains.Memory given before after is told counts moved = subst (λ (g : DeskFault). ByStore (failed g) (Unit {0}) (IsTellable may_tell before after)) (sym is) (inl (refl, counts))
 
 pub persons-told : {P : Type 0} (may_tell : StoreFault → Type 0) (fault : ChainFault StoreFault) (made : Result P DeskFault) (before after : ℕ) → IsErr made → IsErrAnd made (IsOfChains (λ f s. s ≡ f) fault) → OnSource fault may_tell →
     after ≡ chain_counted {T = Vec PersonLine Global} (Err fault) before → OnSource fault (λ _. after ≢ before) → TellsFaultOf failed may_tell made before after
@@ -93,7 +93,7 @@ refusal-answered into P chains.NoEntity given is p = subst (λ (g : DeskFault). 
 refusal-answered into P (chains.Source f) given is p = subst (λ (g : DeskFault). ByStore (failed g) P (λ f. Unit {0})) (sym is.2) tt
 refusal-answered into P chains.Memory given is p = subst (λ (g : DeskFault). ByStore (failed g) P (λ f. Unit {0})) (sym is) tt
 
-pub persons-answered : {Q F : Type 0} (into : F → StoreFault → Type 0) (P : Type 0) (fault : ChainFault F) (made : Result Q DeskFault) → IsErr made → IsErrAnd made (IsOfChains into fault) → IfToldBy {T = Vec PersonLine Global} (Err fault) P → IfAnswered failed made P
+pub persons-answered : {Q F : Type 0} (into : F → StoreFault → Type 0) (P : Type 0) (fault : ChainFault F) (made : Result Q DeskFault) → IsErr made → IsErrAnd made (IsOfChains into fault) → IfToldBy {T = Vec PersonLine Global} (Err fault) P → UnlessFailed failed made P
 persons-answered into P fault (Ok persons) is_err is p = absurd cc
 persons-answered into P fault (Err given) is_err is p = refusal-answered into P fault given is p
 
@@ -127,16 +127,16 @@ keep-accounted {K} faults made old new x y begins ends accounted =
     subst (λ (k : K). IsAccounted failed made (faults old) (faults k)) (sym ends) (subst (λ (k : K). IsAccounted failed made (faults k) (faults y.keep.now)) begins accounted)
 
 -- a source that lasts has a keep that does
-pub keep-lasts : {K : Type 0} (is_clean is_sound : K → Type 0) (old new : K) (x y : KeepSource K) → x.keep.now ≡ old → new ≡ y.keep.now → Lasts (λ (z : KeepSource K). is_clean z.keep.now) (λ z. is_sound z.keep.now) x y → Lasts is_clean is_sound old new
+pub keep-lasts : {K : Type 0} (is_clean is_sound : K → Type 0) (old new : K) (x y : KeepSource K) → x.keep.now ≡ old → new ≡ y.keep.now → StaysClean (λ (z : KeepSource K). is_clean z.keep.now) (λ z. is_sound z.keep.now) x y → StaysClean is_clean is_sound old new
 keep-lasts {K} is_clean is_sound old new x y begins ends lasts =
-    subst (λ (k : K). Lasts is_clean is_sound old k) (sym ends) (subst (λ (k : K). Lasts is_clean is_sound k y.keep.now) begins (record { sound = lasts.sound; clean = lasts.clean }))
+    subst (λ (k : K). StaysClean is_clean is_sound old k) (sym ends) (subst (λ (k : K). StaysClean is_clean is_sound k y.keep.now) begins (record { sound = lasts.sound; clean = lasts.clean }))
 
-pub keep-lasts_so : {K P : Type 0} (is_clean is_sound : K → Type 0) (made : Result P DeskFault) (old new : K) (x y : KeepSource K) → x.keep.now ≡ old → new ≡ y.keep.now → IfAnswered failed made (Lasts (λ (z : KeepSource K). is_clean z.keep.now) (λ z. is_sound z.keep.now) x y) →
-    IfAnswered failed made (Lasts is_clean is_sound old new)
+pub keep-lasts_so : {K P : Type 0} (is_clean is_sound : K → Type 0) (made : Result P DeskFault) (old new : K) (x y : KeepSource K) → x.keep.now ≡ old → new ≡ y.keep.now → UnlessFailed failed made (StaysClean (λ (z : KeepSource K). is_clean z.keep.now) (λ z. is_sound z.keep.now) x y) →
+    UnlessFailed failed made (StaysClean is_clean is_sound old new)
 keep-lasts_so is_clean is_sound (Ok persons) old new x y begins ends lasts = keep-lasts is_clean is_sound old new x y begins ends lasts
 keep-lasts_so is_clean is_sound (Err given) old new x y begins ends lasts = at (failed given) lasts
   where
-    at : (store : Option StoreFault) → ByStore store (Lasts (λ (z : KeepSource _). is_clean z.keep.now) (λ z. is_sound z.keep.now) x y) (λ f. Unit {0}) → ByStore store (Lasts is_clean is_sound old new) (λ f. Unit {0})
+    at : (store : Option StoreFault) → ByStore store (StaysClean (λ (z : KeepSource _). is_clean z.keep.now) (λ z. is_sound z.keep.now) x y) (λ f. Unit {0}) → ByStore store (StaysClean is_clean is_sound old new) (λ f. Unit {0})
     at None h = keep-lasts is_clean is_sound old new x y begins ends h
     at (Some f) h = tt
 

@@ -8,7 +8,7 @@ use Rattle.bor_register.specs.declared.caller.Caller.{Caller}
 use Rattle.bor_register.specs.declared.caller.Caller.TheVariants.{Agent}
 use Rattle.bor_register.specs.declared.fault.StoreFault.{StoreFault}
 use Rattle.bor_register.specs.Register.{Register, IsOrdered}
-use Rattle.bor_desk.specs.Operations.Outcomes.{ByStore, IsFaultOf, MayTell}
+use Rattle.bor_desk.specs.Operations.Outcomes.{ByStore, IsFaultOf, IsTellable}
 use Rattle.bor_desk.specs.declared.request.Request.{Request}
 use Rattle.bor_desk.specs.declared.request.Request.TheVariants as ask
 use Rattle.bor_desk.specs.declared.reply.DeskReply.{DeskReply}
@@ -51,11 +51,11 @@ IsReplyAccounted reply before after = ByStore (fault_of reply) (after ≡ before
 
 -- such a fault is want of memory, or one that the keep may tell, by whether the count moved
 abbrev pub TellsFault : (StoreFault → Type 0) → DeskReply → ℕ → ℕ → Type 0
-TellsFault may_tell reply before after = ByStore (fault_of reply) (Unit {0}) (MayTell may_tell before after)
+TellsFault may_tell reply before after = ByStore (fault_of reply) (Unit {0}) (IsTellable may_tell before after)
 
 -- P, where the reply is no fault of the store
-abbrev pub IfReplied : DeskReply → Type 0 → Type 0
-IfReplied reply P = ByStore (fault_of reply) P (λ fault. Unit {0})
+abbrev pub UnlessReplyFailed : DeskReply → Type 0 → Type 0
+UnlessReplyFailed reply P = ByStore (fault_of reply) P (λ fault. Unit {0})
 
 -- ---- which agent is answered
 

@@ -2,13 +2,13 @@
 
 ghost use Rattle.std.specs.Prelude.{◌≡◌, IfOk, IfErr, unwrap_or, true, false};
 ghost use Rattle.bor_register.specs.Register.{Register, IsOrdered, caller_of, is_enrolled, filings_of, filing_keyed};
-ghost use Rattle.bor_records.specs.Promises.{Promised, Sure, Kept, Lasts};
+ghost use Rattle.bor_records.specs.Promises.{Promised, Sure, Kept, StaysClean};
 ghost use Rattle.bor_desk.specs.Operations.Legality.{IsLegal};
 ghost use Rattle.bor_desk.specs.Operations.Sight.{seen_by, sight_of};
 ghost use Rattle.bor_desk.specs.Operations.Outcomes.{IsCounted};
 ghost use Rattle.bor_desk.specs.Step.{step, agent_answer, agent_step, may_change_own, registrar_step, file_answer, chains_answer, snapshot_answer};
 ghost use Rattle.bor_desk.specs.Laws.{IsToldAlone};
-ghost use Rattle.bor_desk.specs.Outcomes.{IfReplied, IsAnswered, IsLeft, IsNamed, IsOrderedFor, IsReplyAccounted, TellsFault, agent_of, reply_of, denial};
+ghost use Rattle.bor_desk.specs.Outcomes.{UnlessReplyFailed, IsAnswered, IsLeft, IsNamed, IsOrderedFor, IsReplyAccounted, TellsFault, agent_of, reply_of, denial};
 
 use crate::operations::{Caller, Keep, StoreFault, advance, enrol, lodge, withdraw};
 use crate::refusal::{DeskFault, Refusal};
@@ -41,7 +41,7 @@ pub fn date_or_day<K: Keep>(keep: &mut K, date: Option<Day>) -> Result<Day, Stor
     ensures told { Promised K.shows K.is_clean keep.old keep.new (λ r.
         IfErr result K.may_tell) }
     ensures accounted { IsCounted result (K.fault_count keep.old) (K.fault_count keep.new) }
-    ensures lasts { IfOk result (λ _. Lasts K.is_clean K.is_sound keep.old keep.new) }
+    ensures lasts { IfOk result (λ _. StaysClean K.is_clean K.is_sound keep.old keep.new) }
     ensures answer { Promised K.shows K.is_clean keep.old keep.new (λ r.
         IfOk result (λ day. day ≡ unwrap_or date r.day)) }
 {
@@ -60,8 +60,8 @@ fn file_for<K: Keep>(keep: &mut K, name: &AgentName, key: &LodgeKey) -> Result<D
     ensures told { Promised K.shows K.is_clean keep.old keep.new (λ r.
         TellsFault K.may_tell (reply_of result) (K.fault_count keep.old)
         (K.fault_count keep.new)) }
-    ensures lasts { IfReplied (reply_of result)
-        (Lasts K.is_clean K.is_sound keep.old keep.new) }
+    ensures lasts { UnlessReplyFailed (reply_of result)
+        (StaysClean K.is_clean K.is_sound keep.old keep.new) }
     ensures answer { Promised K.shows K.is_clean keep.old keep.new (λ r.
         IsAnswered (reply_of result)
         (file_answer (filing_keyed key.now (filings_of name.now r.members)))) }
@@ -87,8 +87,8 @@ fn snapshot_for<K: Keep>(
     ensures told { Promised K.shows K.is_clean keep.old keep.new (λ r.
         TellsFault K.may_tell (reply_of result) (K.fault_count keep.old)
         (K.fault_count keep.new)) }
-    ensures lasts { IfReplied (reply_of result)
-        (Lasts K.is_clean K.is_sound keep.old keep.new) }
+    ensures lasts { UnlessReplyFailed (reply_of result)
+        (StaysClean K.is_clean K.is_sound keep.old keep.new) }
     ensures answer { Promised K.shows K.is_clean keep.old keep.new (λ r.
         IsOrdered r.members → IsAnswered (reply_of result)
         (snapshot_answer (seen_by viewer.now r) agent.now declaration.now (unwrap_or date r.day))) }
@@ -115,8 +115,8 @@ fn chains_for<K: Keep>(
     ensures told { Promised K.shows K.is_clean keep.old keep.new (λ r.
         TellsFault K.may_tell (reply_of result) (K.fault_count keep.old)
         (K.fault_count keep.new)) }
-    ensures lasts { IfReplied (reply_of result)
-        (Lasts K.is_clean K.is_sound keep.old keep.new) }
+    ensures lasts { UnlessReplyFailed (reply_of result)
+        (StaysClean K.is_clean K.is_sound keep.old keep.new) }
     ensures answer { Promised K.shows K.is_clean keep.old keep.new (λ r.
         IsAnswered (reply_of result)
         (chains_answer (seen_by viewer.now r) entity.now (unwrap_or date r.day))) }
@@ -145,8 +145,8 @@ fn tell_agent<K: Keep>(
     ensures told { Promised K.shows K.is_clean keep.old keep.new (λ r.
         TellsFault K.may_tell (reply_of result) (K.fault_count keep.old)
         (K.fault_count keep.new)) }
-    ensures lasts { IfReplied (reply_of result)
-        (Lasts K.is_clean K.is_sound keep.old keep.new) }
+    ensures lasts { UnlessReplyFailed (reply_of result)
+        (StaysClean K.is_clean K.is_sound keep.old keep.new) }
     ensures answer { Promised K.shows K.is_clean keep.old keep.new (λ r.
         IsOrderedFor request.now r
         → IsAnswered (reply_of result) (agent_answer (sight_of name.now r) request.now)) }
@@ -188,8 +188,8 @@ fn answer_agent<K: Keep>(
     ensures told { Promised K.shows K.is_clean keep.old keep.new (λ r.
         TellsFault K.may_tell (reply_of result) (K.fault_count keep.old)
         (K.fault_count keep.new)) }
-    ensures lasts { IfReplied (reply_of result)
-        (Lasts K.is_clean K.is_sound keep.old keep.new) }
+    ensures lasts { UnlessReplyFailed (reply_of result)
+        (StaysClean K.is_clean K.is_sound keep.old keep.new) }
 {
     match request {
         Request::Lodge { key, due, file } => Ok(DeskReply::Lodged(lodge(
@@ -220,8 +220,8 @@ fn answer_registrar<K: Keep>(
     ensures told { Promised K.shows K.is_clean keep.old keep.new (λ r.
         TellsFault K.may_tell (reply_of result) (K.fault_count keep.old)
         (K.fault_count keep.new)) }
-    ensures lasts { IfReplied (reply_of result)
-        (Lasts K.is_clean K.is_sound keep.old keep.new) }
+    ensures lasts { UnlessReplyFailed (reply_of result)
+        (StaysClean K.is_clean K.is_sound keep.old keep.new) }
 {
     match request {
         Request::Day { date } => Ok(DeskReply::Day(advance(keep, *date)?)),
@@ -277,7 +277,7 @@ pub fn answer_naming<K: Keep>(
     ensures told { Promised K.shows K.is_clean keep.old keep.new (λ r.
         TellsFault K.may_tell result.reply (K.fault_count keep.old)
         (K.fault_count keep.new)) }
-    ensures up { IfReplied result.reply (K.is_sound keep.new → K.is_clean keep.new) }
+    ensures up { UnlessReplyFailed result.reply (K.is_sound keep.new → K.is_clean keep.new) }
 {
     match keep.who(token) {
         Err(fault) => named(None, Err(DeskFault::Failed(fault))),
@@ -296,7 +296,7 @@ pub fn answer_naming<K: Keep>(
 /// agent asks for the registrar's doing; `NotAgent` where the registrar asks for anything else;
 /// then the operation's own. A refusal leaves the register as it was, and so does `Failed`. No call
 /// of the keep is made that the request doesn't need. A keep whose store has shut, or shuts
-/// meanwhile, is answered for by `Failed` alone.
+/// meanwhile, is answered for by `Failed` alone, if the store has returned what was written.
 ///
 /// What is left is said of every register, and so is what is told, but for snapshots: what one
 /// tells is said of registers whose agents stand in order of their names, as every legal one's do.
@@ -314,7 +314,7 @@ pub fn answer<K: Keep>(alloc: Global, keep: &mut K, token: &Token, request: &Req
     ensures told { Promised K.shows K.is_clean keep.old keep.new (λ r.
         TellsFault K.may_tell result (K.fault_count keep.old)
         (K.fault_count keep.new)) }
-    ensures up { IfReplied result (K.is_sound keep.new → K.is_clean keep.new) }
+    ensures up { UnlessReplyFailed result (K.is_sound keep.new → K.is_clean keep.new) }
     ensures legal { Promised K.shows K.is_clean keep.old keep.new (λ r.
         IsLegal r → (left : Register) × K.shows keep.new left × IsLegal left) }
 {

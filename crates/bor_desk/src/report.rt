@@ -4,9 +4,9 @@ ghost use Rattle.std.specs.Prelude.{◌≡◌, ◌++◌, ℕ, List, Some, IfOk, 
 ghost use Rattle.serde_json.specs.Written.{compact_text};
 ghost use Rattle.bor_terms.specs.Day.{IsSpelling};
 ghost use Rattle.bor_records.specs.Links.Rows.{shown_of};
-ghost use Rattle.bor_records.specs.Promises.{Kept, Lasts, Promised};
+ghost use Rattle.bor_records.specs.Promises.{Kept, StaysClean, Promised};
 ghost use Rattle.bor_desk.specs.Operations.Sight.{seen_by};
-ghost use Rattle.bor_desk.specs.Operations.Outcomes.{IfAnswered, IsAccounted, TellsFaultOf};
+ghost use Rattle.bor_desk.specs.Operations.Outcomes.{UnlessFailed, IsAccounted, TellsFaultOf};
 ghost use Rattle.bor_desk.specs.Refusals.{failed};
 ghost use Rattle.bor_desk.specs.Step.{chains_answer};
 ghost use Rattle.bor_desk.specs.Outcomes.{AreFound};
@@ -38,7 +38,7 @@ pub(crate) fn persons_seen<K: Keep>(
         (K.fault_count keep.new) }
     ensures told { Promised K.shows K.is_clean keep.old keep.new (λ r.
         TellsFaultOf failed K.may_tell result (K.fault_count keep.old) (K.fault_count keep.new)) }
-    ensures lasts { IfAnswered failed result (Lasts K.is_clean K.is_sound keep.old keep.new) }
+    ensures lasts { UnlessFailed failed result (StaysClean K.is_clean K.is_sound keep.old keep.new) }
 {
     let mut source = KeepSource::new(keep, viewer, day);
     Ok(persons_of(alloc, &mut source, entity)?)
@@ -134,7 +134,7 @@ pub fn report_text<K: Keep>(
         (K.fault_count keep.new) }
     ensures told { Promised K.shows K.is_clean keep.old keep.new (λ r.
         TellsFaultOf Some K.may_tell result (K.fault_count keep.old) (K.fault_count keep.new)) }
-    ensures lasts { IfAnswered Some result (Lasts K.is_clean K.is_sound keep.old keep.new) }
+    ensures lasts { UnlessFailed Some result (StaysClean K.is_clean K.is_sound keep.old keep.new) }
 {
     match persons_seen(alloc, keep, viewer, entity, day) {
         Ok(persons) => Ok(persons_text(alloc, entity, day, &persons)?),

@@ -7,13 +7,14 @@ ghost use Rattle.bor_records.specs.Promises.{Kept, Promised};
 ghost use Rattle.bor_register.specs.Register.{Register};
 ghost use Rattle.bor_register.specs.declared.fault.StoreFault.{StoreFault};
 ghost use Rattle.bor_desk.specs.Operations.Legality.{IsLegal};
-ghost use Rattle.bor_desk.specs.Operations.Outcomes.{IsFaultOf, MayTell};
+ghost use Rattle.bor_desk.specs.Operations.Outcomes.{IsFaultOf, IsTellable};
 ghost use Rattle.bor_program.specs.Connections.Serving.{IsServed, IsServedOver};
 ghost use Rattle.bor_program.specs.Connections.Streams.{IsOf};
 ghost use Rattle.bor_program.specs.declared.connections.limits.Limits.{Limits};
 ghost use Rattle.bor_wire.specs.Spelling.Spell.{Spelled};
 ghost use Rattle.bor_wire.specs.Histories.{IsAlone};
 ghost use Rattle.bor_wire.specs.Reports.{AreReports};
+ghost use Rattle.bor_wire.specs.Turns.{InTurn};
 ghost use Rattle.bor_wire.specs.Runs.{AreReplies, AreSpelled, full, register_left, served};
 ghost use Rattle.bor_program.specs.Deeds.{ComesToBe, Deed, Closes, Fails, Moves, Opens};
 ghost use Rattle.bor_program.specs.Failures.{IsOpeningOf};
@@ -61,8 +62,8 @@ impl<R: Files> NamedFiles for R {
     }
 }
 
-/// A register that is open, whatever keeps it. What it shows and when it is clean are as a keep's
-/// are.
+/// A register that is open, whatever keeps it. What it shows, and when it is sound and clean, are
+/// as a keep's are.
 pub trait OpenRegister {
     /// The state shows this register.
     ghost shows: { Self → Register → Type 0 };
@@ -73,7 +74,7 @@ pub trait OpenRegister {
     /// What keeps it has returned what was written. It may have shut since.
     ghost is_sound: { Self → Type 0 };
 
-    /// A call that led from one state to another told this fault.
+    /// A call led from one state to another, and may have told this fault.
     ghost tells: { Self → StoreFault → Self → Type 0 };
 
     /// So many connections of this listener were served within these limits, which led from one
@@ -112,6 +113,8 @@ pub trait OpenRegister {
             (spelled : List Spelled)
             → AreSpelled (served (map (λ v. v.items) inputs.now) replies.items) spelled →
             AreReports r spelled (full replies.items))) }
+        ensures in_turn { IfOk result (λ replies. InTurn shows is_clean is_sound self.old self.new
+            (map (λ v. v.items) inputs.now) replies.items) }
         ensures err { OnErr result (Kept shows is_clean self.old self.new) };
 
     /// The text that tells who stands behind an entity.
@@ -155,7 +158,7 @@ impl<K: Keep> OpenRegister for K {
 
     ghost tells = { λ old fault new. IsFaultOf (K.fault_count old) (K.fault_count new) fault
         × Promised K.shows K.is_clean old new (λ r.
-        MayTell K.may_tell (K.fault_count old) (K.fault_count new) fault) };
+        IsTellable K.may_tell (K.fault_count old) (K.fault_count new) fault) };
 
     ghost serves = { λ _ _ _ _ _ _. ⊤ };
 

@@ -1,5 +1,5 @@
 -- One read after another.
-use Rattle.bor_records.specs.Promises.{Kept, Lasts}
+use Rattle.bor_records.specs.Promises.{Kept, StaysClean}
 
 pub kept_then : {S V : Type 0} (shows : S → V → Type 0) (is_clean : S → Type 0) (a b c : S) → Kept shows is_clean a b → Kept shows is_clean b c → Kept shows is_clean a c
 kept_then shows is_clean a b c p q = record {
@@ -8,11 +8,11 @@ kept_then shows is_clean a b c p q = record {
 }
 
 -- what is asked of no call
-pub same_lasts : {S : Type 0} (is_clean is_sound : S → Type 0) (a : S) → Lasts is_clean is_sound a a
+pub same_lasts : {S : Type 0} (is_clean is_sound : S → Type 0) (a : S) → StaysClean is_clean is_sound a a
 same_lasts is_clean is_sound a = record { sound = λ sound. sound; clean = λ sound clean. clean }
 
 -- one answer after the other
-pub lasts_then : {S : Type 0} (is_clean is_sound : S → Type 0) (a b c : S) → Lasts is_clean is_sound a b → Lasts is_clean is_sound b c → Lasts is_clean is_sound a c
+pub lasts_then : {S : Type 0} (is_clean is_sound : S → Type 0) (a b c : S) → StaysClean is_clean is_sound a b → StaysClean is_clean is_sound b c → StaysClean is_clean is_sound a c
 lasts_then is_clean is_sound a b c first second = record {
   sound = λ sound. first.sound (second.sound sound);
   clean = λ sound clean. second.clean sound (first.clean (second.sound sound) clean);

@@ -1,4 +1,4 @@
--- What the calls of a keep or of a source promise: nothing of a state that shows no value or doesn't end clean.
+-- What the calls of a keep or of a source promise. What is shown, answered and told is said where a value was shown and the call ends clean; the count of faults, and what stays clean, of any.
 use Rattle.std.specs.Prelude.{◌≡◌, ◌↔◌, ℕ, ◌+◌, ◌%◌, ◌^◌, Result, Ok, Err, IfOk, IfErr}
 
 -- The later state shows what the earlier one did, and no more. A state that ends clean began clean.
@@ -6,8 +6,8 @@ pub record Kept {S V : Type 0} (shows : S → V → Type 0) (is_clean : S → Ty
   pub began : is_clean new → is_clean old
   pub same : is_clean new → (v : V) → shows old v ↔ shows new v
 
--- What was asked from the earlier state to the later one was answered. Where the store of the later one has returned what was written, so had that of the earlier one, and the later one is clean if the earlier one was.
-pub record Lasts {S : Type 0} (is_clean is_sound : S → Type 0) (old new : S) : Type 0 where
+-- Where the store of the later state has returned what was written, so had that of the earlier one, and the later one is clean if the earlier one was.
+pub record StaysClean {S : Type 0} (is_clean is_sound : S → Type 0) (old new : S) : Type 0 where
   pub sound : is_sound new → is_sound old
   pub clean : is_sound new → is_clean old → is_clean new
 
@@ -32,7 +32,7 @@ left_by (Err e) changed v = v
 -- What a read promises: what was shown is shown, an answer leaves a clean state clean, a fault adds one to the count and is one that may be told, and P holds of an answer.
 pub record Reads {S V T F : Type 0} (shows : S → V → Type 0) (is_clean is_sound : S → Type 0) (faults : S → ℕ) (may_tell : F → Type 0) (old new : S) (result : Result T F) (P : V → T → Type 0) : Type 0 where
   pub kept : Kept shows is_clean old new
-  pub lasts : IfOk result (λ x. Lasts is_clean is_sound old new)
+  pub lasts : IfOk result (λ x. StaysClean is_clean is_sound old new)
   pub counts : faults new ≡ counted result (faults old)
   pub told : Promised shows is_clean old new (λ v. IfErr result may_tell)
   pub answer : Promised shows is_clean old new (λ v. IfOk result (P v))
@@ -40,7 +40,7 @@ pub record Reads {S V T F : Type 0} (shows : S → V → Type 0) (is_clean is_so
 -- What a change promises: what was shown is now what the change makes of it, or as it was where a fault is answered. A fault adds one to the count and is one that may be told, a state that ends clean began clean, and an answer leaves a clean state clean.
 pub record Changes {S V T F : Type 0} (shows : S → V → Type 0) (is_clean is_sound : S → Type 0) (faults : S → ℕ) (may_tell : F → Type 0) (old new : S) (result : Result T F) (change : V → V) : Type 0 where
   pub began : is_clean new → is_clean old
-  pub lasts : IfOk result (λ x. Lasts is_clean is_sound old new)
+  pub lasts : IfOk result (λ x. StaysClean is_clean is_sound old new)
   pub counts : faults new ≡ counted result (faults old)
   pub told : Promised shows is_clean old new (λ v. IfErr result may_tell)
   pub changed : Promised shows is_clean old new (λ v. shows new (left_by result (change v) v))

@@ -75,7 +75,7 @@ fn fault_of(error: Error) -> StoreFault
     }
 }
 
-#[tactic(auto, using(bor_store_reads::proofs::Found::still_shows, crate::proofs::Kept::still_kept, crate::proofs::Lasting::lasts_told, crate::proofs::Lasting::up_told, crate::proofs::Undamaged::undamaged_told, crate::proofs::Undamaged::undamaged_made))]
+#[tactic(auto, using(bor_store_reads::proofs::Found::still_shows, crate::proofs::Kept::still_kept, crate::proofs::Lasting::lasts_told, crate::proofs::Lasting::up_told, crate::proofs::Undamaged::undamaged_told))]
 impl<S: Alter + Drop> Keep for SqlKeep<S> {
     ghost shows = { λ k r. ShowsIn r (state S.Store k.conn) };
 

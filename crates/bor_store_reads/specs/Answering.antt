@@ -31,7 +31,7 @@ pub record ReadsOnly (old new : State) : Type 0 where
 abbrev pub Answers : {X : Type 0} → State → State → Result X ReadError → (Register → X → Type 0) → Type 0
 Answers old new result P = IsClean new → (r : Register) → ShowsIn r old → MatchResult result (P r) IsNoDamage
 
--- A read: it changes nothing, and this holds of what it answers of the register that is shown. Where it answers, a connection that was open is open.
+-- A read: it changes nothing, and this holds of what it answers of the register that is shown. Where it answers, a connection that was open is open, if its disk has returned what was written.
 pub record ReadsAs {X : Type 0} (old new : State) (result : Result X ReadError) (P : Register → X → Type 0) : Type 0 where
   pub reads : ReadsOnly old new
   pub up : IfOk result (λ x. StaysUp old new)

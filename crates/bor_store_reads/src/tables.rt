@@ -117,7 +117,8 @@ fn placed<S: Alter>(conn: &mut Connection<S>, alloc: Global) -> Result<Vec<Place
     )?)
 }
 
-/// Whether there are more live statements than so many. It is told by a connection that is open.
+/// Whether there are more live statements than so many. It is told by a connection that is open, if
+/// its disk has returned what was written.
 pub fn has_more<S: Alter>(conn: &mut Connection<S>, most: u32) -> Result<bool, ReadError>
     requires { conn.old.in_transaction ≡ false }
     ensures reads { ReadsAs (state S.Store conn.old) (state S.Store conn.new) result (λ r more.

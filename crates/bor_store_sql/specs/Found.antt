@@ -14,7 +14,7 @@ use Rattle.bor_store_sql.specs.Shown.{IsClean, IsUp, ShowsIn, ShowsLists}
 abbrev pub IsQuery : List ℕ → Type 0
 IsQuery text = (schema : Schema) → Returns (understood schema text) → ⊥
 
--- A query was asked of what the last commit left, which it leaves, or a fault is answered. Rows come from a connection that is open.
+-- A query was asked of what the last commit left, which it leaves, or a fault is answered. Rows come from a connection that is open, if its disk has returned what was written.
 pub record Asked (text : List ℕ) (params : Row) (old new : State) (result : Result (Vec Row Global) Error) : Type 0 where
   pub clean : HasCleanDisk new → HasCleanDisk old
   pub up : IfOk result (λ rows. IsUp new)

@@ -11,7 +11,7 @@ use Rattle.bor_wire.specs.declared.outcome.Outcome.{Outcome}
 use Rattle.bor_wire.specs.declared.outcome.Outcome.TheVariants.{Replied, ReadFailed, WriteFailed}
 use Rattle.bor_wire.specs.declared.outgoing.Outgoing.{Outgoing}
 use Rattle.bor_wire.specs.declared.outgoing.Outgoing.TheVariants as outgoing
-use Rattle.bor_wire.specs.Exchanges.{ByOutgoing, HasStatus, IfAnswered, IfRefused, IsResponse, IsSpelled, IsSent, IsExchanged, IsWritten, IsWrittenBy, TellsUnavailable, TellsRefusal, WithoutReply, OnRefusal, status_told}
+use Rattle.bor_wire.specs.Exchanges.{ByOutgoing, HasStatus, UnlessUnavailable, IfRefused, IsResponse, IsSpelled, IsSent, IsExchanged, IsWritten, IsWrittenBy, TellsUnavailable, TellsRefusal, WithoutReply, OnRefusal, status_told}
 use Rattle.bor_wire.proofs.HistoryLaws.{alone}
 use Rattle.bor_wire.proofs.ReportLaws.{exact}
 
@@ -148,10 +148,10 @@ responded shows is_clean old new input (outgoing.Full status bytes) h sure = λ 
 responded shows is_clean old new input outgoing.Unavailable h sure = λ r is clean ordered.
     response_unavailable (shows new) r input (h r is clean)
 
--- ---- whom the store answers
+-- ---- where a request is answered
 
 -- what was written of a reply with this status
-pub written_answers : (P : Type 0) (outcome : Outcome) (status : ℕ) (bytes : List ℕ) (old new : Option (List ℕ)) → IsWritten outcome status bytes old new → (status ≢ 503 → P) → IfAnswered outcome P
+pub written_answers : (P : Type 0) (outcome : Outcome) (status : ℕ) (bytes : List ℕ) (old new : Option (List ℕ)) → IsWritten outcome status bytes old new → (status ≢ 503 → P) → UnlessUnavailable outcome P
 written_answers P (Replied told) status bytes old new w h = λ other. h (λ e. other (w.0 ∙ e))
 written_answers P ReadFailed status bytes old new w h = tt
 written_answers P (WriteFailed told) status bytes old new w h = λ other. h (λ e. other (w.0 ∙ e))

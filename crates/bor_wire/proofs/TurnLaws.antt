@@ -1,5 +1,5 @@
 -- Laws of exchanges in turn.
-use Rattle.std.proofs.Common.{◌≡◌, ℕ, List, [], ◌∷◌, ◌++◌, append_assoc, Bool, Some, Ok, Err, IsTrue, not, refl, sym, subst, arith}
+use Rattle.std.proofs.Common.{◌≡◌, ℕ, List, [], ◌∷◌, ◌++◌, append_assoc, Some, Ok, IsTrue, not, refl, sym, subst, arith}
 use Rattle.std.specs.Prelude.{◌≢◌, ◌==◌}
 use Rattle.std.proofs.lemmas.Bool.Decides.{nat_tests}
 use Rattle.bor_records.specs.Promises.{Promised}
@@ -9,10 +9,9 @@ use Rattle.bor_wire.specs.declared.outcome.Outcome.TheVariants.{Replied, ReadFai
 use Rattle.bor_wire.specs.declared.outgoing.Outgoing.{Outgoing}
 use Rattle.bor_wire.specs.declared.replies.Reply.{Reply}
 use Rattle.bor_wire.specs.declared.replies.Reply.TheVariants.{Full, Unavailable}
-use Rattle.bor_wire.specs.Spelling.Spell.{Spelled, Spells}
-use Rattle.bor_wire.specs.Exchanges.{IfAnswered, IfAsked, IsResponse, OnSpelled, bytes_out, status_out}
+use Rattle.bor_wire.specs.Exchanges.{UnlessUnavailable, IfAsked, IsResponse, OnSpelled, bytes_out, status_out}
 use Rattle.bor_wire.specs.Sequences.{AreExchanged, Exchanged, IsNext, IsRun, is_answered, keep_left}
-use Rattle.bor_wire.specs.Turns.{AnswersAreRuns, AreOpen, AreTurns, FrontsAreRuns, HasStatusOf, IfReplied, InTurn, IsOpen, IsOpenTurn, IsTurn, TakesTurn, sent_as}
+use Rattle.bor_wire.specs.Turns.{AnswersAreRuns, AllAnswerClean, AreTurns, FrontsAreRuns, HasStatusOf, IfWholeReply, InTurn, AnswersClean, TurnAnswersClean, IsTurn, TakesTurn, sent_as}
 use Rattle.bor_wire.proofs.Outgoings.{asked_so}
 use Rattle.bor_wire.proofs.SequenceLaws.{a_run}
 
@@ -38,17 +37,17 @@ left_more : {K : Type 0} (keep : K) (es : List (Exchanged K)) (e : Exchanged K) 
 left_more keep [] e = refl
 left_more keep (x ∷ es) e = left_more x.keep es e
 
-pub open_more : {K : Type 0} (is_clean is_sound : K → Type 0) (es : List (Exchanged K)) (e : Exchanged K) → AreOpen is_clean is_sound es → IsOpen is_clean is_sound e → AreOpen is_clean is_sound (es ++ e ∷ [])
+pub open_more : {K : Type 0} (is_clean is_sound : K → Type 0) (es : List (Exchanged K)) (e : Exchanged K) → AllAnswerClean is_clean is_sound es → AnswersClean is_clean is_sound e → AllAnswerClean is_clean is_sound (es ++ e ∷ [])
 open_more is_clean is_sound [] e h one = (one, tt)
 open_more is_clean is_sound (x ∷ es) e h one = (h.0, open_more is_clean is_sound es e h.1 one)
 
 -- a reply with another status than 503 is whole
-replied_so : (P : Type 0) (reply : Reply) (status : ℕ) → HasStatusOf reply status → IfReplied reply P → status ≢ 503 → P
+replied_so : (P : Type 0) (reply : Reply) (status : ℕ) → HasStatusOf reply status → IfWholeReply reply P → status ≢ 503 → P
 replied_so P (Full bytes) status is h other = h
 replied_so P Unavailable status is h other = absurd (other is)
 
 pub in_turn_more : {K : Type 0} (shows : K → Register → Type 0) (is_clean is_sound : K → Type 0) (old mid new : K) (inputs : List (List ℕ)) (replies : List Reply) (input : List ℕ) (reply : Reply)
-    → InTurn shows is_clean is_sound old mid inputs replies → (is_clean new → is_clean mid) → TakesTurn shows is_clean mid new input reply → IsOpenTurn is_clean is_sound new input reply
+    → InTurn shows is_clean is_sound old mid inputs replies → (is_clean new → is_clean mid) → TakesTurn shows is_clean mid new input reply → TurnAnswersClean is_clean is_sound new input reply
     → InTurn shows is_clean is_sound old new (inputs ++ input ∷ []) (replies ++ reply ∷ [])
 in_turn_more {K} shows is_clean is_sound old mid new inputs replies input reply h began one up =
     let e : Exchanged K = record { known = Some input; outcome = Replied one.status; held = Some []; holds = Some (sent_as reply); keep = new } in
@@ -56,7 +55,7 @@ in_turn_more {K} shows is_clean is_sound old mid new inputs replies input reply 
       exchanges = h.exchanges ++ e ∷ [];
       turns = turns_more inputs replies h.exchanges input reply e h.turns (record { status = one.status; status_is = one.status_is; outcome = refl; known = refl; held = refl; holds = refl });
       each = exchanged_more shows is_clean old h.exchanges e h.each (subst (λ k. IsNext shows is_clean k e) (sym h.left) (record { began = began; exchanged = one.exchanged }));
-      are_open = open_more is_clean is_sound h.exchanges e h.are_open (λ spelled spells. asked_so _ _ spelled (replied_so (is_sound new → is_clean new) reply one.status one.status_is) (up spelled spells));
+      answer_clean = open_more is_clean is_sound h.exchanges e h.answer_clean (λ spelled spells. asked_so _ _ spelled (replied_so (is_sound new → is_clean new) reply one.status one.status_is) (up spelled spells));
       left = left_more old h.exchanges e;
     }
 
@@ -87,14 +86,14 @@ fronts shows is_clean keep front rest h = a_run shows is_clean keep front (front
 not_unavailable : (status : ℕ) → IsTrue (not (status == 503)) → status ≢ 503
 not_unavailable status h = grind (arith, nat_tests)
 
-answered_so : (P : Type 0) (o : Outcome) → IsTrue (is_answered o) → IfAnswered o P → P
+answered_so : (P : Type 0) (o : Outcome) → IsTrue (is_answered o) → UnlessUnavailable o P → P
 answered_so P (Replied status) answered h = h (not_unavailable status answered)
 answered_so P ReadFailed answered h = absurd cc
 answered_so P (WriteFailed status) answered h = h (not_unavailable status answered)
 
 pub answers : {K : Type 0} (shows : K → Register → Type 0) (is_clean is_sound : K → Type 0) → AnswersAreRuns shows is_clean is_sound
 answers shows is_clean is_sound keep front e rest each up answered sound r is legal =
-    let spelled = (subst (λ known. OnSpelled known (λ s. IfAsked s (IfAnswered e.outcome (is_sound e.keep → is_clean e.keep)))) answered.known up) (Ok answered.asked) answered.spells in
+    let spelled = (subst (λ known. OnSpelled known (λ s. IfAsked s (UnlessUnavailable e.outcome (is_sound e.keep → is_clean e.keep)))) answered.known up) (Ok answered.asked) answered.spells in
     let clean = answered_so (is_sound e.keep → is_clean e.keep) e.outcome answered.answered spelled sound in
     let last = left_more keep front e in
     subst (λ k. IsRun (shows k) r (front ++ e ∷ [])) last

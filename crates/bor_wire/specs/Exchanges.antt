@@ -141,7 +141,7 @@ bytes_out outgoing.Unavailable = UNAVAILABLE.now
 abbrev pub IsResponse : (Register → Type 0) → Register → List ℕ → Outgoing → Type 0
 IsResponse shown r input out = IsExchanged (Replied (status_out out)) shown r (Some input) (Some []) (Some (bytes_out out))
 
--- ---- whom the store answers
+-- ---- where a request is answered
 
 -- P, where a request is spelled
 abbrev pub IfAsked : Spelled → Type 0 → Type 0
@@ -153,15 +153,16 @@ abbrev pub IfFull : Outgoing → Type 0 → Type 0
 IfFull (outgoing.Full status bytes) P = P
 IfFull outgoing.Unavailable P = Unit {0}
 
+-- P, where there is one
 abbrev pub IfWhole : Option Outgoing → Type 0 → Type 0
 IfWhole (Some out) P = IfFull out P
 IfWhole None P = Unit {0}
 
 -- P, where the reply has another status than 503
-abbrev pub IfAnswered : Outcome → Type 0 → Type 0
-IfAnswered (Replied status) P = status ≢ 503 → P
-IfAnswered ReadFailed P = Unit {0}
-IfAnswered (WriteFailed status) P = status ≢ 503 → P
+abbrev pub UnlessUnavailable : Outcome → Type 0 → Type 0
+UnlessUnavailable (Replied status) P = status ≢ 503 → P
+UnlessUnavailable ReadFailed P = Unit {0}
+UnlessUnavailable (WriteFailed status) P = status ≢ 503 → P
 
 -- ---- whom it is for
 

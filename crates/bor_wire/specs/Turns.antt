@@ -8,7 +8,7 @@ use Rattle.bor_wire.specs.declared.rendering.reply.TheConstants.{UNAVAILABLE}
 use Rattle.bor_wire.specs.declared.replies.Reply.{Reply}
 use Rattle.bor_wire.specs.declared.replies.Reply.TheVariants.{Full, Unavailable}
 use Rattle.bor_desk.specs.Runs.{Asked}
-use Rattle.bor_wire.specs.Exchanges.{IfAnswered, IfAsked, IsExchanged, OnSpelled}
+use Rattle.bor_wire.specs.Exchanges.{UnlessUnavailable, IfAsked, IsExchanged, OnSpelled}
 use Rattle.bor_wire.specs.Spelling.Spell.{Spelled, Spells}
 use Rattle.bor_wire.specs.Refused.{IsFull}
 use Rattle.bor_wire.specs.Sequences.{AreExchanged, Exchanged, IsRun, is_answered, keep_left}
@@ -38,20 +38,21 @@ AreTurns [] [] [] = Unit {0}
 AreTurns (input ∷ inputs) (reply ∷ replies) (e ∷ rest) = IsTurn input reply e × AreTurns inputs replies rest
 AreTurns inputs replies exchanges = ⊥
 
--- a request is answered with another status than 503 only where the keep is clean after it, if its store has returned what was written by then
-abbrev pub IsOpen : {K : Type 0} → (K → Type 0) → (K → Type 0) → Exchanged K → Type 0
-IsOpen is_clean is_sound e = OnSpelled e.known (λ spelled. IfAsked spelled (IfAnswered e.outcome (is_sound e.keep → is_clean e.keep)))
+-- A request is answered with another status than 503 only where the keep is clean after it, if its store has returned what was written by then.
+abbrev pub AnswersClean : {K : Type 0} → (K → Type 0) → (K → Type 0) → Exchanged K → Type 0
+AnswersClean is_clean is_sound e = OnSpelled e.known (λ spelled. IfAsked spelled (UnlessUnavailable e.outcome (is_sound e.keep → is_clean e.keep)))
 
-abbrev pub AreOpen : {K : Type 0} → (K → Type 0) → (K → Type 0) → List (Exchanged K) → Type 0
-AreOpen is_clean is_sound [] = Unit {0}
-AreOpen is_clean is_sound (e ∷ rest) = IsOpen is_clean is_sound e × AreOpen is_clean is_sound rest
+-- each of them does
+abbrev pub AllAnswerClean : {K : Type 0} → (K → Type 0) → (K → Type 0) → List (Exchanged K) → Type 0
+AllAnswerClean is_clean is_sound [] = Unit {0}
+AllAnswerClean is_clean is_sound (e ∷ rest) = AnswersClean is_clean is_sound e × AllAnswerClean is_clean is_sound rest
 
 -- The replies to the inputs are those of exchanges one after the other, the first from the old keep, each from the keep that the one before it left, and the last leaves the new one.
 pub record InTurn {K : Type 0} (shows : K → Register → Type 0) (is_clean is_sound : K → Type 0) (old new : K) (inputs : List (List ℕ)) (replies : List Reply) : Type 0 where
   pub exchanges : List (Exchanged K)
   pub turns : AreTurns inputs replies exchanges
   pub each : AreExchanged shows is_clean old exchanges
-  pub are_open : AreOpen is_clean is_sound exchanges
+  pub answer_clean : AllAnswerClean is_clean is_sound exchanges
   pub left : keep_left old exchanges ≡ new
 
 -- Each front of exchanges in turn is a run, where the keep after it is clean: whatever becomes of the keep later on, as where its store fails.
@@ -60,28 +61,28 @@ FrontsAreRuns {K} shows is_clean = (keep : K) (front rest : List (Exchanged K)) 
     Promised shows is_clean keep (keep_left keep front) (λ r. IsLegal r → IsRun (shows (keep_left keep front)) r front)
 
 -- a request was answered, with another status than 503
-pub record IsAnswered {K : Type 0} (e : Exchanged K) : Type 0 where
+pub record IsRequestAnswered {K : Type 0} (e : Exchanged K) : Type 0 where
   pub input : List ℕ
   pub known : e.known ≡ Some input
   pub asked : Asked
   pub spells : Spells input (Ok asked)
   pub answered : IsTrue (is_answered e.outcome)
 
--- Exchanges in turn up to a request that was answered are a run, if the store had returned what was written by then: whatever becomes of it later on, as where it shuts.
+-- From a legal register that was shown, exchanges in turn up to a request that was answered, of which `AnswersClean` holds, are a run, if the store had returned what was written by then: whatever becomes of it later on, as where it shuts.
 abbrev pub AnswersAreRuns : {K : Type 0} → (K → Register → Type 0) → (K → Type 0) → (K → Type 0) → Type 0
 AnswersAreRuns {K} shows is_clean is_sound = (keep : K) (front : List (Exchanged K)) (e : Exchanged K) (rest : List (Exchanged K)) → AreExchanged shows is_clean keep (front ++ e ∷ rest) →
-    IsOpen is_clean is_sound e → IsAnswered e → is_sound e.keep → (r : Register) → shows keep r → IsLegal r → IsRun (shows e.keep) r (front ++ e ∷ [])
+    AnswersClean is_clean is_sound e → IsRequestAnswered e → is_sound e.keep → (r : Register) → shows keep r → IsLegal r → IsRun (shows e.keep) r (front ++ e ∷ [])
 
 -- ---- for clauses of private functions alone
 
 -- P, where there is a whole reply
-abbrev pub IfReplied : Reply → Type 0 → Type 0
-IfReplied (Full bytes) P = P
-IfReplied Unavailable P = Unit {0}
+abbrev pub IfWholeReply : Reply → Type 0 → Type 0
+IfWholeReply (Full bytes) P = P
+IfWholeReply Unavailable P = Unit {0}
 
--- the same of one reply, and the keep after it
-abbrev pub IsOpenTurn : {K : Type 0} → (K → Type 0) → (K → Type 0) → K → List ℕ → Reply → Type 0
-IsOpenTurn is_clean is_sound new input reply = (spelled : Spelled) → Spells input spelled → IfAsked spelled (IfReplied reply (is_sound new → is_clean new))
+-- `AnswersClean` of one reply, and the keep after it
+abbrev pub TurnAnswersClean : {K : Type 0} → (K → Type 0) → (K → Type 0) → K → List ℕ → Reply → Type 0
+TurnAnswersClean is_clean is_sound new input reply = (spelled : Spelled) → Spells input spelled → IfAsked spelled (IfWholeReply reply (is_sound new → is_clean new))
 
 -- one reply, as an exchange between these keeps
 pub record TakesTurn {K : Type 0} (shows : K → Register → Type 0) (is_clean : K → Type 0) (old new : K) (input : List ℕ) (reply : Reply) : Type 0 where

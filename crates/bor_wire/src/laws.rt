@@ -86,10 +86,10 @@ pub fn fronts_are_runs<K: Keep>()
     ensures { FrontsAreRuns K.shows K.is_clean }
 {}
 
-/// Exchanges one after the other are a run up to each request that was answered with another status
-/// than 503, if the keep's store had returned what was written by then. So where a store shuts, the
-/// replies before keep their promises, and no request is answered any more: `in_turn` of
-/// [`replay`](crate::replay) gives such exchanges, with the keep after each.
+/// Exchanges one after the other, from a keep of a legal register, are a run up to each request
+/// that was answered with another status than 503, if the keep's store had returned what was
+/// written by then. So where a store shuts, the replies before keep their promises. That no request
+/// is answered behind it says `in_turn` of [`replay`](crate::replay), which gives such exchanges.
 pub fn answers_are_runs<K: Keep>()
     ensures { AnswersAreRuns K.shows K.is_clean K.is_sound }
 {}

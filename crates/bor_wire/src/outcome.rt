@@ -5,7 +5,7 @@ ghost use Rattle.bor_records.specs.Promises.{Promised};
 ghost use Rattle.bor_register.specs.Register.{IsOrdered};
 ghost use Rattle.bor_http.specs.Incoming.Message.{request_limit};
 ghost use Rattle.bor_http.specs.Incoming.Reading.{TakesAtMost};
-ghost use Rattle.bor_wire.specs.Exchanges.{IfAnswered, IfAsked, IfRefused, IsExchanged, IsWritten, OnRefusal, OnSpelled, TellsRefusal, TellsUnavailable, WithoutReply, read_faults, write_faults};
+ghost use Rattle.bor_wire.specs.Exchanges.{UnlessUnavailable, IfAsked, IfRefused, IsExchanged, IsWritten, OnRefusal, OnSpelled, TellsRefusal, TellsUnavailable, WithoutReply, read_faults, write_faults};
 
 use crate::outgoing::{Outgoing, read_reply};
 use crate::rendering::UNAVAILABLE;
@@ -47,9 +47,8 @@ fn write_reply<W: Write>(writer: &mut Counted<W>, status: u16, bytes: &[u8]) -> 
 /// register left is the one after it. With 503 they are [`UNAVAILABLE`], and nothing changed.
 ///
 /// Of any keep it is said that 503 has [`UNAVAILABLE`] written, which refusal an input is told that
-/// spells no request, and that a request has another status than 503 only where the keep ends clean,
-/// if its store has returned what was written: one that has shut answers 503. Of a keep that ends
-/// clean it is said
+/// spells no request, and that a request has another status than 503 only where the keep ends
+/// clean, if its store has returned what was written. Of a keep that ends clean it is said
 /// - of any register: that a status of 400 or more, or a failed read, changes nothing;
 /// - of registers whose agents stand in order of their names, as every legal one's do: which reply
 ///   is written and which register is left;
@@ -76,7 +75,7 @@ pub fn exchange<K: Keep, R: Read, W: Write>(
     ensures refused_kept { Promised K.shows K.is_clean keep.old keep.new (λ r.
         IfRefused result (K.shows keep.new r)) }
     ensures up { OnSpelled (R.remaining reader.old.inner) (λ spelled. IfAsked spelled
-        (IfAnswered result (K.is_sound keep.new → K.is_clean keep.new))) }
+        (UnlessUnavailable result (K.is_sound keep.new → K.is_clean keep.new))) }
     ensures unavailable { TellsUnavailable result (W.contents writer.old.inner)
         (W.contents writer.new.inner) }
     ensures refused { OnRefusal (R.remaining reader.old.inner) (λ why.

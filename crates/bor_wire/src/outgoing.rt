@@ -70,7 +70,7 @@ pub struct Response {
 
 /// Answers the request in these bytes: an [`exchange`](crate::exchange) over them, whose reply
 /// stays in memory. It names the agent that is answered. A keep whose store has shut, or shuts
-/// meanwhile, answers a request with 503.
+/// meanwhile, answers a request with 503, if the store has returned what was written.
 pub fn respond<K: Keep>(alloc: Global, paths: &Paths, keep: &mut K, input: &[u8]) -> Response
     ensures began { K.is_clean keep.new → K.is_clean keep.old }
     ensures exchanged { Promised K.shows K.is_clean keep.old keep.new (λ r.

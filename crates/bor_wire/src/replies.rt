@@ -10,7 +10,7 @@ ghost use Rattle.bor_wire.specs.Runs.{AreReplies, AreSpelled, ByReply, register_
 ghost use Rattle.bor_wire.specs.Reports.{AreReports};
 ghost use Rattle.bor_wire.specs.Refused.{RefusalsLeave};
 ghost use Rattle.bor_wire.specs.Histories.{IsAlone};
-ghost use Rattle.bor_wire.specs.Turns.{InTurn, IsOpenTurn, TakesTurn};
+ghost use Rattle.bor_wire.specs.Turns.{InTurn, TurnAnswersClean, TakesTurn};
 
 use crate::outgoing::{Outgoing, read_reply};
 use crate::rendering::UNAVAILABLE;
@@ -99,7 +99,7 @@ fn reply_to<K: Keep>(alloc: Global, paths: &Paths, keep: &mut K, input: &[u8]) -
         IsOrdered r.members → IsReplyTo r spelled bytes × K.shows keep.new (after r spelled)))
         (Promised K.shows K.is_clean keep.old keep.new (K.shows keep.new)) }
     ensures turn { TakesTurn K.shows K.is_clean keep.old keep.new input.now result }
-    ensures up { IsOpenTurn K.is_clean K.is_sound keep.new input.now result }
+    ensures up { TurnAnswersClean K.is_clean K.is_sound keep.new input.now result }
 {
     let mut reader = Counted::new(input);
     let (_, outgoing) = read_reply(alloc, paths, keep, &mut reader);
@@ -117,11 +117,12 @@ fn reply_to<K: Keep>(alloc: Global, paths: &Paths, keep: &mut K, input: &[u8]) -
 /// entity in what the caller sees; and a reply with a status of 400 or more leaves the register as
 /// it was.
 ///
-/// This is said of a keep that ends clean. Of one that doesn't, as where its store shut at some
-/// input, it holds up to the last request that was answered: the replies are those of exchanges in
-/// turn, and up to each request that was answered these are a run of their own, if the store had
-/// returned what was written by then ([`answers_are_runs`](crate::laws::answers_are_runs)). So from
-/// the input on at which the store shut, each is told 503, or the refusal that its bytes spell.
+/// This is said of a keep that ends clean. Of any other, as where its store shut at some input, it
+/// holds up to the last request that was answered: the replies are those of exchanges in turn, and
+/// up to each request that was answered these are a run of their own, if the store had returned
+/// what was written by then ([`answers_are_runs`](crate::laws::answers_are_runs)). From the input
+/// on at which the store shut, each is told 503, or the refusal that its bytes spell, if the store
+/// has returned what was written.
 ///
 /// # Errors
 ///

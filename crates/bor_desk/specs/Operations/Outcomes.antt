@@ -43,7 +43,7 @@ abbrev pub IsOutcome : {A E : Type 0} → (E → Option StoreFault) → Result A
 IsOutcome store (Ok answer) shown r o = (o.answer ≡ Ok answer) × shown o.register
 IsOutcome store (Err fault) shown r o = ByStore (store fault) ((o.answer ≡ Err fault) × shown o.register) (λ f. shown r)
 
--- A fault of the store is told as what it is: want of memory, where the keep's count of faults hasn't moved; one of the keep, where it has.
+-- A fault of the store is want of memory where the keep's count of faults hasn't moved. Which one it may be where it has, `IsTellable` says.
 abbrev pub IsFaultOf : ℕ → ℕ → StoreFault → Type 0
 IsFaultOf before after fault = ((fault ≡ Memory) × (after ≡ before)) ⊎ (after ≢ before)
 
@@ -52,14 +52,14 @@ abbrev pub IsAccounted : {A E : Type 0} → (E → Option StoreFault) → Result
 IsAccounted store (Ok answer) before after = after ≡ before
 IsAccounted store (Err fault) before after = ByStore (store fault) (after ≡ before) (IsFaultOf before after)
 
--- the same, where the one of the keep is one that it may tell
-abbrev pub MayTell : (StoreFault → Type 0) → ℕ → ℕ → StoreFault → Type 0
-MayTell may_tell before after fault = ((fault ≡ Memory) × (after ≡ before)) ⊎ (may_tell fault × (after ≢ before))
+-- A fault of the store is want of memory where the keep's count of faults hasn't moved, and one that the keep may tell where it has.
+abbrev pub IsTellable : (StoreFault → Type 0) → ℕ → ℕ → StoreFault → Type 0
+IsTellable may_tell before after fault = ((fault ≡ Memory) × (after ≡ before)) ⊎ (may_tell fault × (after ≢ before))
 
 -- a fault of the store is such a one
 abbrev pub TellsFaultOf : {A E : Type 0} → (E → Option StoreFault) → (StoreFault → Type 0) → Result A E → ℕ → ℕ → Type 0
 TellsFaultOf store may_tell (Ok answer) before after = Unit {0}
-TellsFaultOf store may_tell (Err fault) before after = ByStore (store fault) (Unit {0}) (MayTell may_tell before after)
+TellsFaultOf store may_tell (Err fault) before after = ByStore (store fault) (Unit {0}) (IsTellable may_tell before after)
 
 -- a call that asks the keep alone moves the count where it answers a fault
 abbrev pub IsCounted : {A : Type 0} → Result A StoreFault → ℕ → ℕ → Type 0
@@ -67,9 +67,9 @@ IsCounted (Ok answer) before after = after ≡ before
 IsCounted (Err fault) before after = after ≢ before
 
 -- P, where the answer is no fault of the store
-abbrev pub IfAnswered : {A E : Type 0} → (E → Option StoreFault) → Result A E → Type 0 → Type 0
-IfAnswered store (Ok answer) P = P
-IfAnswered store (Err fault) P = ByStore (store fault) P (λ f. Unit {0})
+abbrev pub UnlessFailed : {A E : Type 0} → (E → Option StoreFault) → Result A E → Type 0 → Type 0
+UnlessFailed store (Ok answer) P = P
+UnlessFailed store (Err fault) P = ByStore (store fault) P (λ f. Unit {0})
 
 -- ---- parts of an operation, for clauses of private functions alone
 

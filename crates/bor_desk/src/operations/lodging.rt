@@ -9,12 +9,12 @@ ghost use Rattle.bor_register.specs.declared.filing.AcceptedFiling.{AcceptedFili
 ghost use Rattle.bor_register.specs.Register.{Register, is_enrolled, filings_of, filing_keyed};
 ghost use Rattle.bor_register.specs.Live.{accepted, live_of};
 ghost use Rattle.bor_register.specs.Publication.{state_of_live, line_of};
-ghost use Rattle.bor_records.specs.Promises.{Kept, Lasts, Promised, Reads, Sure};
+ghost use Rattle.bor_records.specs.Promises.{Kept, StaysClean, Promised, Reads, Sure};
 ghost use Rattle.bor_desk.specs.declared.operations.fault.LodgeFault.TheVariants as lodge_faults;
 ghost use Rattle.bor_register.specs.Limits.{filings_limit};
 ghost use Rattle.bor_desk.specs.Operations.Earlier.{AreFound};
 ghost use Rattle.bor_desk.specs.Operations.Lodging.{as_read, told_settled, told_verdict, settled_reading, repeated, addition, lodge_step};
-ghost use Rattle.bor_desk.specs.Operations.Outcomes.{of_lodging, IsOutcome, IfAnswered, IsAccounted, TellsFaultOf, IsDone, IsMade};
+ghost use Rattle.bor_desk.specs.Operations.Outcomes.{of_lodging, IsOutcome, UnlessFailed, IsAccounted, TellsFaultOf, IsDone, IsMade};
 ghost use Rattle.bor_desk.specs.Operations.Legality.{IsLegal};
 ghost use Rattle.bor_desk.specs.Operations.Sight.{sight_of};
 
@@ -110,8 +110,8 @@ fn settled_status<K: Keep>(
     ensures told { Promised K.shows K.is_clean keep.old keep.new (λ r.
         TellsFaultOf of_lodging K.may_tell result (K.fault_count keep.old)
         (K.fault_count keep.new)) }
-    ensures lasts { IfAnswered of_lodging result
-        (Lasts K.is_clean K.is_sound keep.old keep.new) }
+    ensures lasts { UnlessFailed of_lodging result
+        (StaysClean K.is_clean K.is_sound keep.old keep.new) }
     ensures answer { Promised K.shows K.is_clean keep.old keep.new (λ r.
         (live : List Live) → AreFound live earlier.now →
         IsDone of_lodging (λ status. status) result (told_verdict place
@@ -142,8 +142,8 @@ fn settle<K: Keep>(
     ensures told { Promised K.shows K.is_clean keep.old keep.new (λ r.
         TellsFaultOf of_lodging K.may_tell result (K.fault_count keep.old)
         (K.fault_count keep.new)) }
-    ensures lasts { IfAnswered of_lodging result
-        (Lasts K.is_clean K.is_sound keep.old keep.new) }
+    ensures lasts { UnlessFailed of_lodging result
+        (StaysClean K.is_clean K.is_sound keep.old keep.new) }
     ensures answer { Promised K.shows K.is_clean keep.old keep.new (λ r.
         IsDone of_lodging (λ _. statements.new) result
         (told_settled (settled (live_of (filings_of agent.now r.members)) due statements.old))) }
@@ -173,8 +173,8 @@ fn settled<K: Keep>(
     ensures told { Promised K.shows K.is_clean keep.old keep.new (λ r.
         TellsFaultOf of_lodging K.may_tell result (K.fault_count keep.old)
         (K.fault_count keep.new)) }
-    ensures lasts { IfAnswered of_lodging result
-        (Lasts K.is_clean K.is_sound keep.old keep.new) }
+    ensures lasts { UnlessFailed of_lodging result
+        (StaysClean K.is_clean K.is_sound keep.old keep.new) }
     ensures answer { Promised K.shows K.is_clean keep.old keep.new (λ r.
         IsDone of_lodging (λ statements. statements.items) result
         (settled_reading (live_of (filings_of agent.now r.members)) due (reading bytes.now))) }
@@ -199,8 +199,8 @@ fn repeat<K: Keep>(
     ensures told { Promised K.shows K.is_clean keep.old keep.new (λ r.
         TellsFaultOf of_lodging K.may_tell result (K.fault_count keep.old)
         (K.fault_count keep.new)) }
-    ensures lasts { IfAnswered of_lodging result
-        (Lasts K.is_clean K.is_sound keep.old keep.new) }
+    ensures lasts { UnlessFailed of_lodging result
+        (StaysClean K.is_clean K.is_sound keep.old keep.new) }
     ensures answer { Promised K.shows K.is_clean keep.old keep.new (λ r.
         (f : AcceptedFiling) → filing_keyed key.now (filings_of agent.now r.members) ≡ Some f →
         line.now ≡ line_of r.day f
@@ -225,8 +225,8 @@ fn day_for<K: Keep>(keep: &mut K, agent: &AgentName, due: Day) -> Result<Day, Lo
     ensures told { Promised K.shows K.is_clean keep.old keep.new (λ r.
         TellsFaultOf of_lodging K.may_tell result (K.fault_count keep.old)
         (K.fault_count keep.new)) }
-    ensures lasts { IfAnswered of_lodging result
-        (Lasts K.is_clean K.is_sound keep.old keep.new) }
+    ensures lasts { UnlessFailed of_lodging result
+        (StaysClean K.is_clean K.is_sound keep.old keep.new) }
     ensures answer { Promised K.shows K.is_clean keep.old keep.new (λ r.
         IsDone of_lodging (λ day. day) result
         (if nat_le filings_limit (length (filings_of agent.now r.members))
@@ -264,8 +264,8 @@ fn prepare<K: Keep>(
     ensures told { Promised K.shows K.is_clean keep.old keep.new (λ r.
         TellsFaultOf of_lodging K.may_tell result (K.fault_count keep.old)
         (K.fault_count keep.new)) }
-    ensures lasts { IfAnswered of_lodging result
-        (Lasts K.is_clean K.is_sound keep.old keep.new) }
+    ensures lasts { UnlessFailed of_lodging result
+        (StaysClean K.is_clean K.is_sound keep.old keep.new) }
     ensures answer { Promised K.shows K.is_clean keep.old keep.new (λ r.
         (key : List ℕ) → IsDone of_lodging
         (λ new. accepted (filings_of agent.now r.members) key due bytes.now new.statements.items)
@@ -303,8 +303,8 @@ fn lodge_new<K: Keep>(
     ensures told { Promised K.shows K.is_clean keep.old keep.new (λ r.
         TellsFaultOf of_lodging K.may_tell result (K.fault_count keep.old)
         (K.fault_count keep.new)) }
-    ensures lasts { IfAnswered of_lodging result
-        (Lasts K.is_clean K.is_sound keep.old keep.new) }
+    ensures lasts { UnlessFailed of_lodging result
+        (StaysClean K.is_clean K.is_sound keep.old keep.new) }
 {
     let new = prepare(alloc, keep, agent, due, bytes)?;
     let number = keep.add_filing(agent, key, due, bytes, &new.statements)?;
@@ -347,8 +347,8 @@ pub fn lodge<K: Keep>(
     ensures told { Promised K.shows K.is_clean keep.old keep.new (λ r.
         TellsFaultOf of_lodging K.may_tell result (K.fault_count keep.old)
         (K.fault_count keep.new)) }
-    ensures lasts { IfAnswered of_lodging result
-        (Lasts K.is_clean K.is_sound keep.old keep.new) }
+    ensures lasts { UnlessFailed of_lodging result
+        (StaysClean K.is_clean K.is_sound keep.old keep.new) }
     ensures legal { Promised K.shows K.is_clean keep.old keep.new (λ r.
         IsLegal r → (left : Register) × K.shows keep.new left × IsLegal left) }
 {

@@ -2,9 +2,9 @@
 
 ghost use Rattle.std.specs.Prelude.{◌≡◌};
 ghost use Rattle.bor_register.specs.Register.{Register, is_taken};
-ghost use Rattle.bor_records.specs.Promises.{Lasts, Promised, Reads};
+ghost use Rattle.bor_records.specs.Promises.{StaysClean, Promised, Reads};
 ghost use Rattle.bor_desk.specs.Operations.Registrar.{advance_step, enrol_step};
-ghost use Rattle.bor_desk.specs.Operations.Outcomes.{of_advance, of_enrolment, IsOutcome, IfAnswered, IsAccounted, TellsFaultOf};
+ghost use Rattle.bor_desk.specs.Operations.Outcomes.{of_advance, of_enrolment, IsOutcome, UnlessFailed, IsAccounted, TellsFaultOf};
 ghost use Rattle.bor_desk.specs.Operations.Legality.{IsLegal};
 
 use crate::operations::fault::{AdvanceFault, EnrolFault};
@@ -25,8 +25,8 @@ pub fn advance<K: Keep>(keep: &mut K, day: Day) -> Result<Day, AdvanceFault>
     ensures told { Promised K.shows K.is_clean keep.old keep.new (λ r.
         TellsFaultOf of_advance K.may_tell result (K.fault_count keep.old)
         (K.fault_count keep.new)) }
-    ensures lasts { IfAnswered of_advance result
-        (Lasts K.is_clean K.is_sound keep.old keep.new) }
+    ensures lasts { UnlessFailed of_advance result
+        (StaysClean K.is_clean K.is_sound keep.old keep.new) }
     ensures legal { Promised K.shows K.is_clean keep.old keep.new (λ r.
         IsLegal r → (left : Register) × K.shows keep.new left × IsLegal left) }
 {
@@ -61,8 +61,8 @@ pub fn enrol<K: Keep>(keep: &mut K, name: AgentName, token: Token) -> Result<Age
     ensures told { Promised K.shows K.is_clean keep.old keep.new (λ r.
         TellsFaultOf of_enrolment K.may_tell result (K.fault_count keep.old)
         (K.fault_count keep.new)) }
-    ensures lasts { IfAnswered of_enrolment result
-        (Lasts K.is_clean K.is_sound keep.old keep.new) }
+    ensures lasts { UnlessFailed of_enrolment result
+        (StaysClean K.is_clean K.is_sound keep.old keep.new) }
     ensures legal { Promised K.shows K.is_clean keep.old keep.new (λ r.
         IsLegal r → (left : Register) × K.shows keep.new left × IsLegal left) }
 {

@@ -3,10 +3,10 @@
 ghost use Rattle.std.specs.Prelude.{◌≡◌, Some, IfOk, option_map};
 ghost use Rattle.bor_register.specs.Register.{Register, filings_of, filing_keyed};
 ghost use Rattle.bor_register.specs.Publication.{line_of};
-ghost use Rattle.bor_records.specs.Promises.{Kept, Lasts, Promised};
+ghost use Rattle.bor_records.specs.Promises.{Kept, StaysClean, Promised};
 ghost use Rattle.bor_desk.specs.Operations.Sight.{sight_of};
 ghost use Rattle.bor_desk.specs.Operations.Withdrawing.{line_withdrawn, withdrawal, withdraw_step};
-ghost use Rattle.bor_desk.specs.Operations.Outcomes.{of_withdrawal, IsOutcome, IfAnswered, IsAccounted, TellsFaultOf, IsDone};
+ghost use Rattle.bor_desk.specs.Operations.Outcomes.{of_withdrawal, IsOutcome, UnlessFailed, IsAccounted, TellsFaultOf, IsDone};
 ghost use Rattle.bor_desk.specs.Operations.Legality.{IsLegal};
 
 use crate::operations::fault::WithdrawFault;
@@ -26,8 +26,8 @@ fn withdrawable<K: Keep>(
     ensures told { Promised K.shows K.is_clean keep.old keep.new (λ r.
         TellsFaultOf of_withdrawal K.may_tell result (K.fault_count keep.old)
         (K.fault_count keep.new)) }
-    ensures lasts { IfAnswered of_withdrawal result
-        (Lasts K.is_clean K.is_sound keep.old keep.new) }
+    ensures lasts { UnlessFailed of_withdrawal result
+        (StaysClean K.is_clean K.is_sound keep.old keep.new) }
     ensures answer { Promised K.shows K.is_clean keep.old keep.new (λ r.
         IsDone of_withdrawal line_withdrawn result
         (withdrawal (sight_of agent.now r) key.now)) }
@@ -67,8 +67,8 @@ pub fn withdraw<K: Keep>(
     ensures told { Promised K.shows K.is_clean keep.old keep.new (λ r.
         TellsFaultOf of_withdrawal K.may_tell result (K.fault_count keep.old)
         (K.fault_count keep.new)) }
-    ensures lasts { IfAnswered of_withdrawal result
-        (Lasts K.is_clean K.is_sound keep.old keep.new) }
+    ensures lasts { UnlessFailed of_withdrawal result
+        (StaysClean K.is_clean K.is_sound keep.old keep.new) }
     ensures legal { Promised K.shows K.is_clean keep.old keep.new (λ r.
         IsLegal r → (left : Register) × K.shows keep.new left × IsLegal left) }
 {

@@ -6,7 +6,7 @@ use Rattle.bor_wire.specs.declared.outgoing.Outgoing.{Outgoing}
 use Rattle.bor_wire.specs.declared.outgoing.Outgoing.TheVariants.{Full, Unavailable}
 use Rattle.bor_wire.specs.declared.outcome.Outcome.TheVariants.{Replied}
 use Rattle.bor_wire.specs.Spelling.Spell.{Spelled, Spells}
-use Rattle.bor_wire.specs.Exchanges.{IfAnswered, IfAsked, IfFull, IsResponse, status_out}
+use Rattle.bor_wire.specs.Exchanges.{UnlessUnavailable, IfAsked, IfFull, IsResponse, status_out}
 use Rattle.bor_wire.proofs.Exchanged.{response_unavailable}
 use Rattle.bor_wire.proofs.Outgoings.{asked_all, asked_so}
 use Rattle.bor_program.specs.Connections.Serving.{Answer, IsServing, answer_of}
@@ -21,7 +21,7 @@ same_step shows is_clean is_sound remaining contents keep this that same = λ st
     subst (λ l. IsServing shows is_clean is_sound (IsOf remaining contents) start keep (l ++ others) connections pending absent told) (sym same) before
 
 -- a whole reply is an answer
-full_answers : (P : Type 0) (reply : Outgoing) → IfFull reply P → IfAnswered (Replied (status_out reply)) P
+full_answers : (P : Type 0) (reply : Outgoing) → IfFull reply P → UnlessUnavailable (Replied (status_out reply)) P
 full_answers P (Full status bytes) h = λ other. h
 full_answers P Unavailable h = λ other. absurd (other refl)
 

@@ -14,7 +14,7 @@ use Rattle.bor_desk.specs.Operations.Legality.{IsLegal}
 use Rattle.bor_wire.specs.declared.outcome.Outcome.TheVariants.{Replied}
 use Rattle.bor_wire.specs.Exchanges.{IsExchanged}
 use Rattle.bor_wire.specs.Sequences.{AreExchanged, Exchanged, IsRun, keep_left}
-use Rattle.bor_wire.specs.Turns.{AreOpen, IsOpen}
+use Rattle.bor_wire.specs.Turns.{AllAnswerClean, AnswersClean}
 use Rattle.bor_wire.proofs.SequenceLaws.{a_run}
 use Rattle.bor_wire.proofs.TurnLaws.{open_more}
 use Rattle.bor_program.specs.Connections.Serving.{Answer, Answered, Ended, IsServed, IsServedAs, IsServing, absent_in, answers_in, exchange_of, exchanges_of, has_failed, is_absent, told_in, told_on}
@@ -51,7 +51,7 @@ nothing_served shows is_clean is_sound Is keep connections = record {
   ended = [];
   count = omega arith;
   each = tt;
-  are_open = tt;
+  answer_clean = tt;
   left = refl;
   told_once = IsPermutation-refl [];
   ended_so = All-nil Is;
@@ -63,7 +63,7 @@ nothing_served shows is_clean is_sound Is keep connections = record {
 pub answers : {K : Type 0} (shows : K → Register → Type 0) (is_clean is_sound : K → Type 0) (Is : Ended → Type 0) (old keep new : K) (telling : List Answer) (connections pending absent told : ℕ) (answer : Answer)
     → IsServing shows is_clean is_sound Is old keep telling connections pending absent told → (is_clean new → is_clean keep)
     → Promised shows is_clean keep new (λ r. IsLegal r → IsExchanged (Replied answer.status) (shows new) r (Some answer.request) (Some []) (Some answer.reply))
-    → IsOpen is_clean is_sound (exchange_of (record { answer = answer; keep = new }))
+    → AnswersClean is_clean is_sound (exchange_of (record { answer = answer; keep = new }))
     → IsServing shows is_clean is_sound Is old new (answer ∷ telling) connections pending absent told
 answers {K} shows is_clean is_sound Is old keep new telling connections pending absent told answer h began exchanged up =
     let one : Answered K = record { answer = answer; keep = new } in
@@ -77,7 +77,7 @@ answers {K} shows is_clean is_sound Is old keep new telling connections pending 
       ended = h.ended;
       count = h.count;
       each = subst (AreExchanged shows is_clean old) (sym more) each;
-      are_open = subst (AreOpen is_clean is_sound) (sym more) (open_more is_clean is_sound es (exchange_of one) h.are_open up);
+      answer_clean = subst (AllAnswerClean is_clean is_sound) (sym more) (open_more is_clean is_sound es (exchange_of one) h.answer_clean up);
       left = ap (keep_left old) more ∙ left_more old es (exchange_of one);
       told_once = subst (λ l. IsPermutation l (answer ∷ telling ++ told_in h.ended)) (sym front) (
           IsPermutation-trans (answers_in h.answered ++ answer ∷ []) (answer ∷ answers_in h.answered) (answer ∷ (telling ++ told_in h.ended))
@@ -98,7 +98,7 @@ ends shows is_clean is_sound Is old keep telling rest connections pending left a
   ended = ended ++ h.ended;
   count = omega (arith, h.count, count, length-append ended h.ended);
   each = h.each;
-  are_open = h.are_open;
+  answer_clean = h.answer_clean;
   left = h.left;
   told_once =
       subst (IsPermutation (answers_in h.answered)) (append_assoc rest (told_in ended) (told_in h.ended) ∙ ap (λ l. rest ++ l) (sym (told_in-append ended h.ended)))
@@ -130,7 +130,7 @@ served_by_any shows is_clean is_sound Is old new connections told h = record {
     ended = h.served.ended;
     count = h.served.count;
     each = h.served.each;
-    are_open = h.served.are_open;
+    answer_clean = h.served.answer_clean;
     left = h.served.left;
     told_once = h.served.told_once;
     ended_so = All-weaker Is _ (λ e is. tt) h.served.ended h.served.ended_so;

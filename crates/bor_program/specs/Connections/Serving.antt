@@ -9,7 +9,7 @@ use Rattle.bor_wire.specs.declared.outcome.Outcome.TheVariants.{Replied}
 use Rattle.bor_wire.specs.declared.outgoing.Outgoing.{Outgoing}
 use Rattle.bor_wire.specs.Exchanges.{bytes_out, status_out}
 use Rattle.bor_wire.specs.Sequences.{AreExchanged, Exchanged, IsRun, keep_left}
-use Rattle.bor_wire.specs.Turns.{AreOpen}
+use Rattle.bor_wire.specs.Turns.{AllAnswerClean}
 use Rattle.bor_program.specs.Connections.Watching.{Act, AreDone, IsExcused}
 
 -- ---- what was answered
@@ -80,13 +80,13 @@ told_in (e ∷ rest) = told_on e ++ told_in rest
 
 -- ---- the server
 
--- Of so many connections some have ended, and some are pending, on which these answers are still being told. The requests were answered one after the other, each from the keep that the one before it left, and none with another status than 503 by a store that has shut; each answer is told on one connection, and on no other. On so many no client came. `Is` holds of how each connection ended.
+-- Of so many connections some have ended, and some are pending, on which these answers are still being told. The requests were answered one after the other, each from the keep that the one before it left. A request has another status than 503 only where the keep after it is clean, if its store has returned what was written by then. Each answer is told on one connection, and on no other. On so many no client came. `Is` holds of how each connection ended.
 pub record IsServing {K : Type 0} (shows : K → Register → Type 0) (is_clean is_sound : K → Type 0) (Is : Ended → Type 0) (old new : K) (telling : List Answer) (connections pending absent told : ℕ) : Type 0 where
   pub answered : List (Answered K)
   pub ended : List Ended
   pub count : length ended + pending ≡ connections
   pub each : AreExchanged shows is_clean old (exchanges_of answered)
-  pub are_open : AreOpen is_clean is_sound (exchanges_of answered)
+  pub answer_clean : AllAnswerClean is_clean is_sound (exchanges_of answered)
   pub left : keep_left old (exchanges_of answered) ≡ new
   pub told_once : IsPermutation (answers_in answered) (telling ++ told_in ended)
   pub ended_so : All Is ended

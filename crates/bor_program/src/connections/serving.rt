@@ -45,9 +45,8 @@ where
 
 /// Serves this many connections of a listener, up to 256 at once, and gives 0, or 3 where one
 /// failed: it couldn't be let in, its request didn't come in time, its reply wasn't taken in time,
-/// or the reply was 503, as each is where the store has shut. A connection that fails is one of
-/// them. Where a client comes in and all places are taken, the one that was idle for the longest
-/// gives way.
+/// or the reply was 503. A connection that fails is one of them. Where a client comes in and all
+/// places are taken, the one that was idle for the longest gives way.
 ///
 /// A request is answered as soon as it is whole, or its client has ended it. The listener doesn't
 /// block. A wait for a client may last for ever, where no other is there. Nothing else waits for

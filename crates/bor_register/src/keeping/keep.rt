@@ -28,7 +28,7 @@ use bor_terms::{AgentName, Day, Ident, LodgeKey, Token};
 /// open), and asks for something only where it shows one and is clean. A read leaves what is shown
 /// (`Reads`); a change makes what it says of it (`Changes`); a fault leaves it, and adds one to
 /// `faults`. While the store returns what was written (`is_sound`), an answer leaves a clean keep
-/// clean, and who has a token is told by a clean one alone: a store that has shut tells it nobody.
+/// clean, and who has a token is told by a clean one alone: a store that has shut tells a fault.
 pub trait Keep {
     /// The state shows this register.
     ghost shows: { Self → Register → Type 0 };

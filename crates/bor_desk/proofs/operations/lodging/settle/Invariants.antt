@@ -2,7 +2,7 @@ use Rattle.std.proofs.Common.{◌≡◌, map, take}
 use Rattle.bor_records.specs.Settling.{as_live, settled}
 use Rattle.bor_register.specs.Register.{filings_of}
 use Rattle.bor_register.specs.Live.{live_of}
-use Rattle.bor_records.specs.Promises.{Kept, Lasts, Promised}
+use Rattle.bor_records.specs.Promises.{Kept, StaysClean, Promised}
 use Rattle.bor_desk.specs.Operations.Earlier.{AreFound}
 use Rattle.bor_desk.proofs.OnOperations.Lodgings.{so_far}
 use Rattle.bor_desk.proofs.operations.lodging.settle.Given as goal
@@ -13,7 +13,7 @@ invariant-loop-i g l =
     let keep = g.K.Keep in
     record {
       kept : Kept keep.shows keep.is_clean l.fn.keep l.keep;
-      lasts : Lasts keep.is_clean keep.is_sound l.fn.keep l.keep;
+      lasts : StaysClean keep.is_clean keep.is_sound l.fn.keep l.keep;
       counted : keep.fault_count l.keep ≡ keep.fault_count l.fn.keep;
       found : AreFound (map (as_live l.due) (take l.i l.statements)) l.earlier;
       done : Promised keep.shows keep.is_clean l.fn.keep l.keep (λ r.
