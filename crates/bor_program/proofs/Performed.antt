@@ -128,16 +128,16 @@ no_two : (n : ℕ) → IsServersEnd n → n ≡ 2 → ⊥
 no_two n (inl h) e = absurd (omega (arith, h, e))
 no_two n (inr h) e = absurd (omega (arith, h, e))
 
-sent_refusal : {M K : Type 0} (Reads : Bor Words → List ℕ → Type 0) (shows : K → Register → Type 0) (is_clean : K → Type 0) (does : M → Deed K → M → Type 0) (begun ended : M) (asked : Exchanging) (output printed errors told : Known)
-    → Exchanges Reads shows is_clean does begun ended asked output printed errors told 1 → TellsRefusal output printed
-sent_refusal Reads shows is_clean does begun ended asked output printed errors told p = elim p.sent.1 [
+sent_refusal : {M K : Type 0} (Reads : Bor Words → List ℕ → Type 0) (shows : K → Register → Type 0) (is_clean is_sound : K → Type 0) (does : M → Deed K → M → Type 0) (begun ended : M) (asked : Exchanging) (output printed errors told : Known)
+    → Exchanges Reads shows is_clean is_sound does begun ended asked output printed errors told 1 → TellsRefusal output printed
+sent_refusal Reads shows is_clean is_sound does begun ended asked output printed errors told p = elim p.sent.1 [
   | inl h ↦ inr (p.sent.0, sym h.1, h.0)
   | inr h ↦ absurd (omega (arith, h.1))
 ]
 
-sent_unusual : {M K : Type 0} (Reads : Bor Words → List ℕ → Type 0) (shows : K → Register → Type 0) (is_clean : K → Type 0) (does : M → Deed K → M → Type 0) (begun ended : M) (asked : Exchanging) (output printed errors told : Known)
-    → Exchanges Reads shows is_clean does begun ended asked output printed errors told 2 → ⊥
-sent_unusual Reads shows is_clean does begun ended asked output printed errors told p = elim p.sent.1 [
+sent_unusual : {M K : Type 0} (Reads : Bor Words → List ℕ → Type 0) (shows : K → Register → Type 0) (is_clean is_sound : K → Type 0) (does : M → Deed K → M → Type 0) (begun ended : M) (asked : Exchanging) (output printed errors told : Known)
+    → Exchanges Reads shows is_clean is_sound does begun ended asked output printed errors told 2 → ⊥
+sent_unusual Reads shows is_clean is_sound does begun ended asked output printed errors told p = elim p.sent.1 [
   | inl h ↦ no_usage _ (replies_end p.sent.0) (sym h.1)
   | inr h ↦ absurd (omega (arith, h.1))
 ]
@@ -147,7 +147,7 @@ one_refusal : {M K : Type 0} (Reads : Bor Words → List ℕ → Type 0) (Hosts 
 one_refusal Reads Hosts shows is_clean is_sound tells does begun ended (Check source) input rest output printed errors told p = text_refuses _ output printed p.1.report.1
 one_refusal Reads Hosts shows is_clean is_sound tells does begun ended (Exchange asked) input rest output printed errors told p = elim p.1 [
   | inl h ↦ absurd (omega (arith, h.status_is))
-  | inr h ↦ sent_refusal Reads shows is_clean does begun ended h.0 output printed errors told h.2
+  | inr h ↦ sent_refusal Reads shows is_clean is_sound does begun ended h.0 output printed errors told h.2
 ]
 one_refusal Reads Hosts shows is_clean is_sound tells does begun ended (Serve asked) input rest output printed errors told p = absurd (no_one 1 (serves_end _ _ _ _ _ _ _ asked _ _ _ _ _ p.1) refl)
 one_refusal Reads Hosts shows is_clean is_sound tells does begun ended (Report asked) input rest output printed errors told p = text_refuses p.1.text.0 output printed p.1.text.1
@@ -158,7 +158,7 @@ two_fault : {M K : Type 0} (Reads : Bor Words → List ℕ → Type 0) (Hosts : 
 two_fault Reads Hosts shows is_clean is_sound tells does begun ended (Check source) input rest output printed errors told p = text_unusual _ output printed p.1.report.1
 two_fault Reads Hosts shows is_clean is_sound tells does begun ended (Exchange asked) input rest output printed errors told p = elim p.1 [
   | inl h ↦ absurd (omega (arith, h.status_is))
-  | inr h ↦ sent_unusual Reads shows is_clean does begun ended h.0 output printed errors told h.2
+  | inr h ↦ sent_unusual Reads shows is_clean is_sound does begun ended h.0 output printed errors told h.2
 ]
 two_fault Reads Hosts shows is_clean is_sound tells does begun ended (Serve asked) input rest output printed errors told p = no_two 2 (serves_end _ _ _ _ _ _ _ asked _ _ _ _ _ p.1) refl
 two_fault Reads Hosts shows is_clean is_sound tells does begun ended (Report asked) input rest output printed errors told p = text_unusual p.1.text.0 output printed p.1.text.1

@@ -16,7 +16,7 @@ use Rattle.bor_program.specs.Reporting.{EndsTelling}
 use Rattle.bor_program.specs.Program.{exit_code, report_status}
 use Rattle.bor_program.specs.Replying.{AreAnswers, IsSentOrCutOff, EndsFiles, EndsSending, is_refusal, replies_status, reply_status, sent}
 use Rattle.bor_program.specs.Streams.{AppendsPart}
-use Rattle.bor_records.specs.Promises.{Kept, Promised}
+use Rattle.bor_records.specs.Promises.{Promised}
 use Rattle.bor_register.specs.Register.{Register}
 use Rattle.bor_desk.specs.Operations.Legality.{IsLegal}
 use Rattle.bor_wire.specs.Spelling.Spell.{Spelled}
@@ -25,6 +25,7 @@ use Rattle.bor_wire.specs.Refused.{IsFull}
 use Rattle.bor_wire.specs.Rendering.Heads.{status_line}
 use Rattle.bor_wire.specs.Reports.{AreReports}
 use Rattle.bor_wire.specs.Runs.{AreReplies, AreSpelled, full, register_left, served}
+use Rattle.bor_wire.specs.Turns.{InTurn}
 use Rattle.bor_program.proofs.Ends.{part_none}
 use Rattle.bor_program.proofs.FilesRead.{none_read}
 use Rattle.bor_program.proofs.KnownBytes.{IsWritten}
@@ -118,29 +119,31 @@ sent_as P Q Reads names last before after code e wider h =
 
 -- ---- what is answered of a register
 
--- nothing was answered, and the register is as it was
-pub none_answered : {K : Type 0} (shows : K → Register → Type 0) (is_clean : K → Type 0) (opened left : K) → Kept shows is_clean opened left
-    → AreAnswers shows is_clean opened left [] []
-none_answered shows is_clean opened left kept = record {
-  began = kept.began;
+none_yet : {K : Type 0} (shows : K → Register → Type 0) (is_clean is_sound : K → Type 0) (state : K) → AreAnswers shows is_clean is_sound state state [] []
+none_yet shows is_clean is_sound state = record {
+  began = λ clean. clean;
   answers = λ r shown clean legal. record {
     replies_to = record { count = refl; spelled = []; spells = tt; replied = tt; alone = λ name. tt; reports = tt };
-    left = (kept.same clean r).0 shown;
+    left = shown;
   };
+  in_turn = record { exchanges = []; turns = tt; each = tt; answer_clean = tt; left = refl };
 }
 
-pub kept_same : {K : Type 0} (shows : K → Register → Type 0) (is_clean : K → Type 0) (state : K) → Kept shows is_clean state state
-kept_same shows is_clean state = record { began = λ clean. clean; same = λ clean r. (λ shown. shown, λ shown. shown) }
+-- nothing was answered, and the register is as it was
+pub none_answered : {K : Type 0} (shows : K → Register → Type 0) (is_clean is_sound : K → Type 0) (opened left : K) → left ≡ opened
+    → AreAnswers shows is_clean is_sound opened left [] []
+none_answered shows is_clean is_sound opened left same =
+    subst (λ k. AreAnswers shows is_clean is_sound opened k [] []) (sym same) (none_yet shows is_clean is_sound opened)
 
 -- what is said of all that the inputs spell is said of them
-pub all_answered : {K : Type 0} (shows : K → Register → Type 0) (is_clean : K → Type 0) (opened left : K) (inputs : List (List ℕ)) (replies : List Reply)
+pub all_answered : {K : Type 0} (shows : K → Register → Type 0) (is_clean is_sound : K → Type 0) (opened left : K) (inputs : List (List ℕ)) (replies : List Reply)
     → (is_clean left → is_clean opened) → length replies ≡ length inputs → ((spelled : List Spelled) × AreSpelled (served inputs replies) spelled)
     → Promised shows is_clean opened left (λ r. IsLegal r → (spelled : List Spelled) → AreSpelled (served inputs replies) spelled → AreReplies r spelled (full replies))
     → Promised shows is_clean opened left (λ r. IsLegal r → (spelled : List Spelled) → AreSpelled (served inputs replies) spelled → shows left (register_left r spelled))
     → Promised shows is_clean opened left (λ r. IsLegal r → (spelled : List Spelled) → AreSpelled (served inputs replies) spelled → (name : List ℕ) → IsAlone name r spelled (full replies))
     → Promised shows is_clean opened left (λ r. IsLegal r → (spelled : List Spelled) → AreSpelled (served inputs replies) spelled → AreReports r spelled (full replies))
-    → AreAnswers shows is_clean opened left inputs replies
-all_answered shows is_clean opened left inputs replies began count spelled are leaves alone reports = record {
+    → InTurn shows is_clean is_sound opened left inputs replies → AreAnswers shows is_clean is_sound opened left inputs replies
+all_answered shows is_clean is_sound opened left inputs replies began count spelled are leaves alone reports turns = record {
   began = began;
   answers = λ r shown clean legal. record {
     replies_to = record {
@@ -153,6 +156,7 @@ all_answered shows is_clean opened left inputs replies began count spelled are l
     };
     left = leaves r shown clean legal spelled.0 spelled.1;
   };
+  in_turn = turns;
 }
 
 -- ---- exit statuses

@@ -56,12 +56,12 @@ pub record FailsToOpen {M K : Type 0} (does : M → Deed K → M → Type 0) (be
   pub line : AppendsPart errors told (failure_line failure)
 
 -- Replies are printed, from the register that was opened on, to what is read of the files. Where the run doesn't fail, they are those to one input a file. Nothing is told but of files that can't be read, and of want of memory.
-pub record ExchangesFrom {K : Type 0} (Reads : Bor Words → List ℕ → Type 0) (shows : K → Register → Type 0) (is_clean : K → Type 0) (opened left : K) (asked : Exchanging) (output printed errors told : Known) (status : ℕ) : Type 0 where
-  pub answered : EndsFiles (AreAnswers shows is_clean opened left) Reads asked.files.items output printed status
+pub record ExchangesFrom {K : Type 0} (Reads : Bor Words → List ℕ → Type 0) (shows : K → Register → Type 0) (is_clean is_sound : K → Type 0) (opened left : K) (asked : Exchanging) (output printed errors told : Known) (status : ℕ) : Type 0 where
+  pub answered : EndsFiles (AreAnswers shows is_clean is_sound opened left) Reads asked.files.items output printed status
   pub unread : TellsFiles asked.files.items output printed errors told
 
 -- The same from the new register on, with no file; or from the one that was opened in the file, or set up, and what is left of it is closed there.
-pub record Exchanges {M K : Type 0} (Reads : Bor Words → List ℕ → Type 0) (shows : K → Register → Type 0) (is_clean : K → Type 0) (does : M → Deed K → M → Type 0) (begun ended : M) (asked : Exchanging) (output printed errors told : Known) (status : ℕ) : Type 0 where
+pub record Exchanges {M K : Type 0} (Reads : Bor Words → List ℕ → Type 0) (shows : K → Register → Type 0) (is_clean is_sound : K → Type 0) (does : M → Deed K → M → Type 0) (begun ended : M) (asked : Exchanging) (output printed errors told : Known) (status : ℕ) : Type 0 where
   pub sent : (replies : List Reply) × IsSentOrCutOff replies output printed status
   pub answered : asked.db ≡ None
       → (ended ≡ begun) × EndsFiles (AreRepliesTo (empty_register asked.registrar asked.day)) Reads asked.files.items output printed status
@@ -69,7 +69,7 @@ pub record Exchanges {M K : Type 0} (Reads : Bor Words → List ℕ → Type 0) 
   pub opened : IfSome asked.db (λ path. FailsToOpen does begun ended path output printed errors told status
       ⊎ ((opened : K) × (origin : Origin) × (left : K)
       × Visits does begun ended path (ComesToBe shows is_clean path asked.registrar asked.day opened origin) left
-      × ExchangesFrom Reads shows is_clean opened left asked output printed errors told status))
+      × ExchangesFrom Reads shows is_clean is_sound opened left asked output printed errors told status))
   pub silent : status ≤ 1 → Keeps errors told
 
 -- the registrar's token isn't told: nothing is answered, no register is opened, and the line of that is told
@@ -87,10 +87,10 @@ pub record IsOnceTold (asked : Exchange) (told : Exchanging) : Type 0 where
   pub files : told.files ≡ asked.files
 
 -- the registrar's token isn't told, or with it the requests are answered
-abbrev pub ExchangesOnceTold : {M K : Type 0} → (Bor Words → List ℕ → Type 0) → (K → Register → Type 0) → (K → Type 0) → (M → Deed K → M → Type 0) → M → M → Exchange → Known → Known → Known → Known → ℕ → Type 0
-ExchangesOnceTold Reads shows is_clean does begun ended asked output printed errors told status =
+abbrev pub ExchangesOnceTold : {M K : Type 0} → (Bor Words → List ℕ → Type 0) → (K → Register → Type 0) → (K → Type 0) → (K → Type 0) → (M → Deed K → M → Type 0) → M → M → Exchange → Known → Known → Known → Known → ℕ → Type 0
+ExchangesOnceTold Reads shows is_clean is_sound does begun ended asked output printed errors told status =
     LacksToken begun ended asked.registrar output printed errors told status
-    ⊎ ((once_told : Exchanging) × IsOnceTold asked once_told × Exchanges Reads shows is_clean does begun ended once_told output printed errors told status)
+    ⊎ ((once_told : Exchanging) × IsOnceTold asked once_told × Exchanges Reads shows is_clean is_sound does begun ended once_told output printed errors told status)
 
 -- the line that tells that the server listens
 abbrev pub listening : ℕ → List ℕ
@@ -149,7 +149,7 @@ abbrev pub Performs : {M K : Type 0} → (Bor Words → List ℕ → Type 0) →
 Performs Reads Hosts shows is_clean is_sound tells does begun ended (command.Check source) input rest output printed errors told status =
     (ended ≡ begun) × Checks source input rest output printed errors told status
 Performs Reads Hosts shows is_clean is_sound tells does begun ended (command.Exchange asked) input rest output printed errors told status =
-    Keeps input rest × ExchangesOnceTold Reads shows is_clean does begun ended asked output printed errors told status
+    Keeps input rest × ExchangesOnceTold Reads shows is_clean is_sound does begun ended asked output printed errors told status
 Performs Reads Hosts shows is_clean is_sound tells does begun ended (command.Serve asked) input rest output printed errors told status =
     Keeps input rest × Serves Hosts shows is_clean is_sound does begun ended asked output printed errors told status
 Performs Reads Hosts shows is_clean is_sound tells does begun ended (command.Report asked) input rest output printed errors told status =

@@ -31,8 +31,8 @@ pub fn exchange<R: NamedFiles + AllocGlobal, H: Registers, O: Output, E: Write>(
     errors: &mut E,
 ) -> Status
     ensures done { ExchangesOnceTold (IsReadOf (R.opens rt.now) R.File.remaining)
-        H.Register.shows H.Register.is_clean H.does host.old host.new asked.entry
-        (O.contents output.old) (O.contents output.new) (E.contents errors.old)
+        H.Register.shows H.Register.is_clean H.Register.is_sound H.does host.old host.new
+        asked.entry (O.contents output.old) (O.contents output.new) (E.contents errors.old)
         (E.contents errors.new) (exit_code result) }
     ensures flushed { exit_code result ≤ 1 → O.is_flushed output.new }
 {
@@ -67,8 +67,8 @@ fn exchange_told<R: NamedFiles + AllocGlobal, H: Registers, O: Output, E: Write>
     errors: &mut E,
 ) -> Status
     ensures done { Exchanges (IsReadOf (R.opens rt.now) R.File.remaining)
-        H.Register.shows H.Register.is_clean H.does host.old host.new asked.entry
-        (O.contents output.old) (O.contents output.new) (E.contents errors.old)
+        H.Register.shows H.Register.is_clean H.Register.is_sound H.does host.old host.new
+        asked.entry (O.contents output.old) (O.contents output.new) (E.contents errors.old)
         (E.contents errors.new) (exit_code result) }
     ensures flushed { exit_code result ≤ 1 → O.is_flushed output.new }
 {
@@ -118,7 +118,8 @@ fn exchange_files<R: NamedFiles + AllocGlobal, H: Registers, K: OpenRegister, O:
     output: &mut O,
     errors: &mut E,
 ) -> Status
-    ensures ends { EndsFiles (AreAnswers K.shows K.is_clean register.old register.new)
+    ensures ends { EndsFiles
+        (AreAnswers K.shows K.is_clean K.is_sound register.old register.new)
         (IsReadOf (R.opens rt.now) R.File.remaining) files.now (O.contents output.old)
         (O.contents output.new) (exit_code result) }
     ensures flushed { exit_code result ≤ 1 → O.is_flushed output.new }
@@ -150,7 +151,8 @@ pub fn exchange_on<'a, K: OpenRegister, O: Output>(
     inputs: &[Vec<u8>],
     output: &mut O,
 ) -> Result<Status, Failure<'a>>
-    ensures sent { EndsSending (AreAnswers K.shows K.is_clean register.old register.new)
+    ensures sent { EndsSending
+        (AreAnswers K.shows K.is_clean K.is_sound register.old register.new)
         (map (λ v. v.items) inputs.now)
         (O.contents output.old) (O.contents output.new) result }
     ensures flushed { OnOk result (O.is_flushed output.new) }

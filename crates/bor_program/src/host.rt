@@ -87,7 +87,7 @@ pub trait OpenRegister {
     ///
     /// # Errors
     ///
-    /// There is no memory for the list of replies or for the paths; what is shown stays.
+    /// There is no memory for the list of replies or for the paths; nothing was asked.
     fn replay(&mut self, alloc: Global, inputs: &[Vec<u8>]) -> Result<Vec<Reply>, AllocError>
         ensures began { is_clean self.new → is_clean self.old }
         ensures count { IfOk result (λ replies. length replies.items ≡ length inputs.now) }
@@ -115,7 +115,7 @@ pub trait OpenRegister {
             AreReports r spelled (full replies.items))) }
         ensures in_turn { IfOk result (λ replies. InTurn shows is_clean is_sound self.old self.new
             (map (λ v. v.items) inputs.now) replies.items) }
-        ensures err { OnErr result (Kept shows is_clean self.old self.new) };
+        ensures err { OnErr result (self.new ≡ self.old) };
 
     /// The text that tells who stands behind an entity.
     ///

@@ -1,7 +1,7 @@
 //! Replies, and those to a list of inputs.
 
 ghost use Rattle.std.specs.Prelude.{◌≡◌, ℕ, List, IfOk, OnErr, length, map};
-ghost use Rattle.bor_records.specs.Promises.{Kept, Promised};
+ghost use Rattle.bor_records.specs.Promises.{Promised};
 ghost use Rattle.bor_register.specs.Register.{IsOrdered};
 ghost use Rattle.bor_desk.specs.Operations.Legality.{IsLegal};
 ghost use Rattle.bor_wire.specs.Spelling.Spell.{Spelled};
@@ -126,8 +126,7 @@ fn reply_to<K: Keep>(alloc: Global, paths: &Paths, keep: &mut K, input: &[u8]) -
 ///
 /// # Errors
 ///
-/// There is no memory for the list of replies or for the paths; then nothing that is shown has
-/// changed.
+/// There is no memory for the list of replies or for the paths; then the keep was asked nothing.
 pub fn replay<K: Keep>(
     alloc: Global,
     keep: &mut K,
@@ -165,7 +164,7 @@ pub fn replay<K: Keep>(
     ensures in_turn { IfOk result (λ replies.
         InTurn K.shows K.is_clean K.is_sound keep.old keep.new
         (map (λ v. v.items) inputs.now) replies.items) }
-    ensures err { OnErr result (Kept K.shows K.is_clean keep.old keep.new) }
+    ensures err { OnErr result (keep.new ≡ keep.old) }
 {
     let paths = Paths::new(alloc)?;
     let mut replies = Vec::with_capacity(alloc, inputs.len())?;

@@ -1,10 +1,10 @@
-use Rattle.std.proofs.Common.{◌≡◌, ◌∙◌, [], ap, inr, length, map, subst, sym}
+use Rattle.std.proofs.Common.{◌≡◌, ◌∙◌, [], ap, inr, length, map, refl, subst, sym}
 use Rattle.std.proofs.lemmas.List.{length-map}
 use Rattle.bor_program.specs.Inputs.{AreReadOf, IsReadOf}
 use Rattle.bor_program.specs.Program.{exit_code}
 use Rattle.bor_program.proofs.Ends.{keeps_same}
 use Rattle.bor_program.proofs.FilesRead.{none_read}
-use Rattle.bor_program.proofs.Replies.{ends_failed, ends_read, kept_same, none_answered, worse_done}
+use Rattle.bor_program.proofs.Replies.{ends_failed, ends_read, none_answered, worse_done}
 use Rattle.bor_program.proofs.Unread.{told_alone}
 use Rattle.bor_program.proofs.exchange.exchange_files.Goals as goal
 
@@ -29,7 +29,7 @@ pub returns-clause-ends : goal.returns-clause-ends
 returns-clause-ends g c =
     let three : exit_code c.tell-in-Err.result ≡ 3 = ap exit_code c.tell-in-Err.ensures.status in
     ends_failed _ _ [] _ _ _ _ three (none_read _ _)
-    (inr (none_answered g.K.OpenRegister.shows g.K.OpenRegister.is_clean _ _ (kept_same g.K.OpenRegister.shows g.K.OpenRegister.is_clean c.args.register.now), keeps_same _))
+    (inr (none_answered g.K.OpenRegister.shows g.K.OpenRegister.is_clean g.K.OpenRegister.is_sound _ _ refl, keeps_same _))
 
 pub returns-in-Ok-exchange_on-clause-told : goal.returns-in-Ok-exchange_on-clause-told
 returns-in-Ok-exchange_on-clause-told g c = told_alone c.args.files.now _ _ _ _ c.in-Ok.ensures.told
