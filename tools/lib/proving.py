@@ -2,7 +2,8 @@
 
 `rt lib` proves a library and leaves it built in one pass, but holds the folders of all crates below it
 meanwhile, so two of them in one checkout take turns. So the scripts here hold the folders themselves, and
-call what `rt lib` calls for a library (build_rlib) and what `rt ci` calls for many (in_lanes).
+call what `rt lib` calls for a library (build_rlib, or the command below it) and what `rt ci` calls for many
+(in_lanes).
 """
 import contextlib
 import ctypes
@@ -97,17 +98,23 @@ class Progress:
     """How far the work is. The crates stand with their expected seconds, each after those that it waits for."""
 
     def __init__(self, rt, crates):
-        self.lanes = lanes_of(rt)
+        self.lanes, self.most = lanes_of(rt), most_jobs(rt)
         took = measured()
-        self.expected = {it.name: seconds(it, rt.rtlib, took) for it in crates}
+        # (a job more saves half of what it could: with four a crate takes two fifths of its seconds)
+        self.speed = 1 + (self.most - 1) / 2
+        self.expected = {it.name: seconds(it, rt.rtlib, took) / self.speed for it in crates}
         self.waits = {it.name: [below.name for below in it.below() if below in crates] for it in crates}
         self.began, self.took, self.failed, self.minutes, self.told = {}, {}, set(), 0, ""
+        # those that had every processor
+        self.first = set()
         self.turn, self.is_over = threading.RLock(), threading.Event()
         threading.Thread(target=self.follow, daemon=True).start()
 
-    def begin(self, name):
+    def begin(self, name, is_first=False):
+        """A crate is begun, with every processor where the others give way to it."""
         with self.turn:
             self.began[name] = time.monotonic()
+            self.first |= {name} if is_first else set()
             self.tell()
 
     def end(self, name, is_proved=True):
@@ -136,9 +143,10 @@ class Progress:
         return names
 
     def rests(self):
-        """The seconds that each crate still takes, at the pace of those that have ended."""
-        # (what was expected counts as much as a first crate of five minutes)
-        pace = (300 + sum(self.took.values())) / (300 + sum(self.expected[it] for it in self.took))
+        """The seconds that each crate still takes, at the pace of those that had every processor and have ended."""
+        # (what was expected counts as much as a first crate of two minutes)
+        ended = self.first & {*self.took}
+        pace = (120 + sum(self.took[it] for it in ended)) / (120 + sum(self.expected[it] for it in ended))
         now, rests = time.monotonic(), {}
         for name, wanted in self.expected.items():
             rest = pace * wanted - (now - self.began.get(name, now))
@@ -148,7 +156,7 @@ class Progress:
     def left(self):
         """The seconds left, by the longest chain and by the work over the lanes."""
         rests = self.rests()
-        return max(max(self.chains(rests.get).values()), sum(rests.values()) / self.lanes)
+        return max(max(self.chains(rests.get).values()), sum(rests.values()) * self.speed / self.lanes)
 
     def tell(self):
         """Tells how far the work is, where that has changed: on a terminal in one line, else in a line each."""
@@ -186,6 +194,12 @@ def lanes_of(rt):
     return fixed or max(1, min(rt.processors(), rt.free() // MEMORY))
 
 
+def most_jobs(rt):
+    """How many jobs a crate may get that all others wait for, by the memory that the others leave."""
+    lanes = lanes_of(rt)
+    return max(1, min(lanes, 1 + int((rt.free() / MEMORY - lanes) / 0.6)))
+
+
 def give_way(call):
     """Makes a call in a thread of its own, all commands of which let others have the processors first."""
     given = []
@@ -200,13 +214,33 @@ def give_way(call):
     return given[0]
 
 
-def prove(crate, progress, jobs):
+def build(rt, crate, jobs):
+    """Proves a library and leaves it built, and gives rt's status.
+
+    The first time here no work is kept of it, and it is built with its statements alone, which those above it load
+    in less time than its proofs (as in `rt ci`). Where it has been built here before, or checked, its work is kept.
+    """
+    flags = ["--jobs", str(jobs)]
+    if os.path.isdir(crate.rlib) or crate.has_kept() or rt.take_rlib(crate):
+        return crate.build_rlib(flags, anew=False)
+    stamp, folder = crate.stamp(), Path(crate.rlib).parent
+    shutil.rmtree(folder, ignore_errors=True)
+    folder.mkdir(parents=True)
+    words = [*crate.words(flags, keeps=False), "--statements", "-o", crate.rlib]
+    status = crate.call(rt.rtlib.RATTLE, "build", *words)
+    if not status and stamp == crate.stamp():
+        (folder / "stamp").write_text(stamp, encoding="utf-8")
+        rt.offer(crate, stamp)
+    return status
+
+
+def prove(rt, crate, progress, jobs, is_first=False):
     """Proves a library and leaves it built; what was said where it couldn't be. Its out/build.log has that too."""
-    progress.begin(crate.name)
+    progress.begin(crate.name, is_first)
     os.makedirs(f"{crate.folder}/out", exist_ok=True)
     with open(f"{crate.folder}/out/build.log", "w+", encoding="utf-8") as crate.out:
         try:
-            status = crate.build_rlib(["--jobs", str(jobs)], anew=False)
+            status = build(rt, crate, jobs)
         except (SystemExit, OSError) as error:
             print(error, file=crate.out)
             status = 2
@@ -221,9 +255,6 @@ def prove_all(rt, crates, progress, failed):
 
     Where one isn't, `failed` gets it with what was said, and those above it are not tried. Gives whether each is.
     """
-    spare = 1 + int((rt.free() / MEMORY - progress.lanes) / 0.6)
-    most = max(1, min(progress.lanes, spare))
-    fewer = min(most, 3 if spare > most + 3 else 2)
     tasks = {}
 
     def one(crate, given, jobs):
@@ -231,13 +262,13 @@ def prove_all(rt, crates, progress, failed):
             progress.end(crate.name, False)
             return False
         # All wait for the longest chain of what is left: a crate of it gets every processor, where that leaves
-        # memory for others, and any other crate two or three, which it has where the first leaves them idle.
+        # memory for others. Any other crate gives way to it, and has the processors that no other one waits for.
         with progress.turn:
             is_waited_for = crate.name in progress.longest_chain()
         if is_waited_for:
-            said = prove(crate, progress, max(jobs, most))
+            said = prove(rt, crate, progress, max(jobs, progress.most), is_first=True)
         else:
-            said = give_way(lambda: prove(crate, progress, max(jobs, fewer)))
+            said = give_way(lambda: prove(rt, crate, progress, jobs))
         if said is not None:
             failed(crate, said)
         return said is None
