@@ -1,10 +1,10 @@
 -- What a connection shows of the files that it was opened on, and what closing it leaves in them.
-use Rattle.std.proofs.Common.{◌≡◌, IsTrue, Result, Ok, Err, IfOk, subst, sym}
+use Rattle.std.proofs.Common.{◌≡◌, Result, Ok, Err, IfOk, refl, subst, sym}
 use Rattle.std.proofs.Math.Logic.{∥∥₁_elim}
 use Rattle.sqlite.specs.State.{IsLive, Opens, State}
 use Rattle.sqlite.specs.Start.{FindsIn}
 use Rattle.sqlite.specs.Closing.{HoldsAlone}
-use Rattle.sqlite_catalog.specs.Listing.{IsSound, Lists}
+use Rattle.sqlite_catalog.specs.Listing.{Lists}
 use Rattle.sqlite_catalog.proofs.ReadLemmas.{lists_once}
 use Rattle.sqlite_trees.specs.Props.{Trees-set}
 use Rattle.sqlite_wal.specs.Recovery.{Image}
@@ -12,6 +12,7 @@ use Rattle.bor_register.specs.Register.{Register}
 use Rattle.bor_store_sql.specs.Rows.Encoding.{contents}
 use Rattle.bor_store_sql.specs.Shown.{Has, ShowsIn}
 use Rattle.bor_store_sql.specs.Texts.Tables.{keep_schema}
+use Rattle.bor_store_sql.proofs.Ending.{standing}
 use Rattle.bor_store.specs.Opening.{HoldsRegister, IsConnected}
 
 -- a connection that found the files shows what they hold: a list of objects tells one schema
@@ -21,22 +22,18 @@ connected image s opens live found = record {
   shows = λ r held.
       let trees : s.committed.trees ≡ held.trees = ∥∥₁_elim held.holds (Trees-set _ _) (found.holds _) in
       let sound = (live opens.is_open).1 in
-      let schema : s.committed.schema ≡ keep_schema = lists_once _ _ _ sound.lists (subst (λ t. Lists (t _) keep_schema) (sym trees) held.lists.lists) in
+      let schema : s.committed.schema ≡ keep_schema = lists_once _ _ _ sound.lists (subst (λ t. Lists (t _) keep_schema) (sym trees) held.stands.has.sound.lists) in
       let same : s.committed ≡ record { schema = keep_schema; trees = held.trees } = (λ i. record { schema = schema i; trees = trees i }) in
-      record { has = subst (Has (contents r)) (sym same) held.has; stored = held.stored };
+      record { has = subst (Has (contents r)) (sym same) held.stands.has; stored = held.stands.stored };
 }
 
 -- files that hold the last commit hold the register that it shows
-pub left_in : (image : Image) (s : State) → IsLive s → IsTrue s.is_open → HoldsAlone image s.committed.trees → (r : Register) → ShowsIn r s → HoldsRegister image r
-left_in image s live is_open alone r shows =
-    let same : s.committed ≡ record { schema = keep_schema; trees = s.committed.trees } = (λ i. record { schema = shows.has.schema i; trees = s.committed.trees }) in
-    record {
-      trees = s.committed.trees;
-      holds = alone.both;
-      lists = subst (λ schema. IsSound schema s.committed.trees) shows.has.schema (live is_open).1;
-      has = subst (Has (contents r)) same shows.has;
-      stored = shows.stored;
-    }
+pub left_in : (image : Image) (s : State) → HoldsAlone image s.committed.trees → (r : Register) → ShowsIn r s → HoldsRegister image r
+left_in image s alone r shows = record {
+  trees = s.committed.trees;
+  holds = alone.both;
+  stands = standing r s.committed s.committed.trees refl (shows.has, shows.stored);
+}
 
 -- of what is answered `Ok` both hold
 pub ok_both : {K E : Type 0} {A B C : K → Type 0} (result : Result K E) → IfOk result A → IfOk result B → ((k : K) → A k → B k → C k) → IfOk result C

@@ -20,14 +20,12 @@ use Rattle.sqlite.specs.Store.{Ghosts}
 use Rattle.sqlite.specs.Table.{Table}
 use Rattle.sqlite.specs.declared.types.Value.{Value}
 use Rattle.sqlite.specs.declared.types.Value.TheVariants.{Int}
-use Rattle.sqlite_catalog.specs.Listing.{IsSound as Lists}
 use Rattle.sqlite_trees.specs.Tree.{Trees}
 use Rattle.sqlite_wal.specs.Recovery.{Image}
 use Rattle.sqlite_schema.specs.Names.{same_name, table_named, index_named, view_named, column_named}
 use Rattle.bor_register.specs.Register.{Register}
-use Rattle.bor_store_sql.specs.Rows.Encoding.{contents, first_version, tables_version}
-use Rattle.bor_store_sql.specs.Rows.Stored.{IsStored}
-use Rattle.bor_store_sql.specs.Shown.{Has, ShowsIn}
+use Rattle.bor_store_sql.specs.Rows.Encoding.{first_version, tables_version}
+use Rattle.bor_store_sql.specs.Shown.{ShowsIn, Stands}
 use Rattle.bor_store_sql.specs.Texts.Tables.{first_schema, keep_schema, period_table, record_index, subject_index, identifier_index, line_index}
 use Rattle.bor_store.specs.declared.open_fault.OpenFault.{OpenFault}
 use Rattle.bor_store.specs.declared.open_fault.OpenFault.TheVariants as faults
@@ -131,13 +129,11 @@ RefusesFirst result = IsErrAnd result (λ fault. IsFailure fault ⊎ (fault ≡ 
 
 -- ---- what files hold
 
--- Two files, a database and its log, hold a register: they recover to trees that list its tables and indexes, with its rows.
+-- Two files, a database and its log, hold a register: they recover to the trees of its tables.
 pub record HoldsRegister (image : Image) (r : Register) : Type 0 where
   pub trees : Trees
   pub holds : ∥ HoldsDatabase image trees ∥₁
-  pub lists : Lists keep_schema trees
-  pub has : Has (contents r) (record { schema = keep_schema; trees = trees })
-  pub stored : IsStored r
+  pub stands : Stands r trees
 
 -- A connection to them that is new, and shows each register that they hold.
 pub record IsConnected (image : Image) (s : State) : Type 0 where

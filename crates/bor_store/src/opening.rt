@@ -77,8 +77,6 @@ impl<D: Disk + Drop> SqlKeep<FileStore<D>> {
 pub fn close_files<D: Disk + Drop>(conn: Connection<FileStore<D>>) -> Result<Files<D>, Error>
     ensures { IsClosing conn result }
 {
-    // Its clause says that the connection is live.
-    let _live = conn.schema();
     match conn.close_files() {
         Ok(files) => Ok(files),
         Err((error, _)) => Err(error),

@@ -5,7 +5,7 @@ ghost use Rattle.std.specs.List.{list_any};
 ghost use Rattle.sqlite.specs.Held.{state};
 ghost use Rattle.bor_register.specs.Register.{empty_register};
 ghost use Rattle.bor_store_sql.specs.Texts.Tables.{no_schema};
-ghost use Rattle.bor_store_sql.specs.Shown.{IsClean, ShowsIn};
+ghost use Rattle.bor_store_sql.specs.Shown.{IsClean, MayLeave, ShowsIn, Stands};
 ghost use Rattle.bor_store.specs.Opening.{is_used, is_taken};
 ghost use Rattle.bor_store.specs.declared.open_fault.OpenFault.TheVariants as faults;
 
@@ -74,6 +74,9 @@ pub fn set_up<S: Alter>(
         → OnOk result (ShowsIn (empty_register registrar.now day) (state S.Store conn.new)) }
     ensures kept { IsClean (state S.Store conn.new)
         → OnErr result ((state S.Store conn.new).committed ≡ (state S.Store conn.old).committed) }
+    ensures stops { MayLeave (λ trees. (state S.Store conn.old).committed.schema ≡ no_schema
+        → Stands (empty_register registrar.now day) trees)
+        (state S.Store conn.old) (state S.Store conn.new) }
 {
     if is_taken(conn.schema()) {
         return Err(OpenFault::Taken);

@@ -1,5 +1,5 @@
 -- What was found stays so while what is shown stays.
-use Rattle.std.proofs.Common.{◌≡◌, ◌∙◌, Bool, true, false, cond, Option, Some, None, ℕ, List, Result, Ok, Err, IfOk, sym, ap, refl, subst}
+use Rattle.std.proofs.Common.{◌≡◌, ◌∙◌, Bool, true, false, cond, Option, Some, None, ℕ, List, Result, sym, ap, refl, subst}
 use Rattle.std.specs.declared.cmp.Ordering.{Ordering}
 use Rattle.std.specs.declared.cmp.Ordering.TheVariants.{Less, Equal, Greater}
 use Rattle.std.specs.Ordering.{is_eq, nat_cmp, ordering_then}
@@ -8,6 +8,7 @@ use Rattle.std.proofs.lemmas.Option.{same_Some}
 use Rattle.sqlite.specs.State.{State}
 use Rattle.bor_records.specs.Links.Nodes.{text_cmp}
 use Rattle.bor_register.specs.Register.{Register}
+use Rattle.bor_store_sql.proofs.Lists.{where_ok}
 use Rattle.bor_store_sql.specs.Shown.{IsClean, StaysUp}
 use Rattle.bor_store_reads.specs.declared.fault.ReadError.{ReadError}
 use Rattle.bor_store_reads.specs.Answering.{Answers, ReadsAs, ReadsOnly}
@@ -29,10 +30,6 @@ read_within state_of {new = new} {result = result} {P = P} same was = subst (λ 
 -- what is noted leaves what was read
 pub read_noted : {X K : Type 0} (state_of : K → State) {old : State} {read noted : K} {result : Result X ReadError} {P : Register → X → Type 0} → noted ≡ read → ReadsAs old (state_of read) result P → ReadsAs old (state_of noted) result P
 read_noted state_of {old = old} {result = result} {P = P} same was = subst (λ k. ReadsAs old (state_of k) result P) (sym same) was
-
-where_ok : {X Y : Type 0} {P : Type 0} (result : Result X Y) → P → IfOk result (λ x. P)
-where_ok (Ok x) p = p
-where_ok (Err e) p = tt
 
 -- lists in memory answer after what was read
 pub read_listed : {X K : Type 0} (state_of : K → State) {old : State} {read left : K} {result : Result X ReadError} {P : Register → X → Type 0} → ReadsOnly old (state_of read) → StaysUp old (state_of read) → left ≡ read → Answers (state_of read) (state_of left) result P → ReadsAs old (state_of left) result P

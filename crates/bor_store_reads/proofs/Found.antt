@@ -17,7 +17,7 @@ use Rattle.bor_store_reads.specs.Answering.{IsNoDamage, ReadsAs, ReadsOnly}
 
 -- a query changes nothing
 asked : (old new : State) (found : Result (Vec Row Global) Error) (rows_of : Register → List Row) → new.in_transaction ≡ false → Finds old new found rows_of → ReadsOnly old new
-asked old new found rows_of settled finds = record { mode = settled; clean = finds.clean; began = finds.began; kept = finds.kept }
+asked old new found rows_of settled finds = record { mode = settled; clean = finds.clean; stops = finds.stops; began = finds.began; kept = finds.kept }
 
 -- what is made of rows comes from a connection that is open
 pub made_up : {Y : Type 0} (old new : State) (found : Result (Vec Row Global) Error) (rows_of : Register → List Row) (result : Result Y ReadError) → Finds old new found rows_of → OnOk result (IsOk found) → IfOk result (λ y. IsUp new)

@@ -11,12 +11,13 @@ use Rattle.bor_store_reads.specs.Answering.{IsNoDamage, ReadsAs, ReadsOnly}
 use Rattle.bor_store_reads.proofs.Found.{answered, still_shows}
 
 pub nothing_read : {s : State} → s.in_transaction ≡ false → ReadsOnly s s
-nothing_read settled = record { mode = settled; clean = λ clean. clean; began = λ clean. clean; kept = λ clean. refl }
+nothing_read settled = record { mode = settled; clean = λ clean. clean; stops = λ clean trees left. left; began = λ clean. clean; kept = λ clean. refl }
 
 pub read_on : {old mid new : State} → ReadsOnly old mid → ReadsOnly mid new → ReadsOnly old new
 read_on first second = record {
   mode = second.mode;
   clean = λ clean. first.clean (second.clean clean);
+  stops = λ clean trees left. first.stops (second.clean clean) trees (second.stops clean trees left);
   began = λ clean. first.began (second.began clean);
   kept = λ clean. second.kept clean ∙ first.kept (second.began clean);
 }

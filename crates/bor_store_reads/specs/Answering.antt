@@ -6,6 +6,7 @@ use Rattle.bor_register.specs.declared.fault.StoreFault.{StoreFault}
 use Rattle.bor_register.specs.declared.fault.StoreFault.TheVariants as store_faults
 use Rattle.bor_store_sql.specs.declared.rows.fault.RowFault.{RowFault}
 use Rattle.bor_store_sql.specs.declared.rows.fault.RowFault.TheVariants as row_faults
+use Rattle.bor_store_sql.specs.Ran.{LeavesNoMore}
 use Rattle.bor_store_sql.specs.Shown.{IsClean, ShowsIn, StaysUp}
 use Rattle.bor_store_reads.specs.declared.fault.ReadError.{ReadError}
 use Rattle.bor_store_reads.specs.declared.fault.ReadError.TheVariants as errors
@@ -19,11 +20,12 @@ abbrev pub of_row : RowFault → ReadError
 of_row row_faults.Memory = errors.Memory
 of_row row_faults.Damaged = errors.Damaged
 
--- Reading changes nothing: no transaction is left open; a disk that has returned what was written had done so before; a
--- connection that ends clean began clean, and what was written stays as it was.
+-- Reading changes nothing: no transaction is left open; a disk that has returned what was written had done so before, and
+-- a stop leaves nothing more; a connection that ends clean began clean, and what was written stays as it was.
 pub record ReadsOnly (old new : State) : Type 0 where
   pub mode : new.in_transaction ≡ false
   pub clean : HasCleanDisk new → HasCleanDisk old
+  pub stops : LeavesNoMore old new
   pub began : IsClean new → IsClean old
   pub kept : IsClean new → new.committed ≡ old.committed
 

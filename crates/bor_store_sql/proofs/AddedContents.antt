@@ -56,6 +56,7 @@ module _ (agent : List ℕ) (number : ℕ) (key : List ℕ) (due : ℤ) (bytes :
       let periods_of : Placed → List Row = λ p. flat_map days_of (interest_rows p) in
       let columns : Placed → Row = λ p. statement_columns (bare p) in
       subst (λ (x : Register). Has (contents x) db) same record {
+        sound = h.sound;
         schema = h.schema;
         register = h.register;
         agents = subst (λ xs. Keeps xs (db.trees 2)) (sym (agents_with agent (filings_of agent r.members ++ new ∷ []) r.members)) h.agents;
@@ -78,6 +79,7 @@ module _ (agent token : List ℕ) (r : Register) where
   enrolled_has db h =
       let same : placed (with_member entrant r.members) ≡ placed r.members = with_new_agent placed_by placed refl (λ m rest. refl) entrant refl r.members in
       record {
+        sound = h.sound;
         schema = h.schema;
         register = h.register;
         agents = in_order (map agent_columns (r.members ++ entrant ∷ [])) (map agent_columns (with_member entrant r.members)) (db.trees 2) (IsPermutation-map agent_columns _ _ (member_added entrant r.members))

@@ -79,7 +79,7 @@ module _ (old new : State) (count : ℕ) (t : Contents) (has : Has t old.now) wh
   pub agent_put : (m : Member) → Executes insert_agent_text (agent_columns m) old new (Ok count) → Has (with_agent_row (agent_columns m) t) new.now
   agent_put m h =
       let made = inserts insert_agent_text (agent_columns m) keep_schema 1 insert_agent_terms 3 agent_at (agent_columns m) insert_agent_is.0 insert_agent_is.1 refl refl refl refl refl (λ new. refl) old new count has.schema h in
-      with_agents t old.now new.now made.schema_is has made.others _ (rw made.rows (one_more t.agents (old.now.trees 2) (agent_columns m) has.agents))
+      with_agents t old.now new.now made.sound made.schema_is has made.others _ (rw made.rows (one_more t.agents (old.now.trees 2) (agent_columns m) has.agents))
 
   pub filing_put : (agent : List ℕ) (number : ℕ) (key : List ℕ) (due : ℤ) (bytes : List ℕ) → Executes insert_filing_text (given_filing agent number key due bytes) old new (Ok count)
       → Has (with_filing_row agent (live_filing number key due bytes []) t) new.now
@@ -87,28 +87,28 @@ module _ (old new : State) (count : ℕ) (t : Contents) (has : Has t old.now) wh
       let f = live_filing number key due bytes [] in
       let x = filing_columns agent f in
       let made = inserts insert_filing_text (given_filing agent number key due bytes) keep_schema 2 insert_filing_terms 7 filing_at x insert_filing_is.0 insert_filing_is.1 refl refl refl refl (filing_kept agent f) (λ new. refl) old new count has.schema h in
-      with_filings t old.now new.now made.schema_is has made.others _ (rw made.rows (one_more t.filings (old.now.trees 5) x has.filings))
+      with_filings t old.now new.now made.sound made.schema_is has made.others _ (rw made.rows (one_more t.filings (old.now.trees 5) x has.filings))
 
   pub statement_put : (s : StatementRow) → Executes insert_statement_text (statement_columns s) old new (Ok count) → Has (with_statement_row s t) new.now
   statement_put s h =
       let made = inserts insert_statement_text (statement_columns s) keep_schema 3 insert_statement_terms 14 statement_at (statement_columns s) insert_statement_is.0 insert_statement_is.1 refl refl refl
       (statement_given s) (statement_kept s) (λ new. refl) old new count has.schema h in
-      with_statements t old.now new.now made.schema_is has made.others _ (rw made.rows (one_more t.statements (old.now.trees 8) (statement_columns s) has.statements))
+      with_statements t old.now new.now made.sound made.schema_is has made.others _ (rw made.rows (one_more t.statements (old.now.trees 8) (statement_columns s) has.statements))
 
   pub interest_put : (i : InterestRow) → Executes insert_interest_text (interest_columns i) old new (Ok count) → Has (with_interest_rows (i ∷ []) t) new.now
   interest_put i h =
       let made = inserts insert_interest_text (interest_columns i) keep_schema 4 insert_interest_terms 11 interest_at (interest_columns i) insert_interest_is.0 insert_interest_is.1 refl refl refl
       (interest_given i) (interest_kept i) (λ new. refl) old new count has.schema h in
-      with_interests t old.now new.now made.schema_is has made.others _ (rw made.rows (one_more t.interests (old.now.trees 11) (interest_columns i) has.interests))
+      with_interests t old.now new.now made.sound made.schema_is has made.others _ (rw made.rows (one_more t.interests (old.now.trees 11) (interest_columns i) has.interests))
 
   pub identifier_put : (i : IdentifierRow) → Executes insert_identifier_text (identifier_columns i) old new (Ok count) → Has (with_identifier_rows (i ∷ []) t) new.now
   identifier_put i h =
       let made = inserts insert_identifier_text (identifier_columns i) keep_schema 5 insert_identifier_terms 7 identifier_at (identifier_columns i) insert_identifier_is.0 insert_identifier_is.1 refl refl refl
       refl (identifier_kept i) (λ new. refl) old new count has.schema h in
-      with_identifiers t old.now new.now made.schema_is has made.others _ (rw made.rows (one_more t.identifiers (old.now.trees 13) (identifier_columns i) has.identifiers))
+      with_identifiers t old.now new.now made.sound made.schema_is has made.others _ (rw made.rows (one_more t.identifiers (old.now.trees 13) (identifier_columns i) has.identifiers))
 
   pub period_put : (p : PeriodRow) → Executes insert_period_text (period_columns p) old new (Ok count) → Has (with_period_row p t) new.now
   period_put p h =
       let made = inserts insert_period_text (period_columns p) keep_schema 6 insert_period_terms 7 period_at (period_columns p) insert_period_is.0 insert_period_is.1 refl refl refl
       refl (period_kept p) (λ new. refl) old new count has.schema h in
-      with_periods t old.now new.now made.schema_is has made.others _ (rw made.rows (one_more t.periods (old.now.trees 19) (period_columns p) has.periods))
+      with_periods t old.now new.now made.sound made.schema_is has made.others _ (rw made.rows (one_more t.periods (old.now.trees 19) (period_columns p) has.periods))

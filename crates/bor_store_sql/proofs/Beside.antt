@@ -21,6 +21,7 @@ pub period_made : (old new : State) (count : ℕ) (t : Contents) → HasFirst t 
 period_made old new count t has h =
     let it = table_added PERIOD_TABLE.now first_schema period_table period_is refl old new count has.schema h in
     record {
+      sound = it.sound;
       schema = it.schema_is;
       register = still _ _ _ it.kept.0 has.register;
       agents = still _ _ _ it.kept.1.0 has.agents;

@@ -59,6 +59,7 @@ pub finds_both : (text : List ℕ) (params given : Row) (rows_of : Register → 
     → ((r : Register) (rows : List Row) → ShowsLists r old → Shows text params old new rows → rows ≡ rows_of r) → FindsBoth old new result rows_of
 finds_both text params given rows_of old new result asked is found = record {
   clean = asked.clean;
+  stops = asked.stops;
   up = asked.up;
   began = asked.began;
   kept = asked.kept;

@@ -13,7 +13,7 @@ use Rattle.sqlite.specs.Command.TheVariants.{CreateTable, CreateIndex}
 use Rattle.sqlite.specs.Change.{created, next_tree, KeepsRows}
 use Rattle.sqlite.specs.Cast.{cast_all}
 use Rattle.sqlite.specs.Does.{Tally, Does, lacks_sequence}
-use Rattle.sqlite.specs.Effect.{Database}
+use Rattle.sqlite.specs.Effect.{Database, IsDatabase}
 use Rattle.sqlite.specs.State.{State, Executes, Writes, mode_of}
 use Rattle.sqlite.proofs.Callers.{runs_as}
 use Rattle.sqlite_catalog.specs.Change.{indexed}
@@ -45,6 +45,7 @@ still_empty tables old new empty kept = all_both (λ t. new t.tree ≡ old t.tre
 
 -- the table is made without rows, and those that were there keep theirs
 pub record Added (schema : Schema) (table : Table) (old new : Database) : Type 0 where
+  pub sound : IsDatabase new
   pub schema_is : new.schema ≡ created schema table
   pub empty : new.trees (next_tree schema) ≡ []
   pub kept : KeepsRows schema.tables old.trees new.trees
@@ -63,7 +64,7 @@ module _ (sql : List ℕ) (schema : Schema) (table : Table) (is : MakesTable sch
       let now : new.now ≡ first.0 = ap (λ (p : Tally × Database). p.1) (same_value all.2) ∙ same_value (rw lacks at first.2) in
       let none : first.0.trees (next_tree schema) ≡ [] = subst (λ s. first.0.trees (next_tree s) ≡ []) has made.empty in
       let kept : KeepsRows schema.tables old.now.trees first.0.trees = subst (λ (s : Schema). KeepsRows s.tables old.now.trees first.0.trees) has made.others in
-      subst (Added schema table old.now) (sym now) (record { schema_is = schema_is; empty = none; kept = kept })
+      subst (Added schema table old.now) (sym now) (record { sound = subst IsDatabase now w.sound; schema_is = schema_is; empty = none; kept = kept })
 
   pub table_made : (old new : State) (count : ℕ) → IsBlank schema old.now → Executes sql [] old new (Ok count) → IsBlank (created schema table) new.now
   table_made old new count blank h =
@@ -128,7 +129,7 @@ module _ (registrar : List ℕ) (day : ℤ) where
   register_put old new count has h =
       let x = register_columns first_register in
       let made = inserts insert_register_text (given_register day registrar) keep_schema 0 insert_register_terms 5 register_at x insert_register_is.0 insert_register_is.1 refl refl refl refl row_kept (λ new. refl) old new count has.schema h in
-      with_register no_contents old.now new.now made.schema_is has made.others _ (rw made.rows (one_more [] (old.now.trees 0) x has.register))
+      with_register no_contents old.now new.now made.sound made.schema_is has made.others _ (rw made.rows (one_more [] (old.now.trees 0) x has.register))
 
   pub empty_is_stored : is_token registrar ≡ true → IsDay day → IsStored first_register
   empty_is_stored token is = record { ordered = tt; numbered = tt; formed = formed-empty_register registrar day token is; counted = All-nil _ }

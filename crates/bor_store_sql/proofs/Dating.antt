@@ -54,7 +54,7 @@ module _ (day : ℤ) where
       let params = Int day ∷ [] in
       let done = updates update_day_text params keep_schema 0 update_day_program register_at update_day_is.0 update_day_is.1 refl register_alone old new count has.schema h in
       let w = done.2 in
-      with_register t old.now new.now w.schema_is has w.others _
+      with_register t old.now new.now w.sound w.schema_is has w.others _
       (updated 0 refl one_tests params (is_the_one day) (λ id x. refl) day_terms day_of (λ s. cast_row register_at (drop 1 s)) (dated day)
       (λ r. refl) (λ id x. refl) (λ id x. rw (cast_int (pos id)) refl) old.now.trees t.register done.0 (new.now.trees 0) has.register one (done.1.answer Null) w.rows_are)
 
@@ -73,6 +73,7 @@ module _ (day : ℤ) where
 
   pub dated_has : (r : Register) (db : Database) → Has (with_day day (contents r)) db → Has (contents (record r { day = day })) db
   dated_has r db h = record {
+    sound = h.sound;
     schema = h.schema;
     register = subst (λ x. Keeps (x ∷ []) (db.trees 0)) (row_is r) h.register;
     agents = h.agents;

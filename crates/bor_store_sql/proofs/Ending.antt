@@ -1,27 +1,42 @@
 -- How a transaction ends, and what a caller knows of it.
-use Rattle.std.proofs.Common.{◌≡◌, inl, inr, IsOk, Ok, Err, Result, OnOk, OnErr, IfOk, IfErr, IsErr, IsTrue, [], false, true, true≢false, refl, sym, subst, ◌∙◌}
+use Rattle.std.proofs.Common.{◌≡◌, ◌⊎◌, inl, inr, IsOk, Ok, Err, Result, OnOk, OnErr, IfErr, IsErr, IsTrue, [], false, true, true≢false, refl, sym, subst, ◌∙◌}
 use Rattle.sqlite.specs.Effect.{Database}
 use Rattle.sqlite.specs.Held.{Held, state}
+use Rattle.sqlite.specs.Schema.{Schema}
 use Rattle.sqlite.specs.State.{State, HasCleanDisk, IsRolledBack, Shows, KeepsCounts, Survives}
 use Rattle.sqlite.specs.Steps.{FailsToCommit}
 use Rattle.sqlite.specs.Store.{Ghosts}
 use Rattle.sqlite.specs.Tree.{Trees}
 use Rattle.sqlite.specs.declared.error.Error.{Error}
-use Rattle.bor_store_sql.specs.Ran.{Ends, Moved, Moves}
-use Rattle.bor_store_sql.specs.Shown.{IsClean, IsUp}
-use Rattle.bor_store_sql.proofs.Moves.{was_clean}
+use Rattle.bor_register.specs.Register.{Register}
+use Rattle.bor_store_sql.specs.Ran.{Ends, Moved, Moves, WasOpen}
+use Rattle.bor_store_sql.specs.Rows.Encoding.{contents}
+use Rattle.bor_store_sql.specs.Rows.Stored.{IsStored}
+use Rattle.bor_store_sql.specs.Shown.{Has, IsClean, IsUp, MayLeave, Stands}
+use Rattle.bor_store_sql.proofs.Moves.{no_more, was_clean}
 
-module _ (old new : State) (Commits : Trees → Type 0) (survives : Survives old new Commits) where
-  -- what was done failed, and is undone
-  pub undone : (done result : Result (Unit {0}) Error) → IsErr result → (HasCleanDisk new → IsRolledBack old new) → Ends old new done result
-  undone done (Ok x) err back = absurd (true≢false (sym err))
-  undone done (Err e) err back = record {
-    clean = was_clean old new Commits survives;
-    was_open = λ clean up. (back clean).was_open up;
-    committed = λ clean. tt;
-    up = λ clean. tt;
-    undone = λ clean up. ((back clean).undone up).1;
-  }
+-- what was done failed, and is undone
+pub undone : (old new : State) (done result : Result (Unit {0}) Error) → Survives old new (λ _. ⊥) → IsErr result → (HasCleanDisk new → IsRolledBack old new) → Ends old new done result
+undone old new done (Ok x) survives err back = absurd (true≢false (sym err))
+undone old new done (Err e) survives err back = record {
+  clean = was_clean old new (λ _. ⊥) survives;
+  stops = λ clean trees left. inl (no_more old new survives clean trees left);
+  was_open = λ clean up. (back clean).was_open up;
+  committed = λ clean. tt;
+  up = λ clean. tt;
+  undone = λ clean up. ((back clean).undone up).1;
+}
+
+module _ (old new : State) (survives : Survives old new (λ trees. trees ≡ old.now.trees)) where
+  was_sound : HasCleanDisk new → HasCleanDisk old
+  was_sound = was_clean old new (λ trees. trees ≡ old.now.trees) survives
+
+  -- what a stop leaves of a commit
+  left_of : (done : Result (Unit {0}) Error) → IsOk done → HasCleanDisk new → (trees : Trees) → new.may_leave trees → old.may_leave trees ⊎ (IsOk done × (trees ≡ old.now.trees))
+  left_of done went clean trees left = elim (survives.crash clean trees left) [
+    | inl before ↦ inl before
+    | inr made ↦ inr (went, made)
+  ]
 
   failed_open : (e : Error) → FailsToCommit old new e → IsTrue new.is_open → IsTrue old.is_open
   failed_open e (inl fails) up = fails.3.was_open up
@@ -36,14 +51,16 @@ module _ (old new : State) (Commits : Trees → Type 0) (survives : Survives old
       → (HasCleanDisk new → OnOk result (IsTrue old.in_transaction × Shows old new old.now old.now false × KeepsCounts old new × (new.marks ≡ [])))
       → (HasCleanDisk new → IfErr result (FailsToCommit old new)) → Ends old new done result
   committed done (Ok x) went ok err = record {
-    clean = was_clean old new Commits survives;
+    clean = was_sound;
+    stops = left_of done went;
     was_open = λ clean up. (ok clean).1.was_open;
     committed = λ clean. (went, (ok clean).1.committed_is);
     up = λ clean. (ok clean).1.is_open;
     undone = λ clean up. tt;
   }
   committed done (Err e) went ok err = record {
-    clean = was_clean old new Commits survives;
+    clean = was_sound;
+    stops = left_of done went;
     was_open = λ clean up. failed_open e (err clean) up;
     committed = λ clean. tt;
     up = λ clean. tt;
@@ -69,6 +86,33 @@ where_up : (mid new : State) (done result : Result (Unit {0}) Error) → Ends mi
 where_up mid new done (Ok x) ends = ends.up
 where_up mid new done (Err e) ends = tt
 
+-- the trees of a database that has the register's rows
+pub standing : (r : Register) (after : Database) (trees : Trees) → after.trees ≡ trees → Has (contents r) after × IsStored r → Stands r trees
+standing r after trees same h = subst (Stands r) same (record {
+  has = subst (λ (schema : Schema). Has (contents r) (record { schema = schema; trees = after.trees })) h.0.schema h.0;
+  stored = h.1;
+})
+
+-- what was made of a database, which has these trees
+pub record IsMadeOf (Makes : Database → Database → Type 0) (before : Database) (trees : Trees) : Type 0 where
+  pub after : Database
+  pub has : after.trees ≡ trees
+  pub made : Makes before after
+
+-- what a stop leaves of a transaction
+stopped_by : (Makes : Database → Database → Type 0) (start mid : State) (done : Result (Unit {0}) Error) (before : Database) (trees : Trees) → start.now ≡ before
+    → Moved Makes start mid done → IsOk done → trees ≡ mid.now.trees → IsMadeOf Makes before trees
+stopped_by Makes start mid (Err e) before trees settled moved went is = absurd (true≢false (sym went))
+stopped_by Makes start mid (Ok x) before trees settled moved went is = record {
+  after = mid.now;
+  has = sym is;
+  made = subst (λ db. Makes db mid.now) settled moved.made;
+}
+
+of_ok : (P : Type 0) (done : Result (Unit {0}) Error) → IsOk done → OnOk done P → P
+of_ok P (Ok x) went h = h
+of_ok P (Err e) went h = absurd (true≢false (sym went))
+
 -- what a caller knows of a transaction of its own
 pub record Ended (Makes : Database → Database → Type 0) (old new : State) (result : Result (Unit {0}) Error) : Type 0 where
   pub clean : HasCleanDisk new → HasCleanDisk old
@@ -76,16 +120,17 @@ pub record Ended (Makes : Database → Database → Type 0) (old new : State) (r
   pub began : IsClean new → IsClean old
   pub kept : IsClean new → OnErr result (new.committed ≡ old.committed)
   pub made : IsClean new → OnOk result (Makes old.committed new.committed)
+  pub stops : MayLeave (IsMadeOf Makes old.committed) old new
 
 -- `began` is the connection once the transaction was begun
 pub ended : {S : Type 0} (g : Ghosts S) (Makes : Database → Database → Type 0) (was began : Held S) (mid new : State) (done result : Result (Unit {0}) Error) → (IsTrue (state g was).is_open → (state g was).now ≡ (state g was).committed)
-    → began ≡ record was { in_transaction = true } → Moves Makes (state g began) mid done → Ends mid new done result → Ended Makes (state g was) new result
-ended g Makes was began mid new done result settled begun moves ends =
-    by_moves g Makes was mid new done result settled (subst (λ h. Moves Makes (state g h) mid done) begun moves) ends
+    → began ≡ record was { in_transaction = true } → Moves Makes (state g began) mid done → WasOpen (state g began) mid done → Ends mid new done result → Ended Makes (state g was) new result
+ended g Makes was began mid new done result settled begun moves opened ends =
+    by_moves g Makes was mid new done result settled (subst (λ h. Moves Makes (state g h) mid done) begun moves) (subst (λ h. WasOpen (state g h) mid done) begun opened) ends
   where
     by_moves : {S : Type 0} (g : Ghosts S) (Makes : Database → Database → Type 0) (was : Held S) (mid new : State) (done result : Result (Unit {0}) Error) → (IsTrue (state g was).is_open → (state g was).now ≡ (state g was).committed)
-        → Moves Makes (record (state g was) { in_transaction = true }) mid done → Ends mid new done result → Ended Makes (state g was) new result
-    by_moves g Makes was mid new done result settled moves ends =
+        → Moves Makes (record (state g was) { in_transaction = true }) mid done → WasOpen (record (state g was) { in_transaction = true }) mid done → Ends mid new done result → Ended Makes (state g was) new result
+    by_moves g Makes was mid new done result settled moves opened ends =
         let start = record (state g was) { in_transaction = true } in
         record {
           clean = λ clean. moves.clean (ends.clean clean);
@@ -93,20 +138,22 @@ ended g Makes was began mid new done result settled begun moves ends =
           began = λ clean. (moves.clean (ends.clean clean.0), (moves.inside (ends.clean clean.0) refl).was_open (ends.was_open clean.0 clean.1));
           kept = λ clean. left_by Makes start mid new done result clean.0 clean.1 (moves.inside (ends.clean clean.0) refl) ends;
           made = λ clean. made_by Makes start mid new done result (state g was).committed settled clean.0 clean.1 (moves.inside (ends.clean clean.0) refl) ends;
+          stops = λ clean trees left. elim (ends.stops clean trees left) [
+            | inl before ↦ inl (moves.stops (ends.clean clean) trees before)
+            | inr (went, is) ↦
+                let up = of_ok _ done went (opened (ends.clean clean) refl) in
+                inr ((moves.clean (ends.clean clean), up), stopped_by Makes start mid done (state g was).committed trees (settled up) (moves.inside (ends.clean clean) refl) went is)
+          ];
         }
+
+-- what stands in the trees that a stop leaves
+pub stopped_in : (Makes : Database → Database → Type 0) (Made : Trees → Type 0) (old new : State) → ((trees : Trees) → IsMadeOf Makes old.committed trees → Made trees) → MayLeave (IsMadeOf Makes old.committed) old new → MayLeave Made old new
+stopped_in Makes Made old new stands stops clean trees left = elim (stops clean trees left) [
+  | inl before ↦ inl before
+  | inr (was, made) ↦ inr (was, stands trees made)
+]
 
 -- what follows where it went well
 pub on_ok : {P Q : Type 0} (result : Result (Unit {0}) Error) → OnOk result P → (P → Q) → OnOk result Q
 on_ok (Ok x) p follows = follows p
 on_ok (Err e) p follows = tt
-
--- two things that are known where it went well
-pub both_ok : (P Q : Type 0) (result : Result (Unit {0}) Error) → OnOk result P → OnOk result Q → OnOk result (P × Q)
-both_ok P Q (Ok x) p q = (p, q)
-both_ok P Q (Err e) p q = tt
-
--- what is known of all that was done is known once it is committed
-pub where_done : (P : Type 0) (mid new : State) (done result : Result (Unit {0}) Error) → Ends mid new done result → HasCleanDisk new → IfOk done (λ x. P) → OnOk result P
-where_done P mid new done (Err e) ends clean known = tt
-where_done P mid new (Ok y) (Ok x) ends clean known = known
-where_done P mid new (Err e) (Ok x) ends clean known = absurd (true≢false (sym (ends.committed clean).0))

@@ -30,6 +30,7 @@ pub finds : (text : List ℕ) (params given : Row) (rows_of : Register → List 
     → ((r : Register) (rows : List Row) → ShowsIn r old → Shows text params old new rows → rows ≡ rows_of r) → Finds old new result rows_of
 finds text params given rows_of old new result asked is found = record {
   clean = asked.clean;
+  stops = asked.stops;
   up = asked.up;
   began = asked.began;
   kept = asked.kept;

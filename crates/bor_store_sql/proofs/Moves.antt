@@ -1,5 +1,5 @@
 -- What is done in a transaction, one statement after the other.
-use Rattle.std.proofs.Common.{◌≡◌, ◌⊎◌, inl, inr, ◌<◌, ◌≤◌, ◌+◌, ℕ, List, [], ◌∷◌, ◌++◌, map, take, length, get_or, append_assoc, append-nil, Ok, Err, Result, IsTrue, IsErr, true≢false, refl, sym, ap, subst, ◌∙◌, arith}
+use Rattle.std.proofs.Common.{◌≡◌, ◌⊎◌, inl, inr, ◌<◌, ◌≤◌, ◌+◌, ℕ, List, [], ◌∷◌, ◌++◌, map, take, length, get_or, append_assoc, append-nil, Ok, Err, IfOk, Result, IsTrue, IsErr, true≢false, refl, sym, ap, subst, ◌∙◌, arith}
 use Rattle.std.proofs.lemmas.List.{map-append, take_more}
 use Rattle.sqlite.specs.Effect.{Database}
 use Rattle.sqlite.specs.Order.{Row}
@@ -8,7 +8,7 @@ use Rattle.sqlite.specs.State.{State, ExecutesInside, Executes, HasCleanDisk, Is
 use Rattle.sqlite.specs.Tree.{Trees}
 use Rattle.bor_store_sql.specs.Changing.{Any}
 use Rattle.bor_store_sql.specs.Moving.{PutsPeriods}
-use Rattle.bor_store_sql.specs.Ran.{Moved, Moves, Ran, RunsInside}
+use Rattle.bor_store_sql.specs.Ran.{LeavesNoMore, Moved, Moves, Ran, RunsInside, WasOpen}
 use Rattle.bor_store_sql.specs.Rows.Encoding.{Contents, period_columns}
 use Rattle.bor_store_sql.specs.Shown.{Changes, Has, Steps}
 use Rattle.bor_store_sql.specs.declared.rows.typed.PeriodRow.{PeriodRow}
@@ -18,6 +18,13 @@ use Rattle.bor_store_sql.specs.declared.rows.typed.PeriodRow.{PeriodRow}
 no_less : (a b : ℕ) → a ≤ b → b ≡ 0 → a ≡ 0
 no_less a b le none = omega arith
 
+-- a stop leaves nothing more, where nothing is committed
+pub no_more : (old new : State) → Survives old new (λ _. ⊥) → LeavesNoMore old new
+no_more old new survives clean trees left = elim (survives.crash clean trees left) [
+  | inl before ↦ before
+  | inr none ↦ absurd none
+]
+
 -- a disk that is clean was so before
 pub was_clean : (old new : State) (Commits : Trees → Type 0) → Survives old new Commits → HasCleanDisk new → HasCleanDisk old
 was_clean old new Commits survives clean = no_less _ _ survives.clean clean
@@ -26,13 +33,13 @@ how_ended : (sql : List ℕ) (params : Row) (old new : State) (e : Error) → Ex
 how_ended sql params old new e (inl h) = h.1
 how_ended sql params old new e (inr h) = inl h.2
 
-module _ (sql : List ℕ) (params : Row) (old new : State) (Commits : Trees → Type 0) (survives : Survives old new Commits) where
+module _ (sql : List ℕ) (params : Row) (old new : State) (survives : Survives old new (λ _. ⊥)) where
   pub ran_well : (count : ℕ) → (HasCleanDisk new → IsTrue old.in_transaction → ExecutesInside 0 sql params old new (Ok count)) → Ran sql params old new (Ok (tt {0}))
-  ran_well count h = record { clean = was_clean old new Commits survives; inside = λ clean inside. (count, h clean inside) }
+  ran_well count h = record { clean = was_clean old new (λ _. ⊥) survives; stops = no_more old new survives; inside = λ clean inside. (count, h clean inside) }
 
   pub ran_badly : (e : Error) (result : Result (Unit {0}) Error) → (HasCleanDisk new → IsTrue old.in_transaction → ExecutesInside 0 sql params old new (Err e)) → IsErr result → Ran sql params old new result
   ran_badly e (Ok x) h err = absurd (true≢false (sym err))
-  ran_badly e (Err why) h err = record { clean = was_clean old new Commits survives; inside = λ clean inside. how_ended sql params old new e (h clean inside) }
+  ran_badly e (Err why) h err = record { clean = was_clean old new (λ _. ⊥) survives; stops = no_more old new survives; inside = λ clean inside. how_ended sql params old new e (h clean inside) }
 
 -- ---- one statement
 
@@ -59,6 +66,7 @@ pub moves_by : (Makes : Database → Database → Type 0) (sql : List ℕ) (give
     → ((count : ℕ) → Executes sql params old new (Ok count) → Makes old.now new.now) → Moves Makes old new result
 moves_by Makes sql given params old new result ran is does = record {
   clean = ran.clean;
+  stops = ran.stops;
   inside = λ clean inside. one_move Makes sql params old new result (subst (λ row. RunsInside sql row old new result) is (ran.inside clean inside)) does;
 }
 
@@ -84,6 +92,7 @@ pub both_move : (First Then All : Database → Database → Type 0) (old mid new
     → Moves First old mid (Ok (tt {0})) → Moves Then mid new result → Moves All old new result
 both_move First Then All old mid new result chain one two = record {
   clean = λ clean. one.clean (two.clean clean);
+  stops = λ clean trees left. one.stops (two.clean clean) trees (two.stops clean trees left);
   inside = λ clean inside.
       let first = one.inside (two.clean clean) inside in
       both_moved First Then All old mid new result chain first (two.inside clean first.goes_on);
@@ -94,6 +103,7 @@ pub fails : (Then All : Database → Database → Type 0) (old new : State) (e :
 fails Then All old new e (Ok x) err one = absurd (true≢false (sym err))
 fails Then All old new e (Err why) err one = record {
   clean = one.clean;
+  stops = one.stops;
   inside = λ clean inside.
       let moved = one.inside clean inside in
       record { was_open = moved.was_open; committed = moved.committed; goes_on = tt; made = tt };
@@ -110,16 +120,23 @@ then_fails First Then All old mid new e result err one two = fails Whatever All 
 pub in_other_words : (Makes All : Database → Database → Type 0) (old new : State) (result : Result (Unit {0}) Error) → (Makes old.now new.now → All old.now new.now) → Moves Makes old new result → Moves All old new result
 in_other_words Makes All old new (Ok x) turn one = record {
   clean = one.clean;
+  stops = one.stops;
   inside = λ clean inside.
       let moved = one.inside clean inside in
       record { was_open = moved.was_open; committed = moved.committed; goes_on = moved.goes_on; made = turn moved.made };
 }
 in_other_words Makes All old new (Err e) turn one = fails Makes All old new e (Err e) refl one
 
+-- what is known of all that went well
+pub with_known : (P : Type 0) (Makes : Database → Database → Type 0) (old new : State) (result : Result (Unit {0}) Error) → IfOk result (λ x. P) → Moves Makes old new result → Moves (λ was is. Makes was is × P) old new result
+with_known P Makes old new (Ok x) known one = in_other_words Makes (λ was is. Makes was is × P) old new (Ok x) (λ made. (made, known)) one
+with_known P Makes old new (Err e) known one = fails Makes (λ was is. Makes was is × P) old new e (Err e) refl one
+
 -- nothing is done
 pub none_moves : (Makes : Database → Database → Type 0) (old : State) → Makes old.now old.now → Moves Makes old old (Ok (tt {0}))
 none_moves Makes old same = record {
   clean = λ clean. clean;
+  stops = λ clean trees left. left;
   inside = λ clean inside. record {
     was_open = λ up. up;
     committed = λ up. λ i. old.committed;
@@ -133,10 +150,26 @@ pub stops : (First All : Database → Database → Type 0) (old new : State) (re
 stops First All old new (Ok x) err one = absurd (true≢false (sym err))
 stops First All old new (Err e) err one = record {
   clean = one.clean;
+  stops = one.stops;
   inside = λ clean inside.
       let moved = one.inside clean inside in
       record { was_open = moved.was_open; committed = moved.committed; goes_on = tt; made = tt };
 }
+
+-- ---- on a connection that was open
+
+pub ran_open : (sql : List ℕ) (params : Row) (old new : State) (result : Result (Unit {0}) Error) → Ran sql params old new result → WasOpen old new result
+ran_open sql params old new (Ok x) ran clean inside = (ran.inside clean inside).1.1.was_open
+ran_open sql params old new (Err e) ran clean inside = tt
+
+pub err_open : (old new : State) (result : Result (Unit {0}) Error) → IsErr result → WasOpen old new result
+err_open old new (Ok x) err = absurd (true≢false (sym err))
+err_open old new (Err e) err = λ clean inside. tt
+
+-- the first went well
+pub first_open : (old mid new : State) (result : Result (Unit {0}) Error) → WasOpen old mid (Ok (tt {0})) → (HasCleanDisk new → HasCleanDisk mid) → WasOpen old new result
+first_open old mid new (Ok x) first sound clean inside = first (sound clean) inside
+first_open old mid new (Err e) first sound clean inside = tt
 
 -- ---- changes of rows
 

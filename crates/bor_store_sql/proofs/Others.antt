@@ -3,7 +3,7 @@ use Rattle.std.proofs.Common.{◌≡◌, ◌≢◌, ℕ, Bool, true, false, not,
 use Rattle.std.specs.List.{AllByRecursion, list_all}
 use Rattle.sqlite.specs.Order.{Row}
 use Rattle.sqlite.specs.Edit.{IsNoIndex}
-use Rattle.sqlite.specs.Effect.{Database}
+use Rattle.sqlite.specs.Effect.{Database, IsDatabase}
 use Rattle.sqlite_schema.specs.declared.schema.Index.{Index}
 use Rattle.bor_store_sql.specs.Texts.Tables.{keep_schema}
 use Rattle.bor_store_sql.specs.Rows.Encoding.{Contents}
@@ -33,9 +33,10 @@ module _ (tree : ℕ) (old new : Database) (others : AreOthersKept tree old new)
   stays : (t : ℕ) → (t == tree) ≡ false → list_all (λ (i : Index). not (i.tree == t)) keep_schema.indexes ≡ true → (xs : List Row) → Keeps xs (old.trees t) → Keeps xs (new.trees t)
   stays t apart free xs keeps = subst (Keeps xs) (sym (others t (other t tree apart) (no_index keep_schema.indexes t free))) keeps
 
-module _ (t : Contents) (old new : Database) (schema : new.schema ≡ keep_schema) (has : Has t old) where
+module _ (t : Contents) (old new : Database) (sound : IsDatabase new) (schema : new.schema ≡ keep_schema) (has : Has t old) where
   pub with_register : AreOthersKept 0 old new → (xs : List Row) → Keeps xs (new.trees 0) → Has (record t { register = xs }) new
   with_register others xs rows = record {
+    sound = sound;
     schema = schema;
     register = rows;
     agents = stays 0 old new others 2 refl refl t.agents has.agents;
@@ -48,6 +49,7 @@ module _ (t : Contents) (old new : Database) (schema : new.schema ≡ keep_schem
 
   pub with_agents : AreOthersKept 2 old new → (xs : List Row) → Keeps xs (new.trees 2) → Has (record t { agents = xs }) new
   with_agents others xs rows = record {
+    sound = sound;
     schema = schema;
     register = stays 2 old new others 0 refl refl t.register has.register;
     agents = rows;
@@ -60,6 +62,7 @@ module _ (t : Contents) (old new : Database) (schema : new.schema ≡ keep_schem
 
   pub with_filings : AreOthersKept 5 old new → (xs : List Row) → Keeps xs (new.trees 5) → Has (record t { filings = xs }) new
   with_filings others xs rows = record {
+    sound = sound;
     schema = schema;
     register = stays 5 old new others 0 refl refl t.register has.register;
     agents = stays 5 old new others 2 refl refl t.agents has.agents;
@@ -72,6 +75,7 @@ module _ (t : Contents) (old new : Database) (schema : new.schema ≡ keep_schem
 
   pub with_statements : AreOthersKept 8 old new → (xs : List Row) → Keeps xs (new.trees 8) → Has (record t { statements = xs }) new
   with_statements others xs rows = record {
+    sound = sound;
     schema = schema;
     register = stays 8 old new others 0 refl refl t.register has.register;
     agents = stays 8 old new others 2 refl refl t.agents has.agents;
@@ -84,6 +88,7 @@ module _ (t : Contents) (old new : Database) (schema : new.schema ≡ keep_schem
 
   pub with_interests : AreOthersKept 11 old new → (xs : List Row) → Keeps xs (new.trees 11) → Has (record t { interests = xs }) new
   with_interests others xs rows = record {
+    sound = sound;
     schema = schema;
     register = stays 11 old new others 0 refl refl t.register has.register;
     agents = stays 11 old new others 2 refl refl t.agents has.agents;
@@ -96,6 +101,7 @@ module _ (t : Contents) (old new : Database) (schema : new.schema ≡ keep_schem
 
   pub with_identifiers : AreOthersKept 13 old new → (xs : List Row) → Keeps xs (new.trees 13) → Has (record t { identifiers = xs }) new
   with_identifiers others xs rows = record {
+    sound = sound;
     schema = schema;
     register = stays 13 old new others 0 refl refl t.register has.register;
     agents = stays 13 old new others 2 refl refl t.agents has.agents;
@@ -108,6 +114,7 @@ module _ (t : Contents) (old new : Database) (schema : new.schema ≡ keep_schem
 
   pub with_periods : AreOthersKept 19 old new → (xs : List Row) → Keeps xs (new.trees 19) → Has (record t { periods = xs }) new
   with_periods others xs rows = record {
+    sound = sound;
     schema = schema;
     register = stays 19 old new others 0 refl refl t.register has.register;
     agents = stays 19 old new others 2 refl refl t.agents has.agents;

@@ -66,7 +66,7 @@ module _ (version : ℤ) where
       let params = Int version ∷ [] in
       let done = updates update_version_text params keep_schema 0 update_version_program register_at update_version_is.0 update_version_is.1 refl register_alone old new count has.schema h in
       let w = done.2 in
-      with_register t old.now new.now w.schema_is has w.others _
+      with_register t old.now new.now w.sound w.schema_is has w.others _
       (updated 0 refl one_tests params (is_the_row version) (λ id x. refl) version_terms version_of (λ s. cast_row register_at (drop 1 s)) (versioned version)
       (λ r. refl) (λ id x. refl) (λ id x. rw (cast_int (pos id)) refl) old.now.trees t.register done.0 (new.now.trees 0) has.register one (done.1.answer Null) w.rows_are)
 

@@ -56,35 +56,35 @@ module _ (agent : List ℕ) (number : ℕ) (old new : State) (count : ℕ) (t : 
   identifiers_deleted h =
       let done = deletes delete_identifiers_text params keep_schema 5 delete_identifiers_program identifier_at delete_identifiers_is.0 delete_identifiers_is.1 refl (λ olds. refl) old new count has.schema h in
       let w = done.2 in
-      with_identifiers t old.now new.now w.schema_is has w.others _
+      with_identifiers t old.now new.now w.sound w.schema_is has w.others _
       (deleted 13 refl filing_tests params (is_of_filing agent number) (λ id x. refl) old.now.trees t.identifiers done.0 (new.now.trees 13) has.identifiers (done.1.answer Null) w.rows)
 
   pub periods_deleted : Executes delete_periods_text params old new (Ok count) → Has (without_periods agent number t) new.now
   periods_deleted h =
       let done = deletes delete_periods_text params keep_schema 6 delete_periods_program period_at delete_periods_is.0 delete_periods_is.1 refl (λ olds. refl) old new count has.schema h in
       let w = done.2 in
-      with_periods t old.now new.now w.schema_is has w.others _
+      with_periods t old.now new.now w.sound w.schema_is has w.others _
       (deleted 19 refl filing_tests params (is_of_filing agent number) (λ id x. refl) old.now.trees t.periods done.0 (new.now.trees 19) has.periods (done.1.answer Null) w.rows)
 
   pub interests_deleted : Executes delete_interests_text params old new (Ok count) → Has (without_interests agent number t) new.now
   interests_deleted h =
       let done = deletes delete_interests_text params keep_schema 4 delete_interests_program interest_at delete_interests_is.0 delete_interests_is.1 refl (λ olds. refl) old new count has.schema h in
       let w = done.2 in
-      with_interests t old.now new.now w.schema_is has w.others _
+      with_interests t old.now new.now w.sound w.schema_is has w.others _
       (deleted 11 refl filing_tests params (is_of_filing agent number) (λ id x. refl) old.now.trees t.interests done.0 (new.now.trees 11) has.interests (done.1.answer Null) w.rows)
 
   pub statements_deleted : Executes delete_statements_text params old new (Ok count) → Has (without_statements agent number t) new.now
   statements_deleted h =
       let done = deletes delete_statements_text params keep_schema 3 delete_statements_program statement_at delete_statements_is.0 delete_statements_is.1 refl (λ olds. refl) old new count has.schema h in
       let w = done.2 in
-      with_statements t old.now new.now w.schema_is has w.others _
+      with_statements t old.now new.now w.sound w.schema_is has w.others _
       (deleted 8 refl filing_tests params (is_of_filing agent number) (λ id x. refl) old.now.trees t.statements done.0 (new.now.trees 8) has.statements (done.1.answer Null) w.rows)
 
   pub filing_marked : IsOnce agent number t → Executes mark_withdrawn_text params old new (Ok count) → Has (with_mark agent number t) new.now
   filing_marked once h =
       let done = updates mark_withdrawn_text params keep_schema 2 mark_withdrawn_program filing_at mark_withdrawn_is.0 mark_withdrawn_is.1 refl filing_alone old new count has.schema h in
       let w = done.2 in
-      with_filings t old.now new.now w.schema_is has w.others _
+      with_filings t old.now new.now w.sound w.schema_is has w.others _
       (updated 5 refl filing_tests params (is_of_filing agent number) (λ id x. refl) mark_terms mark_of (λ s. cast_row filing_at (drop 1 s)) marked
       (λ r. refl) (λ id x. refl) (λ id x. rw (cast_int (pos id)) refl) old.now.trees t.filings done.0 (new.now.trees 5) has.filings once (done.1.answer Null) w.rows_are)
 

@@ -292,6 +292,7 @@ module _ (agent : List ℕ) (number : ℕ) where
   now_has r db s h =
       let gone = statements_gone r.members s.ordered s.numbered in
       record {
+        sound = h.sound;
         schema = h.schema;
         register = h.register;
         agents = subst (λ xs. Keeps xs (db.trees 2)) (sym (agents_with agent _ r.members)) h.agents;

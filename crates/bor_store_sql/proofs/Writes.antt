@@ -13,7 +13,7 @@ use Rattle.sqlite.specs.Rowids.TheVariants.{Given}
 use Rattle.sqlite.specs.Tree.{Trees}
 use Rattle.sqlite.specs.Does.{Tally, Does, AtPlace, OnRows}
 use Rattle.sqlite.specs.Rows.{Written, Task, Deletes, Updates}
-use Rattle.sqlite.specs.Effect.{Database, Answers}
+use Rattle.sqlite.specs.Effect.{Database, Answers, IsDatabase}
 use Rattle.sqlite.specs.Listing.{understood}
 use Rattle.sqlite.specs.State.{State, mode_of, Executes}
 use Rattle.sqlite_schema.specs.declared.program.Program.{Program}
@@ -23,6 +23,7 @@ use Rattle.sqlite.proofs.Callers.{IsPlain, command_of, statement_of, runs_as, on
 use Rattle.bor_store_sql.proofs.Inserts.{went, same_value}
 
 pub record Removed (schema : Schema) (table : Table) (ids : List ℤ) (old new : Database) : Type 0 where
+  pub sound : IsDatabase new
   pub schema_is : new.schema ≡ schema
   pub rows : new.trees table.tree ≡ without_all (old.trees table.tree) ids
   pub others : (t : ℕ) → t ≢ table.tree → IsNoIndex schema t → new.trees t ≡ old.trees t
@@ -59,6 +60,7 @@ module _ (sql : List ℕ) (params : Row) (schema : Schema) (at : ℕ) (q : Progr
         step.0,
         step.1,
         record {
+          sound = w.sound;
           schema_is = ap (λ (d : Database). d.schema) now;
           rows = ap (λ (t : Trees). t table.tree) trees ∙ step.2.rows;
           others = λ t other free. ap (λ (all : Trees). all t) trees ∙ step.2.others t other free;
@@ -72,6 +74,7 @@ abbrev pub news_of : Table → List Row → List Row
 news_of table rows = map (λ s. cast_row table (drop 1 s)) rows
 
 pub record Replaced (schema : Schema) (table : Table) (rows : List Row) (old new : Database) : Type 0 where
+  pub sound : IsDatabase new
   pub schema_is : new.schema ≡ schema
   pub rows_are : new.trees table.tree ≡ put_all (without_all (old.trees table.tree) (ids_of rows)) (news_of table rows)
   pub others : (t : ℕ) → t ≢ table.tree → IsNoIndex schema t → new.trees t ≡ old.trees t
@@ -116,6 +119,7 @@ module _ (sql : List ℕ) (params : Row) (schema : Schema) (at : ℕ) (q : Progr
         step.0,
         step.1,
         record {
+          sound = w.sound;
           schema_is = ap (λ (d : Database). d.schema) now;
           rows_are = ap (λ (t : Trees). t table.tree) trees ∙ step.2.rows ∙ put_is db table step.0;
           others = λ t other free. ap (λ (all : Trees). all t) trees ∙ step.2.others t other free;

@@ -13,6 +13,7 @@ use Rattle.bor_store_sql.specs.declared.rows.typed.Placed.{Placed}
 use Rattle.bor_store_sql.specs.Rows.Placed.{bare, interest_rows, identifier_rows}
 use Rattle.bor_store_sql.specs.Rows.Encoding.{statement_columns, interest_columns, identifier_columns}
 use Rattle.bor_store_sql.specs.Selected.{numbered, interests_at, identifiers_at}
+use Rattle.bor_store_sql.specs.Ran.{LeavesNoMore}
 use Rattle.bor_store_sql.specs.Shown.{IsClean, ShowsLists}
 
 -- ---- what fits
@@ -51,6 +52,7 @@ statements_kept agent number r = flat_map (λ f. f.statements) (numbered number 
 -- The tables, of either version, are asked whether something holds of the register. They are left as they were, and the answer is whether it holds, or there is an error.
 pub record Tells (old new : State) (result : Result Bool Error) (Holds : Register → Type 0) : Type 0 where
   pub clean : HasCleanDisk new → HasCleanDisk old
+  pub stops : LeavesNoMore old new
   pub began : IsClean new → IsClean old
   pub kept : IsClean new → new.committed ≡ old.committed
   pub told : IsClean new → (r : Register) → ShowsLists r old → IfOk result (λ b. IsTrue b ↔ Holds r)

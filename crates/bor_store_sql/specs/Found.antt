@@ -8,6 +8,7 @@ use Rattle.sqlite.specs.Schema.{Schema}
 use Rattle.sqlite.specs.State.{State, HasCleanDisk, Shown}
 use Rattle.sqlite.specs.declared.error.Error.{Error}
 use Rattle.bor_register.specs.Register.{Register}
+use Rattle.bor_store_sql.specs.Ran.{LeavesNoMore}
 use Rattle.bor_store_sql.specs.Shown.{IsClean, IsUp, ShowsIn, ShowsLists}
 
 -- under no schema the text is a change that returns rows
@@ -17,6 +18,7 @@ IsQuery text = (schema : Schema) → Returns (understood schema text) → ⊥
 -- A query was asked of what the last commit left, which it leaves, or a fault is answered. Rows come from a connection that is open, if its disk has returned what was written.
 pub record Asked (text : List ℕ) (params : Row) (old new : State) (result : Result (Vec Row Global) Error) : Type 0 where
   pub clean : HasCleanDisk new → HasCleanDisk old
+  pub stops : LeavesNoMore old new
   pub up : IfOk result (λ rows. IsUp new)
   pub began : IsClean new → IsClean old
   pub kept : IsClean new → new.committed ≡ old.committed
@@ -25,6 +27,7 @@ pub record Asked (text : List ℕ) (params : Row) (old new : State) (result : Re
 -- The query leaves what the last commit left, and of a register that is shown it gives these rows, or a fault.
 pub record Finds (old new : State) (result : Result (Vec Row Global) Error) (rows_of : Register → List Row) : Type 0 where
   pub clean : HasCleanDisk new → HasCleanDisk old
+  pub stops : LeavesNoMore old new
   pub up : IfOk result (λ rows. IsUp new)
   pub began : IsClean new → IsClean old
   pub kept : IsClean new → new.committed ≡ old.committed
@@ -33,6 +36,7 @@ pub record Finds (old new : State) (result : Result (Vec Row Global) Error) (row
 -- The same of tables of either version.
 pub record FindsBoth (old new : State) (result : Result (Vec Row Global) Error) (rows_of : Register → List Row) : Type 0 where
   pub clean : HasCleanDisk new → HasCleanDisk old
+  pub stops : LeavesNoMore old new
   pub up : IfOk result (λ rows. IsUp new)
   pub began : IsClean new → IsClean old
   pub kept : IsClean new → new.committed ≡ old.committed

@@ -3,6 +3,7 @@ use Rattle.std.specs.Prelude.{◌≡◌, ◌⊎◌, ℕ, List, Ok, Err, Result, 
 use Rattle.sqlite.specs.Effect.{Database}
 use Rattle.sqlite.specs.Order.{Row}
 use Rattle.sqlite.specs.State.{State, HasCleanDisk, ExecutesInside, IsUnchanged, IsRolledBack}
+use Rattle.sqlite.specs.Tree.{Trees}
 use Rattle.sqlite.specs.declared.error.Error.{Error}
 
 -- the text was run, or failed and may have ended the transaction
@@ -10,9 +11,14 @@ abbrev pub RunsInside : List ℕ → Row → State → State → Result (Unit {0
 RunsInside text params old new (Ok x) = (count : ℕ) × ExecutesInside 0 text params old new (Ok count)
 RunsInside text params old new (Err e) = IsUnchanged old new ⊎ IsRolledBack old new
 
+-- A stop after this leaves nothing for the next one to open the files that a stop before it might not have left, if the disk has returned what was written.
+abbrev pub LeavesNoMore : State → State → Type 0
+LeavesNoMore old new = HasCleanDisk new → (trees : Trees) → new.may_leave trees → old.may_leave trees
+
 -- The text was run in the transaction that was under way, with these parameters.
 pub record Ran (text : List ℕ) (params : Row) (old new : State) (result : Result (Unit {0}) Error) : Type 0 where
   pub clean : HasCleanDisk new → HasCleanDisk old
+  pub stops : LeavesNoMore old new
   pub inside : HasCleanDisk new → IsTrue old.in_transaction → RunsInside text params old new result
 
 -- what is made of the database by statements that went well; a failure may have ended the transaction
@@ -25,11 +31,17 @@ pub record Moved (Makes : Database → Database → Type 0) (old new : State) (r
 -- Statements of a transaction that was under way, on a disk that has returned what was written, make such a change of the database.
 pub record Moves (Makes : Database → Database → Type 0) (old new : State) (result : Result (Unit {0}) Error) : Type 0 where
   pub clean : HasCleanDisk new → HasCleanDisk old
+  pub stops : LeavesNoMore old new
   pub inside : HasCleanDisk new → IsTrue old.in_transaction → Moved Makes old new result
 
--- A transaction ends: it is committed where all went well that was done in it, and the connection is open then; else it is undone.
+-- Statements of a transaction that was under way went well only on a connection that was open.
+abbrev pub WasOpen : State → State → Result (Unit {0}) Error → Type 0
+WasOpen old new result = HasCleanDisk new → IsTrue old.in_transaction → OnOk result (IsTrue old.is_open)
+
+-- A transaction ends: it is committed where all went well that was done in it, and the connection is open then; else it is undone. A stop may leave what it committed, or was to commit.
 pub record Ends (old new : State) (done result : Result (Unit {0}) Error) : Type 0 where
   pub clean : HasCleanDisk new → HasCleanDisk old
+  pub stops : HasCleanDisk new → (trees : Trees) → new.may_leave trees → old.may_leave trees ⊎ (IsOk done × (trees ≡ old.now.trees))
   pub was_open : HasCleanDisk new → IsTrue new.is_open → IsTrue old.is_open
   pub committed : HasCleanDisk new → OnOk result (IsOk done × (new.committed ≡ old.now))
   pub up : HasCleanDisk new → OnOk result (IsTrue new.is_open)

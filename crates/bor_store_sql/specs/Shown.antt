@@ -1,8 +1,9 @@
 -- The register that a connection shows.
 use Rattle.std.specs.Prelude.{◌≡◌, ◌⊎◌, [], ◌∷◌, IsTrue, Result}
-use Rattle.sqlite.specs.Effect.{Database}
+use Rattle.sqlite.specs.Effect.{Database, IsDatabase}
 use Rattle.sqlite.specs.Schema.{Schema}
 use Rattle.sqlite.specs.State.{State, HasCleanDisk}
+use Rattle.sqlite.specs.Tree.{Trees}
 use Rattle.sqlite.specs.declared.error.Error.{Error}
 use Rattle.bor_register.specs.Register.{Register}
 use Rattle.bor_store_sql.specs.Texts.Tables.{first_schema, keep_schema}
@@ -14,6 +15,7 @@ use Rattle.bor_store_sql.specs.Ran.{Moves}
 
 -- the database has the seven tables with these rows
 pub record Has (t : Contents) (db : Database) : Type 0 where
+  pub sound : IsDatabase db
   pub schema : db.schema ≡ keep_schema
   pub register : Keeps t.register (db.trees 0)
   pub agents : Keeps t.agents (db.trees 2)
@@ -38,6 +40,15 @@ StaysUp old new = HasCleanDisk new → IsTrue old.is_open → IsTrue new.is_open
 pub record ShowsIn (r : Register) (s : State) : Type 0 where
   pub has : Has (contents r) s.committed
   pub stored : IsStored r
+
+-- these trees are those of the register's tables
+pub record Stands (r : Register) (trees : Trees) : Type 0 where
+  pub has : Has (contents r) (record { schema = keep_schema; trees = trees })
+  pub stored : IsStored r
+
+-- A stop in the midst of a change, or after it, leaves for the next one to open the files what a stop before it might have left; or, where the connection was clean, trees of this kind. It is said of a disk that has returned what was written.
+abbrev pub MayLeave : (Trees → Type 0) → State → State → Type 0
+MayLeave Made old new = HasCleanDisk new → (trees : Trees) → new.may_leave trees → old.may_leave trees ⊎ (IsClean old × Made trees)
 
 -- tables that have rows which the change fits have the changed rows
 abbrev pub Changes : (Contents → Type 0) → (Contents → Contents) → Database → Database → Type 0

@@ -11,6 +11,7 @@ pub loop-line-preserved : goal.loop-line-preserved
 loop-line-preserved g c = record {
   mode = c.add_line.ensures.reads.mode;
   clean = λ clean. c.loop-line.invariant.clean (c.add_line.ensures.reads.clean clean);
+  stops = λ clean trees left. c.loop-line.invariant.stops (c.add_line.ensures.reads.clean clean) trees (c.add_line.ensures.reads.stops clean trees left);
   began = λ clean. c.loop-line.invariant.began (c.add_line.ensures.reads.began clean);
   kept = λ clean. c.add_line.ensures.reads.kept clean ∙ c.loop-line.invariant.kept (c.add_line.ensures.reads.began clean);
   gathered = λ clean r shows.

@@ -2,7 +2,7 @@ use Rattle.std.proofs.Common.{◌∙◌, true≢false, sym}
 use Rattle.std.proofs.lemmas.Result.{err_from_is_err_and}
 use Rattle.sqlite.specs.Held.{state}
 use Rattle.bor_store.proofs.Either.{still_first}
-use Rattle.bor_store.proofs.Legals.{moved_to_itself}
+use Rattle.bor_store.proofs.Legals.{moved_after, moved_to_itself, only_read}
 use Rattle.bor_store.proofs.Moving.{kept_through, move_made, move_refused, move_stayed, never_taken}
 use Rattle.bor_store.proofs.migration.migrate.Goals as goal
 
@@ -46,3 +46,12 @@ returns-clause-migrated g c clean r shows =
 
 pub returns-clause-legal : goal.returns-clause-legal
 returns-clause-legal g c clean r shows legal = moved_to_itself r (state g.S.Store c.move_first.new.conn) c.move_first.result (returns-clause-migrated g c clean r shows) legal
+
+pub returns-in_err-first-clause-stops : goal.returns-in_err-first-clause-stops
+returns-in_err-first-clause-stops g c = only_read _ (state g.S.Store c.args.conn.now) (state g.S.Store c.is_first.new.conn) c.in_err-first.ensures.reads
+
+pub returns-then-not-first-clause-stops : goal.returns-then-not-first-clause-stops
+returns-then-not-first-clause-stops g c = only_read _ (state g.S.Store c.args.conn.now) (state g.S.Store c.is_first.new.conn) c.in_ok-first.ensures.reads
+
+pub returns-clause-stops : goal.returns-clause-stops
+returns-clause-stops g c = moved_after (state g.S.Store c.args.conn.now) (state g.S.Store c.is_first.new.conn) (state g.S.Store c.move_first.new.conn) c.in_ok-first.ensures.reads c.move_first.ensures.clean c.move_first.ensures.stops

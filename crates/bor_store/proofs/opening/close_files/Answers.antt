@@ -5,4 +5,4 @@ use Rattle.bor_store.proofs.opening.close_files.Goals as goal
 pub returns-in-Ok : goal.returns-in-Ok
 returns-in-Ok g c = λ clean r shows image may.
     let copied = c.in-Ok.ensures.copied clean in
-    left_in image (file_state c.args.conn) c.schema-live.ensures.live copied.was_open (copied.left image may) r shows
+    left_in image (file_state c.args.conn) (copied.left image may) r shows

@@ -1,5 +1,5 @@
 use Rattle.bor_store_reads.proofs.Lists.{all_done}
-use Rattle.std.proofs.Common.{◌∙◌, arith, rules, refl}
+use Rattle.std.proofs.Common.{arith, rules, refl}
 use Rattle.std.specs.List.{filter_map}
 use Rattle.bor_chains.specs.Candidates.{link_at}
 use Rattle.bor_store_reads.proofs.Reading.{read_fails, read_next, read_so, read_wants, unread}

@@ -1,4 +1,4 @@
-use Rattle.std.proofs.Common.{◌≡◌, ◌∙◌, Option, option_map, ap, sym}
+use Rattle.std.proofs.Common.{◌∙◌, Option, option_map, ap, sym}
 use Rattle.bor_records.specs.declared.links.node.OpenNode.{OpenNode}
 use Rattle.bor_records.proofs.OnLinks.ByKey.{listed_by_key}
 use Rattle.bor_store_reads.proofs.Reading.{read_fails, read_so}

@@ -1,4 +1,4 @@
-use Rattle.std.proofs.Common.{List, ◌++◌, ap, refl, arith}
+use Rattle.std.proofs.Common.{◌++◌, ap, refl, arith}
 use Rattle.std.specs.List.{flat_map}
 use Rattle.bor_store_sql.specs.declared.rows.typed.StatementRow.{StatementRow}
 use Rattle.bor_store_reads.specs.Asking.{part_identifiers}

@@ -1,4 +1,4 @@
-use Rattle.std.proofs.Common.{◌≡◌, map, sym, ap₂, ◌∙◌}
+use Rattle.std.proofs.Common.{map, sym, ap₂, ◌∙◌}
 use Rattle.std.specs.Prelude.{filter}
 use Rattle.bor_register.specs.Register.{filings_of}
 use Rattle.bor_store_sql.specs.Rows.Seen.{is_seen, row_placed}

@@ -15,6 +15,7 @@ loop-placed-init g c = record {
   whole = search rules;
   mode = search rules;
   clean = λ clean. clean;
+  stops = λ clean trees left. left;
   up = same_up (state g.S.Store c.args.conn.now);
   began = search rules;
   kept = search rules;
@@ -29,6 +30,7 @@ loop-placed-preserved g c =
       whole = (let was = c.loop-placed.invariant.whole in let gone = c.in-Some.ensures.steps.1 in let short = ap length steps in omega arith);
       mode = c.known_of.ensures.reads.reads.mode;
       clean = λ clean. c.loop-placed.invariant.clean (c.known_of.ensures.reads.reads.clean clean);
+      stops = λ clean trees left. c.loop-placed.invariant.stops (c.known_of.ensures.reads.reads.clean clean) trees (c.known_of.ensures.reads.reads.stops clean trees left);
       up = both_up (state g.S.Store c.args.conn.now) (state g.S.Store c.loop-placed.conn) (state g.S.Store c.known_of.new.conn) c.loop-placed.invariant.up c.known_of.ensures.reads.reads.clean c.in_ok-known.ensures.reads.up;
       began = λ clean. c.loop-placed.invariant.began (c.known_of.ensures.reads.reads.began clean);
       kept = λ clean. c.known_of.ensures.reads.reads.kept clean ∙ c.loop-placed.invariant.kept (c.known_of.ensures.reads.reads.began clean);

@@ -5,6 +5,7 @@ use Rattle.sqlite.specs.Held.{state}
 use Rattle.sqlite.specs.State.{HasCleanDisk}
 use Rattle.bor_register.specs.Register.{Register, filings_of}
 use Rattle.bor_store_sql.specs.Rows.Seen.{is_seen, row_placed}
+use Rattle.bor_store_sql.specs.Ran.{LeavesNoMore}
 use Rattle.bor_store_sql.specs.Shown.{IsClean, ShowsIn, StaysUp}
 use Rattle.bor_store_reads.specs.Asking.{IsKnown}
 use Rattle.bor_store_reads.proofs.declarations.seen.Given as goal
@@ -15,6 +16,7 @@ invariant-loop-placed g l = record {
   whole : into_iter_len l.placed-iterator ≡ length (into_iter_items l.placed-iterator);
   mode : l.conn.in_transaction ≡ false;
   clean : HasCleanDisk (state g.S.Store l.conn) → HasCleanDisk (state g.S.Store l.fn.conn);
+  stops : LeavesNoMore (state g.S.Store l.fn.conn) (state g.S.Store l.conn);
   up : StaysUp (state g.S.Store l.fn.conn) (state g.S.Store l.conn);
   began : IsClean (state g.S.Store l.conn) → IsClean (state g.S.Store l.fn.conn);
   kept : IsClean (state g.S.Store l.conn) → (state g.S.Store l.conn).committed ≡ (state g.S.Store l.fn.conn).committed;

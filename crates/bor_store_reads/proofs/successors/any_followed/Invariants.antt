@@ -4,6 +4,7 @@ use Rattle.sqlite.specs.Held.{state}
 use Rattle.sqlite.specs.State.{HasCleanDisk}
 use Rattle.bor_register.specs.Register.{Register}
 use Rattle.bor_store_sql.specs.Rows.Seen.{is_later}
+use Rattle.bor_store_sql.specs.Ran.{LeavesNoMore}
 use Rattle.bor_store_sql.specs.Shown.{IsClean, ShowsIn, StaysUp}
 use Rattle.bor_store_sql.specs.Selected.{in_series, placed_of}
 use Rattle.bor_store_reads.proofs.successors.any_followed.Given as goal
@@ -13,6 +14,7 @@ abbrev pub invariant-loop-row : goal.invariant-loop-row
 invariant-loop-row g l = record {
   mode : l.conn.in_transaction ≡ false;
   clean : HasCleanDisk (state g.S.Store l.conn) → HasCleanDisk (state g.S.Store l.fn.conn);
+  stops : LeavesNoMore (state g.S.Store l.fn.conn) (state g.S.Store l.conn);
   up : StaysUp (state g.S.Store l.fn.conn) (state g.S.Store l.conn);
   began : IsClean (state g.S.Store l.conn) → IsClean (state g.S.Store l.fn.conn);
   kept : IsClean (state g.S.Store l.conn) → (state g.S.Store l.conn).committed ≡ (state g.S.Store l.fn.conn).committed;

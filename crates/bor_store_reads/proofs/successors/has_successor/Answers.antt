@@ -1,4 +1,4 @@
-use Rattle.std.proofs.Common.{◌≡◌, None, ap, ◌∙◌}
+use Rattle.std.proofs.Common.{None, ap, ◌∙◌}
 use Rattle.std.specs.List.{last_or, list_any}
 use Rattle.bor_register.specs.Register.{filings_of}
 use Rattle.bor_store_sql.specs.declared.rows.typed.StatementRow.{StatementRow}

@@ -10,7 +10,7 @@ use Rattle.bor_store_sql.proofs.Told.{no_answer, told_of_rows}
 use Rattle.bor_store_sql.proofs.fitting.keeps_interests.Goals as goal
 
 pub returns-in_err-rows-clause-tells : goal.returns-in_err-rows-clause-tells
-returns-in_err-rows-clause-tells g c = no_answer _ _ c.in_err-rows.ensures.both.clean c.in_err-rows.ensures.both.began c.in_err-rows.ensures.both.kept c.from_residual.result c.from_residual.ensures.0
+returns-in_err-rows-clause-tells g c = no_answer _ _ c.in_err-rows.ensures.both.clean c.in_err-rows.ensures.both.began c.in_err-rows.ensures.both.kept c.in_err-rows.ensures.both.stops c.from_residual.result c.from_residual.ensures.0
 
 pub returns-clause-tells : goal.returns-clause-tells
 returns-clause-tells g c =

@@ -7,10 +7,10 @@ use Rattle.bor_store_sql.proofs.fitting.keeps_rows.Goals as goal
 
 pub returns-then-rows-statements-clause-tells : goal.returns-then-rows-statements-clause-tells
 returns-then-rows-statements-clause-tells g c =
-    told_false _ _ (λ clean. clean) (λ clean. clean) (λ clean. refl) (λ clean r shows h. let same = as_many (IsKept c.args.agent.now c.args.number r.members) 1 c.args.statements.now c.args.rows.now h in absurd (omega (arith, same)))
+    told_false _ _ (λ clean. clean) (λ clean. clean) (λ clean. refl) (λ clean trees left. left) (λ clean r shows h. let same = as_many (IsKept c.args.agent.now c.args.number r.members) 1 c.args.statements.now c.args.rows.now h in absurd (omega (arith, same)))
 
 pub loop-index-init : goal.loop-index-init
-loop-index-init g c = record { mode = c.requires; counted = refl; clean = λ clean. clean; began = λ clean. clean; kept = λ clean. refl; fits = λ clean r shows. tt }
+loop-index-init g c = record { mode = c.requires; counted = refl; clean = λ clean. clean; stops = λ clean trees left. left; began = λ clean. clean; kept = λ clean. refl; fits = λ clean r shows. tt }
 
 pub loop-index-preserved : goal.loop-index-preserved
 loop-index-preserved g c =
@@ -21,6 +21,7 @@ loop-index-preserved g c =
       mode = c.keeps_statement.ensures.mode;
       counted = place;
       clean = λ clean. it.clean (step.clean clean);
+      stops = λ clean trees left. it.stops (step.clean clean) trees (step.stops clean trees left);
       began = λ clean. it.began (step.began clean);
       kept = λ clean. step.kept clean ∙ it.kept (step.began clean);
       fits = λ clean r shows.
@@ -40,4 +41,4 @@ returns-then-not-branch-clause-tells g c =
     let fails = told_unless _ _ _ c.if-not-branch.true c.in_ok-keeps_statement.ensures.tells
     (λ r h. subst (λ n. IsKept c.args.agent.now c.args.number r.members n s row) place
     (pair_at (IsKept c.args.agent.now c.args.number r.members) 1 index c.args.statements.now c.args.rows.now s row (omega arith) c.index-statements-index.is c.index-rows-index.is h)) in
-    told_after _ _ it.clean it.began it.kept _ (Ok false) fails (λ clean r shows. (λ h. h, λ h. h))
+    told_after _ _ it.clean it.began it.kept it.stops _ (Ok false) fails (λ clean r shows. (λ h. h, λ h. h))

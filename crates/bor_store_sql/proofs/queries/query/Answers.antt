@@ -5,7 +5,7 @@ use Rattle.sqlite.specs.Held.{state}
 use Rattle.sqlite.specs.State.{HasCleanDisk}
 use Rattle.sqlite.specs.Values.{bound}
 use Rattle.bor_store_sql.proofs.Finding.{settled_shown}
-use Rattle.bor_store_sql.proofs.Keeping.{left_by, up_by}
+use Rattle.bor_store_sql.proofs.Keeping.{leaves_no_more, left_by, up_by}
 use Rattle.bor_store_sql.proofs.Moves.{was_clean}
 use Rattle.bor_store_sql.proofs.queries.query.Goals as goal
 
@@ -22,6 +22,7 @@ returns-clause-asked g c =
     let left = λ (disk : HasCleanDisk new). left_by old new text c.requires.asks params rows_in c.query_all.result (c.query_all.ensures.ok disk) (c.query_all.ensures.err disk) in
     record {
       clean = was_clean old new _ c.query_all.ensures.survives;
+      stops = leaves_no_more old new text c.requires.asks params c.query_all.ensures.survives;
       up = up_by old new text c.requires.asks params rows_in c.query_all.result c.query_all.ensures.ok;
       began = λ clean. (was_clean old new _ c.query_all.ensures.survives clean.0, (left clean.0).was_open clean.1);
       kept = λ clean. (left clean.0).committed clean.1;
