@@ -12,7 +12,7 @@ use Rattle.bor_register.specs.Register.{Register}
 use Rattle.bor_store_sql.specs.Rows.Encoding.{contents}
 use Rattle.bor_store_sql.specs.Shown.{Has, ShowsIn}
 use Rattle.bor_store_sql.specs.Texts.Tables.{keep_schema}
-use Rattle.bor_store_sql.proofs.Ending.{standing}
+use Rattle.bor_store_sql.proofs.Ending.{stands_in}
 use Rattle.bor_store.specs.Opening.{HoldsRegister, IsConnected}
 
 -- a connection that found the files shows what they hold: a list of objects tells one schema
@@ -32,7 +32,7 @@ pub left_in : (image : Image) (s : State) → HoldsAlone image s.committed.trees
 left_in image s alone r shows = record {
   trees = s.committed.trees;
   holds = alone.both;
-  stands = standing r s.committed s.committed.trees refl (shows.has, shows.stored);
+  stands = stands_in r s.committed s.committed.trees refl (shows.has, shows.stored);
 }
 
 -- of what is answered `Ok` both hold

@@ -3,8 +3,7 @@ use Rattle.std.proofs.Common.{◌≡◌, inl, inr, ◌+◌, ℕ, ℤ, Bool, true
 use Rattle.std.specs.Prelude.{MatchResult}
 use Rattle.std.specs.List.{flat_map}
 use Rattle.std.proofs.lemmas.List.Concat.{flat_map-append}
-use Rattle.sqlite.specs.State.{HasCleanDisk, State}
-use Rattle.sqlite.specs.Tree.{Trees}
+use Rattle.sqlite.specs.State.{State}
 use Rattle.bods_read.specs.File.{reading}
 use Rattle.bods_read.specs.declared.fault.FileFault.{FileFault}
 use Rattle.bods_read.specs.declared.statement.Statement.{Statement}
@@ -19,10 +18,7 @@ use Rattle.bor_register.specs.declared.member.Member.{Member}
 use Rattle.bor_store_sql.specs.Rows.Placed.{interest_rows, period_rows, placed, placed_by, placed_from}
 use Rattle.bor_store_sql.specs.declared.rows.typed.Placed.{Placed}
 use Rattle.bor_store_sql.specs.Changing.{all_periods}
-use Rattle.bor_store_sql.specs.Shown.{IsClean, MayLeave, ShowsFirst, ShowsIn, Stands}
-use Rattle.bor_store_sql.specs.declared.rows.typed.PeriodRow.{PeriodRow}
-use Rattle.bor_store_reads.specs.Answering.{ReadsOnly}
-use Rattle.bor_store.proofs.Either.{still_first}
+use Rattle.bor_store_sql.specs.Shown.{ShowsIn}
 use Rattle.bor_store.proofs.SettledFits.{settled_fit}
 use Rattle.bor_store.specs.Opening.{IsFailure}
 use Rattle.bor_store.specs.Migrating.{FileSays, FilesSay, Migrates, OwnSay, UnlessWithdrawn, days_of}
@@ -85,25 +81,3 @@ pub moved_to_itself : {X : Type 0} (r : Register) (new : State) (result : Result
 moved_to_itself r new (Ok x) h legal = h.2 (files_once r.members h.0 (all_periods r.members) h.1 (files_say r.members legal.own))
 moved_to_itself r new (Err fault) (inl failure) legal = failure
 moved_to_itself r new (Err fault) (inr damaged) legal = absurd (damaged.1 (all_periods r.members) (files_say r.members legal.own))
-
--- ---- what a stop leaves
-
--- where the files were only read
-pub only_read : (Made : Trees → Type 0) (old new : State) → ReadsOnly old new → MayLeave Made old new
-only_read Made old new reads clean trees left = inl (reads.stops clean trees left)
-
--- where the tables of a legal register were read before
-pub moved_after : (old mid new : State) → ReadsOnly old mid → (HasCleanDisk new → HasCleanDisk mid) → MayLeave (λ trees. (r : Register) → ShowsFirst r mid → IsLegal r → Stands r trees) mid new
-    → MayLeave (λ trees. (r : Register) → ShowsFirst r old → IsLegal r → Stands r trees) old new
-moved_after old mid new reads sound stops clean trees left = elim (stops clean trees left) [
-  | inl before ↦ inl (reads.stops (sound clean) trees before)
-  | inr (was, made) ↦ inr (reads.began was, λ r shows legal. made r (still_first r old mid (reads.kept was) shows) legal)
-]
-
--- where the days that its files say are those of its interests
-pub moved_by_days : (old new : State) (days given : List PeriodRow) → given ≡ days → (IsClean old → (r : Register) → ShowsFirst r old → FilesSay r.members days)
-    → MayLeave (λ trees. (r : Register) → ShowsFirst r old → given ≡ all_periods r.members → Stands r trees) old new → MayLeave (λ trees. (r : Register) → ShowsFirst r old → IsLegal r → Stands r trees) old new
-moved_by_days old new days given is says stops clean trees left = elim (stops clean trees left) [
-  | inl before ↦ inl before
-  | inr (was, made) ↦ inr (was, λ r shows legal. made r shows (is ∙ files_once r.members days (all_periods r.members) (says was r shows) (files_say r.members legal.own)))
-]

@@ -15,3 +15,4 @@ pub mod Saying
 pub mod Moving
 pub mod SettledFits
 pub mod Holding
+pub mod Stopping

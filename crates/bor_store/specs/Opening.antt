@@ -129,7 +129,7 @@ RefusesFirst result = IsErrAnd result (λ fault. IsFailure fault ⊎ (fault ≡ 
 
 -- ---- what files hold
 
--- Two files, a database and its log, hold a register: they recover to the trees of its tables.
+-- Two files, a database and its log, hold a register: they recover to trees that are a sound database of its tables, with its rows.
 pub record HoldsRegister (image : Image) (r : Register) : Type 0 where
   pub trees : Trees
   pub holds : ∥ HoldsDatabase image trees ∥₁

@@ -5,7 +5,7 @@ ghost use Rattle.sqlite.specs.Held.{state};
 ghost use Rattle.sqlite.specs.State.{HasCleanDisk};
 ghost use Rattle.bor_register.specs.Limits.{filings_limit};
 ghost use Rattle.bor_register.specs.Register.{Register, is_enrolled, filings_of};
-ghost use Rattle.bor_store_sql.specs.Shown.{IsClean, IsUp, ShowsIn};
+ghost use Rattle.bor_store_sql.specs.Shown.{IsClean, IsUp, LeavesAtMost, ShowsIn, Stands};
 ghost use Rattle.bor_store_sql.specs.Changing.{added};
 ghost use Rattle.bor_store_reads.specs.Answering.{IsNoDamage, ReadsAs};
 ghost use Rattle.bor_store.specs.Telling.{IsNextFiling};
@@ -62,6 +62,11 @@ pub(crate) fn add_next_filing<S: Alter>(
         (added agent.now key.now due bytes.now statements.now r) (state S.Store conn.new)) }
     ensures kept { IsClean (state S.Store conn.new)
         → OnErr result ((state S.Store conn.new).committed ≡ (state S.Store conn.old).committed) }
+    ensures stops { LeavesAtMost (λ trees. (r : Register) → ShowsIn r (state S.Store conn.old)
+        → is_enrolled agent.now r.members ≡ true
+        → length (filings_of agent.now r.members) < filings_limit
+        → Stands (added agent.now key.now due bytes.now statements.now r) trees)
+        (state S.Store conn.old) (state S.Store conn.new) }
     ensures undamaged { IsClean (state S.Store conn.new) → (r : Register)
         → ShowsIn r (state S.Store conn.old) → IfErr result IsNoDamage }
 {

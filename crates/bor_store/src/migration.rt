@@ -5,7 +5,7 @@ ghost use Rattle.sqlite.specs.Held.{state};
 ghost use Rattle.sqlite.specs.State.{HasCleanDisk};
 ghost use Rattle.bor_desk.specs.Operations.Legality.{IsLegal};
 ghost use Rattle.bor_register.specs.Register.{Register};
-ghost use Rattle.bor_store_sql.specs.Shown.{IsClean, MayLeave, ShowsFirst, ShowsIn, Stands};
+ghost use Rattle.bor_store_sql.specs.Shown.{IsClean, LeavesAtMost, ShowsFirst, ShowsIn, Stands};
 ghost use Rattle.bor_store_reads.specs.Answering.{ReadsOnly};
 ghost use Rattle.bor_store.specs.Opening.{IsFailure, is_period_used, is_versioned, version_in};
 ghost use Rattle.bor_store.specs.Migrating.{IsMoveJudged, IsVersionJudged, Migrates, TellsVersion};
@@ -88,7 +88,7 @@ fn move_first<S: Alter>(conn: &mut Connection<S>, alloc: Global) -> Result<(), O
     ensures migrated { IsClean (state S.Store conn.new)
         → (r : Register) → ShowsFirst r (state S.Store conn.old)
         → Migrates r (state S.Store conn.new) result }
-    ensures stops { MayLeave (λ trees. (r : Register) → ShowsFirst r (state S.Store conn.old)
+    ensures stops { LeavesAtMost (λ trees. (r : Register) → ShowsFirst r (state S.Store conn.old)
         → IsLegal r → Stands r trees) (state S.Store conn.old) (state S.Store conn.new) }
 {
     let days = days_in_files(conn, alloc)?;
@@ -110,6 +110,7 @@ fn move_first<S: Alter>(conn: &mut Connection<S>, alloc: Global) -> Result<(), O
 pub fn migrate<S: Alter>(conn: &mut Connection<S>, alloc: Global) -> Result<(), OpenFault>
     requires { conn.old.in_transaction ≡ false }
     ensures mode { conn.new.in_transaction ≡ false }
+    ensures clean { HasCleanDisk (state S.Store conn.new) → HasCleanDisk (state S.Store conn.old) }
     ensures began { IsClean (state S.Store conn.new) → IsClean (state S.Store conn.old) }
     ensures kept { IsClean (state S.Store conn.new)
         → OnErr result ((state S.Store conn.new).committed ≡ (state S.Store conn.old).committed) }
@@ -129,8 +130,10 @@ pub fn migrate<S: Alter>(conn: &mut Connection<S>, alloc: Global) -> Result<(), 
     ensures legal { IsClean (state S.Store conn.new)
         → (r : Register) → ShowsFirst r (state S.Store conn.old) → IsLegal r
         → MatchResult result (λ _. ShowsIn r (state S.Store conn.new)) IsFailure }
-    ensures stops { MayLeave (λ trees. (r : Register) → ShowsFirst r (state S.Store conn.old)
-        → IsLegal r → Stands r trees) (state S.Store conn.old) (state S.Store conn.new) }
+    ensures stops { LeavesAtMost (λ trees.
+        ((r : Register) → ShowsFirst r (state S.Store conn.old) → IsLegal r → Stands r trees)
+        × ((r : Register) → ShowsIn r (state S.Store conn.old) → Stands r trees))
+        (state S.Store conn.old) (state S.Store conn.new) }
 {
     let first = is_first(conn)?;
     if !first {

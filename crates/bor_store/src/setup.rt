@@ -3,9 +3,10 @@
 ghost use Rattle.std.specs.Prelude.{◌≡◌, ◌↔◌, false, Err, OnOk, OnErr, IsTrue};
 ghost use Rattle.std.specs.List.{list_any};
 ghost use Rattle.sqlite.specs.Held.{state};
+ghost use Rattle.sqlite.specs.State.{HasCleanDisk};
 ghost use Rattle.bor_register.specs.Register.{empty_register};
 ghost use Rattle.bor_store_sql.specs.Texts.Tables.{no_schema};
-ghost use Rattle.bor_store_sql.specs.Shown.{IsClean, MayLeave, ShowsIn, Stands};
+ghost use Rattle.bor_store_sql.specs.Shown.{IsClean, IsUp, LeavesAtMost, ShowsIn, Stands};
 ghost use Rattle.bor_store.specs.Opening.{is_used, is_taken};
 ghost use Rattle.bor_store.specs.declared.open_fault.OpenFault.TheVariants as faults;
 
@@ -65,6 +66,8 @@ pub fn set_up<S: Alter>(
 ) -> Result<(), OpenFault>
     requires { conn.old.in_transaction ≡ false }
     ensures mode { conn.new.in_transaction ≡ false }
+    ensures clean { HasCleanDisk (state S.Store conn.new) → HasCleanDisk (state S.Store conn.old) }
+    ensures up { OnOk result (IsUp (state S.Store conn.new)) }
     ensures began { IsClean (state S.Store conn.new) → IsClean (state S.Store conn.old) }
     ensures taken { (result ≡ Err faults.Taken)
         ↔ IsTrue (is_taken (state S.Store conn.old).now.schema) }
@@ -74,7 +77,7 @@ pub fn set_up<S: Alter>(
         → OnOk result (ShowsIn (empty_register registrar.now day) (state S.Store conn.new)) }
     ensures kept { IsClean (state S.Store conn.new)
         → OnErr result ((state S.Store conn.new).committed ≡ (state S.Store conn.old).committed) }
-    ensures stops { MayLeave (λ trees. (state S.Store conn.old).committed.schema ≡ no_schema
+    ensures stops { LeavesAtMost (λ trees. (state S.Store conn.old).committed.schema ≡ no_schema
         → Stands (empty_register registrar.now day) trees)
         (state S.Store conn.old) (state S.Store conn.new) }
 {

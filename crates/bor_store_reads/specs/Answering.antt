@@ -21,7 +21,7 @@ of_row row_faults.Memory = errors.Memory
 of_row row_faults.Damaged = errors.Damaged
 
 -- Reading changes nothing: no transaction is left open; a disk that has returned what was written had done so before, and
--- a stop leaves nothing more; a connection that ends clean began clean, and what was written stays as it was.
+-- a stop leaves nothing that one before might not have left; a connection that ends clean began clean, and what was written stays as it was.
 pub record ReadsOnly (old new : State) : Type 0 where
   pub mode : new.in_transaction ≡ false
   pub clean : HasCleanDisk new → HasCleanDisk old

@@ -9,10 +9,10 @@ use Rattle.sqlite.specs.Store.{Ghosts}
 use Rattle.sqlite.specs.Tree.{Trees}
 use Rattle.sqlite.specs.declared.error.Error.{Error}
 use Rattle.bor_register.specs.Register.{Register}
-use Rattle.bor_store_sql.specs.Ran.{Ends, Moved, Moves, WasOpen}
+use Rattle.bor_store_sql.specs.Ran.{Ends, Moved, Moves, RanOpen}
 use Rattle.bor_store_sql.specs.Rows.Encoding.{contents}
 use Rattle.bor_store_sql.specs.Rows.Stored.{IsStored}
-use Rattle.bor_store_sql.specs.Shown.{Has, IsClean, IsUp, MayLeave, Stands}
+use Rattle.bor_store_sql.specs.Shown.{Has, IsClean, IsUp, LeavesAtMost, Stands}
 use Rattle.bor_store_sql.proofs.Moves.{no_more, was_clean}
 
 -- what was done failed, and is undone
@@ -87,8 +87,8 @@ where_up mid new done (Ok x) ends = ends.up
 where_up mid new done (Err e) ends = tt
 
 -- the trees of a database that has the register's rows
-pub standing : (r : Register) (after : Database) (trees : Trees) → after.trees ≡ trees → Has (contents r) after × IsStored r → Stands r trees
-standing r after trees same h = subst (Stands r) same (record {
+pub stands_in : (r : Register) (after : Database) (trees : Trees) → after.trees ≡ trees → Has (contents r) after × IsStored r → Stands r trees
+stands_in r after trees same h = subst (Stands r) same (record {
   has = subst (λ (schema : Schema). Has (contents r) (record { schema = schema; trees = after.trees })) h.0.schema h.0;
   stored = h.1;
 })
@@ -96,7 +96,7 @@ standing r after trees same h = subst (Stands r) same (record {
 -- what was made of a database, which has these trees
 pub record IsMadeOf (Makes : Database → Database → Type 0) (before : Database) (trees : Trees) : Type 0 where
   pub after : Database
-  pub has : after.trees ≡ trees
+  pub trees_are : after.trees ≡ trees
   pub made : Makes before after
 
 -- what a stop leaves of a transaction
@@ -105,7 +105,7 @@ stopped_by : (Makes : Database → Database → Type 0) (start mid : State) (don
 stopped_by Makes start mid (Err e) before trees settled moved went is = absurd (true≢false (sym went))
 stopped_by Makes start mid (Ok x) before trees settled moved went is = record {
   after = mid.now;
-  has = sym is;
+  trees_are = sym is;
   made = subst (λ db. Makes db mid.now) settled moved.made;
 }
 
@@ -120,16 +120,16 @@ pub record Ended (Makes : Database → Database → Type 0) (old new : State) (r
   pub began : IsClean new → IsClean old
   pub kept : IsClean new → OnErr result (new.committed ≡ old.committed)
   pub made : IsClean new → OnOk result (Makes old.committed new.committed)
-  pub stops : MayLeave (IsMadeOf Makes old.committed) old new
+  pub stops : LeavesAtMost (IsMadeOf Makes old.committed) old new
 
 -- `began` is the connection once the transaction was begun
 pub ended : {S : Type 0} (g : Ghosts S) (Makes : Database → Database → Type 0) (was began : Held S) (mid new : State) (done result : Result (Unit {0}) Error) → (IsTrue (state g was).is_open → (state g was).now ≡ (state g was).committed)
-    → began ≡ record was { in_transaction = true } → Moves Makes (state g began) mid done → WasOpen (state g began) mid done → Ends mid new done result → Ended Makes (state g was) new result
+    → began ≡ record was { in_transaction = true } → Moves Makes (state g began) mid done → RanOpen (state g began) mid done → Ends mid new done result → Ended Makes (state g was) new result
 ended g Makes was began mid new done result settled begun moves opened ends =
-    by_moves g Makes was mid new done result settled (subst (λ h. Moves Makes (state g h) mid done) begun moves) (subst (λ h. WasOpen (state g h) mid done) begun opened) ends
+    by_moves g Makes was mid new done result settled (subst (λ h. Moves Makes (state g h) mid done) begun moves) (subst (λ h. RanOpen (state g h) mid done) begun opened) ends
   where
     by_moves : {S : Type 0} (g : Ghosts S) (Makes : Database → Database → Type 0) (was : Held S) (mid new : State) (done result : Result (Unit {0}) Error) → (IsTrue (state g was).is_open → (state g was).now ≡ (state g was).committed)
-        → Moves Makes (record (state g was) { in_transaction = true }) mid done → WasOpen (record (state g was) { in_transaction = true }) mid done → Ends mid new done result → Ended Makes (state g was) new result
+        → Moves Makes (record (state g was) { in_transaction = true }) mid done → RanOpen (record (state g was) { in_transaction = true }) mid done → Ends mid new done result → Ended Makes (state g was) new result
     by_moves g Makes was mid new done result settled moves opened ends =
         let start = record (state g was) { in_transaction = true } in
         record {
@@ -147,7 +147,7 @@ ended g Makes was began mid new done result settled begun moves opened ends =
         }
 
 -- what stands in the trees that a stop leaves
-pub stopped_in : (Makes : Database → Database → Type 0) (Made : Trees → Type 0) (old new : State) → ((trees : Trees) → IsMadeOf Makes old.committed trees → Made trees) → MayLeave (IsMadeOf Makes old.committed) old new → MayLeave Made old new
+pub stopped_in : (Makes : Database → Database → Type 0) (Made : Trees → Type 0) (old new : State) → ((trees : Trees) → IsMadeOf Makes old.committed trees → Made trees) → LeavesAtMost (IsMadeOf Makes old.committed) old new → LeavesAtMost Made old new
 stopped_in Makes Made old new stands stops clean trees left = elim (stops clean trees left) [
   | inl before ↦ inl before
   | inr (was, made) ↦ inr (was, stands trees made)

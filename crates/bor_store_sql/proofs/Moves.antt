@@ -8,7 +8,7 @@ use Rattle.sqlite.specs.State.{State, ExecutesInside, Executes, HasCleanDisk, Is
 use Rattle.sqlite.specs.Tree.{Trees}
 use Rattle.bor_store_sql.specs.Changing.{Any}
 use Rattle.bor_store_sql.specs.Moving.{PutsPeriods}
-use Rattle.bor_store_sql.specs.Ran.{LeavesNoMore, Moved, Moves, Ran, RunsInside, WasOpen}
+use Rattle.bor_store_sql.specs.Ran.{LeavesNoMore, Moved, Moves, Ran, RunsInside, RanOpen}
 use Rattle.bor_store_sql.specs.Rows.Encoding.{Contents, period_columns}
 use Rattle.bor_store_sql.specs.Shown.{Changes, Has, Steps}
 use Rattle.bor_store_sql.specs.declared.rows.typed.PeriodRow.{PeriodRow}
@@ -146,9 +146,9 @@ none_moves Makes old same = record {
 }
 
 -- no further one was run
-pub stops : (First All : Database → Database → Type 0) (old new : State) (result : Result (Unit {0}) Error) → IsErr result → Moves First old new (Ok (tt {0})) → Moves All old new result
-stops First All old new (Ok x) err one = absurd (true≢false (sym err))
-stops First All old new (Err e) err one = record {
+pub breaks_off : (First All : Database → Database → Type 0) (old new : State) (result : Result (Unit {0}) Error) → IsErr result → Moves First old new (Ok (tt {0})) → Moves All old new result
+breaks_off First All old new (Ok x) err one = absurd (true≢false (sym err))
+breaks_off First All old new (Err e) err one = record {
   clean = one.clean;
   stops = one.stops;
   inside = λ clean inside.
@@ -158,16 +158,16 @@ stops First All old new (Err e) err one = record {
 
 -- ---- on a connection that was open
 
-pub ran_open : (sql : List ℕ) (params : Row) (old new : State) (result : Result (Unit {0}) Error) → Ran sql params old new result → WasOpen old new result
-ran_open sql params old new (Ok x) ran clean inside = (ran.inside clean inside).1.1.was_open
-ran_open sql params old new (Err e) ran clean inside = tt
+pub run_open : (sql : List ℕ) (params : Row) (old new : State) (result : Result (Unit {0}) Error) → Ran sql params old new result → RanOpen old new result
+run_open sql params old new (Ok x) ran clean inside = (ran.inside clean inside).1.1.was_open
+run_open sql params old new (Err e) ran clean inside = tt
 
-pub err_open : (old new : State) (result : Result (Unit {0}) Error) → IsErr result → WasOpen old new result
+pub err_open : (old new : State) (result : Result (Unit {0}) Error) → IsErr result → RanOpen old new result
 err_open old new (Ok x) err = absurd (true≢false (sym err))
 err_open old new (Err e) err = λ clean inside. tt
 
 -- the first went well
-pub first_open : (old mid new : State) (result : Result (Unit {0}) Error) → WasOpen old mid (Ok (tt {0})) → (HasCleanDisk new → HasCleanDisk mid) → WasOpen old new result
+pub first_open : (old mid new : State) (result : Result (Unit {0}) Error) → RanOpen old mid (Ok (tt {0})) → (HasCleanDisk new → HasCleanDisk mid) → RanOpen old new result
 first_open old mid new (Ok x) first sound clean inside = first (sound clean) inside
 first_open old mid new (Err e) first sound clean inside = tt
 

@@ -49,7 +49,7 @@ statements_kept agent number r = flat_map (λ f. f.statements) (numbered number 
 
 -- ---- what is answered
 
--- The tables, of either version, are asked whether something holds of the register. They are left as they were, and the answer is whether it holds, or there is an error.
+-- The tables, of either version, are asked whether something holds of the register. They are left as they were, and a stop leaves nothing more. The answer is whether it holds, or there is an error.
 pub record Tells (old new : State) (result : Result Bool Error) (Holds : Register → Type 0) : Type 0 where
   pub clean : HasCleanDisk new → HasCleanDisk old
   pub stops : LeavesNoMore old new

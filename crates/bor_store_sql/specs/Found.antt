@@ -15,7 +15,7 @@ use Rattle.bor_store_sql.specs.Shown.{IsClean, IsUp, ShowsIn, ShowsLists}
 abbrev pub IsQuery : List ℕ → Type 0
 IsQuery text = (schema : Schema) → Returns (understood schema text) → ⊥
 
--- A query was asked of what the last commit left, which it leaves, or a fault is answered. Rows come from a connection that is open, if its disk has returned what was written.
+-- A query was asked of what the last commit left, which it leaves, or a fault is answered. A stop leaves nothing more. Rows come from a connection that is open, if its disk has returned what was written.
 pub record Asked (text : List ℕ) (params : Row) (old new : State) (result : Result (Vec Row Global) Error) : Type 0 where
   pub clean : HasCleanDisk new → HasCleanDisk old
   pub stops : LeavesNoMore old new
@@ -24,7 +24,7 @@ pub record Asked (text : List ℕ) (params : Row) (old new : State) (result : Re
   pub kept : IsClean new → new.committed ≡ old.committed
   pub shown : IsClean new → IfOk result (λ rows. (old.now ≡ old.committed) × Shown text params old new rows.items)
 
--- The query leaves what the last commit left, and of a register that is shown it gives these rows, or a fault.
+-- The query leaves what the last commit left, and a stop leaves nothing more; of a register that is shown it gives these rows, or a fault.
 pub record Finds (old new : State) (result : Result (Vec Row Global) Error) (rows_of : Register → List Row) : Type 0 where
   pub clean : HasCleanDisk new → HasCleanDisk old
   pub stops : LeavesNoMore old new

@@ -11,7 +11,7 @@ abbrev pub RunsInside : List ℕ → Row → State → State → Result (Unit {0
 RunsInside text params old new (Ok x) = (count : ℕ) × ExecutesInside 0 text params old new (Ok count)
 RunsInside text params old new (Err e) = IsUnchanged old new ⊎ IsRolledBack old new
 
--- A stop after this leaves nothing for the next one to open the files that a stop before it might not have left, if the disk has returned what was written.
+-- A stop after the call leaves nothing for the next one to open the files that a stop before it might not have left, if the disk has returned what was written.
 abbrev pub LeavesNoMore : State → State → Type 0
 LeavesNoMore old new = HasCleanDisk new → (trees : Trees) → new.may_leave trees → old.may_leave trees
 
@@ -34,11 +34,11 @@ pub record Moves (Makes : Database → Database → Type 0) (old new : State) (r
   pub stops : LeavesNoMore old new
   pub inside : HasCleanDisk new → IsTrue old.in_transaction → Moved Makes old new result
 
--- Statements of a transaction that was under way went well only on a connection that was open.
-abbrev pub WasOpen : State → State → Result (Unit {0}) Error → Type 0
-WasOpen old new result = HasCleanDisk new → IsTrue old.in_transaction → OnOk result (IsTrue old.is_open)
+-- On a disk that has returned what was written, statements of a transaction that was under way went well only where the connection was open.
+abbrev pub RanOpen : State → State → Result (Unit {0}) Error → Type 0
+RanOpen old new result = HasCleanDisk new → IsTrue old.in_transaction → OnOk result (IsTrue old.is_open)
 
--- A transaction ends: it is committed where all went well that was done in it, and the connection is open then; else it is undone. A stop may leave what it committed, or was to commit.
+-- A transaction ends: it is committed where all went well that was done in it, and the connection is open then; else it is undone. A stop leaves what it might have left before or, where all went well that was done, what was written in the transaction.
 pub record Ends (old new : State) (done result : Result (Unit {0}) Error) : Type 0 where
   pub clean : HasCleanDisk new → HasCleanDisk old
   pub stops : HasCleanDisk new → (trees : Trees) → new.may_leave trees → old.may_leave trees ⊎ (IsOk done × (trees ≡ old.now.trees))

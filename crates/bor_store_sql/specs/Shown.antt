@@ -13,7 +13,7 @@ use Rattle.bor_store_sql.specs.Rows.Placed.{register_row}
 use Rattle.bor_store_sql.specs.Rows.Stored.{IsStored}
 use Rattle.bor_store_sql.specs.Ran.{Moves}
 
--- the database has the seven tables with these rows
+-- the database is sound, and has the seven tables with these rows
 pub record Has (t : Contents) (db : Database) : Type 0 where
   pub sound : IsDatabase db
   pub schema : db.schema ≡ keep_schema
@@ -41,14 +41,14 @@ pub record ShowsIn (r : Register) (s : State) : Type 0 where
   pub has : Has (contents r) s.committed
   pub stored : IsStored r
 
--- these trees are those of the register's tables
+-- these trees are a sound database of the register's tables, with its rows
 pub record Stands (r : Register) (trees : Trees) : Type 0 where
   pub has : Has (contents r) (record { schema = keep_schema; trees = trees })
   pub stored : IsStored r
 
--- A stop in the midst of a change, or after it, leaves for the next one to open the files what a stop before it might have left; or, where the connection was clean, trees of this kind. It is said of a disk that has returned what was written.
-abbrev pub MayLeave : (Trees → Type 0) → State → State → Type 0
-MayLeave Made old new = HasCleanDisk new → (trees : Trees) → new.may_leave trees → old.may_leave trees ⊎ (IsClean old × Made trees)
+-- A stop after a change, whether it went well or failed, leaves for the next one to open the files what a stop before it might have left; or, where the connection was clean before, trees of this kind. It is said of a disk that has returned what was written.
+abbrev pub LeavesAtMost : (Trees → Type 0) → State → State → Type 0
+LeavesAtMost Made old new = HasCleanDisk new → (trees : Trees) → new.may_leave trees → old.may_leave trees ⊎ (IsClean old × Made trees)
 
 -- tables that have rows which the change fits have the changed rows
 abbrev pub Changes : (Contents → Type 0) → (Contents → Contents) → Database → Database → Type 0

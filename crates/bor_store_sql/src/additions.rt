@@ -4,8 +4,8 @@ ghost use Rattle.std.specs.Prelude.{◌≡◌, ◌+◌, ◌<◌, ◌^◌, false,
 ghost use Rattle.sqlite.specs.Held.{state};
 ghost use Rattle.sqlite.specs.State.{HasCleanDisk};
 ghost use Rattle.bor_store_sql.specs.Rows.Placed.{bare, period_of, placed_from, interests_from, identifiers_from, interests_of, identifiers_of};
-ghost use Rattle.bor_store_sql.specs.Ran.{WasOpen};
-ghost use Rattle.bor_store_sql.specs.Shown.{Steps, IsClean, ShowsIn, IsUp, MayLeave, Stands};
+ghost use Rattle.bor_store_sql.specs.Ran.{RanOpen};
+ghost use Rattle.bor_store_sql.specs.Shown.{Steps, IsClean, ShowsIn, IsUp, LeavesAtMost, Stands};
 ghost use Rattle.bor_store_sql.specs.Changing.{Any, live_filing, with_filing_row, with_statement_row, with_interest_rows, with_identifier_rows, with_period_row, with_period_rows, with_one_placed, with_placed, with_live_filing, added};
 ghost use Rattle.bor_register.specs.Register.{Register, is_enrolled, filings_of};
 ghost use Rattle.bor_store_sql.specs.Rows.Stored.{IsCounted, AreCounted};
@@ -32,7 +32,7 @@ fn insert_filing<S: Alter>(
     bytes: &[u8],
 ) -> Result<(), Error>
     ensures same_reference { tx.new.conn.ghost_name ≡ tx.old.conn.ghost_name }
-    ensures was_open { WasOpen (state S.Store tx.old.conn.now) (state S.Store tx.new.conn.now) result }
+    ensures ran_open { RanOpen (state S.Store tx.old.conn.now) (state S.Store tx.new.conn.now) result }
     ensures steps { Steps Any
         (with_filing_row agent.now (live_filing number key.now due bytes.now []))
         (state S.Store tx.old.conn.now) (state S.Store tx.new.conn.now) result }
@@ -332,7 +332,7 @@ fn insert_rows<S: Alter>(
     statements: &[Statement],
 ) -> Result<(), Error>
     ensures same_reference { tx.new.conn.ghost_name ≡ tx.old.conn.ghost_name }
-    ensures was_open { WasOpen (state S.Store tx.old.conn.now) (state S.Store tx.new.conn.now) result }
+    ensures ran_open { RanOpen (state S.Store tx.old.conn.now) (state S.Store tx.new.conn.now) result }
     ensures steps { Steps Any
         (with_live_filing agent.now number key.now due bytes.now statements.now)
         (state S.Store tx.old.conn.now) (state S.Store tx.new.conn.now) result }
@@ -369,7 +369,7 @@ pub fn add_filing<S: Alter>(
         (state S.Store conn.new)) }
     ensures kept { IsClean (state S.Store conn.new)
         → OnErr result ((state S.Store conn.new).committed ≡ (state S.Store conn.old).committed) }
-    ensures stops { MayLeave (λ trees. (r : Register) → ShowsIn r (state S.Store conn.old)
+    ensures stops { LeavesAtMost (λ trees. (r : Register) → ShowsIn r (state S.Store conn.old)
         → is_enrolled agent.now r.members ≡ true
         → length (filings_of agent.now r.members) < filings_limit
         → number ≡ length (filings_of agent.now r.members) + 1

@@ -2,13 +2,14 @@
 
 ghost use Rattle.std.specs.Prelude.{◌≡◌, false, OnOk, OnErr};
 ghost use Rattle.sqlite.specs.Held.{state};
+ghost use Rattle.sqlite.specs.State.{HasCleanDisk};
 ghost use Rattle.bor_register.specs.Register.{empty_register};
 ghost use Rattle.bor_store_sql.specs.Texts.Tables.{no_schema, schema_3, schema_6, first_schema};
 ghost use Rattle.bor_store_sql.specs.Rows.Encoding.{contents};
 ghost use Rattle.bor_store_sql.specs.Blank.{IsBlank, Leads, no_contents};
 ghost use Rattle.bor_store_sql.specs.Moving.{MakesPeriod};
-ghost use Rattle.bor_store_sql.specs.Ran.{Moves, WasOpen};
-ghost use Rattle.bor_store_sql.specs.Shown.{Has, IsClean, MayLeave, ShowsIn, Stands};
+ghost use Rattle.bor_store_sql.specs.Ran.{Moves, RanOpen};
+ghost use Rattle.bor_store_sql.specs.Shown.{Has, IsClean, IsUp, LeavesAtMost, ShowsIn, Stands};
 
 use crate::columns::register_values;
 use crate::running::{finish, run};
@@ -23,7 +24,7 @@ use sqlite::{Alter, Connection, Error, Transaction};
 /// Makes the table `period` beside those of version 1, whatever rows they have.
 pub(crate) fn create_period<S: Alter>(tx: &mut Transaction<'_, S>) -> Result<(), Error>
     ensures same_reference { tx.new.conn.ghost_name ≡ tx.old.conn.ghost_name }
-    ensures was_open { WasOpen (state S.Store tx.old.conn.now) (state S.Store tx.new.conn.now) result }
+    ensures ran_open { RanOpen (state S.Store tx.old.conn.now) (state S.Store tx.new.conn.now) result }
     ensures moves { Moves MakesPeriod (state S.Store tx.old.conn.now)
         (state S.Store tx.new.conn.now) result }
 {
@@ -32,7 +33,7 @@ pub(crate) fn create_period<S: Alter>(tx: &mut Transaction<'_, S>) -> Result<(),
 
 fn create_lists<S: Alter>(tx: &mut Transaction<'_, S>) -> Result<(), Error>
     ensures same_reference { tx.new.conn.ghost_name ≡ tx.old.conn.ghost_name }
-    ensures was_open { WasOpen (state S.Store tx.old.conn.now) (state S.Store tx.new.conn.now) result }
+    ensures ran_open { RanOpen (state S.Store tx.old.conn.now) (state S.Store tx.new.conn.now) result }
     ensures leads { Leads (IsBlank no_schema) (IsBlank schema_3) (state S.Store tx.old.conn.now)
         (state S.Store tx.new.conn.now) result }
 {
@@ -65,7 +66,7 @@ fn create_indexes<S: Alter>(tx: &mut Transaction<'_, S>) -> Result<(), Error>
 // The tables of version 1.
 fn create_tables<S: Alter>(tx: &mut Transaction<'_, S>) -> Result<(), Error>
     ensures same_reference { tx.new.conn.ghost_name ≡ tx.old.conn.ghost_name }
-    ensures was_open { WasOpen (state S.Store tx.old.conn.now) (state S.Store tx.new.conn.now) result }
+    ensures ran_open { RanOpen (state S.Store tx.old.conn.now) (state S.Store tx.new.conn.now) result }
     ensures leads { Leads (IsBlank no_schema) (IsBlank first_schema) (state S.Store tx.old.conn.now)
         (state S.Store tx.new.conn.now) result }
 {
@@ -92,7 +93,7 @@ fn make_register<S: Alter>(
     day: Day,
 ) -> Result<(), Error>
     ensures same_reference { tx.new.conn.ghost_name ≡ tx.old.conn.ghost_name }
-    ensures was_open { WasOpen (state S.Store tx.old.conn.now) (state S.Store tx.new.conn.now) result }
+    ensures ran_open { RanOpen (state S.Store tx.old.conn.now) (state S.Store tx.new.conn.now) result }
     ensures leads { Leads (IsBlank no_schema) (Has (contents (empty_register registrar.now day)))
         (state S.Store tx.old.conn.now) (state S.Store tx.new.conn.now) result }
 {
@@ -106,13 +107,15 @@ fn make_register<S: Alter>(
 pub fn set_up<S: Alter>(conn: &mut Connection<S>, registrar: &Token, day: Day) -> Result<(), Error>
     requires { conn.old.in_transaction ≡ false }
     ensures mode { conn.new.in_transaction ≡ false }
+    ensures clean { HasCleanDisk (state S.Store conn.new) → HasCleanDisk (state S.Store conn.old) }
+    ensures up { OnOk result (IsUp (state S.Store conn.new)) }
     ensures began { IsClean (state S.Store conn.new) → IsClean (state S.Store conn.old) }
     ensures made { IsClean (state S.Store conn.new)
         → (state S.Store conn.old).committed.schema ≡ no_schema
         → OnOk result (ShowsIn (empty_register registrar.now day) (state S.Store conn.new)) }
     ensures kept { IsClean (state S.Store conn.new)
         → OnErr result ((state S.Store conn.new).committed ≡ (state S.Store conn.old).committed) }
-    ensures stops { MayLeave (λ trees. (state S.Store conn.old).committed.schema ≡ no_schema
+    ensures stops { LeavesAtMost (λ trees. (state S.Store conn.old).committed.schema ≡ no_schema
         → Stands (empty_register registrar.now day) trees)
         (state S.Store conn.old) (state S.Store conn.new) }
 {

@@ -6,8 +6,8 @@ ghost use Rattle.sqlite.specs.State.{HasCleanDisk};
 ghost use Rattle.bor_register.specs.Register.{Register};
 ghost use Rattle.bor_store_sql.specs.Changing.{all_periods};
 ghost use Rattle.bor_store_sql.specs.Moving.{PutsPeriods, SetsVersion, MovesRows};
-ghost use Rattle.bor_store_sql.specs.Ran.{Moves, WasOpen};
-ghost use Rattle.bor_store_sql.specs.Shown.{IsClean, MayLeave, ShowsFirst, ShowsIn, Stands};
+ghost use Rattle.bor_store_sql.specs.Ran.{Moves, RanOpen};
+ghost use Rattle.bor_store_sql.specs.Shown.{IsClean, IsUp, LeavesAtMost, ShowsFirst, ShowsIn, Stands};
 
 use crate::columns::{period_values, version_value};
 use crate::creation::create_period;
@@ -57,7 +57,7 @@ fn set_version<S: Alter>(tx: &mut Transaction<'_, S>) -> Result<(), Error>
 // Makes the table `period` with these rows, and sets the version.
 fn move_rows<S: Alter>(tx: &mut Transaction<'_, S>, periods: &[PeriodRow]) -> Result<(), Error>
     ensures same_reference { tx.new.conn.ghost_name ≡ tx.old.conn.ghost_name }
-    ensures was_open { WasOpen (state S.Store tx.old.conn.now) (state S.Store tx.new.conn.now) result }
+    ensures ran_open { RanOpen (state S.Store tx.old.conn.now) (state S.Store tx.new.conn.now) result }
     ensures moves { Moves (MovesRows periods.now) (state S.Store tx.old.conn.now)
         (state S.Store tx.new.conn.now) result }
 {
@@ -72,13 +72,14 @@ pub fn move_tables<S: Alter>(conn: &mut Connection<S>, periods: &[PeriodRow]) ->
     requires { conn.old.in_transaction ≡ false }
     ensures mode { conn.new.in_transaction ≡ false }
     ensures clean { HasCleanDisk (state S.Store conn.new) → HasCleanDisk (state S.Store conn.old) }
+    ensures up { OnOk result (IsUp (state S.Store conn.new)) }
     ensures began { IsClean (state S.Store conn.new) → IsClean (state S.Store conn.old) }
     ensures made { IsClean (state S.Store conn.new) → (r : Register)
         → ShowsFirst r (state S.Store conn.old)
         → periods.now ≡ all_periods r.members → OnOk result (ShowsIn r (state S.Store conn.new)) }
     ensures kept { IsClean (state S.Store conn.new)
         → OnErr result ((state S.Store conn.new).committed ≡ (state S.Store conn.old).committed) }
-    ensures stops { MayLeave (λ trees. (r : Register) → ShowsFirst r (state S.Store conn.old)
+    ensures stops { LeavesAtMost (λ trees. (r : Register) → ShowsFirst r (state S.Store conn.old)
         → periods.now ≡ all_periods r.members → Stands r trees)
         (state S.Store conn.old) (state S.Store conn.new) }
 {

@@ -5,8 +5,8 @@ ghost use Rattle.sqlite.specs.Held.{state};
 ghost use Rattle.sqlite.specs.State.{HasCleanDisk};
 ghost use Rattle.bor_register.specs.Register.{Register, is_enrolled, new_member};
 ghost use Rattle.bor_store_sql.specs.Rows.Encoding.{agent_columns};
-ghost use Rattle.bor_store_sql.specs.Ran.{WasOpen};
-ghost use Rattle.bor_store_sql.specs.Shown.{Steps, IsClean, ShowsIn, IsUp, MayLeave, Stands};
+ghost use Rattle.bor_store_sql.specs.Ran.{RanOpen};
+ghost use Rattle.bor_store_sql.specs.Shown.{Steps, IsClean, ShowsIn, IsUp, LeavesAtMost, Stands};
 ghost use Rattle.bor_store_sql.specs.Changing.{Any, IsOneRegister, with_day, with_agent_row, enrolled};
 
 use crate::columns::{agent_values, day_value};
@@ -17,7 +17,7 @@ use sqlite::{Alter, Connection, Error, Transaction};
 
 fn update_day<S: Alter>(tx: &mut Transaction<'_, S>, day: Day) -> Result<(), Error>
     ensures same_reference { tx.new.conn.ghost_name ≡ tx.old.conn.ghost_name }
-    ensures was_open { WasOpen (state S.Store tx.old.conn.now) (state S.Store tx.new.conn.now) result }
+    ensures ran_open { RanOpen (state S.Store tx.old.conn.now) (state S.Store tx.new.conn.now) result }
     ensures steps { Steps (IsOneRegister day) (with_day day) (state S.Store tx.old.conn.now)
         (state S.Store tx.new.conn.now) result }
 {
@@ -30,7 +30,7 @@ fn insert_agent<S: Alter>(
     token: &str,
 ) -> Result<(), Error>
     ensures same_reference { tx.new.conn.ghost_name ≡ tx.old.conn.ghost_name }
-    ensures was_open { WasOpen (state S.Store tx.old.conn.now) (state S.Store tx.new.conn.now) result }
+    ensures ran_open { RanOpen (state S.Store tx.old.conn.now) (state S.Store tx.new.conn.now) result }
     ensures steps { Steps Any (with_agent_row (agent_columns (new_member agent.now token.now)))
         (state S.Store tx.old.conn.now) (state S.Store tx.new.conn.now) result }
 {
@@ -49,7 +49,7 @@ pub fn set_day<S: Alter>(conn: &mut Connection<S>, day: Day) -> Result<(), Error
         → OnOk result (ShowsIn (record r { day = day }) (state S.Store conn.new)) }
     ensures kept { IsClean (state S.Store conn.new)
         → OnErr result ((state S.Store conn.new).committed ≡ (state S.Store conn.old).committed) }
-    ensures stops { MayLeave (λ trees. (r : Register) → ShowsIn r (state S.Store conn.old)
+    ensures stops { LeavesAtMost (λ trees. (r : Register) → ShowsIn r (state S.Store conn.old)
         → Stands (record r { day = day }) trees) (state S.Store conn.old) (state S.Store conn.new) }
 {
     // Its clause says that the connection shows what the last commit left.
@@ -78,7 +78,7 @@ pub fn add_agent<S: Alter>(
         → OnOk result (ShowsIn (enrolled agent.now token.now r) (state S.Store conn.new)) }
     ensures kept { IsClean (state S.Store conn.new)
         → OnErr result ((state S.Store conn.new).committed ≡ (state S.Store conn.old).committed) }
-    ensures stops { MayLeave (λ trees. (r : Register) → ShowsIn r (state S.Store conn.old)
+    ensures stops { LeavesAtMost (λ trees. (r : Register) → ShowsIn r (state S.Store conn.old)
         → is_enrolled agent.now r.members ≡ false
         → Stands (enrolled agent.now token.now r) trees)
         (state S.Store conn.old) (state S.Store conn.new) }

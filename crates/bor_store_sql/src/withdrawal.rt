@@ -3,8 +3,8 @@
 ghost use Rattle.std.specs.Prelude.{◌≡◌, false, OnOk, OnErr};
 ghost use Rattle.sqlite.specs.Held.{state};
 ghost use Rattle.sqlite.specs.State.{HasCleanDisk};
-ghost use Rattle.bor_store_sql.specs.Ran.{WasOpen};
-ghost use Rattle.bor_store_sql.specs.Shown.{Steps, IsClean, ShowsIn, IsUp, MayLeave, Stands};
+ghost use Rattle.bor_store_sql.specs.Ran.{RanOpen};
+ghost use Rattle.bor_store_sql.specs.Shown.{Steps, IsClean, ShowsIn, IsUp, LeavesAtMost, Stands};
 ghost use Rattle.bor_store_sql.specs.Changing.{IsOnce, withdrawn_in, withdrawn};
 ghost use Rattle.bor_register.specs.Register.{Register};
 
@@ -20,7 +20,7 @@ fn withdraw_rows<S: Alter>(
     number: u32,
 ) -> Result<(), Error>
     ensures same_reference { tx.new.conn.ghost_name ≡ tx.old.conn.ghost_name }
-    ensures was_open { WasOpen (state S.Store tx.old.conn.now) (state S.Store tx.new.conn.now) result }
+    ensures ran_open { RanOpen (state S.Store tx.old.conn.now) (state S.Store tx.new.conn.now) result }
     ensures steps { Steps (IsOnce agent.now number) (withdrawn_in agent.now number)
         (state S.Store tx.old.conn.now) (state S.Store tx.new.conn.now) result }
 {
@@ -47,7 +47,7 @@ pub fn withdraw_filing<S: Alter>(
         → OnOk result (ShowsIn (withdrawn agent.now number r) (state S.Store conn.new)) }
     ensures kept { IsClean (state S.Store conn.new)
         → OnErr result ((state S.Store conn.new).committed ≡ (state S.Store conn.old).committed) }
-    ensures stops { MayLeave (λ trees. (r : Register) → ShowsIn r (state S.Store conn.old)
+    ensures stops { LeavesAtMost (λ trees. (r : Register) → ShowsIn r (state S.Store conn.old)
         → Stands (withdrawn agent.now number r) trees)
         (state S.Store conn.old) (state S.Store conn.new) }
 {

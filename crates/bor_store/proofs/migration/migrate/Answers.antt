@@ -2,8 +2,9 @@ use Rattle.std.proofs.Common.{◌∙◌, true≢false, sym}
 use Rattle.std.proofs.lemmas.Result.{err_from_is_err_and}
 use Rattle.sqlite.specs.Held.{state}
 use Rattle.bor_store.proofs.Either.{still_first}
-use Rattle.bor_store.proofs.Legals.{moved_after, moved_to_itself, only_read}
+use Rattle.bor_store.proofs.Legals.{moved_to_itself}
 use Rattle.bor_store.proofs.Moving.{kept_through, move_made, move_refused, move_stayed, never_taken}
+use Rattle.bor_store.proofs.Stopping.{after_read, only_read}
 use Rattle.bor_store.proofs.migration.migrate.Goals as goal
 
 pub returns-in_err-first-clause-judged : goal.returns-in_err-first-clause-judged
@@ -54,4 +55,10 @@ pub returns-then-not-first-clause-stops : goal.returns-then-not-first-clause-sto
 returns-then-not-first-clause-stops g c = only_read _ (state g.S.Store c.args.conn.now) (state g.S.Store c.is_first.new.conn) c.in_ok-first.ensures.reads
 
 pub returns-clause-stops : goal.returns-clause-stops
-returns-clause-stops g c = moved_after (state g.S.Store c.args.conn.now) (state g.S.Store c.is_first.new.conn) (state g.S.Store c.move_first.new.conn) c.in_ok-first.ensures.reads c.move_first.ensures.clean c.move_first.ensures.stops
+returns-clause-stops g c =
+    let old = state g.S.Store c.args.conn.now in
+    let mid = state g.S.Store c.is_first.new.conn in
+    let reads = c.in_ok-first.ensures.reads in
+    after_read _ _ old mid (state g.S.Store c.move_first.new.conn) reads c.move_first.ensures.clean
+    (λ was trees made. (λ r shows legal. made r (still_first r old mid (reads.kept was) shows) legal, λ r shows. absurd (true≢false (sym c.if-not-first.false ∙ c.in_ok-first.ensures.second was r shows))))
+    c.move_first.ensures.stops

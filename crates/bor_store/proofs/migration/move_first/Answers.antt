@@ -1,18 +1,10 @@
-use Rattle.std.proofs.Common.{◌≡◌, ◌∙◌, List, sym}
+use Rattle.std.proofs.Common.{◌∙◌}
 use Rattle.std.proofs.lemmas.Result.{err_from_is_err_and}
 use Rattle.sqlite.specs.Held.{state}
-use Rattle.sqlite.specs.State.{HasCleanDisk, State}
-use Rattle.bor_desk.specs.Operations.Legality.{IsLegal}
-use Rattle.bor_register.specs.Register.{Register}
-use Rattle.bor_store_sql.specs.Changing.{all_periods}
-use Rattle.bor_store_sql.specs.Shown.{IsClean, MayLeave, ShowsFirst, ShowsLists, Stands}
-use Rattle.bor_store_sql.specs.declared.rows.typed.PeriodRow.{PeriodRow}
-use Rattle.bor_store_reads.specs.Answering.{ReadsOnly}
 use Rattle.bor_store_sql.proofs.BothReads.{of_first}
-use Rattle.bor_store.specs.Migrating.{FilesSay}
 use Rattle.bor_store.proofs.Either.{still_first}
-use Rattle.bor_store.proofs.Legals.{moved_after, moved_by_days, only_read}
 use Rattle.bor_store.proofs.Moving.{read_failed, read_told}
+use Rattle.bor_store.proofs.Stopping.{moves_legal, only_read}
 use Rattle.bor_store.proofs.migration.move_first.Goals as goal
 
 pub returns-in_err-days-clause-told : goal.returns-in_err-days-clause-told
@@ -37,14 +29,8 @@ returns-clause-migrated g c clean r shows =
 pub returns-in_err-days-clause-stops : goal.returns-in_err-days-clause-stops
 returns-in_err-days-clause-stops g c = only_read _ (state g.S.Store c.args.conn.now) (state g.S.Store c.days_in_files.new.conn) c.in_err-days.ensures.reads
 
--- what a stop leaves of the move of tables whose files were read
-moved : (old mid new : State) (days given : List PeriodRow) → given ≡ days → ReadsOnly old mid → (IsClean mid → (r : Register) → ShowsLists r old → FilesSay r.members days) → (HasCleanDisk new → HasCleanDisk mid)
-    → MayLeave (λ trees. (r : Register) → ShowsFirst r mid → given ≡ all_periods r.members → Stands r trees) mid new → MayLeave (λ trees. (r : Register) → ShowsFirst r old → IsLegal r → Stands r trees) old new
-moved old mid new days given is reads says sound stops =
-    moved_after old mid new reads sound (moved_by_days mid new days given is (λ clean r shows. says clean r (of_first r old (still_first r mid old (sym (reads.kept clean)) shows))) stops)
-
 pub returns-in_err-move_tables-clause-stops : goal.returns-in_err-move_tables-clause-stops
-returns-in_err-move_tables-clause-stops g c = moved (state g.S.Store c.args.conn.now) (state g.S.Store c.days_in_files.new.conn) (state g.S.Store c.move_tables.new.conn) c.in_ok-days.days.items c.as_slice.result.now c.as_slice.ensures.value c.in_ok-days.ensures.reads c.in_ok-days.ensures.gathered c.in_err-move_tables.ensures.clean c.in_err-move_tables.ensures.stops
+returns-in_err-move_tables-clause-stops g c = moves_legal (state g.S.Store c.args.conn.now) (state g.S.Store c.days_in_files.new.conn) (state g.S.Store c.move_tables.new.conn) c.in_ok-days.days.items c.as_slice.result.now c.as_slice.ensures.value c.in_ok-days.ensures.reads c.in_ok-days.ensures.gathered c.in_err-move_tables.ensures.clean c.in_err-move_tables.ensures.stops
 
 pub returns-clause-stops : goal.returns-clause-stops
-returns-clause-stops g c = moved (state g.S.Store c.args.conn.now) (state g.S.Store c.days_in_files.new.conn) (state g.S.Store c.move_tables.new.conn) c.in_ok-days.days.items c.as_slice.result.now c.as_slice.ensures.value c.in_ok-days.ensures.reads c.in_ok-days.ensures.gathered c.in_ok-move_tables.ensures.clean c.in_ok-move_tables.ensures.stops
+returns-clause-stops g c = moves_legal (state g.S.Store c.args.conn.now) (state g.S.Store c.days_in_files.new.conn) (state g.S.Store c.move_tables.new.conn) c.in_ok-days.days.items c.as_slice.result.now c.as_slice.ensures.value c.in_ok-days.ensures.reads c.in_ok-days.ensures.gathered c.in_ok-move_tables.ensures.clean c.in_ok-move_tables.ensures.stops

@@ -4,7 +4,7 @@ use Rattle.bor_store_sql.specs.Texts.Changes.{insert_filing_text}
 use Rattle.bor_store_sql.specs.Changing.{Any, given_filing, live_filing, with_filing_row}
 use Rattle.bor_store_sql.proofs.Adding.{filing_put}
 use Rattle.bor_store_sql.specs.Shown.{Changes}
-use Rattle.bor_store_sql.proofs.Moves.{moves_by, ran_open}
+use Rattle.bor_store_sql.proofs.Moves.{moves_by, run_open}
 use Rattle.bor_store_sql.proofs.additions.insert_filing.Goals as goal
 
 pub returns : goal.returns
@@ -13,6 +13,6 @@ returns g c =
     let new = state g.S.Store c.run.new.tx.conn.now in
     record {
       same_reference = c.run.ensures.same_reference;
-      was_open = ran_open _ _ old new c.run.result c.run.ensures.ran;
+      ran_open = run_open _ _ old new c.run.result c.run.ensures.ran;
       steps = moves_by (Changes Any (with_filing_row c.args.agent.now (live_filing c.args.number c.args.key.now c.args.due c.args.bytes.now []))) insert_filing_text _ (given_filing c.args.agent.now c.args.number c.args.key.now c.args.due c.args.bytes.now) old new c.run.result c.run.ensures.ran c.filing_values.ensures (λ count h t has fit. filing_put old new count t has c.args.agent.now c.args.number c.args.key.now c.args.due c.args.bytes.now h);
     }

@@ -9,7 +9,7 @@ use Rattle.bor_store_sql.specs.Shown.{Steps}
 use Rattle.bor_store_sql.specs.Changing.{Any, with_interest_rows}
 use Rattle.bor_store_sql.proofs.Counted.{all_within}
 use Rattle.bor_store_sql.proofs.Lists.{no_interests, interest_added}
-use Rattle.bor_store_sql.proofs.Moves.{left_so, none_moves, one_more, stops, then_fails}
+use Rattle.bor_store_sql.proofs.Moves.{left_so, none_moves, one_more, breaks_off, then_fails}
 use Rattle.bor_store_sql.proofs.additions.insert_interests.Goals as goal
 
 pub loop-interest-init : goal.loop-interest-init
@@ -18,7 +18,7 @@ loop-interest-init g c = (refl, refl, none_moves _ _ (left_so _ _ no_interests),
 pub returns-in_err-item : goal.returns-in_err-item
 returns-in_err-item g c = record {
   same_reference = c.loop-interest.invariant.0;
-  steps = stops _ _ _ _ c.from_residual.result c.from_residual.ensures.0 c.loop-interest.invariant.2;
+  steps = breaks_off _ _ _ _ c.from_residual.result c.from_residual.ensures.0 c.loop-interest.invariant.2;
   counted = IfOk-from_err c.from_residual.result _ c.from_residual.ensures.0;
 }
 

@@ -11,7 +11,7 @@ use Rattle.bor_store_sql.specs.Shown.{Steps}
 use Rattle.bor_store_sql.specs.Changing.{Any, with_one_placed, with_placed}
 use Rattle.bor_store_sql.proofs.Counted.{all_counted, all_within}
 use Rattle.bor_store_sql.proofs.Lists.{no_placed, placed_added}
-use Rattle.bor_store_sql.proofs.Moves.{left_so, none_moves, one_more, stops, then_fails}
+use Rattle.bor_store_sql.proofs.Moves.{left_so, none_moves, one_more, breaks_off, then_fails}
 use Rattle.bor_store_sql.proofs.additions.insert_statements.Goals as goal
 
 pub loop-statement-init : goal.loop-statement-init
@@ -20,7 +20,7 @@ loop-statement-init g c = (refl, refl, none_moves _ _ (left_so _ _ no_placed), o
 pub returns-in_err-place : goal.returns-in_err-place
 returns-in_err-place g c = record {
   same_reference = c.loop-statement.invariant.0;
-  steps = stops _ _ _ _ c.from_residual.result c.from_residual.ensures.0 c.loop-statement.invariant.2;
+  steps = breaks_off _ _ _ _ c.from_residual.result c.from_residual.ensures.0 c.loop-statement.invariant.2;
   counted = IfOk-from_err c.from_residual.result _ c.from_residual.ensures.0;
 }
 

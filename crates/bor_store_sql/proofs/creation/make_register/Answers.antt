@@ -12,14 +12,14 @@ use Rattle.bor_store_sql.proofs.creation.make_register.Goals as goal
 pub returns-in_err-create_tables : goal.returns-in_err-create_tables
 returns-in_err-create_tables g c = record {
   same_reference = c.in_err-create_tables.ensures.same_reference;
-  was_open = err_open (state g.S.Store c.args.tx.now.conn.now) (state g.S.Store c.create_tables.new.tx.conn.now) c.from_residual.result c.from_residual.ensures.0;
+  ran_open = err_open (state g.S.Store c.args.tx.now.conn.now) (state g.S.Store c.create_tables.new.tx.conn.now) c.from_residual.result c.from_residual.ensures.0;
   leads = fails _ _ _ _ _ c.from_residual.result c.from_residual.ensures.0 c.in_err-create_tables.ensures.leads;
 }
 
 pub returns-in_err-create_period : goal.returns-in_err-create_period
 returns-in_err-create_period g c = record {
   same_reference = c.in_err-create_period.ensures.same_reference ∙ c.in_ok-create_tables.ensures.same_reference;
-  was_open = err_open (state g.S.Store c.args.tx.now.conn.now) (state g.S.Store c.create_period.new.tx.conn.now) c.from_residual-in_err-create_period.result c.from_residual-in_err-create_period.ensures.0;
+  ran_open = err_open (state g.S.Store c.args.tx.now.conn.now) (state g.S.Store c.create_period.new.tx.conn.now) c.from_residual-in_err-create_period.result c.from_residual-in_err-create_period.ensures.0;
   leads = then_fails _ _ _ _ _ _ _ c.from_residual-in_err-create_period.result c.from_residual-in_err-create_period.ensures.0 c.in_ok-create_tables.ensures.leads c.in_err-create_period.ensures.moves;
 }
 
@@ -28,6 +28,6 @@ returns g c =
     let so2 = both_lead (IsBlank no_schema) (IsBlank first_schema) (Has no_contents) (state g.S.Store c.args.tx.now.conn.now) (state g.S.Store c.create_tables.new.tx.conn.now) (state g.S.Store c.create_period.new.tx.conn.now) _ c.in_ok-create_tables.ensures.leads (period_leads (state g.S.Store c.create_tables.new.tx.conn.now) (state g.S.Store c.create_period.new.tx.conn.now) _ c.in_ok-create_period.ensures.moves) in
     record {
       same_reference = c.insert_register.ensures.same_reference ∙ c.in_ok-create_period.ensures.same_reference ∙ c.in_ok-create_tables.ensures.same_reference;
-      was_open = first_open (state g.S.Store c.args.tx.now.conn.now) (state g.S.Store c.create_tables.new.tx.conn.now) (state g.S.Store c.insert_register.new.tx.conn.now) c.insert_register.result c.in_ok-create_tables.ensures.was_open (λ clean. c.in_ok-create_period.ensures.moves.clean (c.insert_register.ensures.leads.clean clean));
+      ran_open = first_open (state g.S.Store c.args.tx.now.conn.now) (state g.S.Store c.create_tables.new.tx.conn.now) (state g.S.Store c.insert_register.new.tx.conn.now) c.insert_register.result c.in_ok-create_tables.ensures.ran_open (λ clean. c.in_ok-create_period.ensures.moves.clean (c.insert_register.ensures.leads.clean clean));
       leads = both_lead (IsBlank no_schema) (Has no_contents) (Has (contents (empty_register c.args.registrar.now c.args.day))) (state g.S.Store c.args.tx.now.conn.now) (state g.S.Store c.create_period.new.tx.conn.now) (state g.S.Store c.insert_register.new.tx.conn.now) c.insert_register.result so2 c.insert_register.ensures.leads;
     }

@@ -6,7 +6,7 @@ use Rattle.bor_store_sql.specs.Changing.{Any, enrolled, with_agent_row}
 use Rattle.bor_store_sql.specs.Shown.{Changes, Steps}
 use Rattle.bor_store_sql.proofs.AddedContents.{enrolled_has}
 use Rattle.bor_store_sql.proofs.StoredMembers.{enrolled_stored}
-use Rattle.bor_store_sql.proofs.Ending.{Ended, ended, on_ok, standing, stopped_in}
+use Rattle.bor_store_sql.proofs.Ending.{Ended, ended, on_ok, stands_in, stopped_in}
 use Rattle.bor_store_sql.proofs.register.add_agent.Goals as goal
 
 pub returns : goal.returns
@@ -19,7 +19,7 @@ returns g c =
     let token = c.args.token.now in
     let steps = subst₂ (λ n t. Steps Any (with_agent_row (agent_columns (new_member n t))) (state g.S.Store began) mid c.insert_agent-done.result) c.as_str-name.ensures.value c.as_str-secret.ensures.value c.insert_agent-done.ensures.steps in
     let auto : IsTrue c.is_autocommit-settled.result = c.is_autocommit-settled.ensures.value ∙ ap not c.requires in
-    let ends = ended g.S.Store (Changes Any (with_agent_row (agent_columns (new_member name token)))) was began mid (state g.S.Store end) c.insert_agent-done.result c.finish.result (c.is_autocommit-settled.ensures.settled auto) c.transaction-tx.ensures.begun steps c.insert_agent-done.ensures.was_open c.finish.ensures.ends in
+    let ends = ended g.S.Store (Changes Any (with_agent_row (agent_columns (new_member name token)))) was began mid (state g.S.Store end) c.insert_agent-done.result c.finish.result (c.is_autocommit-settled.ensures.settled auto) c.transaction-tx.ensures.begun steps c.insert_agent-done.ensures.ran_open c.finish.ensures.ends in
     let same : end ≡ c.conn-1.given.0 = search rules in
     let it = subst (λ h. Ended (Changes Any (with_agent_row (agent_columns (new_member name token)))) (state g.S.Store was) (state g.S.Store h) c.finish.result) same ends in
     record {
@@ -30,5 +30,5 @@ returns g c =
       made = λ clean r shows fresh. on_ok c.finish.result (it.made clean) (λ makes. record { has = enrolled_has name token r _ (makes (contents r) shows.has (tt {0})); stored = enrolled_stored name token r shows.stored fresh c.as_str-name.ensures.form c.as_str-secret.ensures.form });
       kept = it.kept;
       stops = stopped_in (Changes Any (with_agent_row (agent_columns (new_member name token)))) _ (state g.S.Store was) (state g.S.Store c.conn-1.given.0)
-          (λ trees m r shows fresh. standing (enrolled name token r) m.after trees m.has (enrolled_has name token r m.after (m.made (contents r) shows.has (tt {0})), enrolled_stored name token r shows.stored fresh c.as_str-name.ensures.form c.as_str-secret.ensures.form)) it.stops;
+          (λ trees m r shows fresh. stands_in (enrolled name token r) m.after trees m.trees_are (enrolled_has name token r m.after (m.made (contents r) shows.has (tt {0})), enrolled_stored name token r shows.stored fresh c.as_str-name.ensures.form c.as_str-secret.ensures.form)) it.stops;
     }

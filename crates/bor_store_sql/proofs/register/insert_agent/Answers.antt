@@ -5,7 +5,7 @@ use Rattle.bor_store_sql.specs.Rows.Encoding.{agent_columns}
 use Rattle.bor_store_sql.specs.Changing.{Any, with_agent_row}
 use Rattle.bor_store_sql.proofs.Adding.{agent_put}
 use Rattle.bor_store_sql.specs.Shown.{Changes}
-use Rattle.bor_store_sql.proofs.Moves.{moves_by, ran_open}
+use Rattle.bor_store_sql.proofs.Moves.{moves_by, run_open}
 use Rattle.bor_store_sql.proofs.register.insert_agent.Goals as goal
 
 pub returns : goal.returns
@@ -15,6 +15,6 @@ returns g c =
     let member = new_member c.args.agent.now c.args.token.now in
     record {
       same_reference = c.run.ensures.same_reference;
-      was_open = ran_open _ _ old new c.run.result c.run.ensures.ran;
+      ran_open = run_open _ _ old new c.run.result c.run.ensures.ran;
       steps = moves_by (Changes Any (with_agent_row (agent_columns member))) insert_agent_text _ (agent_columns member) old new c.run.result c.run.ensures.ran c.agent_values.ensures (λ count h t has fit. agent_put old new count t has member h);
     }

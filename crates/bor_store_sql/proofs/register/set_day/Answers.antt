@@ -5,7 +5,7 @@ use Rattle.bor_store_sql.specs.Rows.Encoding.{contents}
 use Rattle.bor_store_sql.specs.Changing.{IsOneRegister, with_day}
 use Rattle.bor_store_sql.specs.Shown.{Changes}
 use Rattle.bor_store_sql.proofs.Dating.{one_register, dated_has, dated_stored}
-use Rattle.bor_store_sql.proofs.Ending.{Ended, ended, on_ok, standing, stopped_in}
+use Rattle.bor_store_sql.proofs.Ending.{Ended, ended, on_ok, stands_in, stopped_in}
 use Rattle.bor_store_sql.proofs.register.set_day.Goals as goal
 
 pub returns : goal.returns
@@ -17,7 +17,7 @@ returns g c =
     let day = c.args.day in
     let is = subst IsDay c.number-known.ensures.value c.number-known.ensures.within in
     let auto : IsTrue c.is_autocommit-settled.result = c.is_autocommit-settled.ensures.value ∙ ap not c.requires in
-    let ends = ended g.S.Store (Changes (IsOneRegister day) (with_day day)) was began mid (state g.S.Store end) c.update_day-done.result c.finish.result (c.is_autocommit-settled.ensures.settled auto) c.transaction-tx.ensures.begun c.update_day-done.ensures.steps c.update_day-done.ensures.was_open c.finish.ensures.ends in
+    let ends = ended g.S.Store (Changes (IsOneRegister day) (with_day day)) was began mid (state g.S.Store end) c.update_day-done.result c.finish.result (c.is_autocommit-settled.ensures.settled auto) c.transaction-tx.ensures.begun c.update_day-done.ensures.steps c.update_day-done.ensures.ran_open c.finish.ensures.ends in
     let same : end ≡ c.conn-1.given.0 = search rules in
     let it = subst (λ h. Ended (Changes (IsOneRegister day) (with_day day)) (state g.S.Store was) (state g.S.Store h) c.finish.result) same ends in
     record {
@@ -27,5 +27,5 @@ returns g c =
       began = it.began;
       made = λ clean r shows. on_ok c.finish.result (it.made clean) (λ makes. record { has = dated_has day r _ (makes (contents r) shows.has (one_register day r)); stored = dated_stored day r is shows.stored });
       kept = it.kept;
-      stops = stopped_in (Changes (IsOneRegister day) (with_day day)) _ (state g.S.Store was) (state g.S.Store c.conn-1.given.0) (λ trees m r shows. standing (record r { day = day }) m.after trees m.has (dated_has day r m.after (m.made (contents r) shows.has (one_register day r)), dated_stored day r is shows.stored)) it.stops;
+      stops = stopped_in (Changes (IsOneRegister day) (with_day day)) _ (state g.S.Store was) (state g.S.Store c.conn-1.given.0) (λ trees m r shows. stands_in (record r { day = day }) m.after trees m.trees_are (dated_has day r m.after (m.made (contents r) shows.has (one_register day r)), dated_stored day r is shows.stored)) it.stops;
     }
