@@ -23,6 +23,7 @@ MEMORY = 2_500_000_000  # that a check takes, in bytes; with each job more, 0.6 
 # The seconds of processor time that a crate takes of which none were measured: each, for a line of its src, for such
 # a line where it stands on SQLite, and for linking the program. An earlier check saves two thirds.
 ANY, LINE, SQL_LINE, LINK = 30, 0.11, 0.09, 200
+CROWDED = 1.3  # how much dearer checks are side by side, with what stays idle
 MEASURED = re.compile(r"\| `(\w+)` \| (\d+)")
 # A check works on gigabytes of small values. Its allocator, mimalloc, takes a twentieth less of its time where it makes
 # its room in one go and keeps what it was given.
@@ -154,9 +155,10 @@ class Progress:
         return rests
 
     def left(self):
-        """The seconds left, by the longest chain and by the work over the lanes."""
+        """The seconds left, by the longest chain and by the work over the lanes, which make each other dearer."""
         rests = self.rests()
-        return max(max(self.chains(rests.get).values()), sum(rests.values()) * self.speed / self.lanes)
+        work = sum(rests.values()) * self.speed / self.lanes * (CROWDED if self.lanes > 1 else 1)
+        return max(max(self.chains(rests.get).values()), work)
 
     def tell(self):
         """Tells how far the work is, where that has changed: on a terminal in one line, else in a line each."""
