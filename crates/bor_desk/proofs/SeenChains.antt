@@ -104,14 +104,17 @@ abbrev pub IsShownBy : {K : Type 0} → (K → Register → Type 0) → KeepSour
 IsShownBy shows x m = (x.viewer.now ≡ m.viewer) × (x.day ≡ m.day) × shows x.keep.now m.register
 
 -- where the source is kept from x to y, so is the keep that it borrows
-pub keep-kept : {K : Type 0} (shows : K → Register → Type 0) (is_clean : K → Type 0) (old new : K) (x y : KeepSource K) → x.keep.now ≡ old → new ≡ y.keep.now → Kept (IsShownBy shows) (λ z. is_clean z.keep.now) x y → Kept shows is_clean old new
-keep-kept {K} shows is_clean old new x y begins ends kept =
-    subst (λ (k : K). Kept shows is_clean old k) (sym ends) (subst (λ (k : K). Kept shows is_clean k y.keep.now) begins (record {
+pub keep-kept : {K W : Type 0} (shows : K → Register → Type 0) (is_clean is_sound : K → Type 0) (may_leave : K → W → Type 0) (old new : K) (x y : KeepSource K) → x.keep.now ≡ old → new ≡ y.keep.now →
+    Kept (IsShownBy shows) (λ z. is_clean z.keep.now) (λ z. is_sound z.keep.now) (λ z left. may_leave z.keep.now left) x y → Kept shows is_clean is_sound may_leave old new
+keep-kept {K} shows is_clean is_sound may_leave old new x y begins ends kept =
+    subst (λ (k : K). Kept shows is_clean is_sound may_leave old k) (sym ends) (subst (λ (k : K). Kept shows is_clean is_sound may_leave k y.keep.now) begins (record {
       began = kept.began;
       same = λ clean r. (
         (λ h. ((kept.same clean (record { viewer = x.viewer.now; day = x.day; register = r })).0 (refl, refl, h)).2),
         (λ h. ((kept.same clean (record { viewer = y.viewer.now; day = y.day; register = r })).1 (refl, refl, h)).2),
       );
+      sound = kept.sound;
+      stops = kept.stops;
     }))
 
 -- what is promised of the outlook of the source's viewer and day is promised of the register

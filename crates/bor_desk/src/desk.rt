@@ -2,7 +2,7 @@
 
 ghost use Rattle.std.specs.Prelude.{◌≡◌, IfOk, IfErr, unwrap_or, true, false};
 ghost use Rattle.bor_register.specs.Register.{Register, IsOrdered, caller_of, is_enrolled, filings_of, filing_keyed};
-ghost use Rattle.bor_records.specs.Promises.{Promised, Sure, Kept, StaysClean};
+ghost use Rattle.bor_records.specs.Promises.{Kept, Leaves, StaysClean, Promised, Sure};
 ghost use Rattle.bor_desk.specs.Operations.Legality.{IsLegal};
 ghost use Rattle.bor_desk.specs.Operations.Sight.{seen_by, sight_of};
 ghost use Rattle.bor_desk.specs.Operations.Outcomes.{IsCounted};
@@ -37,7 +37,7 @@ impl From<DeskFault> for DeskReply {
 ///
 /// The keep failed.
 pub fn date_or_day<K: Keep>(keep: &mut K, date: Option<Day>) -> Result<Day, StoreFault>
-    ensures kept { Kept K.shows K.is_clean keep.old keep.new }
+    ensures kept { Kept K.shows K.is_clean K.is_sound K.may_leave keep.old keep.new }
     ensures told { Promised K.shows K.is_clean keep.old keep.new (λ r.
         IfErr result K.may_tell) }
     ensures accounted { IsCounted result (K.fault_count keep.old) (K.fault_count keep.new) }
@@ -54,7 +54,7 @@ pub fn date_or_day<K: Keep>(keep: &mut K, date: Option<Day>) -> Result<Day, Stor
 // The bytes of the agent's filing under a key, of a withdrawn one too.
 #[tactic(auto, using(crate::proofs::Steps::file_told, crate::proofs::Steps::file_missing))]
 fn file_for<K: Keep>(keep: &mut K, name: &AgentName, key: &LodgeKey) -> Result<DeskReply, DeskFault>
-    ensures kept { Kept K.shows K.is_clean keep.old keep.new }
+    ensures kept { Kept K.shows K.is_clean K.is_sound K.may_leave keep.old keep.new }
     ensures accounted { IsReplyAccounted (reply_of result) (K.fault_count keep.old)
         (K.fault_count keep.new) }
     ensures told { Promised K.shows K.is_clean keep.old keep.new (λ r.
@@ -81,7 +81,7 @@ fn snapshot_for<K: Keep>(
     declaration: &Ident,
     date: Option<Day>,
 ) -> Result<DeskReply, DeskFault>
-    ensures kept { Kept K.shows K.is_clean keep.old keep.new }
+    ensures kept { Kept K.shows K.is_clean K.is_sound K.may_leave keep.old keep.new }
     ensures accounted { IsReplyAccounted (reply_of result) (K.fault_count keep.old)
         (K.fault_count keep.new) }
     ensures told { Promised K.shows K.is_clean keep.old keep.new (λ r.
@@ -109,7 +109,7 @@ fn chains_for<K: Keep>(
     entity: &Node,
     date: Option<Day>,
 ) -> Result<DeskReply, DeskFault>
-    ensures kept { Kept K.shows K.is_clean keep.old keep.new }
+    ensures kept { Kept K.shows K.is_clean K.is_sound K.may_leave keep.old keep.new }
     ensures accounted { IsReplyAccounted (reply_of result) (K.fault_count keep.old)
         (K.fault_count keep.new) }
     ensures told { Promised K.shows K.is_clean keep.old keep.new (λ r.
@@ -139,7 +139,7 @@ fn tell_agent<K: Keep>(
     request: &Request,
 ) -> Result<DeskReply, DeskFault>
     requires { may_change_own request.now ≡ false }
-    ensures kept { Kept K.shows K.is_clean keep.old keep.new }
+    ensures kept { Kept K.shows K.is_clean K.is_sound K.may_leave keep.old keep.new }
     ensures accounted { IsReplyAccounted (reply_of result) (K.fault_count keep.old)
         (K.fault_count keep.new) }
     ensures told { Promised K.shows K.is_clean keep.old keep.new (λ r.
@@ -176,7 +176,8 @@ fn answer_agent<K: Keep>(
 ) -> Result<DeskReply, DeskFault>
     requires enrolled { Sure K.shows K.is_clean keep.old (λ r.
         is_enrolled name.now r.members ≡ true) }
-    ensures began { K.is_clean keep.new → K.is_clean keep.old }
+    ensures leaves { Leaves K.shows K.is_clean K.is_sound K.may_leave keep.old keep.new
+        (λ r left. K.left_shows left (agent_step r name.now request.now).register) }
     ensures step { Promised K.shows K.is_clean keep.old keep.new (λ r.
         IsOrderedFor request.now r
         → IsAnswered (reply_of result) (agent_step r name.now request.now).answer) }
@@ -210,7 +211,8 @@ fn answer_registrar<K: Keep>(
     keep: &mut K,
     request: &Request,
 ) -> Result<DeskReply, DeskFault>
-    ensures began { K.is_clean keep.new → K.is_clean keep.old }
+    ensures leaves { Leaves K.shows K.is_clean K.is_sound K.may_leave keep.old keep.new
+        (λ r left. K.left_shows left (registrar_step r request.now).register) }
     ensures step { Promised K.shows K.is_clean keep.old keep.new (λ r.
         IsAnswered (reply_of result) (registrar_step r request.now).answer) }
     ensures left { Promised K.shows K.is_clean keep.old keep.new (λ r.
@@ -264,7 +266,8 @@ pub fn answer_naming<K: Keep>(
     token: &Token,
     request: &Request,
 ) -> Answered
-    ensures began { K.is_clean keep.new → K.is_clean keep.old }
+    ensures leaves { Leaves K.shows K.is_clean K.is_sound K.may_leave keep.old keep.new
+        (λ r left. K.left_shows left (step r (caller_of token.now r) request.now).register) }
     ensures step { Promised K.shows K.is_clean keep.old keep.new (λ r. IsOrderedFor request.now r
         → IsAnswered result.reply (step r (caller_of token.now r) request.now).answer) }
     ensures left { Promised K.shows K.is_clean keep.old keep.new (λ r.
@@ -301,7 +304,8 @@ pub fn answer_naming<K: Keep>(
 /// What is left is said of every register, and so is what is told, but for snapshots: what one
 /// tells is said of registers whose agents stand in order of their names, as every legal one's do.
 pub fn answer<K: Keep>(alloc: Global, keep: &mut K, token: &Token, request: &Request) -> DeskReply
-    ensures began { K.is_clean keep.new → K.is_clean keep.old }
+    ensures leaves { Leaves K.shows K.is_clean K.is_sound K.may_leave keep.old keep.new
+        (λ r left. K.left_shows left (step r (caller_of token.now r) request.now).register) }
     ensures step { Promised K.shows K.is_clean keep.old keep.new (λ r.
         IsOrderedFor request.now r
         → IsAnswered result (step r (caller_of token.now r) request.now).answer) }

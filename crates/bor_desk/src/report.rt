@@ -30,7 +30,7 @@ pub(crate) fn persons_seen<K: Keep>(
     entity: &Node,
     day: Day,
 ) -> Result<Vec<PersonLine>, DeskFault>
-    ensures kept { Kept K.shows K.is_clean keep.old keep.new }
+    ensures kept { Kept K.shows K.is_clean K.is_sound K.may_leave keep.old keep.new }
     ensures answer { Promised K.shows K.is_clean keep.old keep.new (λ r.
         AreFound (λ persons. persons.items) result
         (shown_of day (seen_by viewer.now r)) entity.now day) }
@@ -38,7 +38,8 @@ pub(crate) fn persons_seen<K: Keep>(
         (K.fault_count keep.new) }
     ensures told { Promised K.shows K.is_clean keep.old keep.new (λ r.
         TellsFaultOf failed K.may_tell result (K.fault_count keep.old) (K.fault_count keep.new)) }
-    ensures lasts { UnlessFailed failed result (StaysClean K.is_clean K.is_sound keep.old keep.new) }
+    ensures lasts { UnlessFailed failed result
+        (StaysClean K.is_clean K.is_sound keep.old keep.new) }
 {
     let mut source = KeepSource::new(keep, viewer, day);
     Ok(persons_of(alloc, &mut source, entity)?)
@@ -127,7 +128,7 @@ pub fn report_text<K: Keep>(
     entity: &Node,
     day: Day,
 ) -> Result<Text, StoreFault>
-    ensures kept { Kept K.shows K.is_clean keep.old keep.new }
+    ensures kept { Kept K.shows K.is_clean K.is_sound K.may_leave keep.old keep.new }
     ensures text { Promised K.shows K.is_clean keep.old keep.new (λ r.
         IfOk result (λ text. IsTextOf (chains_answer (seen_by viewer.now r) entity.now day) text)) }
     ensures accounted { IsAccounted Some result (K.fault_count keep.old)

@@ -119,8 +119,8 @@ sent_as P Q Reads names last before after code e wider h =
 
 -- ---- what is answered of a register
 
-none_yet : {K : Type 0} (shows : K → Register → Type 0) (is_clean is_sound : K → Type 0) (state : K) → AreAnswers shows is_clean is_sound state state [] []
-none_yet shows is_clean is_sound state = record {
+none_yet : {K Left : Type 0} (shows : K → Register → Type 0) (is_clean is_sound : K → Type 0) (may_leave : K → Left → Type 0) (left_shows : Left → Register → Type 0) (state : K) → AreAnswers shows is_clean is_sound may_leave left_shows state state [] []
+none_yet shows is_clean is_sound may_leave left_shows state = record {
   began = λ clean. clean;
   answers = λ r shown clean legal. record {
     replies_to = record { count = refl; spelled = []; spells = tt; replied = tt; alone = λ name. tt; reports = tt };
@@ -130,20 +130,20 @@ none_yet shows is_clean is_sound state = record {
 }
 
 -- nothing was answered, and the register is as it was
-pub none_answered : {K : Type 0} (shows : K → Register → Type 0) (is_clean is_sound : K → Type 0) (opened left : K) → left ≡ opened
-    → AreAnswers shows is_clean is_sound opened left [] []
-none_answered shows is_clean is_sound opened left same =
-    subst (λ k. AreAnswers shows is_clean is_sound opened k [] []) (sym same) (none_yet shows is_clean is_sound opened)
+pub none_answered : {K Left : Type 0} (shows : K → Register → Type 0) (is_clean is_sound : K → Type 0) (may_leave : K → Left → Type 0) (left_shows : Left → Register → Type 0) (opened left : K) → left ≡ opened
+    → AreAnswers shows is_clean is_sound may_leave left_shows opened left [] []
+none_answered shows is_clean is_sound may_leave left_shows opened left same =
+    subst (λ k. AreAnswers shows is_clean is_sound may_leave left_shows opened k [] []) (sym same) (none_yet shows is_clean is_sound may_leave left_shows opened)
 
 -- what is said of all that the inputs spell is said of them
-pub all_answered : {K : Type 0} (shows : K → Register → Type 0) (is_clean is_sound : K → Type 0) (opened left : K) (inputs : List (List ℕ)) (replies : List Reply)
+pub all_answered : {K Left : Type 0} (shows : K → Register → Type 0) (is_clean is_sound : K → Type 0) (may_leave : K → Left → Type 0) (left_shows : Left → Register → Type 0) (opened left : K) (inputs : List (List ℕ)) (replies : List Reply)
     → (is_clean left → is_clean opened) → length replies ≡ length inputs → ((spelled : List Spelled) × AreSpelled (served inputs replies) spelled)
     → Promised shows is_clean opened left (λ r. IsLegal r → (spelled : List Spelled) → AreSpelled (served inputs replies) spelled → AreReplies r spelled (full replies))
     → Promised shows is_clean opened left (λ r. IsLegal r → (spelled : List Spelled) → AreSpelled (served inputs replies) spelled → shows left (register_left r spelled))
     → Promised shows is_clean opened left (λ r. IsLegal r → (spelled : List Spelled) → AreSpelled (served inputs replies) spelled → (name : List ℕ) → IsAlone name r spelled (full replies))
     → Promised shows is_clean opened left (λ r. IsLegal r → (spelled : List Spelled) → AreSpelled (served inputs replies) spelled → AreReports r spelled (full replies))
-    → InTurn shows is_clean is_sound opened left inputs replies → AreAnswers shows is_clean is_sound opened left inputs replies
-all_answered shows is_clean is_sound opened left inputs replies began count spelled are leaves alone reports turns = record {
+    → InTurn shows is_clean is_sound may_leave left_shows opened left inputs replies → AreAnswers shows is_clean is_sound may_leave left_shows opened left inputs replies
+all_answered shows is_clean is_sound may_leave left_shows opened left inputs replies began count spelled are leaves alone reports turns = record {
   began = began;
   answers = λ r shown clean legal. record {
     replies_to = record {

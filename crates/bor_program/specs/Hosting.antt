@@ -15,7 +15,7 @@ pub record AreOfServer (limits : Limits) : Type 0 where
   pub rest : as_nanos limits.rest ≡ rest_nanos
 
 -- The port that is asked for was listened on, and the connections of that listener were served, as many as are asked for, within the limits of a server. What waited for its clients is the host's, with a log where one is asked for. On a connection no client came only where one could not be let in, or where a server may end, as the calls of what waited came out.
-pub record IsHosted {M L W K : Type 0} (shows : K → Register → Type 0) (is_clean is_sound : K → Type 0) (serves : K → L → Limits → ℕ → K → ℕ → Type 0) (listens : M → ℕ → L → Type 0) (waits : M → Bool → W → Type 0) (does : W → Act → W → Type 0) (Is : Ended → Type 0) (asked : Serve) (opened left : K) (status : ℕ) : Type 0 where
+pub record IsHosted {M L W K Left : Type 0} (shows : K → Register → Type 0) (is_clean is_sound : K → Type 0) (may_leave : K → Left → Type 0) (left_shows : Left → Register → Type 0) (serves : K → L → Limits → ℕ → K → ℕ → Type 0) (listens : M → ℕ → L → Type 0) (waits : M → Bool → W → Type 0) (does : W → Act → W → Type 0) (Is : Ended → Type 0) (asked : Serve) (opened left : K) (status : ℕ) : Type 0 where
   pub host : M
   pub listener : L
   pub limits : Limits
@@ -25,4 +25,4 @@ pub record IsHosted {M L W K : Type 0} (shows : K → Register → Type 0) (is_c
   pub waiter : waits host asked.log begun
   pub is_within : AreOfServer limits
   pub within : serves opened listener limits asked.connections left status
-  pub served : IsServedOver shows is_clean is_sound Is does opened left begun ended asked.connections status
+  pub served : IsServedOver shows is_clean is_sound may_leave left_shows Is does opened left begun ended asked.connections status

@@ -56,12 +56,12 @@ pub record FailsToOpen {M K : Type 0} (does : M → Deed K → M → Type 0) (be
   pub line : AppendsPart errors told (failure_line failure)
 
 -- Replies are printed, from the register that was opened on, to what is read of the files. Where the run doesn't fail, they are those to one input a file. Nothing is told but of files that can't be read, and of want of memory.
-pub record ExchangesFrom {K : Type 0} (Reads : Bor Words → List ℕ → Type 0) (shows : K → Register → Type 0) (is_clean is_sound : K → Type 0) (opened left : K) (asked : Exchanging) (output printed errors told : Known) (status : ℕ) : Type 0 where
-  pub answered : EndsFiles (AreAnswers shows is_clean is_sound opened left) Reads asked.files.items output printed status
+pub record ExchangesFrom {K Left : Type 0} (Reads : Bor Words → List ℕ → Type 0) (shows : K → Register → Type 0) (is_clean is_sound : K → Type 0) (may_leave : K → Left → Type 0) (left_shows : Left → Register → Type 0) (opened left : K) (asked : Exchanging) (output printed errors told : Known) (status : ℕ) : Type 0 where
+  pub answered : EndsFiles (AreAnswers shows is_clean is_sound may_leave left_shows opened left) Reads asked.files.items output printed status
   pub unread : TellsFiles asked.files.items output printed errors told
 
 -- The same from the new register on, with no file; or from the one that was opened in the file, or set up, and what is left of it is closed there.
-pub record Exchanges {M K : Type 0} (Reads : Bor Words → List ℕ → Type 0) (shows : K → Register → Type 0) (is_clean is_sound : K → Type 0) (does : M → Deed K → M → Type 0) (begun ended : M) (asked : Exchanging) (output printed errors told : Known) (status : ℕ) : Type 0 where
+pub record Exchanges {M K Left : Type 0} (Reads : Bor Words → List ℕ → Type 0) (shows : K → Register → Type 0) (is_clean is_sound : K → Type 0) (may_leave : K → Left → Type 0) (left_shows : Left → Register → Type 0) (does : M → Deed K → M → Type 0) (begun ended : M) (asked : Exchanging) (output printed errors told : Known) (status : ℕ) : Type 0 where
   pub sent : (replies : List Reply) × IsSentOrCutOff replies output printed status
   pub answered : asked.db ≡ None
       → (ended ≡ begun) × EndsFiles (AreRepliesTo (empty_register asked.registrar asked.day)) Reads asked.files.items output printed status
@@ -69,7 +69,7 @@ pub record Exchanges {M K : Type 0} (Reads : Bor Words → List ℕ → Type 0) 
   pub opened : IfSome asked.db (λ path. FailsToOpen does begun ended path output printed errors told status
       ⊎ ((opened : K) × (origin : Origin) × (left : K)
       × Visits does begun ended path (ComesToBe shows is_clean path asked.registrar asked.day opened origin) left
-      × ExchangesFrom Reads shows is_clean is_sound opened left asked output printed errors told status))
+      × ExchangesFrom Reads shows is_clean is_sound may_leave left_shows opened left asked output printed errors told status))
   pub silent : status ≤ 1 → Keeps errors told
 
 -- the registrar's token isn't told: nothing is answered, no register is opened, and the line of that is told
@@ -87,10 +87,10 @@ pub record IsOnceTold (asked : Exchange) (told : Exchanging) : Type 0 where
   pub files : told.files ≡ asked.files
 
 -- the registrar's token isn't told, or with it the requests are answered
-abbrev pub ExchangesOnceTold : {M K : Type 0} → (Bor Words → List ℕ → Type 0) → (K → Register → Type 0) → (K → Type 0) → (K → Type 0) → (M → Deed K → M → Type 0) → M → M → Exchange → Known → Known → Known → Known → ℕ → Type 0
-ExchangesOnceTold Reads shows is_clean is_sound does begun ended asked output printed errors told status =
+abbrev pub ExchangesOnceTold : {M K Left : Type 0} → (Bor Words → List ℕ → Type 0) → (K → Register → Type 0) → (K → Type 0) → (K → Type 0) → (K → Left → Type 0) → (Left → Register → Type 0) → (M → Deed K → M → Type 0) → M → M → Exchange → Known → Known → Known → Known → ℕ → Type 0
+ExchangesOnceTold Reads shows is_clean is_sound may_leave left_shows does begun ended asked output printed errors told status =
     LacksToken begun ended asked.registrar output printed errors told status
-    ⊎ ((once_told : Exchanging) × IsOnceTold asked once_told × Exchanges Reads shows is_clean is_sound does begun ended once_told output printed errors told status)
+    ⊎ ((once_told : Exchanging) × IsOnceTold asked once_told × Exchanges Reads shows is_clean is_sound may_leave left_shows does begun ended once_told output printed errors told status)
 
 -- the line that tells that the server listens
 abbrev pub listening : ℕ → List ℕ
@@ -103,33 +103,33 @@ pub record FailsToListen (port : ℕ) (output printed errors told : Known) (stat
   pub line : IsTold (IsMetListening output printed) errors told
 
 -- The line is printed, and the port that it names is served as is asked for: so many connections, from the register that was opened on. The status tells whether one failed, and nothing else is told.
-pub record ServesFrom {K : Type 0} (Hosts : Serve → K → K → ℕ → Type 0) (shows : K → Register → Type 0) (is_clean is_sound : K → Type 0) (opened left : K) (asked : Serve) (output printed errors told : Known) (status : ℕ) : Type 0 where
+pub record ServesFrom {K Left : Type 0} (Hosts : Serve → K → K → ℕ → Type 0) (shows : K → Register → Type 0) (is_clean is_sound : K → Type 0) (may_leave : K → Left → Type 0) (left_shows : Left → Register → Type 0) (opened left : K) (asked : Serve) (output printed errors told : Known) (status : ℕ) : Type 0 where
   pub hosted : Hosts asked opened left status
-  pub served : IsServed shows is_clean is_sound opened left asked.connections status
+  pub served : IsServed shows is_clean is_sound may_leave left_shows opened left asked.connections status
   pub line : Appends output printed (listening asked.port)
   pub silent : Keeps errors told
 
 -- The register in the file is opened and served, and what is left of it is closed there, the same where the port can't be listened on; or it can't be opened.
-abbrev pub Serves : {M K : Type 0} → (Serve → K → K → ℕ → Type 0) → (K → Register → Type 0) → (K → Type 0) → (K → Type 0) → (M → Deed K → M → Type 0) → M → M → Serve → Known → Known → Known → Known → ℕ → Type 0
-Serves {M} {K} Hosts shows is_clean is_sound does begun ended asked output printed errors told status =
+abbrev pub Serves : {M K Left : Type 0} → (Serve → K → K → ℕ → Type 0) → (K → Register → Type 0) → (K → Type 0) → (K → Type 0) → (K → Left → Type 0) → (Left → Register → Type 0) → (M → Deed K → M → Type 0) → M → M → Serve → Known → Known → Known → Known → ℕ → Type 0
+Serves {M} {K} Hosts shows is_clean is_sound may_leave left_shows does begun ended asked output printed errors told status =
     FailsToOpen does begun ended asked.db output printed errors told status
     ⊎ ((opened : K) × (left : K) × Visits does begun ended asked.db (λ Done. Done (Opens asked.db opened)) left
     × (((left ≡ opened) × FailsToListen asked.port output printed errors told status)
-    ⊎ ServesFrom Hosts shows is_clean is_sound opened left asked output printed errors told status))
+    ⊎ ServesFrom Hosts shows is_clean is_sound may_leave left_shows opened left asked output printed errors told status))
 
 -- A text on the register that was opened is printed, or nothing; where that fails, the line of the failure is told.
-pub record TellsFrom {K : Type 0} (shows : K → Register → Type 0) (is_clean : K → Type 0) (tells : K → StoreFault → K → Type 0) (opened left : K) (asked : Report) (output printed errors told : Known) (status : ℕ) : Type 0 where
-  pub kept : Kept shows is_clean opened left
+pub record TellsFrom {K Left : Type 0} (shows : K → Register → Type 0) (is_clean is_sound : K → Type 0) (may_leave : K → Left → Type 0) (tells : K → StoreFault → K → Type 0) (opened left : K) (asked : Report) (output printed errors told : Known) (status : ℕ) : Type 0 where
+  pub kept : Kept shows is_clean is_sound may_leave opened left
   pub text : ((text : Text) × IsToldOf shows is_clean opened left asked text × IsWrittenOrCutOff text output printed status)
       ⊎ (Keeps output printed × (status ≡ 3))
   pub line : status ≡ 3 → IsTold (IsMetOnKeep (λ fault. tells opened fault left) output printed) errors told
 
 -- A text is printed, on the register in the file, and what is left of that is closed there; or the line of a failure.
-pub record Reports {M K : Type 0} (shows : K → Register → Type 0) (is_clean : K → Type 0) (tells : K → StoreFault → K → Type 0) (does : M → Deed K → M → Type 0) (begun ended : M) (asked : Report) (output printed errors told : Known) (status : ℕ) : Type 0 where
+pub record Reports {M K Left : Type 0} (shows : K → Register → Type 0) (is_clean is_sound : K → Type 0) (may_leave : K → Left → Type 0) (tells : K → StoreFault → K → Type 0) (does : M → Deed K → M → Type 0) (begun ended : M) (asked : Report) (output printed errors told : Known) (status : ℕ) : Type 0 where
   pub text : (text : Text) × IsWrittenOrCutOff text output printed status
   pub opened : FailsToOpen does begun ended asked.db output printed errors told status
       ⊎ ((opened : K) × (left : K) × Visits does begun ended asked.db (λ Done. Done (Opens asked.db opened)) left
-      × TellsFrom shows is_clean tells opened left asked output printed errors told status)
+      × TellsFrom shows is_clean is_sound may_leave tells opened left asked output printed errors told status)
   pub silent : status ≤ 1 → Keeps errors told
   pub line : status ≡ 3 → IsTold (IsMetIn asked.db output printed) errors told
 
@@ -145,16 +145,16 @@ pub record Migrates {M K : Type 0} (does : M → Deed K → M → Type 0) (begun
   pub line : status ≡ 3 → IsTold (IsMetIn asked.db output printed) errors told
 
 -- What the command does, over whatever registers are opened and files are read, and what is done to files; but for a check it leaves standard input alone, and a check leaves the registers in files alone.
-abbrev pub Performs : {M K : Type 0} → (Bor Words → List ℕ → Type 0) → (Serve → K → K → ℕ → Type 0) → (K → Register → Type 0) → (K → Type 0) → (K → Type 0) → (K → StoreFault → K → Type 0) → (M → Deed K → M → Type 0) → M → M → Command → Known → Known → Known → Known → Known → Known → ℕ → Type 0
-Performs Reads Hosts shows is_clean is_sound tells does begun ended (command.Check source) input rest output printed errors told status =
+abbrev pub Performs : {M K Left : Type 0} → (Bor Words → List ℕ → Type 0) → (Serve → K → K → ℕ → Type 0) → (K → Register → Type 0) → (K → Type 0) → (K → Type 0) → (K → Left → Type 0) → (Left → Register → Type 0) → (K → StoreFault → K → Type 0) → (M → Deed K → M → Type 0) → M → M → Command → Known → Known → Known → Known → Known → Known → ℕ → Type 0
+Performs Reads Hosts shows is_clean is_sound may_leave left_shows tells does begun ended (command.Check source) input rest output printed errors told status =
     (ended ≡ begun) × Checks source input rest output printed errors told status
-Performs Reads Hosts shows is_clean is_sound tells does begun ended (command.Exchange asked) input rest output printed errors told status =
-    Keeps input rest × ExchangesOnceTold Reads shows is_clean is_sound does begun ended asked output printed errors told status
-Performs Reads Hosts shows is_clean is_sound tells does begun ended (command.Serve asked) input rest output printed errors told status =
-    Keeps input rest × Serves Hosts shows is_clean is_sound does begun ended asked output printed errors told status
-Performs Reads Hosts shows is_clean is_sound tells does begun ended (command.Report asked) input rest output printed errors told status =
-    Keeps input rest × Reports shows is_clean tells does begun ended asked output printed errors told status
-Performs Reads Hosts shows is_clean is_sound tells does begun ended (command.Migrate asked) input rest output printed errors told status =
+Performs Reads Hosts shows is_clean is_sound may_leave left_shows tells does begun ended (command.Exchange asked) input rest output printed errors told status =
+    Keeps input rest × ExchangesOnceTold Reads shows is_clean is_sound may_leave left_shows does begun ended asked output printed errors told status
+Performs Reads Hosts shows is_clean is_sound may_leave left_shows tells does begun ended (command.Serve asked) input rest output printed errors told status =
+    Keeps input rest × Serves Hosts shows is_clean is_sound may_leave left_shows does begun ended asked output printed errors told status
+Performs Reads Hosts shows is_clean is_sound may_leave left_shows tells does begun ended (command.Report asked) input rest output printed errors told status =
+    Keeps input rest × Reports shows is_clean is_sound may_leave tells does begun ended asked output printed errors told status
+Performs Reads Hosts shows is_clean is_sound may_leave left_shows tells does begun ended (command.Migrate asked) input rest output printed errors told status =
     Keeps input rest × Migrates does begun ended asked output printed errors told status
 
 -- ---- what status 1 stands for

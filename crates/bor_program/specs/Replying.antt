@@ -64,10 +64,10 @@ pub record AreRepliesLeaving (Shown : Register → Type 0) (r : Register) (input
   pub left : Shown (register_left r replies_to.spelled)
 
 -- Of a register that was opened and what is left of it, which ends clean only if it began clean: each legal register that it showed has these replies to these inputs, and what is left shows the register after them. Whatever becomes of it, as where its store shuts, the replies are those of exchanges in turn, and up to each request that was answered these are a run.
-pub record AreAnswers {K : Type 0} (shows : K → Register → Type 0) (is_clean is_sound : K → Type 0) (opened left : K) (inputs : List (List ℕ)) (replies : List Reply) : Type 0 where
+pub record AreAnswers {K Left : Type 0} (shows : K → Register → Type 0) (is_clean is_sound : K → Type 0) (may_leave : K → Left → Type 0) (left_shows : Left → Register → Type 0) (opened left : K) (inputs : List (List ℕ)) (replies : List Reply) : Type 0 where
   pub began : is_clean left → is_clean opened
   pub answers : Promised shows is_clean opened left (λ r. IsLegal r → AreRepliesLeaving (shows left) r inputs replies)
-  pub in_turn : InTurn shows is_clean is_sound opened left inputs replies
+  pub in_turn : InTurn shows is_clean is_sound may_leave left_shows opened left inputs replies
 
 -- ---- how they are sent
 

@@ -31,7 +31,8 @@ pub fn exchange<R: NamedFiles + AllocGlobal, H: Registers, O: Output, E: Write>(
     errors: &mut E,
 ) -> Status
     ensures done { ExchangesOnceTold (IsReadOf (R.opens rt.now) R.File.remaining)
-        H.Register.shows H.Register.is_clean H.Register.is_sound H.does host.old host.new
+        H.Register.shows H.Register.is_clean H.Register.is_sound H.Register.may_leave
+        H.Register.left_shows H.does host.old host.new
         asked.entry (O.contents output.old) (O.contents output.new) (E.contents errors.old)
         (E.contents errors.new) (exit_code result) }
     ensures flushed { exit_code result ≤ 1 → O.is_flushed output.new }
@@ -67,7 +68,8 @@ fn exchange_told<R: NamedFiles + AllocGlobal, H: Registers, O: Output, E: Write>
     errors: &mut E,
 ) -> Status
     ensures done { Exchanges (IsReadOf (R.opens rt.now) R.File.remaining)
-        H.Register.shows H.Register.is_clean H.Register.is_sound H.does host.old host.new
+        H.Register.shows H.Register.is_clean H.Register.is_sound H.Register.may_leave
+        H.Register.left_shows H.does host.old host.new
         asked.entry (O.contents output.old) (O.contents output.new) (E.contents errors.old)
         (E.contents errors.new) (exit_code result) }
     ensures flushed { exit_code result ≤ 1 → O.is_flushed output.new }
@@ -119,8 +121,8 @@ fn exchange_files<R: NamedFiles + AllocGlobal, H: Registers, K: OpenRegister, O:
     errors: &mut E,
 ) -> Status
     ensures ends { EndsFiles
-        (AreAnswers K.shows K.is_clean K.is_sound register.old register.new)
-        (IsReadOf (R.opens rt.now) R.File.remaining) files.now (O.contents output.old)
+        (AreAnswers K.shows K.is_clean K.is_sound K.may_leave K.left_shows register.old
+        register.new) (IsReadOf (R.opens rt.now) R.File.remaining) files.now (O.contents output.old)
         (O.contents output.new) (exit_code result) }
     ensures flushed { exit_code result ≤ 1 → O.is_flushed output.new }
     ensures silent { exit_code result ≤ 1 → Keeps (E.contents errors.old) (E.contents errors.new) }
@@ -152,8 +154,8 @@ pub fn exchange_on<'a, K: OpenRegister, O: Output>(
     output: &mut O,
 ) -> Result<Status, Failure<'a>>
     ensures sent { EndsSending
-        (AreAnswers K.shows K.is_clean K.is_sound register.old register.new)
-        (map (λ v. v.items) inputs.now)
+        (AreAnswers K.shows K.is_clean K.is_sound K.may_leave K.left_shows register.old
+        register.new) (map (λ v. v.items) inputs.now)
         (O.contents output.old) (O.contents output.new) result }
     ensures flushed { OnOk result (O.is_flushed output.new) }
     ensures err { IfErr result (IsMetPrinting (O.contents output.old) (O.contents output.new)) }

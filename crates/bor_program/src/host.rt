@@ -62,8 +62,8 @@ impl<R: Files> NamedFiles for R {
     }
 }
 
-/// A register that is open, whatever keeps it. What it shows, and when it is sound and clean, are
-/// as a keep's are.
+/// A register that is open, whatever keeps it. What it shows, when it is sound and clean, and what
+/// a stop leaves are as a keep's are.
 pub trait OpenRegister {
     /// The state shows this register.
     ghost shows: { Self → Register → Type 0 };
@@ -73,6 +73,15 @@ pub trait OpenRegister {
 
     /// What keeps it has returned what was written. It may have shut since.
     ghost is_sound: { Self → Type 0 };
+
+    /// What a stop leaves for the next one to open.
+    ghost Left: { Type 0 };
+
+    /// A stop in this state may leave this.
+    ghost may_leave: { Self → Left → Type 0 };
+
+    /// What is left shows this register to the next one to open it.
+    ghost left_shows: { Left → Register → Type 0 };
 
     /// A call led from one state to another, and may have told this fault.
     ghost tells: { Self → StoreFault → Self → Type 0 };
@@ -113,8 +122,8 @@ pub trait OpenRegister {
             (spelled : List Spelled)
             → AreSpelled (served (map (λ v. v.items) inputs.now) replies.items) spelled →
             AreReports r spelled (full replies.items))) }
-        ensures in_turn { IfOk result (λ replies. InTurn shows is_clean is_sound self.old self.new
-            (map (λ v. v.items) inputs.now) replies.items) }
+        ensures in_turn { IfOk result (λ replies. InTurn shows is_clean is_sound may_leave
+            left_shows self.old self.new (map (λ v. v.items) inputs.now) replies.items) }
         ensures err { OnErr result (self.new ≡ self.old) };
 
     /// The text that tells who stands behind an entity.
@@ -123,15 +132,15 @@ pub trait OpenRegister {
     ///
     /// The keep failed, or memory was wanting.
     fn report(&mut self, alloc: Global, asked: &Report<'_>) -> Result<Text, StoreFault>
-        ensures kept { Kept shows is_clean self.old self.new }
+        ensures kept { Kept shows is_clean is_sound may_leave self.old self.new }
         ensures text { Promised shows is_clean self.old self.new (λ r.
             IfOk result (IsReportOf asked.now r)) }
         ensures err { IfErr result (λ fault. tells self.old fault self.new) };
 
-    /// Serves so many connections of a listener, each client within these limits, and gives 0, or 3
-    /// where one of them failed, as [`serve_within`] does. A connection has no client only where one
-    /// couldn't be let in, or where serving ended early: clients couldn't be watched for, or waiting
-    /// failed for good.
+    /// Serves so many connections of a listener, each client within these limits, and gives 0, or
+    /// 3 where one of them failed, as [`serve_within`] does. A connection has no client only where
+    /// one couldn't be let in, or where serving ended early: clients couldn't be watched for, or
+    /// waiting failed for good.
     fn serve<R: Clock + AllocGlobal, L: OpenListener, W: Watch<L>>(
         &mut self,
         rt: &R,
@@ -143,10 +152,16 @@ pub trait OpenRegister {
     where
         L::Stream: Read + Write + OpenStream,
         ensures within { serves self.old listener.now limits connections self.new result }
-        ensures served { IsServed shows is_clean is_sound self.old self.new connections result }
-        ensures streams { IsServedOver shows is_clean is_sound
+        ensures served { IsServed shows is_clean is_sound may_leave left_shows self.old self.new
+            connections result }
+        ensures streams { IsServedOver shows is_clean is_sound may_leave left_shows
             (IsOf L.Stream.remaining L.Stream.contents) W.does
             self.old self.new watch.old watch.new connections result };
+
+    /// What was answered lasts: what a stop of a clean one leaves shows each register that it
+    /// showed.
+    ghost lasting: { (k : Self) → is_clean k → (left : Left) → may_leave k left
+        → (r : Register) → shows k r → left_shows left r };
 }
 
 impl<K: Keep> OpenRegister for K {
@@ -155,6 +170,12 @@ impl<K: Keep> OpenRegister for K {
     ghost is_clean = { K.is_clean };
 
     ghost is_sound = { K.is_sound };
+
+    ghost Left = { K.Left };
+
+    ghost may_leave = { K.may_leave };
+
+    ghost left_shows = { K.left_shows };
 
     ghost tells = { λ old fault new. IsFaultOf (K.fault_count old) (K.fault_count new) fault
         × Promised K.shows K.is_clean old new (λ r.
@@ -183,6 +204,8 @@ impl<K: Keep> OpenRegister for K {
     {
         serve_within(rt, self, listener, watch, connections, limits)
     }
+
+    ghost lasting = { K.lasting };
 }
 
 /// How a register came to be open.

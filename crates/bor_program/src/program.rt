@@ -57,11 +57,11 @@ where
         × IsTold IsWantOfMemory (E.contents errors.old) (E.contents errors.new))
         ⊎ ((asked : Asked) × IsAsked (entered_by (map S.text words.now)) asked
         × Performs (IsReadOf (R.opens rt.now) R.File.remaining)
-        (IsHosted H.Register.shows H.Register.is_clean H.Register.is_sound H.Register.serves
-        H.listens H.waits H.Waiter.does
+        (IsHosted H.Register.shows H.Register.is_clean H.Register.is_sound H.Register.may_leave
+        H.Register.left_shows H.Register.serves H.listens H.waits H.Waiter.does
         (IsOf H.Listener.Stream.remaining H.Listener.Stream.contents))
-        H.Register.shows H.Register.is_clean H.Register.is_sound H.Register.tells H.does
-        host.old host.new asked
+        H.Register.shows H.Register.is_clean H.Register.is_sound H.Register.may_leave
+        H.Register.left_shows H.Register.tells H.does host.old host.new asked
         (I.remaining input.old) (I.remaining input.new)
         (O.contents output.old) (O.contents output.new) (E.contents errors.old)
         (E.contents errors.new) result) }
@@ -146,11 +146,11 @@ fn perform<R: NamedFiles + Clock + AllocGlobal, H: Ports, I: Read, O: Output, E:
 where
     <H::Listener as OpenListener>::Stream: Read + Write + OpenStream,
     ensures done { Performs (IsReadOf (R.opens rt.now) R.File.remaining)
-        (IsHosted H.Register.shows H.Register.is_clean H.Register.is_sound H.Register.serves
-        H.listens H.waits H.Waiter.does
+        (IsHosted H.Register.shows H.Register.is_clean H.Register.is_sound H.Register.may_leave
+        H.Register.left_shows H.Register.serves H.listens H.waits H.Waiter.does
         (IsOf H.Listener.Stream.remaining H.Listener.Stream.contents))
-        H.Register.shows H.Register.is_clean H.Register.is_sound H.Register.tells H.does
-        host.old host.new command.entry
+        H.Register.shows H.Register.is_clean H.Register.is_sound H.Register.may_leave
+        H.Register.left_shows H.Register.tells H.does host.old host.new command.entry
         (I.remaining input.old) (I.remaining input.new)
         (O.contents output.old) (O.contents output.new) (E.contents errors.old)
         (E.contents errors.new) (exit_code result) }

@@ -28,8 +28,8 @@ pub fn report<H: Registers, O: Output, E: Write>(
     output: &mut O,
     errors: &mut E,
 ) -> Status
-    ensures done { Reports H.Register.shows H.Register.is_clean H.Register.tells H.does host.old
-        host.new asked.now
+    ensures done { Reports H.Register.shows H.Register.is_clean H.Register.is_sound
+        H.Register.may_leave H.Register.tells H.does host.old host.new asked.now
         (O.contents output.old) (O.contents output.new) (E.contents errors.old)
         (E.contents errors.new) (exit_code result) }
     ensures flushed { exit_code result ≤ 1 → O.is_flushed output.new }
@@ -61,7 +61,7 @@ pub fn report_on<'a, K: OpenRegister, O: Output>(
     asked: &Report<'_>,
     output: &mut O,
 ) -> Result<Status, Failure<'a>>
-    ensures kept { Kept K.shows K.is_clean register.old register.new }
+    ensures kept { Kept K.shows K.is_clean K.is_sound K.may_leave register.old register.new }
     ensures told { EndsTelling (IsToldOf K.shows K.is_clean register.old register.new asked.now)
         (O.contents output.old) (O.contents output.new) result }
     ensures flushed { OnOk result (O.is_flushed output.new) }
@@ -83,7 +83,7 @@ pub fn report_in<K: Keep>(
     keep: &mut K,
     asked: &Report<'_>,
 ) -> Result<Text, StoreFault>
-    ensures kept { Kept K.shows K.is_clean keep.old keep.new }
+    ensures kept { Kept K.shows K.is_clean K.is_sound K.may_leave keep.old keep.new }
     ensures text { Promised K.shows K.is_clean keep.old keep.new (λ r.
         IfOk result (IsReportOf asked.now r)) }
     ensures accounted { IsAccounted Some result (K.fault_count keep.old) (K.fault_count keep.new) }

@@ -34,11 +34,11 @@ pub fn serve<R: Clock + AllocGlobal, H: Ports, O: Output, E: Write>(
 where
     <H::Listener as OpenListener>::Stream: Read + Write + OpenStream,
     ensures done { Serves
-        (IsHosted H.Register.shows H.Register.is_clean H.Register.is_sound H.Register.serves
-        H.listens H.waits H.Waiter.does
+        (IsHosted H.Register.shows H.Register.is_clean H.Register.is_sound H.Register.may_leave
+        H.Register.left_shows H.Register.serves H.listens H.waits H.Waiter.does
         (IsOf H.Listener.Stream.remaining H.Listener.Stream.contents))
-        H.Register.shows H.Register.is_clean H.Register.is_sound H.does host.old host.new
-        asked.entry
+        H.Register.shows H.Register.is_clean H.Register.is_sound H.Register.may_leave
+        H.Register.left_shows H.does host.old host.new asked.entry
         (O.contents output.old) (O.contents output.new) (E.contents errors.old)
         (E.contents errors.new) (exit_code result) }
     ensures flushed { exit_code result ≤ 1 → O.is_flushed output.new }
@@ -68,13 +68,13 @@ fn listen<'a, R: Clock + AllocGlobal, H: Ports, O: Output>(
 where
     <H::Listener as OpenListener>::Stream: Read + Write + OpenStream,
     ensures hosted { IfOk result (λ status.
-        IsHosted H.Register.shows H.Register.is_clean H.Register.is_sound H.Register.serves
-        H.listens H.waits H.Waiter.does
+        IsHosted H.Register.shows H.Register.is_clean H.Register.is_sound H.Register.may_leave
+        H.Register.left_shows H.Register.serves H.listens H.waits H.Waiter.does
         (IsOf H.Listener.Stream.remaining H.Listener.Stream.contents)
         asked.entry register.old register.new (exit_code status)) }
     ensures ok { IfOk result (λ status.
-        IsServed H.Register.shows H.Register.is_clean H.Register.is_sound register.old
-        register.new asked.entry.connections (exit_code status)
+        IsServed H.Register.shows H.Register.is_clean H.Register.is_sound H.Register.may_leave
+        H.Register.left_shows register.old register.new asked.entry.connections (exit_code status)
         × Appends (O.contents output.old) (O.contents output.new) (listening asked.entry.port)) }
     ensures part { AppendsPart (O.contents output.old) (O.contents output.new)
         (listening asked.entry.port) }

@@ -1,10 +1,18 @@
--- What the calls of a keep or of a source promise. What is shown, answered and told is said where a value was shown and the call ends clean; the count of faults, and what stays clean, of any.
-use Rattle.std.specs.Prelude.{◌≡◌, ◌↔◌, ℕ, ◌+◌, ◌%◌, ◌^◌, Result, Ok, Err, IfOk, IfErr}
+-- What the calls of a keep or of a source promise. What is shown, answered and told is said where a value was shown and the call ends clean; what a stop leaves, where the store has returned what was written; the count of faults, and what stays clean, of any.
+use Rattle.std.specs.Prelude.{◌≡◌, ◌⊎◌, ◌↔◌, ℕ, ◌+◌, ◌%◌, ◌^◌, Result, Ok, Err, IfOk, IfErr}
 
--- The later state shows what the earlier one did, and no more. A state that ends clean began clean.
-pub record Kept {S V : Type 0} (shows : S → V → Type 0) (is_clean : S → Type 0) (old new : S) : Type 0 where
+-- The later state shows what the earlier one did, and no more. A state that ends clean began clean. Where the store of the later state has returned what was written, so had that of the earlier one, and a stop leaves only what one before might have left.
+pub record Kept {S V W : Type 0} (shows : S → V → Type 0) (is_clean is_sound : S → Type 0) (may_leave : S → W → Type 0) (old new : S) : Type 0 where
   pub began : is_clean new → is_clean old
   pub same : is_clean new → (v : V) → shows old v ↔ shows new v
+  pub sound : is_sound new → is_sound old
+  pub stops : is_sound new → (left : W) → may_leave new left → may_leave old left
+
+-- A state that ends clean began clean. Where the store of the later state has returned what was written, so had that of the earlier one, and a stop leaves what one before might have left; or, where the earlier state was clean, what is made of the value that it showed.
+pub record Leaves {S V W : Type 0} (shows : S → V → Type 0) (is_clean is_sound : S → Type 0) (may_leave : S → W → Type 0) (old new : S) (IsMade : V → W → Type 0) : Type 0 where
+  pub began : is_clean new → is_clean old
+  pub sound : is_sound new → is_sound old
+  pub stops : is_sound new → (left : W) → may_leave new left → may_leave old left ⊎ (is_clean old × ((v : V) → shows old v → IsMade v left))
 
 -- Where the store of the later state has returned what was written, so had that of the earlier one, and the later one is clean if the earlier one was.
 pub record StaysClean {S : Type 0} (is_clean is_sound : S → Type 0) (old new : S) : Type 0 where
@@ -30,16 +38,16 @@ left_by (Ok x) changed v = changed
 left_by (Err e) changed v = v
 
 -- What a read promises: what was shown is shown, an answer leaves a clean state clean, a fault adds one to the count and is one that may be told, and P holds of an answer.
-pub record Reads {S V T F : Type 0} (shows : S → V → Type 0) (is_clean is_sound : S → Type 0) (faults : S → ℕ) (may_tell : F → Type 0) (old new : S) (result : Result T F) (P : V → T → Type 0) : Type 0 where
-  pub kept : Kept shows is_clean old new
+pub record Reads {S V W T F : Type 0} (shows : S → V → Type 0) (is_clean is_sound : S → Type 0) (may_leave : S → W → Type 0) (faults : S → ℕ) (may_tell : F → Type 0) (old new : S) (result : Result T F) (P : V → T → Type 0) : Type 0 where
+  pub kept : Kept shows is_clean is_sound may_leave old new
   pub lasts : IfOk result (λ x. StaysClean is_clean is_sound old new)
   pub counts : faults new ≡ counted result (faults old)
   pub told : Promised shows is_clean old new (λ v. IfErr result may_tell)
   pub answer : Promised shows is_clean old new (λ v. IfOk result (P v))
 
--- What a change promises: what was shown is now what the change makes of it, or as it was where a fault is answered. A fault adds one to the count and is one that may be told, a state that ends clean began clean, and an answer leaves a clean state clean.
-pub record Changes {S V T F : Type 0} (shows : S → V → Type 0) (is_clean is_sound : S → Type 0) (faults : S → ℕ) (may_tell : F → Type 0) (old new : S) (result : Result T F) (change : V → V) : Type 0 where
-  pub began : is_clean new → is_clean old
+-- What a change promises: what was shown is now what the change makes of it, or as it was where a fault is answered. A fault adds one to the count and is one that may be told, and an answer leaves a clean state clean. The rest is `Leaves`: a stop leaves what one before might have left, or what shows the changed value.
+pub record Changes {S V W T F : Type 0} (shows : S → V → Type 0) (is_clean is_sound : S → Type 0) (may_leave : S → W → Type 0) (left_shows : W → V → Type 0) (faults : S → ℕ) (may_tell : F → Type 0) (old new : S) (result : Result T F) (change : V → V) : Type 0 where
+  pub leaves : Leaves shows is_clean is_sound may_leave old new (λ v left. left_shows left (change v))
   pub lasts : IfOk result (λ x. StaysClean is_clean is_sound old new)
   pub counts : faults new ≡ counted result (faults old)
   pub told : Promised shows is_clean old new (λ v. IfErr result may_tell)

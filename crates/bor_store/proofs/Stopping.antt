@@ -1,11 +1,12 @@
--- What a stop may leave of a change that reads come before.
-use Rattle.std.proofs.Common.{◌≡◌, ◌∙◌, inl, inr, List}
+-- What a stop may leave.
+use Rattle.std.proofs.Common.{◌≡◌, ◌⊎◌, ◌∙◌, inl, inr, List, subst}
 use Rattle.sqlite.specs.State.{HasCleanDisk, State}
 use Rattle.sqlite.specs.Tree.{Trees}
+use Rattle.bor_records.specs.Promises.{Leaves}
 use Rattle.bor_desk.specs.Operations.Legality.{IsLegal}
 use Rattle.bor_register.specs.Register.{Register}
 use Rattle.bor_store_sql.specs.Changing.{all_periods}
-use Rattle.bor_store_sql.specs.Shown.{IsClean, LeavesAtMost, ShowsFirst, ShowsLists, Stands}
+use Rattle.bor_store_sql.specs.Shown.{IsClean, LeavesAtMost, ShowsFirst, ShowsIn, ShowsLists, Stands}
 use Rattle.bor_store_sql.specs.declared.rows.typed.PeriodRow.{PeriodRow}
 use Rattle.bor_store_sql.proofs.BothReads.{of_first}
 use Rattle.bor_store_reads.specs.Answering.{ReadsOnly}
@@ -32,3 +33,20 @@ moves_legal old mid new days given is reads says sound stops =
     after_read _ _ old mid new reads sound
     (λ was trees made r shows legal. made r (still_first r old mid (reads.kept was) shows) (is ∙ files_once r.members days (all_periods r.members) (says was r (of_first r old shows)) (files_say r.members legal.own)))
     stops
+
+-- ---- of a keep
+
+-- what a change of a keep's tables leaves
+pub keep_leaves : {K : Type 0} (state_of : K → State) (old new : K) (before after : State) → before ≡ state_of old → state_of new ≡ after → (HasCleanDisk after → HasCleanDisk before) → (IsClean after → IsClean before)
+    → (Made : Trees → Type 0) → LeavesAtMost Made before after → (change : Register → Register) → (IsClean before → (r : Register) → ShowsIn r before → (trees : Trees) → Made trees → Stands (change r) trees)
+    → Leaves (λ k r. ShowsIn r (state_of k)) (λ k. IsClean (state_of k)) (λ k. HasCleanDisk (state_of k)) (λ k trees. (state_of k).may_leave trees) old new (λ r trees. Stands (change r) trees)
+keep_leaves state_of old new before after begins ends sound began Made stops change so = record {
+  began = λ clean. subst IsClean begins (began (subst IsClean ends clean));
+  sound = λ clean. subst HasCleanDisk begins (sound (subst HasCleanDisk ends clean));
+  stops = λ clean trees may.
+      subst (λ s. s.may_leave trees ⊎ (IsClean s × ((r : Register) → ShowsIn r s → Stands (change r) trees))) begins
+      (elim (stops (subst HasCleanDisk ends clean) trees (subst (λ s. s.may_leave trees) ends may)) [
+        | inl was ↦ inl was
+        | inr made ↦ inr (made.0, λ r shows. so made.0 r shows trees made.1)
+      ]);
+}

@@ -10,6 +10,7 @@ mod adoption;
 mod days;
 mod files;
 mod forms;
+pub mod laws;
 mod lodging;
 mod migration;
 mod open_fault;

@@ -1,10 +1,13 @@
 //! A register in tables.
 
 ghost use Rattle.std.specs.Prelude.{◌≡◌, false};
+ghost use Rattle.std.proofs.Common.{sym};
 ghost use Rattle.sqlite.specs.Held.{state};
 ghost use Rattle.sqlite.specs.State.{HasCleanDisk};
+ghost use Rattle.sqlite.specs.Tree.{Trees};
 ghost use Rattle.bor_records.specs.Promises.{counted};
-ghost use Rattle.bor_store_sql.specs.Shown.{IsClean, ShowsIn};
+ghost use Rattle.bor_store_sql.specs.Shown.{IsClean, ShowsIn, Stands};
+ghost use Rattle.bor_store_sql.proofs.Ending.{stands_in};
 ghost use Rattle.bor_store.specs.Telling.{tells, tells_made, store_fault_of, TellsNoDamage};
 
 use crate::lodging::add_next_filing;
@@ -82,6 +85,12 @@ impl<S: Alter + Drop> Keep for SqlKeep<S> {
     ghost is_clean = { λ k. IsClean (state S.Store k.conn) };
 
     ghost is_sound = { λ k. HasCleanDisk (state S.Store k.conn) };
+
+    ghost Left = { Trees };
+
+    ghost may_leave = { λ k trees. (state S.Store k.conn).may_leave trees };
+
+    ghost left_shows = { λ trees r. Stands r trees };
 
     ghost fault_count = { λ k. k.faults };
 
@@ -240,4 +249,7 @@ impl<S: Alter + Drop> Keep for SqlKeep<S> {
         let made = add_agent(self.conn.connection(), agent, token);
         self.made(made)
     }
+
+    ghost lasting = { λ k clean trees may r shows. stands_in r _ trees
+        (sym (S.settled k.conn.store trees clean.1 may)) (shows.has, shows.stored) };
 }

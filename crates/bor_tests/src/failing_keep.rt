@@ -81,6 +81,12 @@ impl<K: Keep> Keep for FailingKeep<K> {
 
     ghost is_sound = { λ k. K.is_sound k.keep };
 
+    ghost Left = { K.Left };
+
+    ghost may_leave = { λ k left. K.may_leave k.keep left };
+
+    ghost left_shows = { K.left_shows };
+
     ghost fault_count = { λ k. k.faults };
 
     ghost may_tell = { λ fault. Unit {0} };
@@ -244,4 +250,6 @@ impl<K: Keep> Keep for FailingKeep<K> {
         let told = self.keep.add_agent(agent, token);
         self.end(told)
     }
+
+    ghost lasting = { λ k clean left may r shows. K.lasting k.keep clean left may r shows };
 }

@@ -11,6 +11,7 @@ pub mod HistoryLaws
 pub mod NobodyLaws
 pub mod SequenceLaws
 pub mod TurnLaws
+pub mod StopLaws
 pub mod HistoryExamples
 pub mod Examples
 pub mod OnRendering

@@ -83,22 +83,22 @@ no_more shown r e rest is h =
     }
 
 -- a sequence that ends clean began clean
-began : {K : Type 0} (shows : K → Register → Type 0) (is_clean : K → Type 0) (keep : K) (es : List (Exchanged K)) → AreExchanged shows is_clean keep es → is_clean (keep_left keep es) → is_clean keep
-began shows is_clean keep [] h clean = clean
-began shows is_clean keep (e ∷ rest) h clean = h.0.began (began shows is_clean e.keep rest h.1 clean)
+began : {K W : Type 0} (shows : K → Register → Type 0) (is_clean is_sound : K → Type 0) (may_leave : K → W → Type 0) (left_shows : W → Register → Type 0) (keep : K) (es : List (Exchanged K)) → AreExchanged shows is_clean is_sound may_leave left_shows keep es → is_clean (keep_left keep es) → is_clean keep
+began shows is_clean is_sound may_leave left_shows keep [] h clean = clean
+began shows is_clean is_sound may_leave left_shows keep (e ∷ rest) h clean = h.0.leaves.began (began shows is_clean is_sound may_leave left_shows e.keep rest h.1 clean)
 
-served : {K : Type 0} (shows : K → Register → Type 0) (is_clean : K → Type 0) (keep : K) (es : List (Exchanged K)) → AreExchanged shows is_clean keep es
+served : {K W : Type 0} (shows : K → Register → Type 0) (is_clean is_sound : K → Type 0) (may_leave : K → W → Type 0) (left_shows : W → Register → Type 0) (keep : K) (es : List (Exchanged K)) → AreExchanged shows is_clean is_sound may_leave left_shows keep es
     → (r : Register) → shows keep r → is_clean (keep_left keep es) → IsLegal r → IsServed (shows (keep_left keep es)) r es
-served shows is_clean keep [] h r is clean legal = record { spelled = []; spells = tt; sent = []; written = tt; replies = tt; left = is }
-served shows is_clean keep (e ∷ rest) h r is clean legal =
-    elim (by_outcome e.outcome (shows e.keep) r e.known e.held e.holds (h.0.exchanged r is (began shows is_clean e.keep rest h.1 clean) legal)) [
-      | inl y ↦ more (shows (keep_left e.keep rest)) r e rest y.1.0 y.1.2 y.0 y.1.1 y.1.3 y.1.4 (served shows is_clean e.keep rest h.1 (after r y.1.0) y.1.5 clean (after_legal r y.1.0 legal))
-      | inr n ↦ no_more (shows (keep_left e.keep rest)) r e rest n.0 (served shows is_clean e.keep rest h.1 r n.1 clean legal)
+served shows is_clean is_sound may_leave left_shows keep [] h r is clean legal = record { spelled = []; spells = tt; sent = []; written = tt; replies = tt; left = is }
+served shows is_clean is_sound may_leave left_shows keep (e ∷ rest) h r is clean legal =
+    elim (by_outcome e.outcome (shows e.keep) r e.known e.held e.holds (h.0.exchanged r is (began shows is_clean is_sound may_leave left_shows e.keep rest h.1 clean) legal)) [
+      | inl y ↦ more (shows (keep_left e.keep rest)) r e rest y.1.0 y.1.2 y.0 y.1.1 y.1.3 y.1.4 (served shows is_clean is_sound may_leave left_shows e.keep rest h.1 (after r y.1.0) y.1.5 clean (after_legal r y.1.0 legal))
+      | inr n ↦ no_more (shows (keep_left e.keep rest)) r e rest n.0 (served shows is_clean is_sound may_leave left_shows e.keep rest h.1 r n.1 clean legal)
     ]
 
-pub a_run : {K : Type 0} (shows : K → Register → Type 0) (is_clean : K → Type 0) → ExchangesAreARun shows is_clean
-a_run shows is_clean keep es h = λ r is clean legal.
-    let run = served shows is_clean keep es h r is clean legal in
+pub a_run : {K W : Type 0} (shows : K → Register → Type 0) (is_clean is_sound : K → Type 0) (may_leave : K → W → Type 0) (left_shows : W → Register → Type 0) → ExchangesAreARun shows is_clean is_sound may_leave left_shows
+a_run shows is_clean is_sound may_leave left_shows keep es h = λ r is clean legal.
+    let run = served shows is_clean is_sound may_leave left_shows keep es h r is clean legal in
     record {
       spelled = run.spelled;
       spells = run.spells;

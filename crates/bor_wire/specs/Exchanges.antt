@@ -164,6 +164,12 @@ UnlessUnavailable (Replied status) P = status ≢ 503 → P
 UnlessUnavailable ReadFailed P = Unit {0}
 UnlessUnavailable (WriteFailed status) P = status ≢ 503 → P
 
+-- ---- what a stop leaves
+
+-- what is left shows the register after the input
+abbrev pub ShowsAfter : {W : Type 0} → (W → Register → Type 0) → Option (List ℕ) → Register → W → Type 0
+ShowsAfter left_shows known r left = (spelled : Spelled) × IsSpelled known spelled × left_shows left (after r spelled)
+
 -- ---- whom it is for
 
 -- the agent that has the token which is spelled; none where the registrar or nobody has it, and where no request is spelled

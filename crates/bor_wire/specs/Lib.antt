@@ -11,5 +11,6 @@ pub mod Repeats
 pub mod ReportBytes
 pub mod Sequences
 pub mod Turns
+pub mod Stops
 pub mod Rendering
 pub mod Headline

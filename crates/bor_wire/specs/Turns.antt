@@ -48,16 +48,16 @@ AllAnswerClean is_clean is_sound [] = Unit {0}
 AllAnswerClean is_clean is_sound (e ∷ rest) = AnswersClean is_clean is_sound e × AllAnswerClean is_clean is_sound rest
 
 -- The replies to the inputs are those of exchanges one after the other, the first from the old keep, each from the keep that the one before it left, and the last leaves the new one.
-pub record InTurn {K : Type 0} (shows : K → Register → Type 0) (is_clean is_sound : K → Type 0) (old new : K) (inputs : List (List ℕ)) (replies : List Reply) : Type 0 where
+pub record InTurn {K W : Type 0} (shows : K → Register → Type 0) (is_clean is_sound : K → Type 0) (may_leave : K → W → Type 0) (left_shows : W → Register → Type 0) (old new : K) (inputs : List (List ℕ)) (replies : List Reply) : Type 0 where
   pub exchanges : List (Exchanged K)
   pub turns : AreTurns inputs replies exchanges
-  pub each : AreExchanged shows is_clean old exchanges
+  pub each : AreExchanged shows is_clean is_sound may_leave left_shows old exchanges
   pub answer_clean : AllAnswerClean is_clean is_sound exchanges
   pub left : keep_left old exchanges ≡ new
 
 -- Each front of exchanges in turn is a run, where the keep after it is clean: whatever becomes of the keep later on, as where its store fails.
-abbrev pub FrontsAreRuns : {K : Type 0} → (K → Register → Type 0) → (K → Type 0) → Type 0
-FrontsAreRuns {K} shows is_clean = (keep : K) (front rest : List (Exchanged K)) → AreExchanged shows is_clean keep (front ++ rest) →
+abbrev pub FrontsAreRuns : {K W : Type 0} → (K → Register → Type 0) → (K → Type 0) → (K → Type 0) → (K → W → Type 0) → (W → Register → Type 0) → Type 0
+FrontsAreRuns {K} {W} shows is_clean is_sound may_leave left_shows = (keep : K) (front rest : List (Exchanged K)) → AreExchanged shows is_clean is_sound may_leave left_shows keep (front ++ rest) →
     Promised shows is_clean keep (keep_left keep front) (λ r. IsLegal r → IsRun (shows (keep_left keep front)) r front)
 
 -- a request was answered, with another status than 503
@@ -69,8 +69,8 @@ pub record IsRequestAnswered {K : Type 0} (e : Exchanged K) : Type 0 where
   pub answered : IsTrue (is_answered e.outcome)
 
 -- From a legal register that was shown, exchanges in turn up to a request that was answered, of which `AnswersClean` holds, are a run, if the store had returned what was written by then: whatever becomes of it later on, as where it shuts.
-abbrev pub AnswersAreRuns : {K : Type 0} → (K → Register → Type 0) → (K → Type 0) → (K → Type 0) → Type 0
-AnswersAreRuns {K} shows is_clean is_sound = (keep : K) (front : List (Exchanged K)) (e : Exchanged K) (rest : List (Exchanged K)) → AreExchanged shows is_clean keep (front ++ e ∷ rest) →
+abbrev pub AnswersAreRuns : {K W : Type 0} → (K → Register → Type 0) → (K → Type 0) → (K → Type 0) → (K → W → Type 0) → (W → Register → Type 0) → Type 0
+AnswersAreRuns {K} {W} shows is_clean is_sound may_leave left_shows = (keep : K) (front : List (Exchanged K)) (e : Exchanged K) (rest : List (Exchanged K)) → AreExchanged shows is_clean is_sound may_leave left_shows keep (front ++ e ∷ rest) →
     AnswersClean is_clean is_sound e → IsRequestAnswered e → is_sound e.keep → (r : Register) → shows keep r → IsLegal r → IsRun (shows e.keep) r (front ++ e ∷ [])
 
 -- ---- for clauses of private functions alone

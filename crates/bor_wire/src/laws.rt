@@ -7,6 +7,7 @@ ghost use Rattle.bor_wire.specs.Nobody.{NobodysInputs};
 ghost use Rattle.bor_wire.specs.Repeats.{RepeatsActOnce};
 ghost use Rattle.bor_wire.specs.ReportBytes.{BytesGivePersons};
 ghost use Rattle.bor_wire.specs.Sequences.{ExchangesAreARun};
+ghost use Rattle.bor_wire.specs.Stops.{AnswersLast, StopsLeaveRuns};
 ghost use Rattle.bor_wire.specs.Turns.{AnswersAreRuns, FrontsAreRuns};
 
 use bor_desk::operations::Keep;
@@ -76,14 +77,14 @@ pub fn nobodys_inputs()
 /// were sent are the run's, the register left is too, and each agent receives what it would alone.
 /// Those that ended with status 503 or with a failed read have no part in it.
 pub fn exchanges_are_a_run<K: Keep>()
-    ensures { ExchangesAreARun K.shows K.is_clean }
+    ensures { ExchangesAreARun K.shows K.is_clean K.is_sound K.may_leave K.left_shows }
 {}
 
 /// A front of exchanges one after the other is a run too, where the keep that it leaves is clean.
 /// So what was replied before a store failed keeps its promises, whatever the store does later on:
 /// `in_turn` of [`replay`](crate::replay) gives such exchanges, with the keep after each.
 pub fn fronts_are_runs<K: Keep>()
-    ensures { FrontsAreRuns K.shows K.is_clean }
+    ensures { FrontsAreRuns K.shows K.is_clean K.is_sound K.may_leave K.left_shows }
 {}
 
 /// Exchanges one after the other, from a keep of a legal register, are a run up to each request
@@ -91,5 +92,20 @@ pub fn fronts_are_runs<K: Keep>()
 /// written by then. So where a store shuts, the replies before keep their promises. That no request
 /// is answered behind it says `in_turn` of [`replay`](crate::replay), which gives such exchanges.
 pub fn answers_are_runs<K: Keep>()
-    ensures { AnswersAreRuns K.shows K.is_clean K.is_sound }
+    ensures { AnswersAreRuns K.shows K.is_clean K.is_sound K.may_leave K.left_shows }
+{}
+
+/// Whatever a stop leaves after exchanges one after the other, from a keep of a legal register, it
+/// shows the register after a front of them, or after that and the next one. The front is a run and
+/// has all up to any exchange after which the keep was clean; those that ended with status 503 or
+/// with a failed read have no part in it. The store has returned what was written.
+pub fn stops_leave_runs<K: Keep>()
+    ensures { StopsLeaveRuns K.shows K.is_clean K.is_sound K.may_leave K.left_shows }
+{}
+
+/// What was answered lasts: the front that [`stops_leave_runs`] speaks of has each request that was
+/// answered with another status than 503. A stop is one as an exchange ends; that one in its midst
+/// leaves no more is for the store to show.
+pub fn answers_last<K: Keep>()
+    ensures { AnswersLast K.shows K.is_clean K.is_sound K.may_leave K.left_shows }
 {}

@@ -1,11 +1,11 @@
 //! One exchange over a reader and a writer, and how it ends.
 
 ghost use Rattle.std.specs.Prelude.{◌≡◌};
-ghost use Rattle.bor_records.specs.Promises.{Promised};
+ghost use Rattle.bor_records.specs.Promises.{Leaves, Promised};
 ghost use Rattle.bor_register.specs.Register.{IsOrdered};
 ghost use Rattle.bor_http.specs.Incoming.Message.{request_limit};
 ghost use Rattle.bor_http.specs.Incoming.Reading.{TakesAtMost};
-ghost use Rattle.bor_wire.specs.Exchanges.{UnlessUnavailable, IfAsked, IfRefused, IsExchanged, IsWritten, OnRefusal, OnSpelled, TellsRefusal, TellsUnavailable, WithoutReply, read_faults, write_faults};
+ghost use Rattle.bor_wire.specs.Exchanges.{UnlessUnavailable, IfAsked, IfRefused, IsExchanged, ShowsAfter, IsWritten, OnRefusal, OnSpelled, TellsRefusal, TellsUnavailable, WithoutReply, read_faults, write_faults};
 
 use crate::outgoing::{Outgoing, read_reply};
 use crate::rendering::UNAVAILABLE;
@@ -15,7 +15,8 @@ use bor_http::incoming::{Counted, send};
 use std::alloc::Global;
 use std::io::{Read, Write};
 
-/// How an exchange ended. The number is the status of the reply: where it is 503, nothing changed.
+/// How an exchange ended. The number is the status of the reply: where it is 503, nothing changed,
+/// unless the store shut in its commit.
 #[derive(Clone, Copy, PartialEq, Eq)]
 pub enum Outcome {
     /// The whole reply was written.
@@ -44,11 +45,13 @@ fn write_reply<W: Write>(writer: &mut Counted<W>, status: u16, bytes: &[u8]) -> 
 ///
 /// With a status other than 503 the bytes that are written, of which a failing writer takes a
 /// front, are the reply to the one input, which each agent receives as it would alone, and the
-/// register left is the one after it. With 503 they are [`UNAVAILABLE`], and nothing changed.
+/// register left is the one after it. With 503 they are [`UNAVAILABLE`], and nothing changed, unless
+/// the store shut in its commit: then the next one to open it may find the change.
 ///
 /// Of any keep it is said that 503 has [`UNAVAILABLE`] written, which refusal an input is told that
-/// spells no request, and that a request has another status than 503 only where the keep ends
-/// clean, if its store has returned what was written. Of a keep that ends clean it is said
+/// spells no request, and, if its store has returned what was written, that a request has another
+/// status than 503 only where the keep ends clean, and that a stop leaves what one before might have
+/// left, or the register after the request. Of a keep that ends clean it is said
 /// - of any register: that a status of 400 or more, or a failed read, changes nothing;
 /// - of registers whose agents stand in order of their names, as every legal one's do: which reply
 ///   is written and which register is left;
@@ -66,7 +69,8 @@ pub fn exchange<K: Keep, R: Read, W: Write>(
     reader: &mut Counted<R>,
     writer: &mut Counted<W>,
 ) -> Outcome
-    ensures began { K.is_clean keep.new → K.is_clean keep.old }
+    ensures leaves { Leaves K.shows K.is_clean K.is_sound K.may_leave keep.old keep.new
+        (ShowsAfter K.left_shows (R.remaining reader.old.inner)) }
     ensures exchanged { Promised K.shows K.is_clean keep.old keep.new (λ r. IsOrdered r.members →
         IsExchanged result (K.shows keep.new) r (R.remaining reader.old.inner)
         (W.contents writer.old.inner) (W.contents writer.new.inner)) }

@@ -1,7 +1,7 @@
 //! What goes out for an input, and for whom: it is read, asked of the desk, and made into bytes.
 
-ghost use Rattle.std.specs.Prelude.{◌≡◌, ◌≢◌, ◌≤◌, [], Ok, Err, IfSome, vec_capacity};
-ghost use Rattle.bor_records.specs.Promises.{Promised};
+ghost use Rattle.std.specs.Prelude.{◌≡◌, ◌≢◌, ◌≤◌, [], Ok, Err, Some, IfSome, vec_capacity};
+ghost use Rattle.bor_records.specs.Promises.{Leaves, Promised};
 ghost use Rattle.bor_register.specs.Register.{IsOrdered, caller_of};
 ghost use Rattle.bor_desk.specs.Outcomes.{IsOrderedFor, agent_of};
 ghost use Rattle.bor_http.specs.declared.incoming.fault.Refusal as fault;
@@ -11,7 +11,8 @@ ghost use Rattle.bor_wire.specs.Spelling.Spell.{Spelled, Spells, asked_view, spe
 ghost use Rattle.bor_wire.specs.Spelling.Steps.{Finds};
 ghost use Rattle.bor_wire.specs.Rendering.Limits.{reserved};
 ghost use Rattle.bor_wire.specs.Rendering.Statuses.{desk_status};
-ghost use Rattle.bor_wire.specs.Exchanges.{ByOutgoing, IfAsked, IfFull, IfWhole, GoesOut, GoesOutRefused, HasStatus, IfNoChange, IfRefusing, IsFor, IsRefusal, IsRendered, IsResponse, IsSent, IsToldFor, NamesWhoAsks, OnRefusal, OnSpelled, TellsAnswer, agent_spelled, faults_unread, left_by};
+ghost use Rattle.bor_wire.specs.Inputs.{after};
+ghost use Rattle.bor_wire.specs.Exchanges.{ByOutgoing, IfAsked, IfFull, IfWhole, GoesOut, GoesOutRefused, HasStatus, IfNoChange, IfRefusing, IsFor, ShowsAfter, IsRefusal, IsRendered, IsResponse, IsSent, IsToldFor, NamesWhoAsks, OnRefusal, OnSpelled, TellsAnswer, agent_spelled, faults_unread, left_by};
 
 use crate::rendering::{
     RESERVED, UNAVAILABLE, desk_status, is_long, refusal_status, render, render_refusal,
@@ -30,7 +31,7 @@ use std::io::Read;
 pub enum Outgoing {
     /// A whole reply, with its status.
     Full(u16, Vec<u8>),
-    /// Memory was wanting, or the keep failed. Nothing changed.
+    /// Memory was wanting, or the keep failed. Nothing changed, unless its store shut in its commit.
     Unavailable,
 }
 
@@ -72,7 +73,8 @@ pub struct Response {
 /// stays in memory. It names the agent that is answered. A keep whose store has shut, or shuts
 /// meanwhile, answers a request with 503, if the store has returned what was written.
 pub fn respond<K: Keep>(alloc: Global, paths: &Paths, keep: &mut K, input: &[u8]) -> Response
-    ensures began { K.is_clean keep.new → K.is_clean keep.old }
+    ensures leaves { Leaves K.shows K.is_clean K.is_sound K.may_leave keep.old keep.new
+        (ShowsAfter K.left_shows (Some input.now)) }
     ensures exchanged { Promised K.shows K.is_clean keep.old keep.new (λ r.
         IsOrdered r.members → IsResponse (K.shows keep.new) r input.now result.outgoing) }
     ensures refused_kept { Promised K.shows K.is_clean keep.old keep.new (λ r.
@@ -112,7 +114,8 @@ fn asked<K: Keep>(
     keep: &mut K,
     asking: &Asking,
 ) -> (Option<AgentName>, Option<DeskReply>)
-    ensures began { K.is_clean keep.new → K.is_clean keep.old }
+    ensures leaves { Leaves K.shows K.is_clean K.is_sound K.may_leave keep.old keep.new
+        (λ r left. K.left_shows left (after r (Ok (asked_view asking.now)))) }
     ensures reply { Promised K.shows K.is_clean keep.old keep.new (λ r.
         IsOrderedFor asking.now.request r → TellsAnswer result.1 r (asked_view asking.now)) }
     ensures left { Promised K.shows K.is_clean keep.old keep.new (λ r.
@@ -150,7 +153,8 @@ fn rendered(alloc: Global, mut out: Vec<u8>, reply: &DeskReply) -> Outgoing
 // The reply to a request. The room for a short one is reserved before the desk is asked, so that
 // no change is made whose reply finds no memory.
 fn answered<K: Keep>(alloc: Global, keep: &mut K, asking: &Asking) -> Response
-    ensures began { K.is_clean keep.new → K.is_clean keep.old }
+    ensures leaves { Leaves K.shows K.is_clean K.is_sound K.may_leave keep.old keep.new
+        (λ r left. K.left_shows left (after r (Ok (asked_view asking.now)))) }
     ensures reply { Promised K.shows K.is_clean keep.old keep.new (λ r.
         IsOrderedFor asking.now.request r
         → GoesOut result.outgoing (K.shows keep.new) r (Ok (asked_view asking.now))) }
@@ -189,7 +193,8 @@ fn spelled(alloc: Global, paths: &Paths, raw: RawRequest) -> Result<Asking, Wire
 
 // The reply to a request that was read.
 fn reply_for<K: Keep>(alloc: Global, paths: &Paths, keep: &mut K, raw: RawRequest) -> Response
-    ensures began { K.is_clean keep.new → K.is_clean keep.old }
+    ensures leaves { Leaves K.shows K.is_clean K.is_sound K.may_leave keep.old keep.new
+        (λ r left. K.left_shows left (after r (spell raw))) }
     ensures reply { Promised K.shows K.is_clean keep.old keep.new (λ r.
         IsOrdered r.members → GoesOut result.outgoing (K.shows keep.new) r (spell raw)) }
     ensures kept { Promised K.shows K.is_clean keep.old keep.new (λ r.
@@ -222,7 +227,8 @@ pub(crate) fn read_reply<K: Keep, R: Read>(
     keep: &mut K,
     reader: &mut Counted<R>,
 ) -> (Option<AgentName>, Option<Outgoing>)
-    ensures began { K.is_clean keep.new → K.is_clean keep.old }
+    ensures leaves { Leaves K.shows K.is_clean K.is_sound K.may_leave keep.old keep.new
+        (ShowsAfter K.left_shows (R.remaining reader.old.inner)) }
     ensures reply { ByOutgoing result.1 (R.remaining reader.old.inner)
         (λ spelled status bytes. Promised K.shows K.is_clean keep.old keep.new (λ r.
         IsOrdered r.members → IsSent (K.shows keep.new) r spelled status bytes))

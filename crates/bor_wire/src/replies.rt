@@ -1,10 +1,11 @@
 //! Replies, and those to a list of inputs.
 
-ghost use Rattle.std.specs.Prelude.{◌≡◌, ℕ, List, IfOk, OnErr, length, map};
-ghost use Rattle.bor_records.specs.Promises.{Promised};
+ghost use Rattle.std.specs.Prelude.{◌≡◌, ℕ, List, Some, IfOk, OnErr, length, map};
+ghost use Rattle.bor_records.specs.Promises.{Leaves, Promised};
 ghost use Rattle.bor_register.specs.Register.{IsOrdered};
 ghost use Rattle.bor_desk.specs.Operations.Legality.{IsLegal};
 ghost use Rattle.bor_wire.specs.Spelling.Spell.{Spelled};
+ghost use Rattle.bor_wire.specs.Exchanges.{ShowsAfter};
 ghost use Rattle.bor_wire.specs.Inputs.{IsReplyTo, after};
 ghost use Rattle.bor_wire.specs.Runs.{AreReplies, AreSpelled, ByReply, register_left, served, full};
 ghost use Rattle.bor_wire.specs.Reports.{AreReports};
@@ -62,8 +63,8 @@ impl FullReply {
 pub enum Reply {
     /// The whole reply, with its status.
     Full(FullReply),
-    /// Memory was wanting, or the keep failed. Nothing changed. What is sent is
-    /// [`UNAVAILABLE`](crate::rendering::UNAVAILABLE).
+    /// Memory was wanting, or the keep failed. Nothing changed, unless its store shut in its commit.
+    /// What is sent is [`UNAVAILABLE`](crate::rendering::UNAVAILABLE).
     Unavailable,
 }
 
@@ -93,7 +94,8 @@ impl Reply {
 
 // The reply to one input.
 fn reply_to<K: Keep>(alloc: Global, paths: &Paths, keep: &mut K, input: &[u8]) -> Reply
-    ensures began { K.is_clean keep.new → K.is_clean keep.old }
+    ensures leaves { Leaves K.shows K.is_clean K.is_sound K.may_leave keep.old keep.new
+        (ShowsAfter K.left_shows (Some input.now)) }
     ensures reply { ByReply result input.now
         (λ spelled bytes. Promised K.shows K.is_clean keep.old keep.new (λ r.
         IsOrdered r.members → IsReplyTo r spelled bytes × K.shows keep.new (after r spelled)))
@@ -162,7 +164,7 @@ pub fn replay<K: Keep>(
         → AreSpelled (served (map (λ v. v.items) inputs.now) replies.items) spelled →
         RefusalsLeave r spelled (full replies.items))) }
     ensures in_turn { IfOk result (λ replies.
-        InTurn K.shows K.is_clean K.is_sound keep.old keep.new
+        InTurn K.shows K.is_clean K.is_sound K.may_leave K.left_shows keep.old keep.new
         (map (λ v. v.items) inputs.now) replies.items) }
     ensures err { OnErr result (keep.new ≡ keep.old) }
 {

@@ -323,6 +323,12 @@ impl Keep for ListKeep {
 
     ghost is_sound = { λ k. Unit {0} };
 
+    ghost Left = { Unit {0} };
+
+    ghost may_leave = { λ k left. ⊥ };
+
+    ghost left_shows = { λ left r. ⊥ };
+
     ghost fault_count = { λ k. k.faults };
 
     ghost may_tell = { λ fault. fault ≡ Memory };
@@ -482,4 +488,6 @@ impl Keep for ListKeep {
         let made = enrol_member(self.alloc, &mut self.members, agent, token);
         self.told(made)
     }
+
+    ghost lasting = { λ k clean left may. absurd may };
 }

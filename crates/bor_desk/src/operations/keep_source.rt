@@ -48,6 +48,10 @@ impl<'a, K: Keep> LinkSource for KeepSource<'a, K> {
 
     ghost is_sound = { λ x. K.is_sound x.keep.now };
 
+    ghost Left = { K.Left };
+
+    ghost may_leave = { λ x left. K.may_leave x.keep.now left };
+
     ghost fault_count = { λ x. K.fault_count x.keep.now };
 
     ghost may_tell = { λ fault. K.may_tell fault };

@@ -9,7 +9,7 @@ ghost use Rattle.bor_register.specs.declared.filing.AcceptedFiling.{AcceptedFili
 ghost use Rattle.bor_register.specs.Register.{Register, is_enrolled, filings_of, filing_keyed};
 ghost use Rattle.bor_register.specs.Live.{accepted, live_of};
 ghost use Rattle.bor_register.specs.Publication.{state_of_live, line_of};
-ghost use Rattle.bor_records.specs.Promises.{Kept, StaysClean, Promised, Reads, Sure};
+ghost use Rattle.bor_records.specs.Promises.{Kept, Leaves, StaysClean, Promised, Sure, Reads};
 ghost use Rattle.bor_desk.specs.declared.operations.fault.LodgeFault.TheVariants as lodge_faults;
 ghost use Rattle.bor_register.specs.Limits.{filings_limit};
 ghost use Rattle.bor_desk.specs.Operations.Earlier.{AreFound};
@@ -62,8 +62,8 @@ fn is_taken<K: Keep>(
     earlier: &Earlier,
     id: &Ident,
 ) -> Result<bool, StoreFault>
-    ensures { Reads K.shows K.is_clean K.is_sound K.fault_count K.may_tell keep.old keep.new
-        result (λ r taken.
+    ensures { Reads K.shows K.is_clean K.is_sound K.may_leave K.fault_count K.may_tell
+        keep.old keep.new result (λ r taken.
         (live : List Live) → AreFound live earlier.now →
         taken ≡ has_id id.now (live_of (filings_of agent.now r.members) ++ live)) }
 {
@@ -81,8 +81,8 @@ fn last<K: Keep>(
     statement: &Statement,
     in_file: Option<Last>,
 ) -> Result<Option<Last>, StoreFault>
-    ensures { Reads K.shows K.is_clean K.is_sound K.fault_count K.may_tell keep.old keep.new
-        result (λ r last.
+    ensures { Reads K.shows K.is_clean K.is_sound K.may_leave K.fault_count K.may_tell
+        keep.old keep.new result (λ r last.
         (live : List Live) → in_file ≡ last_of statement.now.declaration statement.now.rec live →
         last ≡ last_of statement.now.declaration statement.now.rec
         (live_of (filings_of agent.now r.members) ++ live)) }
@@ -104,7 +104,7 @@ fn settled_status<K: Keep>(
     statement: &Statement,
     place: u32,
 ) -> Result<Status, LodgeFault>
-    ensures kept { Kept K.shows K.is_clean keep.old keep.new }
+    ensures kept { Kept K.shows K.is_clean K.is_sound K.may_leave keep.old keep.new }
     ensures accounted { IsAccounted of_lodging result (K.fault_count keep.old)
         (K.fault_count keep.new) }
     ensures told { Promised K.shows K.is_clean keep.old keep.new (λ r.
@@ -136,7 +136,7 @@ fn settle<K: Keep>(
     statements: &mut [Statement],
 ) -> Result<(), LodgeFault>
     requires few { length statements.old ≤ statements_limit }
-    ensures kept { Kept K.shows K.is_clean keep.old keep.new }
+    ensures kept { Kept K.shows K.is_clean K.is_sound K.may_leave keep.old keep.new }
     ensures accounted { IsAccounted of_lodging result (K.fault_count keep.old)
         (K.fault_count keep.new) }
     ensures told { Promised K.shows K.is_clean keep.old keep.new (λ r.
@@ -167,7 +167,7 @@ fn settled<K: Keep>(
     due: Day,
     bytes: &[u8],
 ) -> Result<Vec<Statement>, LodgeFault>
-    ensures kept { Kept K.shows K.is_clean keep.old keep.new }
+    ensures kept { Kept K.shows K.is_clean K.is_sound K.may_leave keep.old keep.new }
     ensures accounted { IsAccounted of_lodging result (K.fault_count keep.old)
         (K.fault_count keep.new) }
     ensures told { Promised K.shows K.is_clean keep.old keep.new (λ r.
@@ -193,7 +193,7 @@ fn repeat<K: Keep>(
     bytes: &[u8],
     line: &FilingLine,
 ) -> Result<Lodged, LodgeFault>
-    ensures kept { Kept K.shows K.is_clean keep.old keep.new }
+    ensures kept { Kept K.shows K.is_clean K.is_sound K.may_leave keep.old keep.new }
     ensures accounted { IsAccounted of_lodging result (K.fault_count keep.old)
         (K.fault_count keep.new) }
     ensures told { Promised K.shows K.is_clean keep.old keep.new (λ r.
@@ -219,7 +219,7 @@ fn repeat<K: Keep>(
 
 // The register's day, where the agent may have one more filing and the due day isn't past.
 fn day_for<K: Keep>(keep: &mut K, agent: &AgentName, due: Day) -> Result<Day, LodgeFault>
-    ensures kept { Kept K.shows K.is_clean keep.old keep.new }
+    ensures kept { Kept K.shows K.is_clean K.is_sound K.may_leave keep.old keep.new }
     ensures accounted { IsAccounted of_lodging result (K.fault_count keep.old)
         (K.fault_count keep.new) }
     ensures told { Promised K.shows K.is_clean keep.old keep.new (λ r.
@@ -258,7 +258,7 @@ fn prepare<K: Keep>(
     due: Day,
     bytes: &[u8],
 ) -> Result<Prepared, LodgeFault>
-    ensures kept { Kept K.shows K.is_clean keep.old keep.new }
+    ensures kept { Kept K.shows K.is_clean K.is_sound K.may_leave keep.old keep.new }
     ensures accounted { IsAccounted of_lodging result (K.fault_count keep.old)
         (K.fault_count keep.new) }
     ensures told { Promised K.shows K.is_clean keep.old keep.new (λ r.
@@ -294,7 +294,8 @@ fn lodge_new<K: Keep>(
         is_enrolled agent.now r.members ≡ true) }
     requires new_key { Sure K.shows K.is_clean keep.old (λ r.
         filing_keyed key.now (filings_of agent.now r.members) ≡ None) }
-    ensures began { K.is_clean keep.new → K.is_clean keep.old }
+    ensures leaves { Leaves K.shows K.is_clean K.is_sound K.may_leave keep.old keep.new
+        (λ r left. K.left_shows left (lodge_step r agent.now key.now due bytes.now).register) }
     ensures step { Promised K.shows K.is_clean keep.old keep.new (λ r.
         IsOutcome of_lodging result (K.shows keep.new) r
         (lodge_step r agent.now key.now due bytes.now)) }
@@ -338,7 +339,8 @@ pub fn lodge<K: Keep>(
 ) -> Result<Lodged, LodgeFault>
     requires enrolled { Sure K.shows K.is_clean keep.old (λ r.
         is_enrolled agent.now r.members ≡ true) }
-    ensures began { K.is_clean keep.new → K.is_clean keep.old }
+    ensures leaves { Leaves K.shows K.is_clean K.is_sound K.may_leave keep.old keep.new
+        (λ r left. K.left_shows left (lodge_step r agent.now key.now due bytes.now).register) }
     ensures step { Promised K.shows K.is_clean keep.old keep.new (λ r.
         IsOutcome of_lodging result (K.shows keep.new) r
         (lodge_step r agent.now key.now due bytes.now)) }

@@ -2,7 +2,7 @@
 
 ghost use Rattle.std.specs.Prelude.{◌≡◌};
 ghost use Rattle.bor_register.specs.Register.{Register, is_taken};
-ghost use Rattle.bor_records.specs.Promises.{StaysClean, Promised, Reads};
+ghost use Rattle.bor_records.specs.Promises.{Leaves, StaysClean, Promised, Reads};
 ghost use Rattle.bor_desk.specs.Operations.Registrar.{advance_step, enrol_step};
 ghost use Rattle.bor_desk.specs.Operations.Outcomes.{of_advance, of_enrolment, IsOutcome, UnlessFailed, IsAccounted, TellsFaultOf};
 ghost use Rattle.bor_desk.specs.Operations.Legality.{IsLegal};
@@ -17,7 +17,8 @@ use bor_terms::{AgentName, Day, Token};
 /// `DayBack` is the one refusal: the day is before the register's; the same day is taken. It leaves
 /// the register as it was, and so does `Store`.
 pub fn advance<K: Keep>(keep: &mut K, day: Day) -> Result<Day, AdvanceFault>
-    ensures began { K.is_clean keep.new → K.is_clean keep.old }
+    ensures leaves { Leaves K.shows K.is_clean K.is_sound K.may_leave keep.old keep.new
+        (λ r left. K.left_shows left (advance_step r day).register) }
     ensures step { Promised K.shows K.is_clean keep.old keep.new (λ r.
         IsOutcome of_advance result (K.shows keep.new) r (advance_step r day)) }
     ensures accounted { IsAccounted of_advance result (K.fault_count keep.old)
@@ -40,8 +41,8 @@ pub fn advance<K: Keep>(keep: &mut K, day: Day) -> Result<Day, AdvanceFault>
 // Whether an agent or the registrar has the token.
 #[tactic(auto, using(bor_register::proofs::Callers::callers))]
 fn is_taken<K: Keep>(keep: &mut K, token: &Token) -> Result<bool, StoreFault>
-    ensures { Reads K.shows K.is_clean K.is_sound K.fault_count K.may_tell keep.old keep.new
-        result (λ r taken.
+    ensures { Reads K.shows K.is_clean K.is_sound K.may_leave K.fault_count K.may_tell
+        keep.old keep.new result (λ r taken.
         taken ≡ is_taken token.now r) }
 {
     Ok(keep.who(token)?.is_some())
@@ -53,7 +54,8 @@ fn is_taken<K: Keep>(keep: &mut K, token: &Token) -> Result<bool, StoreFault>
 /// where an agent or the registrar has the token. A refusal leaves the register as it was, and so
 /// does `Store`; name and token are dropped then.
 pub fn enrol<K: Keep>(keep: &mut K, name: AgentName, token: Token) -> Result<AgentName, EnrolFault>
-    ensures began { K.is_clean keep.new → K.is_clean keep.old }
+    ensures leaves { Leaves K.shows K.is_clean K.is_sound K.may_leave keep.old keep.new
+        (λ r left. K.left_shows left (enrol_step r name token).register) }
     ensures step { Promised K.shows K.is_clean keep.old keep.new (λ r.
         IsOutcome of_enrolment result (K.shows keep.new) r (enrol_step r name token)) }
     ensures accounted { IsAccounted of_enrolment result (K.fault_count keep.old)

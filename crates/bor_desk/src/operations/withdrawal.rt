@@ -3,7 +3,7 @@
 ghost use Rattle.std.specs.Prelude.{◌≡◌, Some, IfOk, option_map};
 ghost use Rattle.bor_register.specs.Register.{Register, filings_of, filing_keyed};
 ghost use Rattle.bor_register.specs.Publication.{line_of};
-ghost use Rattle.bor_records.specs.Promises.{Kept, StaysClean, Promised};
+ghost use Rattle.bor_records.specs.Promises.{Kept, Leaves, StaysClean, Promised};
 ghost use Rattle.bor_desk.specs.Operations.Sight.{sight_of};
 ghost use Rattle.bor_desk.specs.Operations.Withdrawing.{line_withdrawn, withdrawal, withdraw_step};
 ghost use Rattle.bor_desk.specs.Operations.Outcomes.{of_withdrawal, IsOutcome, UnlessFailed, IsAccounted, TellsFaultOf, IsDone};
@@ -20,7 +20,7 @@ fn withdrawable<K: Keep>(
     agent: &AgentName,
     key: &LodgeKey,
 ) -> Result<FilingLine, WithdrawFault>
-    ensures kept { Kept K.shows K.is_clean keep.old keep.new }
+    ensures kept { Kept K.shows K.is_clean K.is_sound K.may_leave keep.old keep.new }
     ensures accounted { IsAccounted of_withdrawal result (K.fault_count keep.old)
         (K.fault_count keep.new) }
     ensures told { Promised K.shows K.is_clean keep.old keep.new (λ r.
@@ -59,7 +59,8 @@ pub fn withdraw<K: Keep>(
     agent: &AgentName,
     key: &LodgeKey,
 ) -> Result<FilingLine, WithdrawFault>
-    ensures began { K.is_clean keep.new → K.is_clean keep.old }
+    ensures leaves { Leaves K.shows K.is_clean K.is_sound K.may_leave keep.old keep.new
+        (λ r left. K.left_shows left (withdraw_step r agent.now key.now).register) }
     ensures step { Promised K.shows K.is_clean keep.old keep.new (λ r.
         IsOutcome of_withdrawal result (K.shows keep.new) r (withdraw_step r agent.now key.now)) }
     ensures accounted { IsAccounted of_withdrawal result (K.fault_count keep.old)

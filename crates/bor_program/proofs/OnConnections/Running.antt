@@ -30,34 +30,34 @@ lets_in_then does begun between left remaining contents telling pending status m
 begin_none : (absent : ℕ) → absent ≡ 0 + absent
 begin_none absent = omega arith
 
-pub starts : {K W S : Type 0} (shows : K → Register → Type 0) (is_clean is_sound : K → Type 0) (does : W → Act → W → Type 0) (remaining contents : S → Option (List ℕ)) (keep : K) (begun watch : W) (server : Server S) (failed : Bool)
-    → AreHeld remaining contents server.queue.items → does begun (Listens failed) watch → IsRunning shows is_clean is_sound does remaining contents keep keep begun watch server server 0 0
-starts shows is_clean is_sound does remaining contents keep begun watch server failed held listens = record {
+pub starts : {K W S Left : Type 0} (shows : K → Register → Type 0) (is_clean is_sound : K → Type 0) (may_leave : K → Left → Type 0) (left_shows : Left → Register → Type 0) (does : W → Act → W → Type 0) (remaining contents : S → Option (List ℕ)) (keep : K) (begun watch : W) (server : Server S) (failed : Bool)
+    → AreHeld remaining contents server.queue.items → does begun (Listens failed) watch → IsRunning shows is_clean is_sound may_leave left_shows does remaining contents keep keep begun watch server server 0 0
+starts shows is_clean is_sound may_leave left_shows does remaining contents keep begun watch server failed held listens = record {
   held = held;
   acts = Listens failed ∷ [];
   done = (watch, listens, refl);
-  advances = λ start connections absent before. subst (λ n. IsAt shows is_clean is_sound remaining contents start keep connections n server) (begin_none absent) before;
+  advances = λ start connections absent before. subst (λ n. IsAt shows is_clean is_sound may_leave left_shows remaining contents start keep connections n server) (begin_none absent) before;
   failed = refl;
   waited = refl;
 }
 
-pub ran_deaf : {K W S : Type 0} (shows : K → Register → Type 0) (is_clean is_sound : K → Type 0) (does : W → Act → W → Type 0) (remaining contents : S → Option (List ℕ)) (keep : K) (begun watch : W) (server : Server S) (failed : Bool)
-    → AreHeld remaining contents server.queue.items → does begun (Listens failed) watch → failed ≡ true → Runs shows is_clean is_sound does remaining contents keep keep begun watch server server
-ran_deaf shows is_clean is_sound does remaining contents keep begun watch server failed held listens is = record {
+pub ran_deaf : {K W S Left : Type 0} (shows : K → Register → Type 0) (is_clean is_sound : K → Type 0) (may_leave : K → Left → Type 0) (left_shows : Left → Register → Type 0) (does : W → Act → W → Type 0) (remaining contents : S → Option (List ℕ)) (keep : K) (begun watch : W) (server : Server S) (failed : Bool)
+    → AreHeld remaining contents server.queue.items → does begun (Listens failed) watch → failed ≡ true → Runs shows is_clean is_sound may_leave left_shows does remaining contents keep keep begun watch server server
+ran_deaf shows is_clean is_sound may_leave left_shows does remaining contents keep begun watch server failed held listens is = record {
   held = held;
   acts = Listens failed ∷ [];
   done = (watch, listens, refl);
-  advances = λ start connections absent before. subst (λ n. IsAt shows is_clean is_sound remaining contents start keep connections n server) (begin_none absent) before;
+  advances = λ start connections absent before. subst (λ n. IsAt shows is_clean is_sound may_leave left_shows remaining contents start keep connections n server) (begin_none absent) before;
   over = λ some. inl (rw is refl);
 }
 
 -- it waited, let clients in and served those that are there
-pub runs_on : {K W S : Type 0} (shows : K → Register → Type 0) (is_clean is_sound : K → Type 0) (does : W → Act → W → Type 0) (remaining contents : S → Option (List ℕ)) (old_keep keep new_keep : K) (begun watch waited left : W) (old server awake filled new : Server S) (faults after waits : ℕ)
-    → IsRunning shows is_clean is_sound does remaining contents old_keep keep begun watch old server faults waits → Becomes server awake → WaitsOnce does watch waited faults after
+pub runs_on : {K W S Left : Type 0} (shows : K → Register → Type 0) (is_clean is_sound : K → Type 0) (may_leave : K → Left → Type 0) (left_shows : Left → Register → Type 0) (does : W → Act → W → Type 0) (remaining contents : S → Option (List ℕ)) (old_keep keep new_keep : K) (begun watch waited left : W) (old server awake filled new : Server S) (faults after waits : ℕ)
+    → IsRunning shows is_clean is_sound may_leave left_shows does remaining contents old_keep keep begun watch old server faults waits → Becomes server awake → WaitsOnce does watch waited faults after
     → LetsIn does waited left remaining contents (telling_in awake) (pending_in awake) awake.status filled
-    → AreHeld remaining contents new.queue.items → Advances shows is_clean is_sound remaining contents keep new_keep filled new
-    → IsRunning shows is_clean is_sound does remaining contents old_keep new_keep begun left old new after (waits + 1)
-runs_on shows is_clean is_sound does remaining contents old_keep keep new_keep begun watch waited left old server awake filled new faults after waits h same once lets held advances =
+    → AreHeld remaining contents new.queue.items → Advances shows is_clean is_sound may_leave left_shows remaining contents keep new_keep filled new
+    → IsRunning shows is_clean is_sound may_leave left_shows does remaining contents old_keep new_keep begun left old new after (waits + 1)
+runs_on shows is_clean is_sound may_leave left_shows does remaining contents old_keep keep new_keep begun watch waited left old server awake filled new faults after waits h same once lets held advances =
     let d = lets.done in
     let here : AreDone does begun (h.acts ++ once.acts) waited = done-append does begun watch waited h.acts once.acts h.done once.done in
     let acts : List Act = (h.acts ++ once.acts) ++ d.acts in
@@ -68,9 +68,9 @@ runs_on shows is_clean is_sound does remaining contents old_keep keep new_keep b
       acts = acts;
       done = done-append does begun waited left (h.acts ++ once.acts) d.acts here d.done;
       advances = λ start connections absent before.
-          let at = becomes_at shows is_clean is_sound remaining contents start keep connections (refused_in h.acts + absent) server awake (h.advances start connections absent before) same in
-          let in_all = lets_go_on shows is_clean is_sound remaining contents start keep (telling_in awake) connections (pending_in awake) (refused_in h.acts + absent) lets.refused awake.status filled at lets.lets in
-          subst (λ n. IsAt shows is_clean is_sound remaining contents start new_keep connections n new) (refused absent) (advances start connections (lets.refused + (refused_in h.acts + absent)) in_all);
+          let at = becomes_at shows is_clean is_sound may_leave left_shows remaining contents start keep connections (refused_in h.acts + absent) server awake (h.advances start connections absent before) same in
+          let in_all = lets_go_on shows is_clean is_sound may_leave left_shows remaining contents start keep (telling_in awake) connections (pending_in awake) (refused_in h.acts + absent) lets.refused awake.status filled at lets.lets in
+          subst (λ n. IsAt shows is_clean is_sound may_leave left_shows remaining contents start new_keep connections n new) (refused absent) (advances start connections (lets.refused + (refused_in h.acts + absent)) in_all);
       failed =
           faults-append 0 (h.acts ++ once.acts) d.acts ∙ d.faults (faults_after 0 (h.acts ++ once.acts)) ∙ faults-append 0 h.acts once.acts
           ∙ ap (λ n. faults_after n once.acts) h.failed ∙ once.faults;
@@ -79,10 +79,10 @@ runs_on shows is_clean is_sound does remaining contents old_keep keep new_keep b
 
 -- ---- it ends
 
-pub ran : {K W S : Type 0} (shows : K → Register → Type 0) (is_clean is_sound : K → Type 0) (does : W → Act → W → Type 0) (remaining contents : S → Option (List ℕ)) (old_keep keep : K) (begun watch : W) (old server : Server S) (faults waits : ℕ)
-    → IsRunning shows is_clean is_sound does remaining contents old_keep keep begun watch old server faults waits
-    → (0 < server.left → ((1000 ≤ faults) ⊎ (18446744073709551615 ≤ waits))) → Runs shows is_clean is_sound does remaining contents old_keep keep begun watch old server
-ran shows is_clean is_sound does remaining contents old_keep keep begun watch old server faults waits h ends = record {
+pub ran : {K W S Left : Type 0} (shows : K → Register → Type 0) (is_clean is_sound : K → Type 0) (may_leave : K → Left → Type 0) (left_shows : Left → Register → Type 0) (does : W → Act → W → Type 0) (remaining contents : S → Option (List ℕ)) (old_keep keep : K) (begun watch : W) (old server : Server S) (faults waits : ℕ)
+    → IsRunning shows is_clean is_sound may_leave left_shows does remaining contents old_keep keep begun watch old server faults waits
+    → (0 < server.left → ((1000 ≤ faults) ⊎ (18446744073709551615 ≤ waits))) → Runs shows is_clean is_sound may_leave left_shows does remaining contents old_keep keep begun watch old server
+ran shows is_clean is_sound may_leave left_shows does remaining contents old_keep keep begun watch old server faults waits h ends = record {
   held = h.held;
   acts = h.acts;
   done = h.done;
@@ -94,15 +94,15 @@ ran shows is_clean is_sound does remaining contents old_keep keep begun watch ol
 }
 
 -- what was left to be told was told, and those that are there were given up, and those that have not come
-pub served_over : {K W S : Type 0} (shows : K → Register → Type 0) (is_clean is_sound : K → Type 0) (does : W → Act → W → Type 0) (remaining contents : S → Option (List ℕ)) (old_keep keep : K) (begun_at watch left : W) (connections : ℕ) (first server told last : Server S)
-    → IsAt shows is_clean is_sound remaining contents old_keep old_keep connections 0 first → Runs shows is_clean is_sound does remaining contents old_keep keep begun_at watch first server
+pub served_over : {K W S Left : Type 0} (shows : K → Register → Type 0) (is_clean is_sound : K → Type 0) (may_leave : K → Left → Type 0) (left_shows : Left → Register → Type 0) (does : W → Act → W → Type 0) (remaining contents : S → Option (List ℕ)) (old_keep keep : K) (begun_at watch left : W) (connections : ℕ) (first server told last : Server S)
+    → IsAt shows is_clean is_sound may_leave left_shows remaining contents old_keep old_keep connections 0 first → Runs shows is_clean is_sound may_leave left_shows does remaining contents old_keep keep begun_at watch first server
     → Becomes server told → Does does watch left 0 → Lets remaining contents (telling_in told) (pending_in told) told.left told.status last → pending_in last ≡ 0
-    → IsServedOver shows is_clean is_sound (IsOf remaining contents) does old_keep keep begun_at left connections last.status
-served_over shows is_clean is_sound does remaining contents old_keep keep begun_at watch left connections first server told last at runs same tells lets none =
+    → IsServedOver shows is_clean is_sound may_leave left_shows (IsOf remaining contents) does old_keep keep begun_at left connections last.status
+served_over shows is_clean is_sound may_leave left_shows does remaining contents old_keep keep begun_at watch left connections first server told last at runs same tells lets none =
     let gone : ℕ = refused_in runs.acts + 0 in
-    let here = becomes_at shows is_clean is_sound remaining contents old_keep keep connections gone server told (runs.advances old_keep connections 0 at) same in
-    let end = lets_go_on shows is_clean is_sound remaining contents old_keep keep (telling_in told) connections (pending_in told) gone told.left told.status last here lets in
-    let all = finished shows is_clean is_sound remaining contents old_keep keep connections (told.left + gone) last end none in
+    let here = becomes_at shows is_clean is_sound may_leave left_shows remaining contents old_keep keep connections gone server told (runs.advances old_keep connections 0 at) same in
+    let end = lets_go_on shows is_clean is_sound may_leave left_shows remaining contents old_keep keep (telling_in told) connections (pending_in told) gone told.left told.status last here lets in
+    let all = finished shows is_clean is_sound may_leave left_shows remaining contents old_keep keep connections (told.left + gone) last end none in
     record {
       served = all.0;
       acts = runs.acts ++ tells.acts;

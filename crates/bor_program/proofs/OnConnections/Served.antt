@@ -8,11 +8,11 @@ use Rattle.std.proofs.lemmas.List.Folds.{list_any-append}
 use Rattle.std.proofs.lemmas.List.Elements.{All-append, All-nil, All-weaker}
 use Rattle.std.proofs.lemmas.List.Sums.{sum_by-append}
 use Rattle.std.proofs.lemmas.List.Sorted.{IsPermutation-append_left, IsPermutation-cons, IsPermutation-refl, IsPermutation-to_front, IsPermutation-trans}
-use Rattle.bor_records.specs.Promises.{Promised}
+use Rattle.bor_records.specs.Promises.{Leaves, Promised}
 use Rattle.bor_register.specs.Register.{Register}
 use Rattle.bor_desk.specs.Operations.Legality.{IsLegal}
 use Rattle.bor_wire.specs.declared.outcome.Outcome.TheVariants.{Replied}
-use Rattle.bor_wire.specs.Exchanges.{IsExchanged}
+use Rattle.bor_wire.specs.Exchanges.{IsExchanged, ShowsAfter}
 use Rattle.bor_wire.specs.Sequences.{AreExchanged, Exchanged, IsRun, keep_left}
 use Rattle.bor_wire.specs.Turns.{AllAnswerClean, AnswersClean}
 use Rattle.bor_wire.proofs.SequenceLaws.{a_run}
@@ -38,15 +38,15 @@ left_more : {K : Type 0} (keep : K) (es : List (Exchanged K)) (e : Exchanged K) 
 left_more keep [] e = refl
 left_more keep (x ∷ es) e = left_more x.keep es e
 
-each_more : {K : Type 0} (shows : K → Register → Type 0) (is_clean : K → Type 0) (keep : K) (es : List (Exchanged K)) (e : Exchanged K) → AreExchanged shows is_clean keep es
-    → AreExchanged shows is_clean (keep_left keep es) (e ∷ []) → AreExchanged shows is_clean keep (es ++ e ∷ [])
-each_more shows is_clean keep [] e h last = last
-each_more shows is_clean keep (x ∷ es) e h last = (h.0, each_more shows is_clean x.keep es e h.1 last)
+each_more : {K Left : Type 0} (shows : K → Register → Type 0) (is_clean is_sound : K → Type 0) (may_leave : K → Left → Type 0) (left_shows : Left → Register → Type 0) (keep : K) (es : List (Exchanged K)) (e : Exchanged K) → AreExchanged shows is_clean is_sound may_leave left_shows keep es
+    → AreExchanged shows is_clean is_sound may_leave left_shows (keep_left keep es) (e ∷ []) → AreExchanged shows is_clean is_sound may_leave left_shows keep (es ++ e ∷ [])
+each_more shows is_clean is_sound may_leave left_shows keep [] e h last = last
+each_more shows is_clean is_sound may_leave left_shows keep (x ∷ es) e h last = (h.0, each_more shows is_clean is_sound may_leave left_shows x.keep es e h.1 last)
 
 -- ---- the server
 
-pub nothing_served : {K : Type 0} (shows : K → Register → Type 0) (is_clean is_sound : K → Type 0) (Is : Ended → Type 0) (keep : K) (connections : ℕ) → IsServing shows is_clean is_sound Is keep keep [] connections connections 0 0
-nothing_served shows is_clean is_sound Is keep connections = record {
+pub nothing_served : {K Left : Type 0} (shows : K → Register → Type 0) (is_clean is_sound : K → Type 0) (may_leave : K → Left → Type 0) (left_shows : Left → Register → Type 0) (Is : Ended → Type 0) (keep : K) (connections : ℕ) → IsServing shows is_clean is_sound may_leave left_shows Is keep keep [] connections connections 0 0
+nothing_served shows is_clean is_sound may_leave left_shows Is keep connections = record {
   answered = [];
   ended = [];
   count = omega arith;
@@ -60,23 +60,23 @@ nothing_served shows is_clean is_sound Is keep connections = record {
 }
 
 -- a request was answered
-pub answers : {K : Type 0} (shows : K → Register → Type 0) (is_clean is_sound : K → Type 0) (Is : Ended → Type 0) (old keep new : K) (telling : List Answer) (connections pending absent told : ℕ) (answer : Answer)
-    → IsServing shows is_clean is_sound Is old keep telling connections pending absent told → (is_clean new → is_clean keep)
+pub answers : {K Left : Type 0} (shows : K → Register → Type 0) (is_clean is_sound : K → Type 0) (may_leave : K → Left → Type 0) (left_shows : Left → Register → Type 0) (Is : Ended → Type 0) (old keep new : K) (telling : List Answer) (connections pending absent told : ℕ) (answer : Answer)
+    → IsServing shows is_clean is_sound may_leave left_shows Is old keep telling connections pending absent told → Leaves shows is_clean is_sound may_leave keep new (ShowsAfter left_shows (Some answer.request))
     → Promised shows is_clean keep new (λ r. IsLegal r → IsExchanged (Replied answer.status) (shows new) r (Some answer.request) (Some []) (Some answer.reply))
     → AnswersClean is_clean is_sound (exchange_of (record { answer = answer; keep = new }))
-    → IsServing shows is_clean is_sound Is old new (answer ∷ telling) connections pending absent told
-answers {K} shows is_clean is_sound Is old keep new telling connections pending absent told answer h began exchanged up =
+    → IsServing shows is_clean is_sound may_leave left_shows Is old new (answer ∷ telling) connections pending absent told
+answers {K} shows is_clean is_sound may_leave left_shows Is old keep new telling connections pending absent told answer h leaves exchanged up =
     let one : Answered K = record { answer = answer; keep = new } in
     let es : List (Exchanged K) = exchanges_of h.answered in
     let more : exchanges_of (h.answered ++ one ∷ []) ≡ es ++ exchange_of one ∷ [] = map-append exchange_of h.answered (one ∷ []) in
-    let last : AreExchanged shows is_clean keep (exchange_of one ∷ []) = (record { began = began; exchanged = exchanged }, tt) in
-    let each = each_more shows is_clean old es (exchange_of one) h.each (subst (λ k. AreExchanged shows is_clean k (exchange_of one ∷ [])) (sym h.left) last) in
+    let last : AreExchanged shows is_clean is_sound may_leave left_shows keep (exchange_of one ∷ []) = (record { leaves = leaves; exchanged = exchanged }, tt) in
+    let each = each_more shows is_clean is_sound may_leave left_shows old es (exchange_of one) h.each (subst (λ k. AreExchanged shows is_clean is_sound may_leave left_shows k (exchange_of one ∷ [])) (sym h.left) last) in
     let front : answers_in (h.answered ++ one ∷ []) ≡ answers_in h.answered ++ answer ∷ [] = map-append (λ a. a.answer) h.answered (one ∷ []) in
     record {
       answered = h.answered ++ one ∷ [];
       ended = h.ended;
       count = h.count;
-      each = subst (AreExchanged shows is_clean old) (sym more) each;
+      each = subst (AreExchanged shows is_clean is_sound may_leave left_shows old) (sym more) each;
       answer_clean = subst (AllAnswerClean is_clean is_sound) (sym more) (open_more is_clean is_sound es (exchange_of one) h.answer_clean up);
       left = ap (keep_left old) more ∙ left_more old es (exchange_of one);
       told_once = subst (λ l. IsPermutation l (answer ∷ telling ++ told_in h.ended)) (sym front) (
@@ -90,10 +90,10 @@ answers {K} shows is_clean is_sound Is old keep new telling connections pending 
     }
 
 -- some connections ended
-pub ends : {K : Type 0} (shows : K → Register → Type 0) (is_clean is_sound : K → Type 0) (Is : Ended → Type 0) (old keep : K) (telling rest : List Answer) (connections pending left absent more told : ℕ) (ended : List Ended)
-    → IsServing shows is_clean is_sound Is old keep telling connections pending absent told → All Is ended → length ended + left ≡ pending → absent_in ended ≡ more → IsPermutation telling (rest ++ told_in ended)
-    → IsServing shows is_clean is_sound Is old keep rest connections left (more + absent) (if list_any has_failed ended then 3 else told)
-ends shows is_clean is_sound Is old keep telling rest connections pending left absent more told ended h so count gone once = record {
+pub ends : {K Left : Type 0} (shows : K → Register → Type 0) (is_clean is_sound : K → Type 0) (may_leave : K → Left → Type 0) (left_shows : Left → Register → Type 0) (Is : Ended → Type 0) (old keep : K) (telling rest : List Answer) (connections pending left absent more told : ℕ) (ended : List Ended)
+    → IsServing shows is_clean is_sound may_leave left_shows Is old keep telling connections pending absent told → All Is ended → length ended + left ≡ pending → absent_in ended ≡ more → IsPermutation telling (rest ++ told_in ended)
+    → IsServing shows is_clean is_sound may_leave left_shows Is old keep rest connections left (more + absent) (if list_any has_failed ended then 3 else told)
+ends shows is_clean is_sound may_leave left_shows Is old keep telling rest connections pending left absent more told ended h so count gone once = record {
   answered = h.answered;
   ended = ended ++ h.ended;
   count = omega (arith, h.count, count, length-append ended h.ended);
@@ -113,17 +113,17 @@ ends shows is_clean is_sound Is old keep telling rest connections pending left a
 
 -- ---- all connections
 
-a_run_to : {K : Type 0} (shows : K → Register → Type 0) (is_clean : K → Type 0) (old new : K) (es : List (Exchanged K)) → AreExchanged shows is_clean old es → keep_left old es ≡ new
+a_run_to : {K Left : Type 0} (shows : K → Register → Type 0) (is_clean is_sound : K → Type 0) (may_leave : K → Left → Type 0) (left_shows : Left → Register → Type 0) (old new : K) (es : List (Exchanged K)) → AreExchanged shows is_clean is_sound may_leave left_shows old es → keep_left old es ≡ new
     → Promised shows is_clean old new (λ r. IsLegal r → IsRun (shows new) r es)
-a_run_to shows is_clean old new es each left = subst (λ k. Promised shows is_clean old k (λ r. IsLegal r → IsRun (shows k) r es)) left (a_run shows is_clean old es each)
+a_run_to shows is_clean is_sound may_leave left_shows old new es each left = subst (λ k. Promised shows is_clean old k (λ r. IsLegal r → IsRun (shows k) r es)) left (a_run shows is_clean is_sound may_leave left_shows old es each)
 
-pub all_served : {K : Type 0} (shows : K → Register → Type 0) (is_clean is_sound : K → Type 0) (Is : Ended → Type 0) (old new : K) (connections absent told : ℕ)
-    → IsServing shows is_clean is_sound Is old new [] connections 0 absent told → (served : IsServedAs shows is_clean is_sound Is old new connections told) × (served.absent ≡ absent)
-all_served shows is_clean is_sound Is old new connections absent told h = (record { absent = absent; served = h; run = a_run_to shows is_clean old new (exchanges_of h.answered) h.each h.left }, refl)
+pub all_served : {K Left : Type 0} (shows : K → Register → Type 0) (is_clean is_sound : K → Type 0) (may_leave : K → Left → Type 0) (left_shows : Left → Register → Type 0) (Is : Ended → Type 0) (old new : K) (connections absent told : ℕ)
+    → IsServing shows is_clean is_sound may_leave left_shows Is old new [] connections 0 absent told → (served : IsServedAs shows is_clean is_sound may_leave left_shows Is old new connections told) × (served.absent ≡ absent)
+all_served shows is_clean is_sound may_leave left_shows Is old new connections absent told h = (record { absent = absent; served = h; run = a_run_to shows is_clean is_sound may_leave left_shows old new (exchanges_of h.answered) h.each h.left }, refl)
 
-pub served_by_any : {K : Type 0} (shows : K → Register → Type 0) (is_clean is_sound : K → Type 0) (Is : Ended → Type 0) (old new : K) (connections told : ℕ)
-    → IsServedAs shows is_clean is_sound Is old new connections told → IsServed shows is_clean is_sound old new connections told
-served_by_any shows is_clean is_sound Is old new connections told h = record {
+pub served_by_any : {K Left : Type 0} (shows : K → Register → Type 0) (is_clean is_sound : K → Type 0) (may_leave : K → Left → Type 0) (left_shows : Left → Register → Type 0) (Is : Ended → Type 0) (old new : K) (connections told : ℕ)
+    → IsServedAs shows is_clean is_sound may_leave left_shows Is old new connections told → IsServed shows is_clean is_sound may_leave left_shows old new connections told
+served_by_any shows is_clean is_sound may_leave left_shows Is old new connections told h = record {
   absent = h.absent;
   served = record {
     answered = h.served.answered;

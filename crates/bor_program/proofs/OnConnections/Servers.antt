@@ -174,20 +174,20 @@ lets_of remaining contents telling other pending absent status new same h = reco
 
 -- ---- the server
 
-pub lets_go_on : {K S : Type 0} (shows : K → Register → Type 0) (is_clean is_sound : K → Type 0) (remaining contents : S → Option (List ℕ)) (start keep : K) (telling : List Answer) (connections pending absent more status : ℕ) (new : Server S)
-    → IsServing shows is_clean is_sound (IsOf remaining contents) start keep telling connections pending absent status → Lets remaining contents telling pending more status new
-    → IsAt shows is_clean is_sound remaining contents start keep connections (more + absent) new
-lets_go_on shows is_clean is_sound remaining contents start keep telling connections pending absent more status new h lets =
-    subst (IsServing shows is_clean is_sound (IsOf remaining contents) start keep (telling_in new) connections (pending_in new) (more + absent)) (sym lets.told)
-    (ends shows is_clean is_sound (IsOf remaining contents) start keep telling (telling_in new) connections pending (pending_in new) absent more status lets.ended h lets.ended_so lets.count lets.missing lets.told_once)
+pub lets_go_on : {K S Left : Type 0} (shows : K → Register → Type 0) (is_clean is_sound : K → Type 0) (may_leave : K → Left → Type 0) (left_shows : Left → Register → Type 0) (remaining contents : S → Option (List ℕ)) (start keep : K) (telling : List Answer) (connections pending absent more status : ℕ) (new : Server S)
+    → IsServing shows is_clean is_sound may_leave left_shows (IsOf remaining contents) start keep telling connections pending absent status → Lets remaining contents telling pending more status new
+    → IsAt shows is_clean is_sound may_leave left_shows remaining contents start keep connections (more + absent) new
+lets_go_on shows is_clean is_sound may_leave left_shows remaining contents start keep telling connections pending absent more status new h lets =
+    subst (IsServing shows is_clean is_sound may_leave left_shows (IsOf remaining contents) start keep (telling_in new) connections (pending_in new) (more + absent)) (sym lets.told)
+    (ends shows is_clean is_sound may_leave left_shows (IsOf remaining contents) start keep telling (telling_in new) connections pending (pending_in new) absent more status lets.ended h lets.ended_so lets.count lets.missing lets.told_once)
 
 -- of those that ended a client came on each
-pub lets_go_same : {K S : Type 0} (shows : K → Register → Type 0) (is_clean is_sound : K → Type 0) (remaining contents : S → Option (List ℕ)) (start keep : K) (telling : List Answer) (connections pending absent status : ℕ) (new : Server S)
-    → IsServing shows is_clean is_sound (IsOf remaining contents) start keep telling connections pending absent status → Lets remaining contents telling pending 0 status new
-    → IsAt shows is_clean is_sound remaining contents start keep connections absent new
-lets_go_same shows is_clean is_sound remaining contents start keep telling connections pending absent status new h lets =
+pub lets_go_same : {K S Left : Type 0} (shows : K → Register → Type 0) (is_clean is_sound : K → Type 0) (may_leave : K → Left → Type 0) (left_shows : Left → Register → Type 0) (remaining contents : S → Option (List ℕ)) (start keep : K) (telling : List Answer) (connections pending absent status : ℕ) (new : Server S)
+    → IsServing shows is_clean is_sound may_leave left_shows (IsOf remaining contents) start keep telling connections pending absent status → Lets remaining contents telling pending 0 status new
+    → IsAt shows is_clean is_sound may_leave left_shows remaining contents start keep connections absent new
+lets_go_same shows is_clean is_sound may_leave left_shows remaining contents start keep telling connections pending absent status new h lets =
     let same : 0 + absent ≡ absent = omega arith in
-    subst (λ n. IsAt shows is_clean is_sound remaining contents start keep connections n new) same (lets_go_on shows is_clean is_sound remaining contents start keep telling connections pending absent 0 status new h lets)
+    subst (λ n. IsAt shows is_clean is_sound may_leave left_shows remaining contents start keep connections n new) same (lets_go_on shows is_clean is_sound may_leave left_shows remaining contents start keep telling connections pending absent 0 status new h lets)
 
 -- ---- a client goes to the end of the queue, or leaves it
 
@@ -235,38 +235,38 @@ taken remaining contents (c ∷ rest) (suc i) client lt is held =
 
 -- ---- from the first to the last
 
-pub in_hand : {K S : Type 0} (shows : K → Register → Type 0) (is_clean is_sound : K → Type 0) (remaining contents : S → Option (List ℕ)) (start keep : K) (connections absent : ℕ) (client : Client S) (clients rest : List (Client S)) (left status : ℕ)
-    → clients ≡ client ∷ rest → IsServing shows is_clean is_sound (IsOf remaining contents) start keep (telling_to clients) connections (length clients + left) absent status
-    → IsServing shows is_clean is_sound (IsOf remaining contents) start keep (telling client.phase ++ telling_to rest) connections (length rest + left + 1) absent status
-in_hand shows is_clean is_sound remaining contents start keep connections absent client clients rest left status is h =
+pub in_hand : {K S Left : Type 0} (shows : K → Register → Type 0) (is_clean is_sound : K → Type 0) (may_leave : K → Left → Type 0) (left_shows : Left → Register → Type 0) (remaining contents : S → Option (List ℕ)) (start keep : K) (connections absent : ℕ) (client : Client S) (clients rest : List (Client S)) (left status : ℕ)
+    → clients ≡ client ∷ rest → IsServing shows is_clean is_sound may_leave left_shows (IsOf remaining contents) start keep (telling_to clients) connections (length clients + left) absent status
+    → IsServing shows is_clean is_sound may_leave left_shows (IsOf remaining contents) start keep (telling client.phase ++ telling_to rest) connections (length rest + left + 1) absent status
+in_hand shows is_clean is_sound may_leave left_shows remaining contents start keep connections absent client clients rest left status is h =
     let count : length clients + left ≡ length rest + left + 1 = omega (arith, ap length is) in
-    subst (λ n. IsServing shows is_clean is_sound (IsOf remaining contents) start keep (telling client.phase ++ telling_to rest) connections n absent status) count
-    (subst (λ l. IsServing shows is_clean is_sound (IsOf remaining contents) start keep l connections (length clients + left) absent status) (ap telling_to is) h)
+    subst (λ n. IsServing shows is_clean is_sound may_leave left_shows (IsOf remaining contents) start keep (telling client.phase ++ telling_to rest) connections n absent status) count
+    (subst (λ l. IsServing shows is_clean is_sound may_leave left_shows (IsOf remaining contents) start keep l connections (length clients + left) absent status) (ap telling_to is) h)
 
-pub becomes_at : {K S : Type 0} (shows : K → Register → Type 0) (is_clean is_sound : K → Type 0) (remaining contents : S → Option (List ℕ)) (start keep : K) (connections absent : ℕ) (old new : Server S)
-    → IsAt shows is_clean is_sound remaining contents start keep connections absent old → Becomes old new → IsAt shows is_clean is_sound remaining contents start keep connections absent new
-becomes_at shows is_clean is_sound remaining contents start keep connections absent old new h same = rw (same.queue, same.left, same.status) h
+pub becomes_at : {K S Left : Type 0} (shows : K → Register → Type 0) (is_clean is_sound : K → Type 0) (may_leave : K → Left → Type 0) (left_shows : Left → Register → Type 0) (remaining contents : S → Option (List ℕ)) (start keep : K) (connections absent : ℕ) (old new : Server S)
+    → IsAt shows is_clean is_sound may_leave left_shows remaining contents start keep connections absent old → Becomes old new → IsAt shows is_clean is_sound may_leave left_shows remaining contents start keep connections absent new
+becomes_at shows is_clean is_sound may_leave left_shows remaining contents start keep connections absent old new h same = rw (same.queue, same.left, same.status) h
 
-pub begun : {K S : Type 0} (shows : K → Register → Type 0) (is_clean is_sound : K → Type 0) (remaining contents : S → Option (List ℕ)) (keep : K) (connections : ℕ) (server : Server S)
-    → server.queue.items ≡ [] → server.left ≡ connections → server.status ≡ 0 → IsAt shows is_clean is_sound remaining contents keep keep connections 0 server
-begun shows is_clean is_sound remaining contents keep connections server none all told =
+pub begun : {K S Left : Type 0} (shows : K → Register → Type 0) (is_clean is_sound : K → Type 0) (may_leave : K → Left → Type 0) (left_shows : Left → Register → Type 0) (remaining contents : S → Option (List ℕ)) (keep : K) (connections : ℕ) (server : Server S)
+    → server.queue.items ≡ [] → server.left ≡ connections → server.status ≡ 0 → IsAt shows is_clean is_sound may_leave left_shows remaining contents keep keep connections 0 server
+begun shows is_clean is_sound may_leave left_shows remaining contents keep connections server none all told =
     let Is = IsOf remaining contents in
     let count : connections ≡ pending_in server = omega (arith, ap length none, all) in
     let silent : [] ≡ telling_in server = sym (ap telling_to none) in
-    subst (IsServing shows is_clean is_sound Is keep keep (telling_in server) connections (pending_in server) 0) (sym told)
-    (subst (λ l. IsServing shows is_clean is_sound Is keep keep l connections (pending_in server) 0 0) silent
-    (subst (λ n. IsServing shows is_clean is_sound Is keep keep [] connections n 0 0) count (nothing_served shows is_clean is_sound Is keep connections)))
+    subst (IsServing shows is_clean is_sound may_leave left_shows Is keep keep (telling_in server) connections (pending_in server) 0) (sym told)
+    (subst (λ l. IsServing shows is_clean is_sound may_leave left_shows Is keep keep l connections (pending_in server) 0 0) silent
+    (subst (λ n. IsServing shows is_clean is_sound may_leave left_shows Is keep keep [] connections n 0 0) count (nothing_served shows is_clean is_sound may_leave left_shows Is keep connections)))
 
 none_told : {S : Type 0} (clients : List (Client S)) (left : ℕ) → length clients + left ≡ 0 → telling_to clients ≡ []
 none_told [] left e = refl
 none_told (c ∷ rest) left e = absurd (omega (arith, e))
 
-pub finished : {K S : Type 0} (shows : K → Register → Type 0) (is_clean is_sound : K → Type 0) (remaining contents : S → Option (List ℕ)) (start keep : K) (connections absent : ℕ) (server : Server S)
-    → IsAt shows is_clean is_sound remaining contents start keep connections absent server → pending_in server ≡ 0 → (served : IsServedAs shows is_clean is_sound (IsOf remaining contents) start keep connections server.status) × (served.absent ≡ absent)
-finished shows is_clean is_sound remaining contents start keep connections absent server h none =
-    all_served shows is_clean is_sound (IsOf remaining contents) start keep connections absent server.status
-    (subst (λ n. IsServing shows is_clean is_sound (IsOf remaining contents) start keep [] connections n absent server.status) none
-    (subst (λ l. IsServing shows is_clean is_sound (IsOf remaining contents) start keep l connections (pending_in server) absent server.status) (none_told server.queue.items server.left none) h))
+pub finished : {K S Left : Type 0} (shows : K → Register → Type 0) (is_clean is_sound : K → Type 0) (may_leave : K → Left → Type 0) (left_shows : Left → Register → Type 0) (remaining contents : S → Option (List ℕ)) (start keep : K) (connections absent : ℕ) (server : Server S)
+    → IsAt shows is_clean is_sound may_leave left_shows remaining contents start keep connections absent server → pending_in server ≡ 0 → (served : IsServedAs shows is_clean is_sound may_leave left_shows (IsOf remaining contents) start keep connections server.status) × (served.absent ≡ absent)
+finished shows is_clean is_sound may_leave left_shows remaining contents start keep connections absent server h none =
+    all_served shows is_clean is_sound may_leave left_shows (IsOf remaining contents) start keep connections absent server.status
+    (subst (λ n. IsServing shows is_clean is_sound may_leave left_shows (IsOf remaining contents) start keep [] connections n absent server.status) none
+    (subst (λ l. IsServing shows is_clean is_sound may_leave left_shows (IsOf remaining contents) start keep l connections (pending_in server) absent server.status) (none_told server.queue.items server.left none) h))
 
 -- ---- which client gives way
 

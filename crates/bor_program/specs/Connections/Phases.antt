@@ -30,7 +30,7 @@ abbrev pub EndsAs : {S : Type 0} → (S → Option (List ℕ)) → (S → Option
 EndsAs remaining contents told failed = (e : Ended) × IsOf remaining contents e × (told_on e ≡ told) × (failed ≡ has_failed e) × (is_absent e ≡ false)
 
 -- a client's step is one of the server, whatever it has done before and whichever other clients there are: this was being told to the client, and then that
-abbrev pub IsStep : {K S : Type 0} → (K → Register → Type 0) → (K → Type 0) → (K → Type 0) → (S → Option (List ℕ)) → (S → Option (List ℕ)) → K → K → List Answer → List Answer → Type 0
-IsStep {K} shows is_clean is_sound remaining contents old new this that =
-    (start : K) (others : List Answer) (connections pending absent told : ℕ) → IsServing shows is_clean is_sound (IsOf remaining contents) start old (this ++ others) connections pending absent told
-    → IsServing shows is_clean is_sound (IsOf remaining contents) start new (that ++ others) connections pending absent told
+abbrev pub IsStep : {K S Left : Type 0} → (K → Register → Type 0) → (K → Type 0) → (K → Type 0) → (K → Left → Type 0) → (Left → Register → Type 0) → (S → Option (List ℕ)) → (S → Option (List ℕ)) → K → K → List Answer → List Answer → Type 0
+IsStep {K} shows is_clean is_sound may_leave left_shows remaining contents old new this that =
+    (start : K) (others : List Answer) (connections pending absent told : ℕ) → IsServing shows is_clean is_sound may_leave left_shows (IsOf remaining contents) start old (this ++ others) connections pending absent told
+    → IsServing shows is_clean is_sound may_leave left_shows (IsOf remaining contents) start new (that ++ others) connections pending absent told

@@ -58,19 +58,19 @@ pub record Lets {S : Type 0} (remaining contents : S → Option (List ℕ)) (tel
   pub told : new.status ≡ (if list_any has_failed ended then 3 else status)
 
 -- the server goes on as one of so many connections, on so many of which no client came, whatever it has done before
-abbrev pub IsAt : {K S : Type 0} → (K → Register → Type 0) → (K → Type 0) → (K → Type 0) → (S → Option (List ℕ)) → (S → Option (List ℕ)) → K → K → ℕ → ℕ → Server S → Type 0
-IsAt shows is_clean is_sound remaining contents start keep connections absent server =
-    IsServing shows is_clean is_sound (IsOf remaining contents) start keep (telling_in server) connections (pending_in server) absent server.status
+abbrev pub IsAt : {K S Left : Type 0} → (K → Register → Type 0) → (K → Type 0) → (K → Type 0) → (K → Left → Type 0) → (Left → Register → Type 0) → (S → Option (List ℕ)) → (S → Option (List ℕ)) → K → K → ℕ → ℕ → Server S → Type 0
+IsAt shows is_clean is_sound may_leave left_shows remaining contents start keep connections absent server =
+    IsServing shows is_clean is_sound may_leave left_shows (IsOf remaining contents) start keep (telling_in server) connections (pending_in server) absent server.status
 
-abbrev pub Advances : {K S : Type 0} → (K → Register → Type 0) → (K → Type 0) → (K → Type 0) → (S → Option (List ℕ)) → (S → Option (List ℕ)) → K → K → Server S → Server S → Type 0
-Advances {K} shows is_clean is_sound remaining contents old_keep new_keep old new =
-    (start : K) (connections absent : ℕ) → IsAt shows is_clean is_sound remaining contents start old_keep connections absent old → IsAt shows is_clean is_sound remaining contents start new_keep connections absent new
+abbrev pub Advances : {K S Left : Type 0} → (K → Register → Type 0) → (K → Type 0) → (K → Type 0) → (K → Left → Type 0) → (Left → Register → Type 0) → (S → Option (List ℕ)) → (S → Option (List ℕ)) → K → K → Server S → Server S → Type 0
+Advances {K} shows is_clean is_sound may_leave left_shows remaining contents old_keep new_keep old new =
+    (start : K) (connections absent : ℕ) → IsAt shows is_clean is_sound may_leave left_shows remaining contents start old_keep connections absent old → IsAt shows is_clean is_sound may_leave left_shows remaining contents start new_keep connections absent new
 
 -- the same, with a client in hand that is being told this
-abbrev pub Serves : {K S : Type 0} → (K → Register → Type 0) → (K → Type 0) → (K → Type 0) → (S → Option (List ℕ)) → (S → Option (List ℕ)) → K → K → List Answer → Server S → Server S → Type 0
-Serves {K} shows is_clean is_sound remaining contents old_keep new_keep mine old new =
-    (start : K) (connections absent : ℕ) → IsServing shows is_clean is_sound (IsOf remaining contents) start old_keep (mine ++ telling_in old) connections (pending_in old + 1) absent old.status
-    → IsAt shows is_clean is_sound remaining contents start new_keep connections absent new
+abbrev pub Serves : {K S Left : Type 0} → (K → Register → Type 0) → (K → Type 0) → (K → Type 0) → (K → Left → Type 0) → (Left → Register → Type 0) → (S → Option (List ℕ)) → (S → Option (List ℕ)) → K → K → List Answer → Server S → Server S → Type 0
+Serves {K} shows is_clean is_sound may_leave left_shows remaining contents old_keep new_keep mine old new =
+    (start : K) (connections absent : ℕ) → IsServing shows is_clean is_sound may_leave left_shows (IsOf remaining contents) start old_keep (mine ++ telling_in old) connections (pending_in old + 1) absent old.status
+    → IsAt shows is_clean is_sound may_leave left_shows remaining contents start new_keep connections absent new
 
 -- ---- over a watch
 
@@ -81,20 +81,20 @@ pub record LetsIn {W S : Type 0} (does : W → Act → W → Type 0) (begun left
   pub lets : Lets remaining contents telling pending refused status new
 
 -- The server goes on: these calls were made of its watch, of which so many waits failed last, one after the other, of so many in all.
-pub record IsRunning {K W S : Type 0} (shows : K → Register → Type 0) (is_clean is_sound : K → Type 0) (does : W → Act → W → Type 0) (remaining contents : S → Option (List ℕ)) (old_keep keep : K) (begun watch : W) (old server : Server S) (faults waits : ℕ) : Type 0 where
+pub record IsRunning {K W S Left : Type 0} (shows : K → Register → Type 0) (is_clean is_sound : K → Type 0) (may_leave : K → Left → Type 0) (left_shows : Left → Register → Type 0) (does : W → Act → W → Type 0) (remaining contents : S → Option (List ℕ)) (old_keep keep : K) (begun watch : W) (old server : Server S) (faults waits : ℕ) : Type 0 where
   pub held : AreHeld remaining contents server.queue.items
   pub acts : List Act
   pub done : AreDone does begun acts watch
-  pub advances : (start : K) (connections absent : ℕ) → IsAt shows is_clean is_sound remaining contents start old_keep connections absent old
-      → IsAt shows is_clean is_sound remaining contents start keep connections (refused_in acts + absent) server
+  pub advances : (start : K) (connections absent : ℕ) → IsAt shows is_clean is_sound may_leave left_shows remaining contents start old_keep connections absent old
+      → IsAt shows is_clean is_sound may_leave left_shows remaining contents start keep connections (refused_in acts + absent) server
   pub failed : faults_after 0 acts ≡ faults
   pub waited : waits_in acts ≡ waits
 
 -- it went on until all clients came, or it may end
-pub record Runs {K W S : Type 0} (shows : K → Register → Type 0) (is_clean is_sound : K → Type 0) (does : W → Act → W → Type 0) (remaining contents : S → Option (List ℕ)) (old_keep new_keep : K) (begun left : W) (old new : Server S) : Type 0 where
+pub record Runs {K W S Left : Type 0} (shows : K → Register → Type 0) (is_clean is_sound : K → Type 0) (may_leave : K → Left → Type 0) (left_shows : Left → Register → Type 0) (does : W → Act → W → Type 0) (remaining contents : S → Option (List ℕ)) (old_keep new_keep : K) (begun left : W) (old new : Server S) : Type 0 where
   pub held : AreHeld remaining contents new.queue.items
   pub acts : List Act
   pub done : AreDone does begun acts left
-  pub advances : (start : K) (connections absent : ℕ) → IsAt shows is_clean is_sound remaining contents start old_keep connections absent old
-      → IsAt shows is_clean is_sound remaining contents start new_keep connections (refused_in acts + absent) new
+  pub advances : (start : K) (connections absent : ℕ) → IsAt shows is_clean is_sound may_leave left_shows remaining contents start old_keep connections absent old
+      → IsAt shows is_clean is_sound may_leave left_shows remaining contents start new_keep connections (refused_in acts + absent) new
   pub over : 0 < new.left → IsOver acts

@@ -81,11 +81,11 @@ told_in (e ∷ rest) = told_on e ++ told_in rest
 -- ---- the server
 
 -- Of so many connections some have ended, and some are pending, on which these answers are still being told. The requests were answered one after the other, each from the keep that the one before it left. A request has another status than 503 only where the keep after it is clean, if its store has returned what was written by then. Each answer is told on one connection, and on no other. On so many no client came. `Is` holds of how each connection ended.
-pub record IsServing {K : Type 0} (shows : K → Register → Type 0) (is_clean is_sound : K → Type 0) (Is : Ended → Type 0) (old new : K) (telling : List Answer) (connections pending absent told : ℕ) : Type 0 where
+pub record IsServing {K Left : Type 0} (shows : K → Register → Type 0) (is_clean is_sound : K → Type 0) (may_leave : K → Left → Type 0) (left_shows : Left → Register → Type 0) (Is : Ended → Type 0) (old new : K) (telling : List Answer) (connections pending absent told : ℕ) : Type 0 where
   pub answered : List (Answered K)
   pub ended : List Ended
   pub count : length ended + pending ≡ connections
-  pub each : AreExchanged shows is_clean old (exchanges_of answered)
+  pub each : AreExchanged shows is_clean is_sound may_leave left_shows old (exchanges_of answered)
   pub answer_clean : AllAnswerClean is_clean is_sound (exchanges_of answered)
   pub left : keep_left old (exchanges_of answered) ≡ new
   pub told_once : IsPermutation (answers_in answered) (telling ++ told_in ended)
@@ -94,18 +94,18 @@ pub record IsServing {K : Type 0} (shows : K → Register → Type 0) (is_clean 
   pub status : told ≡ status_of ended
 
 -- So many connections were served and have ended, with this status. What was answered on them, one request after the other, is a run from a legal register: the bytes of each request and of its reply are known.
-pub record IsServedAs {K : Type 0} (shows : K → Register → Type 0) (is_clean is_sound : K → Type 0) (Is : Ended → Type 0) (old new : K) (connections told : ℕ) : Type 0 where
+pub record IsServedAs {K Left : Type 0} (shows : K → Register → Type 0) (is_clean is_sound : K → Type 0) (may_leave : K → Left → Type 0) (left_shows : Left → Register → Type 0) (Is : Ended → Type 0) (old new : K) (connections told : ℕ) : Type 0 where
   pub absent : ℕ
-  pub served : IsServing shows is_clean is_sound Is old new [] connections 0 absent told
+  pub served : IsServing shows is_clean is_sound may_leave left_shows Is old new [] connections 0 absent told
   pub run : Promised shows is_clean old new (λ r. IsLegal r → IsRun (shows new) r (exchanges_of served.answered))
 
 -- the same, whatever the connections' streams tell
-abbrev pub IsServed : {K : Type 0} → (K → Register → Type 0) → (K → Type 0) → (K → Type 0) → K → K → ℕ → ℕ → Type 0
-IsServed shows is_clean is_sound old new connections told = IsServedAs shows is_clean is_sound (λ e. ⊤) old new connections told
+abbrev pub IsServed : {K Left : Type 0} → (K → Register → Type 0) → (K → Type 0) → (K → Type 0) → (K → Left → Type 0) → (Left → Register → Type 0) → K → K → ℕ → ℕ → Type 0
+IsServed shows is_clean is_sound may_leave left_shows old new connections told = IsServedAs shows is_clean is_sound may_leave left_shows (λ e. ⊤) old new connections told
 
 -- The same, of what the server asked of its watch: no client came only where one could not be let in, or where the server may end.
-pub record IsServedOver {K W : Type 0} (shows : K → Register → Type 0) (is_clean is_sound : K → Type 0) (Is : Ended → Type 0) (does : W → Act → W → Type 0) (old new : K) (begun left : W) (connections told : ℕ) : Type 0 where
-  pub served : IsServedAs shows is_clean is_sound Is old new connections told
+pub record IsServedOver {K W Left : Type 0} (shows : K → Register → Type 0) (is_clean is_sound : K → Type 0) (may_leave : K → Left → Type 0) (left_shows : Left → Register → Type 0) (Is : Ended → Type 0) (does : W → Act → W → Type 0) (old new : K) (begun left : W) (connections told : ℕ) : Type 0 where
+  pub served : IsServedAs shows is_clean is_sound may_leave left_shows Is old new connections told
   pub acts : List Act
   pub done : AreDone does begun acts left
   pub excused : IsExcused acts served.absent

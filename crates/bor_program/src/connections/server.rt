@@ -227,8 +227,8 @@ impl<S: Read + Write + OpenStream + Drop> Server<S> {
     pub(crate) fn serve_all<K: Keep>(&mut self, keep: &mut K, now: Option<Duration>)
         requires { AreHeld S.remaining S.contents self.old.queue.items }
         ensures held { AreHeld S.remaining S.contents self.new.queue.items }
-        ensures advances { Advances K.shows K.is_clean K.is_sound S.remaining S.contents keep.old
-            keep.new self.old self.new }
+        ensures advances { Advances K.shows K.is_clean K.is_sound K.may_leave K.left_shows
+            S.remaining S.contents keep.old keep.new self.old self.new }
     {
         self.wait = if self.left > 0 && self.places.is_called() {
             Some(Duration::ZERO)
@@ -244,8 +244,8 @@ impl<S: Read + Write + OpenStream + Drop> Server<S> {
     fn serve_next<K: Keep>(&mut self, keep: &mut K, now: Option<Duration>)
         requires { AreHeld S.remaining S.contents self.old.queue.items }
         ensures held { AreHeld S.remaining S.contents self.new.queue.items }
-        ensures advances { Advances K.shows K.is_clean K.is_sound S.remaining S.contents keep.old
-            keep.new self.old self.new }
+        ensures advances { Advances K.shows K.is_clean K.is_sound K.may_leave K.left_shows
+            S.remaining S.contents keep.old keep.new self.old self.new }
     {
         let Some(client) = self.queue.pop_front() else {
             return;
@@ -261,8 +261,8 @@ impl<S: Read + Write + OpenStream + Drop> Server<S> {
         requires held { AreHeld S.remaining S.contents self.old.queue.items }
         requires client { IsHeld S.remaining S.contents client.phase }
         ensures held { AreHeld S.remaining S.contents self.new.queue.items }
-        ensures serves { Serves K.shows K.is_clean K.is_sound S.remaining S.contents keep.old
-            keep.new (telling client.phase) self.old self.new }
+        ensures serves { Serves K.shows K.is_clean K.is_sound K.may_leave K.left_shows S.remaining
+            S.contents keep.old keep.new (telling client.phase) self.old self.new }
     {
         let Client {
             place,

@@ -28,8 +28,9 @@ pub fn serve_on<R: Clock + AllocGlobal, K: Keep, L: OpenListener, W: Watch<L>>(
 ) -> u8
 where
     L::Stream: Read + Write + OpenStream,
-    ensures served { IsServed K.shows K.is_clean K.is_sound keep.old keep.new connections result }
-    ensures streams { IsServedOver K.shows K.is_clean K.is_sound
+    ensures served { IsServed K.shows K.is_clean K.is_sound K.may_leave K.left_shows keep.old
+        keep.new connections result }
+    ensures streams { IsServedOver K.shows K.is_clean K.is_sound K.may_leave K.left_shows
         (IsOf L.Stream.remaining L.Stream.contents) W.does
         keep.old keep.new watch.old watch.new connections result }
 {
@@ -61,8 +62,9 @@ pub fn serve_within<R: Clock + AllocGlobal, K: Keep, L: OpenListener, W: Watch<L
 ) -> u8
 where
     L::Stream: Read + Write + OpenStream,
-    ensures served { IsServed K.shows K.is_clean K.is_sound keep.old keep.new connections result }
-    ensures streams { IsServedOver K.shows K.is_clean K.is_sound
+    ensures served { IsServed K.shows K.is_clean K.is_sound K.may_leave K.left_shows keep.old
+        keep.new connections result }
+    ensures streams { IsServedOver K.shows K.is_clean K.is_sound K.may_leave K.left_shows
         (IsOf L.Stream.remaining L.Stream.contents) W.does
         keep.old keep.new watch.old watch.new connections result }
 {
@@ -84,8 +86,8 @@ fn run<R: Clock, K: Keep, L: OpenListener, W: Watch<L>>(
 where
     L::Stream: Read + Write + OpenStream,
     requires { AreHeld L.Stream.remaining L.Stream.contents server.old.queue.items }
-    ensures { Runs K.shows K.is_clean K.is_sound W.does L.Stream.remaining L.Stream.contents
-        keep.old keep.new watch.old watch.new server.old server.new }
+    ensures { Runs K.shows K.is_clean K.is_sound K.may_leave K.left_shows W.does L.Stream.remaining
+        L.Stream.contents keep.old keep.new watch.old watch.new server.old server.new }
 {
     if watch.watch_listener(listener).is_err() {
         return;

@@ -28,8 +28,8 @@ pub(crate) fn step<K: Keep, S: Read + Write + OpenStream + Drop>(
 ) -> Step<S>
     requires { IsHeld S.remaining S.contents phase }
     ensures held { IsHeld S.remaining S.contents (phase_of result) }
-    ensures step { IsStep K.shows K.is_clean K.is_sound S.remaining S.contents keep.old keep.new
-        (telling phase) (telling (phase_of result)) }
+    ensures step { IsStep K.shows K.is_clean K.is_sound K.may_leave K.left_shows S.remaining
+        S.contents keep.old keep.new (telling phase) (telling (phase_of result)) }
 {
     match phase {
         Phase::Reading(reading) => read_on(service, keep, reading),
@@ -46,8 +46,8 @@ fn read_on<K: Keep, S: Read + Write + OpenStream + Drop>(
 ) -> Step<S>
     requires { IsHeld S.remaining S.contents (Phase.Reading reading) }
     ensures held { IsHeld S.remaining S.contents (phase_of result) }
-    ensures step { IsStep K.shows K.is_clean K.is_sound S.remaining S.contents keep.old keep.new []
-        (telling (phase_of result)) }
+    ensures step { IsStep K.shows K.is_clean K.is_sound K.may_leave K.left_shows S.remaining
+        S.contents keep.old keep.new [] (telling (phase_of result)) }
 {
     match reading.read(service.alloc()) {
         Taken::More => Step::Goes(Phase::Reading(reading), Pace::Moved),
@@ -102,8 +102,8 @@ pub(crate) fn steps<K: Keep, S: Read + Write + OpenStream + Drop>(
 ) -> Step<S>
     requires { IsHeld S.remaining S.contents phase }
     ensures held { IsHeld S.remaining S.contents (phase_of result) }
-    ensures step { IsStep K.shows K.is_clean K.is_sound S.remaining S.contents keep.old keep.new
-        (telling phase) (telling (phase_of result)) }
+    ensures step { IsStep K.shows K.is_clean K.is_sound K.may_leave K.left_shows S.remaining
+        S.contents keep.old keep.new (telling phase) (telling (phase_of result)) }
 {
     for _ in 0..STEPS {
         if !timing.is_ready() {

@@ -29,6 +29,8 @@ use bor_terms::{AgentName, Day, Ident, LodgeKey, Token};
 /// (`Reads`); a change makes what it says of it (`Changes`); a fault leaves it, and adds one to
 /// `faults`. While the store returns what was written (`is_sound`), an answer leaves a clean keep
 /// clean, and who has a token is told by a clean one alone: a store that has shut tells a fault.
+/// What a stop leaves (`may_leave`), by a change as by a fault, is what one before it might have
+/// left, or, after a change of a clean keep, what shows the changed register (`left_shows`).
 pub trait Keep {
     /// The state shows this register.
     ghost shows: { Self → Register → Type 0 };
@@ -38,6 +40,15 @@ pub trait Keep {
 
     /// The store has returned what was written. It may have shut since, as after a disk failed.
     ghost is_sound: { Self → Type 0 };
+
+    /// What a stop leaves for the next one to open.
+    ghost Left: { Type 0 };
+
+    /// A stop in this state may leave this.
+    ghost may_leave: { Self → Left → Type 0 };
+
+    /// What is left shows this register to the next one to open it.
+    ghost left_shows: { Left → Register → Type 0 };
 
     /// How many calls have answered a fault, modulo 2^64.
     ghost fault_count: { Self → ℕ };
@@ -51,32 +62,32 @@ pub trait Keep {
 
     /// Who has the token; `None` where nobody has. A store that has shut tells a fault.
     fn who(&mut self, token: &Token) -> Result<Option<Caller>, StoreFault>
-        ensures reads { Reads shows is_clean is_sound fault_count may_tell self.old self.new result
-            (λ r caller. caller ≡ caller_of token.now r) }
+        ensures reads { Reads shows is_clean is_sound may_leave fault_count may_tell
+            self.old self.new result (λ r caller. caller ≡ caller_of token.now r) }
         ensures up { IfOk result (λ _. is_sound self.new → is_clean self.new) };
 
     /// Whether an agent has the name.
     fn has_agent(&mut self, agent: &AgentName) -> Result<bool, StoreFault>
-        ensures { Reads shows is_clean is_sound fault_count may_tell self.old self.new result
-            (λ r has. has ≡ is_enrolled agent.now r.members) };
+        ensures { Reads shows is_clean is_sound may_leave fault_count may_tell
+            self.old self.new result (λ r has. has ≡ is_enrolled agent.now r.members) };
 
     /// The register's day.
     fn day(&mut self) -> Result<Day, StoreFault>
-        ensures { Reads shows is_clean is_sound fault_count may_tell self.old self.new result
-            (λ r day. day ≡ r.day) };
+        ensures { Reads shows is_clean is_sound may_leave fault_count may_tell
+            self.old self.new result (λ r day. day ≡ r.day) };
 
     /// The agent's filing under a key, a withdrawn one too; `None` where it has lodged none under
     /// it.
     fn filing(&mut self, agent: &AgentName, key: &LodgeKey) -> Result<Option<Filing>, StoreFault>
-        ensures { Reads shows is_clean is_sound fault_count may_tell self.old self.new result
-            (λ r filing. filing ≡ option_map filing_shown
+        ensures { Reads shows is_clean is_sound may_leave fault_count may_tell
+            self.old self.new result (λ r filing. filing ≡ option_map filing_shown
             (filing_keyed key.now (filings_of agent.now r.members))) };
 
     /// The line of the agent's filing under a key, on the register's day; `None` where it has
     /// lodged none under it.
     fn line(&mut self, agent: &AgentName, key: &LodgeKey) -> Result<Option<FilingLine>, StoreFault>
-        ensures { Reads shows is_clean is_sound fault_count may_tell self.old self.new result
-            (λ r line. line ≡ option_map (line_of r.day)
+        ensures { Reads shows is_clean is_sound may_leave fault_count may_tell
+            self.old self.new result (λ r line. line ≡ option_map (line_of r.day)
             (filing_keyed key.now (filings_of agent.now r.members))) };
 
     /// Whether the agent has a filing under the key, withdrawn or not, whose file has these bytes.
@@ -86,19 +97,20 @@ pub trait Keep {
         key: &LodgeKey,
         bytes: &[u8],
     ) -> Result<bool, StoreFault>
-        ensures { Reads shows is_clean is_sound fault_count may_tell self.old self.new result
-            (λ r has. has
+        ensures { Reads shows is_clean is_sound may_leave fault_count may_tell
+            self.old self.new result (λ r has. has
             ≡ has_bytes bytes.now (filing_keyed key.now (filings_of agent.now r.members))) };
 
     /// How many filings the agent has, withdrawn ones included.
     fn filing_count(&mut self, agent: &AgentName) -> Result<usize, StoreFault>
-        ensures { Reads shows is_clean is_sound fault_count may_tell self.old self.new result
-            (λ r count. count ≡ length (filings_of agent.now r.members)) };
+        ensures { Reads shows is_clean is_sound may_leave fault_count may_tell
+            self.old self.new result (λ r count. count ≡ length (filings_of agent.now r.members)) };
 
     /// The lines of the agent's filings, by number.
     fn filings(&mut self, agent: &AgentName) -> Result<Vec<FilingLine>, StoreFault>
-        ensures { Reads shows is_clean is_sound fault_count may_tell self.old self.new result
-            (λ r lines. lines.items ≡ map (line_of r.day) (filings_of agent.now r.members)) };
+        ensures { Reads shows is_clean is_sound may_leave fault_count may_tell
+            self.old self.new result (λ r lines.
+            lines.items ≡ map (line_of r.day) (filings_of agent.now r.members)) };
 
     /// What is known of the record's last live statement; `rec` is its identifier. `None` where the
     /// record has none.
@@ -108,21 +120,23 @@ pub trait Keep {
         declaration: &Ident,
         rec: &Ident,
     ) -> Result<Option<Last>, StoreFault>
-        ensures { Reads shows is_clean is_sound fault_count may_tell self.old self.new result
-            (λ r last. last
+        ensures { Reads shows is_clean is_sound may_leave fault_count may_tell
+            self.old self.new result (λ r last. last
             ≡ last_of declaration.now rec.now (live_of (filings_of agent.now r.members))) };
 
     /// Whether a live statement of the agent has the identifier.
     fn has_statement(&mut self, agent: &AgentName, id: &Ident) -> Result<bool, StoreFault>
-        ensures { Reads shows is_clean is_sound fault_count may_tell self.old self.new result
-            (λ r has. has ≡ has_id id.now (live_of (filings_of agent.now r.members))) };
+        ensures { Reads shows is_clean is_sound may_leave fault_count may_tell
+            self.old self.new result (λ r has.
+            has ≡ has_id id.now (live_of (filings_of agent.now r.members))) };
 
     /// Whether a filing of the agent that was accepted after the one with this number has a live
     /// statement of one of its records. `false` where the agent has no such filing, and where that
     /// one is withdrawn: its statements are gone.
     fn has_successor(&mut self, agent: &AgentName, number: u32) -> Result<bool, StoreFault>
-        ensures { Reads shows is_clean is_sound fault_count may_tell self.old self.new result
-            (λ r has. has ≡ has_successor number (filings_of agent.now r.members)) };
+        ensures { Reads shows is_clean is_sound may_leave fault_count may_tell
+            self.old self.new result (λ r has.
+            has ≡ has_successor number (filings_of agent.now r.members)) };
 
     /// The rows of a declaration of the agent that the viewer sees: of its own live filings, and of
     /// another's published ones. They stand in order of acceptance and of place.
@@ -132,8 +146,8 @@ pub trait Keep {
         agent: &AgentName,
         declaration: &Ident,
     ) -> Result<Vec<Row>, StoreFault>
-        ensures { Reads shows is_clean is_sound fault_count may_tell self.old self.new result
-            (λ r rows. rows.items
+        ensures { Reads shows is_clean is_sound may_leave fault_count may_tell
+            self.old self.new result (λ r rows. rows.items
             ≡ rows_of viewer.now r.day agent.now declaration.now
             (filings_of agent.now r.members)) };
 
@@ -145,15 +159,17 @@ pub trait Keep {
         day: Day,
         node: &Node,
     ) -> Result<Option<NodeInfo>, StoreFault>
-        ensures { Reads shows is_clean is_sound fault_count may_tell self.old self.new result
-            (λ r info. info ≡ info_of (seen_at viewer.now day r) node.now) };
+        ensures { Reads shows is_clean is_sound may_leave fault_count may_tell
+            self.old self.new result (λ r info.
+            info ≡ info_of (seen_at viewer.now day r) node.now) };
 
     /// All nodes that stand for one entity with a node on a day by what the viewer sees, by
     /// finitely many aliases, each once and in any order. The node itself is one of them; where it
     /// isn't open, it is the only one.
     fn same(&mut self, viewer: &AgentName, day: Day, node: &Node) -> Result<Vec<Node>, StoreFault>
-        ensures { Reads shows is_clean is_sound fault_count may_tell self.old self.new result
-            (λ r nodes. AreSame (seen_at viewer.now day r) node.now nodes.items) };
+        ensures { Reads shows is_clean is_sound may_leave fault_count may_tell
+            self.old self.new result (λ r nodes.
+            AreSame (seen_at viewer.now day r) node.now nodes.items) };
 
     /// The links with this subject on a day by what the viewer sees, in any order.
     fn links_into(
@@ -162,13 +178,14 @@ pub trait Keep {
         day: Day,
         node: &Node,
     ) -> Result<Vec<Link>, StoreFault>
-        ensures { Reads shows is_clean is_sound fault_count may_tell self.old self.new result
-            (λ r links. AreLinksInto (seen_at viewer.now day r) node.now links.items) };
+        ensures { Reads shows is_clean is_sound may_leave fault_count may_tell
+            self.old self.new result (λ r links.
+            AreLinksInto (seen_at viewer.now day r) node.now links.items) };
 
     /// What all see of the published filings: by agent, those of an agent in order of acceptance.
     fn published(&mut self) -> Result<Vec<Outward>, StoreFault>
-        ensures { Reads shows is_clean is_sound fault_count may_tell self.old self.new result
-            (λ r outwards. outwards.items ≡ published r.day r.members) };
+        ensures { Reads shows is_clean is_sound may_leave fault_count may_tell
+            self.old self.new result (λ r outwards. outwards.items ≡ published r.day r.members) };
 
     /// Adds a filing to those of an agent, who has room for one more and none under the key, and
     /// gives its number. The statements are those of the file: each has its settled status, their
@@ -191,8 +208,8 @@ pub trait Keep {
             AreNew (live_of (filings_of agent.now r.members)) statements.now) }
         ensures number { Promised shows is_clean self.old self.new (λ r. IfOk result (λ number.
             number ≡ length (filings_of agent.now r.members) + 1)) }
-        ensures changes { Changes shows is_clean is_sound fault_count may_tell self.old self.new
-            result (λ r.
+        ensures changes { Changes shows is_clean is_sound may_leave left_shows
+            fault_count may_tell self.old self.new result (λ r.
             let own = filings_of agent.now r.members in
             record r {
               members = with_filings agent.now
@@ -202,16 +219,16 @@ pub trait Keep {
     /// Withdraws the agent's filing with this number: its statements are gone, its number, key, due
     /// day and bytes stay. What may be withdrawn is for the caller to test.
     fn withdraw(&mut self, agent: &AgentName, number: u32) -> Result<(), StoreFault>
-        ensures { Changes shows is_clean is_sound fault_count may_tell self.old self.new
-            result (λ r. record r {
+        ensures { Changes shows is_clean is_sound may_leave left_shows
+            fault_count may_tell self.old self.new result (λ r. record r {
               members = with_filings agent.now
                   (with_withdrawn number (filings_of agent.now r.members)) r.members;
             }) };
 
     /// Sets the register's day. That it isn't an earlier one is for the caller to test.
     fn set_day(&mut self, day: Day) -> Result<(), StoreFault>
-        ensures { Changes shows is_clean is_sound fault_count may_tell self.old self.new
-            result (λ r.
+        ensures { Changes shows is_clean is_sound may_leave left_shows
+            fault_count may_tell self.old self.new result (λ r.
             record r { day = day }) };
 
     /// Adds an agent whose name and token are new to the register.
@@ -219,8 +236,13 @@ pub trait Keep {
         requires new_name { Sure shows is_clean self.old (λ r.
             is_enrolled agent.now r.members ≡ false) }
         requires new_token { Sure shows is_clean self.old (λ r. is_taken token.now r ≡ false) }
-        ensures { Changes shows is_clean is_sound fault_count may_tell self.old self.new
-            result (λ r. record r {
+        ensures { Changes shows is_clean is_sound may_leave left_shows
+            fault_count may_tell self.old self.new result (λ r. record r {
               members = with_member (new_member agent.now token.now) r.members;
             }) };
+
+    /// What was answered lasts: what a stop of a clean keep leaves shows each register that it
+    /// showed.
+    ghost lasting: { (k : Self) → is_clean k → (left : Left) → may_leave k left
+        → (r : Register) → shows k r → left_shows left r };
 }

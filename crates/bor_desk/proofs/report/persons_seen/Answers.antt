@@ -5,7 +5,7 @@ use Rattle.bor_desk.proofs.report.persons_seen.Goals as goal
 pub returns-in_err-persons_of-clause-kept : goal.returns-in_err-persons_of-clause-kept
 returns-in_err-persons_of-clause-kept g c =
     let ends = c.keep-1.given.1 (sym c.new-source.ensures.same_reference ∙ sym c.persons_of.ensures.same_reference) in
-    keep-kept g.K.Keep.shows g.K.Keep.is_clean _ _ c.new-source.result c.persons_of.new.source c.new-source.ensures.keep ends c.persons_of.ensures.kept
+    keep-kept g.K.Keep.shows g.K.Keep.is_clean g.K.Keep.is_sound g.K.Keep.may_leave _ _ c.new-source.result c.persons_of.new.source c.new-source.ensures.keep ends c.persons_of.ensures.kept
 
 pub returns-in_err-persons_of-clause-answer : goal.returns-in_err-persons_of-clause-answer
 returns-in_err-persons_of-clause-answer g c =
@@ -27,7 +27,7 @@ returns-in_err-persons_of-clause-accounted g c =
 pub returns-clause-kept : goal.returns-clause-kept
 returns-clause-kept g c =
     let ends = c.keep-1.given.1 (sym c.new-source.ensures.same_reference ∙ sym c.persons_of.ensures.same_reference) in
-    keep-kept g.K.Keep.shows g.K.Keep.is_clean _ _ c.new-source.result c.persons_of.new.source c.new-source.ensures.keep ends c.persons_of.ensures.kept
+    keep-kept g.K.Keep.shows g.K.Keep.is_clean g.K.Keep.is_sound g.K.Keep.may_leave _ _ c.new-source.result c.persons_of.new.source c.new-source.ensures.keep ends c.persons_of.ensures.kept
 
 pub returns-clause-answer : goal.returns-clause-answer
 returns-clause-answer g c =

@@ -13,7 +13,7 @@ returns-clause-performed g c asked =
     let words = map g.S.AsStr.text c.args.words.now in
     elim c.match-read.branch [
       | in-Ok w ↦
-          let done = performs_as _ _ _ _ _ _ _ _ _ _ w.in-Ok.command _ _ _ _ _ _ _ _ _ _ _ w.host-is (ap g.I.Read.remaining w.input-is) (ap g.O.Write.contents w.output-is)
+          let done = performs_as _ _ _ _ _ _ _ _ _ _ _ _ w.in-Ok.command _ _ _ _ _ _ _ _ _ _ _ w.host-is (ap g.I.Read.remaining w.input-is) (ap g.O.Write.contents w.output-is)
           (ap g.E.Write.contents w.errors-is) (c.code.ensures ∙ ap exit_code w.status-is) w.perform-status.ensures.done in
           inr (w.in-Ok.command, w.in-Ok.ensures.asked, done)
       | in-Err w ↦
@@ -30,9 +30,9 @@ returns-clause-check g c asked =
     let words = map g.S.AsStr.text c.args.words.now in
     elim c.match-read.branch [
       | in-Ok w ↦
-          let done = performs_as _ _ _ _ _ _ _ _ _ _ w.in-Ok.command _ _ _ _ _ _ _ _ _ _ _ w.host-is (ap g.I.Read.remaining w.input-is) (ap g.O.Write.contents w.output-is)
+          let done = performs_as _ _ _ _ _ _ _ _ _ _ _ _ w.in-Ok.command _ _ _ _ _ _ _ _ _ _ _ w.host-is (ap g.I.Read.remaining w.input-is) (ap g.O.Write.contents w.output-is)
           (ap g.E.Write.contents w.errors-is) (c.code.ensures ∙ ap exit_code w.status-is) w.perform-status.ensures.done in
-          (checked _ _ _ _ _ _ _ _ _ w.in-Ok.command (entered_by words) _ _ _ _ _ _ _ w.in-Ok.ensures.asked asked.1 done).2.report
+          (checked _ _ _ _ _ _ _ _ _ _ _ w.in-Ok.command (entered_by words) _ _ _ _ _ _ _ w.in-Ok.ensures.asked asked.1 done).2.report
       | in-Err w ↦
           let memory = only_memory words w.in-Err.unread asked.0 w.in-Err.ensures.err in
           let failed = (w.answer-status.ensures.memory memory).0 in
@@ -46,9 +46,9 @@ returns-clause-check_input g c asked =
     let words = map g.S.AsStr.text c.args.words.now in
     elim c.match-read.branch [
       | in-Ok w ↦
-          let done = performs_as _ _ _ _ _ _ _ _ _ _ w.in-Ok.command _ _ _ _ _ _ _ _ _ _ _ w.host-is (ap g.I.Read.remaining w.input-is) (ap g.O.Write.contents w.output-is)
+          let done = performs_as _ _ _ _ _ _ _ _ _ _ _ _ w.in-Ok.command _ _ _ _ _ _ _ _ _ _ _ w.host-is (ap g.I.Read.remaining w.input-is) (ap g.O.Write.contents w.output-is)
           (ap g.E.Write.contents w.errors-is) (c.code.ensures ∙ ap exit_code w.status-is) w.perform-status.ensures.done in
-          let check = checked _ _ _ _ _ _ _ _ _ w.in-Ok.command (entered_by words) _ _ _ _ _ _ _ w.in-Ok.ensures.asked asked.0.1 done in
+          let check = checked _ _ _ _ _ _ _ _ _ _ _ w.in-Ok.command (entered_by words) _ _ _ _ _ _ _ w.in-Ok.ensures.asked asked.0.1 done in
           check.2.known (check.1 ∙ asked.1)
       | in-Err w ↦
           let memory = only_memory words w.in-Err.unread asked.0.0 w.in-Err.ensures.err in
@@ -63,9 +63,9 @@ returns-clause-check_taken g c asked low =
     let words = map g.S.AsStr.text c.args.words.now in
     elim c.match-read.branch [
       | in-Ok w ↦
-          let done = performs_as _ _ _ _ _ _ _ _ _ _ w.in-Ok.command _ _ _ _ _ _ _ _ _ _ _ w.host-is (ap g.I.Read.remaining w.input-is) (ap g.O.Write.contents w.output-is)
+          let done = performs_as _ _ _ _ _ _ _ _ _ _ _ _ w.in-Ok.command _ _ _ _ _ _ _ _ _ _ _ w.host-is (ap g.I.Read.remaining w.input-is) (ap g.O.Write.contents w.output-is)
           (ap g.E.Write.contents w.errors-is) (c.code.ensures ∙ ap exit_code w.status-is) w.perform-status.ensures.done in
-          let check = checked _ _ _ _ _ _ _ _ _ w.in-Ok.command (entered_by words) _ _ _ _ _ _ _ w.in-Ok.ensures.asked asked.0.1 done in
+          let check = checked _ _ _ _ _ _ _ _ _ _ _ w.in-Ok.command (entered_by words) _ _ _ _ _ _ _ w.in-Ok.ensures.asked asked.0.1 done in
           check.2.taken (check.1 ∙ asked.1) low
       | in-Err w ↦
           let memory = only_memory words w.in-Err.unread asked.0.0 w.in-Err.ensures.err in
@@ -80,9 +80,9 @@ returns-clause-check_file g c named =
     let words = map g.S.AsStr.text c.args.words.now in
     elim c.match-read.branch [
       | in-Ok w ↦
-          let done = performs_as _ _ _ _ _ _ _ _ _ _ w.in-Ok.command _ _ _ _ _ _ _ _ _ _ _ w.host-is (ap g.I.Read.remaining w.input-is) (ap g.O.Write.contents w.output-is)
+          let done = performs_as _ _ _ _ _ _ _ _ _ _ _ _ w.in-Ok.command _ _ _ _ _ _ _ _ _ _ _ w.host-is (ap g.I.Read.remaining w.input-is) (ap g.O.Write.contents w.output-is)
           (ap g.E.Write.contents w.errors-is) (c.code.ensures ∙ ap exit_code w.status-is) w.perform-status.ensures.done in
-          unread _ _ _ _ _ _ _ _ _ w.in-Ok.command (entered_by words) _ _ _ _ _ _ _ w.in-Ok.ensures.asked named done
+          unread _ _ _ _ _ _ _ _ _ _ _ w.in-Ok.command (entered_by words) _ _ _ _ _ _ _ w.in-Ok.ensures.asked named done
       | in-Err w ↦
           search rules
     ]
@@ -92,9 +92,9 @@ returns-clause-taken g c =
     let words = map g.S.AsStr.text c.args.words.now in
     elim c.match-read.branch [
       | in-Ok w ↦
-          let done = performs_as _ _ _ _ _ _ _ _ _ _ w.in-Ok.command _ _ _ _ _ _ _ _ _ _ _ w.host-is (ap g.I.Read.remaining w.input-is) (ap g.O.Write.contents w.output-is)
+          let done = performs_as _ _ _ _ _ _ _ _ _ _ _ _ w.in-Ok.command _ _ _ _ _ _ _ _ _ _ _ w.host-is (ap g.I.Read.remaining w.input-is) (ap g.O.Write.contents w.output-is)
           (ap g.E.Write.contents w.errors-is) (c.code.ensures ∙ ap exit_code w.status-is) w.perform-status.ensures.done in
-          took _ _ _ _ _ _ _ _ _ w.in-Ok.command _ _ _ _ _ _ _ done
+          took _ _ _ _ _ _ _ _ _ _ _ w.in-Ok.command _ _ _ _ _ _ _ done
       | in-Err w ↦
           took_none _ _ (search rules)
     ]
@@ -104,9 +104,9 @@ returns-clause-untaken g c unasked =
     let words = map g.S.AsStr.text c.args.words.now in
     elim c.match-read.branch [
       | in-Ok w ↦
-          let done = performs_as _ _ _ _ _ _ _ _ _ _ w.in-Ok.command _ _ _ _ _ _ _ _ _ _ _ w.host-is (ap g.I.Read.remaining w.input-is) (ap g.O.Write.contents w.output-is)
+          let done = performs_as _ _ _ _ _ _ _ _ _ _ _ _ w.in-Ok.command _ _ _ _ _ _ _ _ _ _ _ w.host-is (ap g.I.Read.remaining w.input-is) (ap g.O.Write.contents w.output-is)
           (ap g.E.Write.contents w.errors-is) (c.code.ensures ∙ ap exit_code w.status-is) w.perform-status.ensures.done in
-          untaken _ _ _ _ _ _ _ _ _ w.in-Ok.command words _ _ _ _ _ _ _ w.in-Ok.ensures.ok w.in-Ok.ensures.asked unasked done
+          untaken _ _ _ _ _ _ _ _ _ _ _ w.in-Ok.command words _ _ _ _ _ _ _ w.in-Ok.ensures.ok w.in-Ok.ensures.asked unasked done
       | in-Err w ↦
           search rules
     ]
@@ -133,9 +133,9 @@ returns-clause-refused g c one =
     let words = map g.S.AsStr.text c.args.words.now in
     elim c.match-read.branch [
       | in-Ok w ↦
-          let done = performs_as _ _ _ _ _ _ _ _ _ _ w.in-Ok.command _ _ _ _ _ _ _ _ _ _ _ w.host-is (ap g.I.Read.remaining w.input-is) (ap g.O.Write.contents w.output-is)
+          let done = performs_as _ _ _ _ _ _ _ _ _ _ _ _ w.in-Ok.command _ _ _ _ _ _ _ _ _ _ _ w.host-is (ap g.I.Read.remaining w.input-is) (ap g.O.Write.contents w.output-is)
           (ap g.E.Write.contents w.errors-is) (c.code.ensures ∙ ap exit_code w.status-is) w.perform-status.ensures.done in
-          (w.in-Ok.ensures.ok, refusal _ _ _ _ _ _ _ _ _ w.in-Ok.command _ _ _ _ _ _ _ one done)
+          (w.in-Ok.ensures.ok, refusal _ _ _ _ _ _ _ _ _ _ _ w.in-Ok.command _ _ _ _ _ _ _ one done)
       | in-Err w ↦
           absurd (w.answer-status.ensures.never (sym w.status-is ∙ refused_of _ (sym c.code.ensures ∙ one)))
     ]
@@ -156,9 +156,9 @@ returns-clause-usage g c two =
     let words = map g.S.AsStr.text c.args.words.now in
     elim c.match-read.branch [
       | in-Ok w ↦
-          let done = performs_as _ _ _ _ _ _ _ _ _ _ w.in-Ok.command _ _ _ _ _ _ _ _ _ _ _ w.host-is (ap g.I.Read.remaining w.input-is) (ap g.O.Write.contents w.output-is)
+          let done = performs_as _ _ _ _ _ _ _ _ _ _ _ _ w.in-Ok.command _ _ _ _ _ _ _ _ _ _ _ w.host-is (ap g.I.Read.remaining w.input-is) (ap g.O.Write.contents w.output-is)
           (ap g.E.Write.contents w.errors-is) (c.code.ensures ∙ ap exit_code w.status-is) w.perform-status.ensures.done in
-          absurd (no_fault _ _ _ _ _ _ _ _ _ w.in-Ok.command _ _ _ _ _ _ _ two done)
+          absurd (no_fault _ _ _ _ _ _ _ _ _ _ _ w.in-Ok.command _ _ _ _ _ _ _ two done)
       | in-Err w ↦
           let usage = sym w.status-is ∙ usage_of _ (sym c.code.ensures ∙ two) in
           let fault = w.answer-status.ensures.wrong usage in
@@ -193,9 +193,9 @@ returns-clause-silent g c low =
     let words = map g.S.AsStr.text c.args.words.now in
     elim c.match-read.branch [
       | in-Ok w ↦
-          let done = performs_as _ _ _ _ _ _ _ _ _ _ w.in-Ok.command _ _ _ _ _ _ _ _ _ _ _ w.host-is (ap g.I.Read.remaining w.input-is) (ap g.O.Write.contents w.output-is)
+          let done = performs_as _ _ _ _ _ _ _ _ _ _ _ _ w.in-Ok.command _ _ _ _ _ _ _ _ _ _ _ w.host-is (ap g.I.Read.remaining w.input-is) (ap g.O.Write.contents w.output-is)
           (ap g.E.Write.contents w.errors-is) (c.code.ensures ∙ ap exit_code w.status-is) w.perform-status.ensures.done in
-          unheard _ _ _ _ _ _ _ _ _ w.in-Ok.command _ _ _ _ _ _ _ low done
+          unheard _ _ _ _ _ _ _ _ _ _ _ w.in-Ok.command _ _ _ _ _ _ _ low done
       | in-Err w ↦
           search rules
     ]
@@ -205,11 +205,11 @@ returns-clause-told g c of three =
     let words = map g.S.AsStr.text c.args.words.now in
     elim c.match-read.branch [
       | in-Ok w ↦
-          let done = performs_as _ _ _ _ _ _ _ _ _ _ w.in-Ok.command _ _ _ _ _ _ _ _ _ _ _ w.host-is (ap g.I.Read.remaining w.input-is) (ap g.O.Write.contents w.output-is)
+          let done = performs_as _ _ _ _ _ _ _ _ _ _ _ _ w.in-Ok.command _ _ _ _ _ _ _ _ _ _ _ w.host-is (ap g.I.Read.remaining w.input-is) (ap g.O.Write.contents w.output-is)
           (ap g.E.Write.contents w.errors-is) (c.code.ensures ∙ ap exit_code w.status-is) w.perform-status.ensures.done in
           elim of [
             | inl asked ↦
-                let check = checked _ _ _ _ _ _ _ _ _ w.in-Ok.command (entered_by words) _ _ _ _ _ _ _ w.in-Ok.ensures.asked asked.1 done in
+                let check = checked _ _ _ _ _ _ _ _ _ _ _ w.in-Ok.command (entered_by words) _ _ _ _ _ _ _ w.in-Ok.ensures.asked asked.1 done in
                 told_as _ _ _ _ _ (met_by_check words check.0 _ _ asked check.1) refl (check.2.line three)
             | inr unasked ↦ absurd (unasked w.in-Ok.ensures.ok)
           ]

@@ -25,6 +25,6 @@ returns-clause-hosted g c =
       is_within = record { request = limits.ensures.request; reply = limits.ensures.reply; rest = limits.ensures.rest };
       within = subst (λ n. g.H.Register.OpenRegister.serves c.args.register.now c.in-Some.listener limits.result c.args.asked.connections c.serve-served.new.self n) same
           c.serve-served.ensures.within;
-      served = subst (λ n. IsServedOver g.H.Register.OpenRegister.shows g.H.Register.OpenRegister.is_clean g.H.Register.OpenRegister.is_sound (IsOf g.H.Listener.Stream.Read.remaining g.H.Listener.Stream.Write.contents)
+      served = subst (λ n. IsServedOver g.H.Register.OpenRegister.shows g.H.Register.OpenRegister.is_clean g.H.Register.OpenRegister.is_sound g.H.Register.OpenRegister.may_leave g.H.Register.OpenRegister.left_shows (IsOf g.H.Listener.Stream.Read.remaining g.H.Listener.Stream.Write.contents)
           g.H.Waiter.Watch.does c.args.register.now c.serve-served.new.self c.waiter-waiter.result c.serve-served.new.watch c.args.asked.connections n) same over;
     }

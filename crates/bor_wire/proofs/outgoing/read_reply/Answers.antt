@@ -1,7 +1,9 @@
 use Rattle.std.proofs.Common.{None, Some, Ok, Err, refl}
 use Rattle.bor_records.specs.Promises.{Promised}
+use Rattle.bor_records.proofs.KeptLaws.{leaves_so}
 use Rattle.bor_wire.specs.Spelling.Spell.{spell}
-use Rattle.bor_wire.specs.Exchanges.{IfAsked, IfWhole, IsFor, agent_spelled}
+use Rattle.bor_wire.specs.Exchanges.{IfAsked, IfWhole, IsFor, ShowsAfter, agent_spelled}
+use Rattle.bor_wire.specs.Inputs.{after}
 use Rattle.bor_wire.proofs.Outgoings.{asks_nothing, by_outgoing, if_refusing, nobody_named, on_any, on_spelled, refusal_goes, spelled_known, refused_out, is_that, nothing_out}
 use Rattle.bor_wire.proofs.outgoing.read_reply.Goals as goal
 
@@ -11,6 +13,13 @@ returns-in-Ok-clause-reply g c =
     let keep = g.K.Keep in
     by_outgoing keep.shows keep.is_clean c.args.keep.now c.reply_for-agent.new.keep c.reply_for-agent.result.outgoing known (spell c.in-Ok.raw)
     (spelled_known known (Ok c.in-Ok.raw) c.in-Ok.ensures.request) c.reply_for-agent.ensures.reply c.reply_for-agent.ensures.kept
+
+pub returns-in-Ok-clause-leaves : goal.returns-in-Ok-clause-leaves
+returns-in-Ok-clause-leaves g c =
+    let known = g.R.Read.remaining c.args.reader.now.inner in
+    let keep = g.K.Keep in
+    leaves_so keep.shows keep.is_clean keep.is_sound keep.may_leave c.args.keep.now c.reply_for-agent.new.keep (λ r left. keep.left_shows left (after r (spell c.in-Ok.raw))) (ShowsAfter keep.left_shows known)
+    (λ clean r is left made. (spell c.in-Ok.raw, spelled_known known (Ok c.in-Ok.raw) c.in-Ok.ensures.request, made)) c.reply_for-agent.ensures.leaves
 
 pub returns-in-Ok-clause-refused : goal.returns-in-Ok-clause-refused
 returns-in-Ok-clause-refused g c =

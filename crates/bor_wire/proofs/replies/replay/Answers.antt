@@ -22,19 +22,19 @@ loop-input-preserved g c =
     let more = map_more (λ v. v.items) inputs i c.input-item.result lt in
     let count : length so_far ≡ length c.loop-input.replies.items = length-map (take i inputs) (λ v. v.items) ∙ length-take-le i inputs le ∙ sym inv.count in
     record {
-      began = λ clean. inv.began (c.reply_to-reply.ensures.began clean);
+      began = λ clean. inv.began (c.reply_to-reply.ensures.leaves.began clean);
       count = grind (arith, common_steps);
       room = grind (arith, common_steps);
       far =
           rw (c.push_reserved.ensures.items, more, ← c.input-item.is, ← c.deref.ensures.value)
           (so_far_more (λ r. keep.shows c.args.keep.now r × keep.is_clean c.loop-input.keep × IsLegal r) (λ r. keep.shows c.args.keep.now r × keep.is_clean c.reply_to-reply.new.keep × IsLegal r)
           (keep.is_clean c.reply_to-reply.new.keep) (keep.shows c.loop-input.keep) (keep.shows c.reply_to-reply.new.keep) so_far c.loop-input.replies.items c.deref.result.now c.reply_to-reply.result
-          count (λ r w. ((w.0, c.reply_to-reply.ensures.began w.1, w.2), w.1, w.2)) inv.far
+          count (λ r w. ((w.0, c.reply_to-reply.ensures.leaves.began w.1, w.2), w.1, w.2)) inv.far
           (legal_reply keep.shows keep.is_clean c.loop-input.keep c.reply_to-reply.new.keep c.reply_to-reply.result c.deref.result.now c.reply_to-reply.ensures.reply));
       turns =
           rw (c.push_reserved.ensures.items, more, ← c.input-item.is, ← c.deref.ensures.value)
-          (in_turn_more keep.shows keep.is_clean keep.is_sound c.args.keep.now c.loop-input.keep c.reply_to-reply.new.keep so_far c.loop-input.replies.items c.deref.result.now c.reply_to-reply.result
-          inv.turns c.reply_to-reply.ensures.began c.reply_to-reply.ensures.turn c.reply_to-reply.ensures.up);
+          (in_turn_more keep.shows keep.is_clean keep.is_sound keep.may_leave keep.left_shows c.args.keep.now c.loop-input.keep c.reply_to-reply.new.keep so_far c.loop-input.replies.items c.deref.result.now c.reply_to-reply.result
+          inv.turns c.reply_to-reply.ensures.leaves c.reply_to-reply.ensures.turn c.reply_to-reply.ensures.up);
     }
 
 pub returns-clause-replies : goal.returns-clause-replies

@@ -13,5 +13,5 @@ invariant-loop-input g l =
       count : length l.replies.items ≡ l.input-index;
       room : vec_capacity l.replies ≡ length l.inputs;
       far : IsSoFar (λ r. keep.shows l.fn.keep r × keep.is_clean l.keep × IsLegal r) (keep.shows l.keep) (map (λ v. v.items) (take l.input-index l.inputs)) l.replies.items;
-      turns : InTurn keep.shows keep.is_clean keep.is_sound l.fn.keep l.keep (map (λ v. v.items) (take l.input-index l.inputs)) l.replies.items;
+      turns : InTurn keep.shows keep.is_clean keep.is_sound keep.may_leave keep.left_shows l.fn.keep l.keep (map (λ v. v.items) (take l.input-index l.inputs)) l.replies.items;
     }

@@ -20,7 +20,7 @@ returns-in-Some-clause-step g c = λ r is clean2.
 
 pub returns-in-None-clause-legal : goal.returns-in-None-clause-legal
 returns-in-None-clause-legal g c = λ r is clean2 legal.
-    let clean1 = c.lodge_new.ensures.began clean2 in
+    let clean1 = c.lodge_new.ensures.leaves.began clean2 in
     let is1 = (c.in_ok-line.ensures.kept.same clean1 r).0 is in
     let step = lodge_step r c.args.agent.now c.args.key.now c.args.due c.args.bytes.now in
     left_legal of_lodging c.lodge_new.result (g.K.Keep.shows c.lodge_new.new.keep) r step (c.lodge_new.ensures.step r is1 clean2) legal

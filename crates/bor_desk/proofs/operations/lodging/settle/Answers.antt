@@ -30,7 +30,7 @@ loop-i-preserved g c =
     let lt : c.loop-i.i < length ss = omega arith in
     let next = as_settled c.in_ok-status.status (get_or ss c.loop-i.i c.index-statements-i-in-loop-i.result) in
     record {
-      kept = kept_then keep.shows keep.is_clean _ _ _ inv.kept c.in_ok-status.ensures.kept;
+      kept = kept_then keep.shows keep.is_clean keep.is_sound keep.may_leave _ _ _ inv.kept c.in_ok-status.ensures.kept;
       lasts = lasts_then keep.is_clean keep.is_sound _ _ _ inv.lasts c.in_ok-status.ensures.lasts;
       counted = c.in_ok-status.ensures.accounted ∙ inv.counted;
       found = subst (λ live. AreFound live c.add.new.self) (live_so_far c.args.due ss c.loop-i.i next c.index-statements-i-in-loop-i-2.result lt)

@@ -12,7 +12,7 @@ abbrev pub invariant-loop-i : goal.invariant-loop-i
 invariant-loop-i g l =
     let keep = g.K.Keep in
     record {
-      kept : Kept keep.shows keep.is_clean l.fn.keep l.keep;
+      kept : Kept keep.shows keep.is_clean keep.is_sound keep.may_leave l.fn.keep l.keep;
       lasts : StaysClean keep.is_clean keep.is_sound l.fn.keep l.keep;
       counted : keep.fault_count l.keep ≡ keep.fault_count l.fn.keep;
       found : AreFound (map (as_live l.due) (take l.i l.statements)) l.earlier;

@@ -18,7 +18,7 @@ add_agent-requires-clause-new_token g c = λ r is2 clean2.
 
 pub returns-clause-step : goal.returns-clause-step
 returns-clause-step g c = λ r is clean3.
-    let clean2 = c.in_ok-add_agent.ensures.began clean3 in
+    let clean2 = c.in_ok-add_agent.ensures.leaves.began clean3 in
     let clean1 = c.in_ok-is_taken.ensures.kept.began clean2 in
     let is1 = (c.in_ok-has_agent.ensures.kept.same clean1 r).0 is in
     let is2 = (c.in_ok-is_taken.ensures.kept.same clean2 r).0 is1 in

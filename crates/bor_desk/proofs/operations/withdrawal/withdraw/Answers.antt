@@ -24,7 +24,7 @@ returns-then-eq-clause-step g c = λ r is clean.
 
 pub returns-clause-legal : goal.returns-clause-legal
 returns-clause-legal g c = λ r is clean2 legal.
-    let clean1 = c.in_ok-withdraw.ensures.began clean2 in
+    let clean1 = c.in_ok-withdraw.ensures.leaves.began clean2 in
     let kept = (c.in_ok-line.ensures.kept.same clean1 r).0 is in
     let other : c.in_ok-line.line.state ≢ Withdrawn = search rules in
     let left = draft-left r c.args.agent.now c.args.key.now c.in_ok-line.line _ (c.in_ok-line.ensures.found r is clean1) other (c.in_ok-line.ensures.answer r is clean1) in

@@ -13,11 +13,11 @@ pub returns-clause-streams : goal.returns-clause-streams
 returns-clause-streams g c =
     let rem = g.L.Stream.Read.remaining in
     let cont = g.L.Stream.Write.contents in
-    let first = begun g.K.Keep.shows g.K.Keep.is_clean g.K.Keep.is_sound rem cont c.args.keep.now c.args.connections c.new-server.result c.new-server.ensures.queue c.new-server.ensures.left c.new-server.ensures.status in
-    served_over g.K.Keep.shows g.K.Keep.is_clean g.K.Keep.is_sound g.W.Watch.does rem cont c.args.keep.now c.run.new.keep c.args.watch.now c.run.new.watch c.tell.new.watch c.args.connections c.new-server.result c.run.new.server c.tell.new.self c.finish.new.self
+    let first = begun g.K.Keep.shows g.K.Keep.is_clean g.K.Keep.is_sound g.K.Keep.may_leave g.K.Keep.left_shows rem cont c.args.keep.now c.args.connections c.new-server.result c.new-server.ensures.queue c.new-server.ensures.left c.new-server.ensures.status in
+    served_over g.K.Keep.shows g.K.Keep.is_clean g.K.Keep.is_sound g.K.Keep.may_leave g.K.Keep.left_shows g.W.Watch.does rem cont c.args.keep.now c.run.new.keep c.args.watch.now c.run.new.watch c.tell.new.watch c.args.connections c.new-server.result c.run.new.server c.tell.new.self c.finish.new.self
     first c.run.ensures c.tell.ensures.becomes c.tell.ensures.does c.finish.ensures.lets c.finish.ensures.pending
 
 pub returns-clause-served : goal.returns-clause-served
 returns-clause-served g c =
     let over = returns-clause-streams g c in
-    served_by_any g.K.Keep.shows g.K.Keep.is_clean g.K.Keep.is_sound (IsOf g.L.Stream.Read.remaining g.L.Stream.Write.contents) c.args.keep.now c.run.new.keep c.args.connections _ over.served
+    served_by_any g.K.Keep.shows g.K.Keep.is_clean g.K.Keep.is_sound g.K.Keep.may_leave g.K.Keep.left_shows (IsOf g.L.Stream.Read.remaining g.L.Stream.Write.contents) c.args.keep.now c.run.new.keep c.args.connections _ over.served

@@ -4,13 +4,13 @@ use Rattle.bor_program.proofs.connections.step.steps.Goals as goal
 
 pub returns-in-Ends-clause-step : goal.returns-in-Ends-clause-step
 returns-in-Ends-clause-step g c =
-    then_steps g.K.Keep.shows g.K.Keep.is_clean g.K.Keep.is_sound g.S.Read.remaining g.S.Write.contents c.args.keep.now c.loop.keep c.step.new.keep (telling c.args.phase) (telling c.loop.phase) (telling c.in-Ends.last)
+    then_steps g.K.Keep.shows g.K.Keep.is_clean g.K.Keep.is_sound g.K.Keep.may_leave g.K.Keep.left_shows g.S.Read.remaining g.S.Write.contents c.args.keep.now c.loop.keep c.step.new.keep (telling c.args.phase) (telling c.loop.phase) (telling c.in-Ends.last)
     c.loop.invariant.step c.in-Ends.ensures.step
 
 pub loop-preserved : goal.loop-preserved
 loop-preserved g c = record {
   held = c.in-Goes.ensures.held;
   step =
-      then_steps g.K.Keep.shows g.K.Keep.is_clean g.K.Keep.is_sound g.S.Read.remaining g.S.Write.contents c.args.keep.now c.loop.keep c.step.new.keep (telling c.args.phase) (telling c.loop.phase) (telling c.in-Goes.next)
+      then_steps g.K.Keep.shows g.K.Keep.is_clean g.K.Keep.is_sound g.K.Keep.may_leave g.K.Keep.left_shows g.S.Read.remaining g.S.Write.contents c.args.keep.now c.loop.keep c.step.new.keep (telling c.args.phase) (telling c.loop.phase) (telling c.in-Goes.next)
       c.loop.invariant.step c.in-Goes.ensures.step;
 }

@@ -4,5 +4,5 @@ use Rattle.bor_program.proofs.connections.step.steps.Given as goal
 abbrev pub invariant-loop : goal.invariant-loop
 invariant-loop g l = record {
   held : IsHeld g.S.Read.remaining g.S.Write.contents l.phase;
-  step : IsStep g.K.Keep.shows g.K.Keep.is_clean g.K.Keep.is_sound g.S.Read.remaining g.S.Write.contents l.fn.keep l.keep (telling l.fn.phase) (telling l.phase);
+  step : IsStep g.K.Keep.shows g.K.Keep.is_clean g.K.Keep.is_sound g.K.Keep.may_leave g.K.Keep.left_shows g.S.Read.remaining g.S.Write.contents l.fn.keep l.keep (telling l.fn.phase) (telling l.phase);
 }

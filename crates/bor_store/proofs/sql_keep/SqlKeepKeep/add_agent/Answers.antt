@@ -1,12 +1,14 @@
 use Rattle.std.specs.Prelude.{OnOk}
-use Rattle.std.proofs.Common.{sym, subst}
+use Rattle.std.proofs.Common.{ap, sym, subst}
 use Rattle.sqlite.specs.Held.{state}
 use Rattle.sqlite.specs.State.{HasCleanDisk}
 use Rattle.bor_records.specs.Promises.{left_by}
 use Rattle.bor_store_sql.specs.Changing.{enrolled}
+use Rattle.bor_register.specs.Register.{Register}
 use Rattle.bor_store_sql.specs.Shown.{IsClean, IsUp, ShowsIn}
 use Rattle.bor_store.proofs.Lasting.{lasts_made}
 use Rattle.bor_store.proofs.Filing.{change_left, counted_made}
+use Rattle.bor_store.proofs.Stopping.{keep_leaves}
 use Rattle.bor_store.proofs.Undamaged.{undamaged_made}
 use Rattle.bor_store.proofs.sql_keep.SqlKeepKeep.add_agent.Goals as goal
 
@@ -15,9 +17,11 @@ returns g c =
     let made = c.add_agent-made.ensures in
     let told = c.made.ensures in
     let same = c.connection.ensures.value in
-    let began : IsClean (state g.S.Store c.made.new.self.conn) → IsClean (state g.S.Store c.args.self.now.conn) = λ clean. subst (λ k. IsClean (state g.S.Store k)) same (made.began (subst (λ k. IsClean (state g.S.Store k)) told.conn clean)) in
+    let changed : Register → Register = λ r. enrolled c.args.agent.now c.args.token.now r in
+    let leaves = keep_leaves (λ k. state g.S.Store k.conn) c.args.self.now c.made.new.self (state g.S.Store c.connection.result.now) (state g.S.Store c.add_agent-made.new.conn)
+    (ap (state g.S.Store) same) (ap (state g.S.Store) told.conn) made.clean made.began _ made.stops changed (λ clean r shows trees stands. stands r shows (c.requires.new_name r (subst (λ k. ShowsIn r (state g.S.Store k)) same shows) (subst (λ k. IsClean (state g.S.Store k)) same clean))) in
     record {
-      began = began;
+      leaves = leaves;
       lasts = lasts_made (λ k. state g.S.Store k.conn) c.args.self.now c.made.new.self
           (λ clean. subst (λ k. HasCleanDisk (state g.S.Store k)) same (made.clean (subst (λ k. HasCleanDisk (state g.S.Store k)) told.conn clean))) c.add_agent-made.result c.made.result told.told
           (subst (λ k. OnOk c.add_agent-made.result (IsUp (state g.S.Store k))) (sym told.conn) made.up);
@@ -26,8 +30,7 @@ returns g c =
       changed = λ r shows clean.
           (let ended = subst (λ k. IsClean (state g.S.Store k)) told.conn clean in
           let shown = subst (λ k. ShowsIn r (state g.S.Store k)) (sym same) shows in
-          let changed = enrolled c.args.agent.now c.args.token.now r in
-          subst (λ k. ShowsIn (left_by c.made.result changed r) (state g.S.Store k)) (sym told.conn)
-          (change_left c.add_agent-made.result c.made.result r changed (state g.S.Store c.connection.result.now) (state g.S.Store c.add_agent-made.new.conn) told.told
-          (made.made ended r shown (c.requires.new_name r shows (began clean))) (made.kept ended) shown));
+          subst (λ k. ShowsIn (left_by c.made.result (changed r) r) (state g.S.Store k)) (sym told.conn)
+          (change_left c.add_agent-made.result c.made.result r (changed r) (state g.S.Store c.connection.result.now) (state g.S.Store c.add_agent-made.new.conn) told.told
+          (made.made ended r shown (c.requires.new_name r shows (leaves.began clean))) (made.kept ended) shown));
     }

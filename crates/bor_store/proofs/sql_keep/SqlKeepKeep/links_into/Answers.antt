@@ -20,6 +20,8 @@ returns g c =
         began = λ clean. read.reads.began (subst (λ k. IsClean (state g.S.Store k)) told.conn clean);
         same = λ clean r. subst (λ k. ShowsIn r (state g.S.Store c.args.self.now.conn) ↔ ShowsIn r (state g.S.Store k)) (sym told.conn)
             (still_kept r (state g.S.Store c.args.self.now.conn) (state g.S.Store c.read_links_into-answer.new.lookup) (read.reads.kept (subst (λ k. IsClean (state g.S.Store k)) told.conn clean)));
+        sound = λ clean. read.reads.clean (subst (λ k. HasCleanDisk (state g.S.Store k)) told.conn clean);
+        stops = λ clean trees may. read.reads.stops (subst (λ k. HasCleanDisk (state g.S.Store k)) told.conn clean) trees (subst (λ k. (state g.S.Store k).may_leave trees) told.conn may);
       };
       lasts = lasts_told (λ k. state g.S.Store k.conn) c.args.self.now c.told.new.self
           (λ clean. read.reads.clean (subst (λ k. HasCleanDisk (state g.S.Store k)) told.conn clean)) c.read_links_into-answer.result c.told.result told.told

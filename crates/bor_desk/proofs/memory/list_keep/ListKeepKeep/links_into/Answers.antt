@@ -13,7 +13,7 @@ returns c =
     let told = c.told.ensures in
     let same : c.told.new.self.register ≡ c.args.self.now.register = ap (λ (h : Holding). h.register) told.counts ∙ ap (λ (h : Holding). h.register) seen.kept in
     record {
-      kept = record { began = λ z. z; same = λ z r. ((λ h. same ∙ h), (λ h. sym same ∙ h)) };
+      kept = record { began = λ z. z; same = λ z r. ((λ h. same ∙ h), (λ h. sym same ∙ h)); sound = λ sound. sound; stops = λ sound left may. may };
       lasts = told_always c.told.result (record { sound = λ sound. sound; clean = λ sound clean. clean });
       counts = ap (λ (h : Holding). h.faults) told.counts ∙ told_count c.links_seen-links.result c.told.result c.links_seen-links.new.self.faults told.told ∙ ap (λ (h : Holding). counted c.told.result h.faults) seen.kept;
       told = λ r is z. told_fault c.links_seen-links.result c.told.result told.told;

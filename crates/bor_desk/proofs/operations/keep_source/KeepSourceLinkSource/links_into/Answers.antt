@@ -12,6 +12,8 @@ returns-clause-reads g c = record {
       (λ h. (h.0, h.1, (c.links_into.ensures.kept.same z m.register).0 h.2)),
       (λ h. (h.0, h.1, (c.links_into.ensures.kept.same z m.register).1 h.2)),
     );
+    sound = c.links_into.ensures.kept.sound;
+    stops = c.links_into.ensures.kept.stops;
   };
   lasts = told_then c.links_into.result _ _ (λ links lasts. record { sound = lasts.sound; clean = lasts.clean }) c.links_into.ensures.lasts;
   counts = c.links_into.ensures.counts;

@@ -7,11 +7,11 @@ use Rattle.bor_program.proofs.connections.server.Server.serve.Goals as goal
 pub returns-in-Goes-clause-serves : goal.returns-in-Goes-clause-serves
 returns-in-Goes-clause-serves g c = λ start connections absent before.
     let old = c.args.self.now in
-    lets_go_same g.K.Keep.shows g.K.Keep.is_clean g.K.Keep.is_sound g.S.Read.remaining g.S.Write.contents start c.steps.new.keep (telling c.in-Goes.phase ++ telling_in old) connections (pending_in old + 1) absent old.status c.go_on.new.self
+    lets_go_same g.K.Keep.shows g.K.Keep.is_clean g.K.Keep.is_sound g.K.Keep.may_leave g.K.Keep.left_shows g.S.Read.remaining g.S.Write.contents start c.steps.new.keep (telling c.in-Goes.phase ++ telling_in old) connections (pending_in old + 1) absent old.status c.go_on.new.self
     (c.in-Goes.ensures.step start (telling_in old) connections (pending_in old + 1) absent old.status before) c.go_on.ensures
 
 pub returns-in-Ends-clause-serves : goal.returns-in-Ends-clause-serves
 returns-in-Ends-clause-serves g c = λ start connections absent before.
     let old = c.args.self.now in
-    lets_go_same g.K.Keep.shows g.K.Keep.is_clean g.K.Keep.is_sound g.S.Read.remaining g.S.Write.contents start c.steps.new.keep (telling c.in-Ends.phase ++ telling_in old) connections (pending_in old + 1) absent old.status c.give_up.new.self
+    lets_go_same g.K.Keep.shows g.K.Keep.is_clean g.K.Keep.is_sound g.K.Keep.may_leave g.K.Keep.left_shows g.S.Read.remaining g.S.Write.contents start c.steps.new.keep (telling c.in-Ends.phase ++ telling_in old) connections (pending_in old + 1) absent old.status c.give_up.new.self
     (c.in-Ends.ensures.step start (telling_in old) connections (pending_in old + 1) absent old.status before) c.give_up.ensures.lets
