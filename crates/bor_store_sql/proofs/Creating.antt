@@ -122,7 +122,7 @@ module _ (registrar : List ℕ) (day : ℤ) where
   abbrev pub first_register : Register
   first_register = empty_register registrar day
 
-  row_kept : cast_all register_table.columns (register_columns first_register) ≡ register_columns first_register
+  pub row_kept : cast_all register_table.columns (register_columns first_register) ≡ register_columns first_register
   row_kept = rw (cast_int (pos 1), cast_int tables_version, cast_int day) refl
 
   pub register_put : (old new : State) (count : ℕ) → Has no_contents old.now → Executes insert_register_text (given_register day registrar) old new (Ok count) → Has (contents first_register) new.now

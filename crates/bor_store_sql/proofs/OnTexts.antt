@@ -1,3 +1,4 @@
 pub mod TableMeanings
 pub mod QueryMeanings
 pub mod ChangeMeanings
+pub mod TextsAlone

@@ -4,6 +4,7 @@ pub mod Changing
 pub mod Found
 pub mod Selected
 pub mod Blank
+pub mod Beside
 pub mod Ran
 pub mod Moving
 pub mod Laws

@@ -1,11 +1,12 @@
 //! What makes the tables.
 
-ghost use Rattle.std.specs.Prelude.{◌≡◌, false, OnOk, OnErr};
+ghost use Rattle.std.specs.Prelude.{◌≡◌, false, [], ◌∷◌, ◌++◌, OnOk, OnErr};
 ghost use Rattle.sqlite.specs.Held.{state};
 ghost use Rattle.sqlite.specs.State.{HasCleanDisk};
 ghost use Rattle.bor_register.specs.Register.{empty_register};
-ghost use Rattle.bor_store_sql.specs.Texts.Tables.{no_schema, schema_3, schema_6, first_schema};
+ghost use Rattle.bor_store_sql.specs.Texts.Tables.{no_schema, schema_3, schema_6, first_schema, period_table};
 ghost use Rattle.bor_store_sql.specs.Rows.Encoding.{contents};
+ghost use Rattle.bor_store_sql.specs.Beside.{Adds, AddsIndexes, PutsRegister, SetsUp, SetsUpIn, blank, details, four_indexes, lists};
 ghost use Rattle.bor_store_sql.specs.Blank.{IsBlank, Leads, no_contents};
 ghost use Rattle.bor_store_sql.specs.Moving.{MakesPeriod};
 ghost use Rattle.bor_store_sql.specs.Ran.{Moves, RanOpen};
@@ -27,6 +28,8 @@ pub(crate) fn create_period<S: Alter>(tx: &mut Transaction<'_, S>) -> Result<(),
     ensures ran_open { RanOpen (state S.Store tx.old.conn.now) (state S.Store tx.new.conn.now) result }
     ensures moves { Moves MakesPeriod (state S.Store tx.old.conn.now)
         (state S.Store tx.new.conn.now) result }
+    ensures adds { Moves (Adds (blank period_table ∷ []) []) (state S.Store tx.old.conn.now)
+        (state S.Store tx.new.conn.now) result }
 {
     run(tx, PERIOD_TABLE, &[])
 }
@@ -35,6 +38,8 @@ fn create_lists<S: Alter>(tx: &mut Transaction<'_, S>) -> Result<(), Error>
     ensures same_reference { tx.new.conn.ghost_name ≡ tx.old.conn.ghost_name }
     ensures ran_open { RanOpen (state S.Store tx.old.conn.now) (state S.Store tx.new.conn.now) result }
     ensures leads { Leads (IsBlank no_schema) (IsBlank schema_3) (state S.Store tx.old.conn.now)
+        (state S.Store tx.new.conn.now) result }
+    ensures adds { Moves (Adds lists []) (state S.Store tx.old.conn.now)
         (state S.Store tx.new.conn.now) result }
 {
     run(tx, REGISTER_TABLE, &[])?;
@@ -46,6 +51,8 @@ fn create_details<S: Alter>(tx: &mut Transaction<'_, S>) -> Result<(), Error>
     ensures same_reference { tx.new.conn.ghost_name ≡ tx.old.conn.ghost_name }
     ensures leads { Leads (IsBlank schema_3) (IsBlank schema_6) (state S.Store tx.old.conn.now)
         (state S.Store tx.new.conn.now) result }
+    ensures adds { Moves (Adds details []) (state S.Store tx.old.conn.now)
+        (state S.Store tx.new.conn.now) result }
 {
     run(tx, STATEMENT_TABLE, &[])?;
     run(tx, INTEREST_TABLE, &[])?;
@@ -55,6 +62,8 @@ fn create_details<S: Alter>(tx: &mut Transaction<'_, S>) -> Result<(), Error>
 fn create_indexes<S: Alter>(tx: &mut Transaction<'_, S>) -> Result<(), Error>
     ensures same_reference { tx.new.conn.ghost_name ≡ tx.old.conn.ghost_name }
     ensures leads { Leads (IsBlank schema_6) (IsBlank first_schema) (state S.Store tx.old.conn.now)
+        (state S.Store tx.new.conn.now) result }
+    ensures adds { Moves (AddsIndexes four_indexes) (state S.Store tx.old.conn.now)
         (state S.Store tx.new.conn.now) result }
 {
     run(tx, RECORD_INDEX, &[])?;
@@ -68,6 +77,8 @@ fn create_tables<S: Alter>(tx: &mut Transaction<'_, S>) -> Result<(), Error>
     ensures same_reference { tx.new.conn.ghost_name ≡ tx.old.conn.ghost_name }
     ensures ran_open { RanOpen (state S.Store tx.old.conn.now) (state S.Store tx.new.conn.now) result }
     ensures leads { Leads (IsBlank no_schema) (IsBlank first_schema) (state S.Store tx.old.conn.now)
+        (state S.Store tx.new.conn.now) result }
+    ensures adds { Moves (Adds (lists ++ details) four_indexes) (state S.Store tx.old.conn.now)
         (state S.Store tx.new.conn.now) result }
 {
     create_lists(tx)?;
@@ -83,6 +94,8 @@ fn insert_register<S: Alter>(
     ensures same_reference { tx.new.conn.ghost_name ≡ tx.old.conn.ghost_name }
     ensures leads { Leads (Has no_contents) (Has (contents (empty_register registrar.now day)))
         (state S.Store tx.old.conn.now) (state S.Store tx.new.conn.now) result }
+    ensures puts { Moves (PutsRegister (empty_register registrar.now day))
+        (state S.Store tx.old.conn.now) (state S.Store tx.new.conn.now) result }
 {
     run(tx, INSERT_REGISTER, &register_values(day, registrar))
 }
@@ -96,14 +109,16 @@ fn make_register<S: Alter>(
     ensures ran_open { RanOpen (state S.Store tx.old.conn.now) (state S.Store tx.new.conn.now) result }
     ensures leads { Leads (IsBlank no_schema) (Has (contents (empty_register registrar.now day)))
         (state S.Store tx.old.conn.now) (state S.Store tx.new.conn.now) result }
+    ensures sets_up { Moves (SetsUp (empty_register registrar.now day))
+        (state S.Store tx.old.conn.now) (state S.Store tx.new.conn.now) result }
 {
     create_tables(tx)?;
     create_period(tx)?;
     insert_register(tx, registrar, day)
 }
 
-/// Makes the tables of a register with no agents and no filings, in a transaction of its own. Where
-/// the store has other tables it may work too, and nothing is promised of what is shown.
+/// Makes the tables of a register with no agents and no filings, in a transaction of its own. What
+/// else the store has stays as it was. Where it had nothing, the connection shows the register.
 pub fn set_up<S: Alter>(conn: &mut Connection<S>, registrar: &Token, day: Day) -> Result<(), Error>
     requires { conn.old.in_transaction ≡ false }
     ensures mode { conn.new.in_transaction ≡ false }
@@ -117,6 +132,12 @@ pub fn set_up<S: Alter>(conn: &mut Connection<S>, registrar: &Token, day: Day) -
         → OnErr result ((state S.Store conn.new).committed ≡ (state S.Store conn.old).committed) }
     ensures stops { LeavesAtMost (λ trees. (state S.Store conn.old).committed.schema ≡ no_schema
         → Stands (empty_register registrar.now day) trees)
+        (state S.Store conn.old) (state S.Store conn.new) }
+    ensures beside { IsClean (state S.Store conn.new)
+        → OnOk result (SetsUp (empty_register registrar.now day) (state S.Store conn.old).committed
+        (state S.Store conn.new).committed) }
+    ensures stops_beside { LeavesAtMost
+        (SetsUpIn (empty_register registrar.now day) (state S.Store conn.old).committed)
         (state S.Store conn.old) (state S.Store conn.new) }
 {
     // Its clause says that the connection shows what the last commit left.

@@ -1,0 +1,65 @@
+-- What the texts are that make the tables and put down the register's row, whatever the schema.
+use Rattle.std.proofs.Common.{◌≡◌, ℕ, List, [], Ok, refl}
+use Rattle.sqlite.specs.Source.TheVariants.{Values}
+use Rattle.sqlite.specs.Table.{Table}
+use Rattle.sqlite_resolve.specs.Compile.{first, index_defined_by}
+use Rattle.sqlite_schema.specs.declared.schema.Index.{Index}
+use Rattle.sqlite_tied.specs.Compute.{everything}
+use Rattle.bor_store_sql.specs.Texts.Changes.{insert_register_text, insert_register_terms}
+use Rattle.bor_store_sql.specs.Texts.Tables.{register_table, filing_table, statement_table, identifier_table, record_index, subject_index, identifier_index, line_index}
+use Rattle.bor_store_sql.specs.declared.texts.tables.TheConstants.{REGISTER_TABLE, AGENT_TABLE, FILING_TABLE, STATEMENT_TABLE, INTEREST_TABLE, IDENTIFIER_TABLE, PERIOD_TABLE, RECORD_INDEX, SUBJECT_INDEX, IDENTIFIER_INDEX, LINE_INDEX}
+use Rattle.bor_store_sql.proofs.AnySchema.{IsPutting, Indexes, Makes, Reads, untimed}
+
+pub register_reads : Reads Makes REGISTER_TABLE.now (first REGISTER_TABLE.now)
+unfolding everything
+register_reads = (refl, refl)
+
+pub agent_reads : Reads Makes AGENT_TABLE.now (first AGENT_TABLE.now)
+unfolding everything
+agent_reads = (refl, refl)
+
+pub filing_reads : Reads Makes FILING_TABLE.now (first FILING_TABLE.now)
+unfolding everything
+filing_reads = (refl, refl)
+
+pub statement_reads : Reads Makes STATEMENT_TABLE.now (first STATEMENT_TABLE.now)
+unfolding everything
+statement_reads = (refl, refl)
+
+pub interest_reads : Reads Makes INTEREST_TABLE.now (first INTEREST_TABLE.now)
+unfolding everything
+interest_reads = (refl, refl)
+
+pub identifier_reads : Reads Makes IDENTIFIER_TABLE.now (first IDENTIFIER_TABLE.now)
+unfolding everything
+identifier_reads = (refl, refl)
+
+pub period_reads : Reads Makes PERIOD_TABLE.now (first PERIOD_TABLE.now)
+unfolding everything
+period_reads = (refl, refl)
+
+-- The text makes this index of a table like this one, whatever its tree.
+pub record IsIndexText (text : List ℕ) (table : Table) (index : Index) : Type 0 where
+  pub reads : Reads (Indexes table.name) text (first text)
+  pub untimed : untimed (first text) ≡ []
+  pub defined : (tree : ℕ) → index_defined_by (record table { tree = tree }) text ≡ Ok (record index { tree = 0; table = tree })
+
+pub record_index_text : IsIndexText RECORD_INDEX.now statement_table record_index
+unfolding everything
+record_index_text = record { reads = ((refl, refl), refl); untimed = refl; defined = λ tree. refl }
+
+pub subject_index_text : IsIndexText SUBJECT_INDEX.now statement_table subject_index
+unfolding everything
+subject_index_text = record { reads = ((refl, refl), refl); untimed = refl; defined = λ tree. refl }
+
+pub identifier_index_text : IsIndexText IDENTIFIER_INDEX.now identifier_table identifier_index
+unfolding everything
+identifier_index_text = record { reads = ((refl, refl), refl); untimed = refl; defined = λ tree. refl }
+
+pub line_index_text : IsIndexText LINE_INDEX.now filing_table line_index
+unfolding everything
+line_index_text = record { reads = ((refl, refl), refl); untimed = refl; defined = λ tree. refl }
+
+pub insert_register_reads : IsPutting register_table (Values insert_register_terms 5) (first insert_register_text)
+unfolding everything
+insert_register_reads = ((refl, λ schema tree. refl), refl)
