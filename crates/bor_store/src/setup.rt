@@ -5,6 +5,7 @@ ghost use Rattle.std.specs.List.{list_any};
 ghost use Rattle.sqlite.specs.Held.{state};
 ghost use Rattle.sqlite.specs.State.{HasCleanDisk};
 ghost use Rattle.bor_register.specs.Register.{empty_register};
+ghost use Rattle.bor_store_sql.specs.Beside.{SetsUp, SetsUpIn};
 ghost use Rattle.bor_store_sql.specs.Texts.Tables.{no_schema};
 ghost use Rattle.bor_store_sql.specs.Shown.{IsClean, IsUp, LeavesAtMost, ShowsIn, Stands};
 ghost use Rattle.bor_store.specs.Opening.{is_used, is_taken};
@@ -56,9 +57,9 @@ fn is_taken(schema: &Schema) -> bool
 }
 
 /// Sets up a register of this day and registrar with no agents and no filings, in one transaction.
-/// A fault leaves what the last commit left; [`OpenFault::Taken`] comes where a table, an index or
-/// a view of the store has a name of the register's tables or indexes, whatever the case of its
-/// letters.
+/// What else the store has stays as it was. A fault leaves what the last commit left;
+/// [`OpenFault::Taken`] comes where a table, an index or a view of the store has a name of the
+/// register's tables or indexes, whatever the case of its letters.
 pub fn set_up<S: Alter>(
     conn: &mut Connection<S>,
     registrar: &Token,
@@ -79,6 +80,12 @@ pub fn set_up<S: Alter>(
         → OnErr result ((state S.Store conn.new).committed ≡ (state S.Store conn.old).committed) }
     ensures stops { LeavesAtMost (λ trees. (state S.Store conn.old).committed.schema ≡ no_schema
         → Stands (empty_register registrar.now day) trees)
+        (state S.Store conn.old) (state S.Store conn.new) }
+    ensures beside { IsClean (state S.Store conn.new)
+        → OnOk result (SetsUp (empty_register registrar.now day) (state S.Store conn.old).committed
+        (state S.Store conn.new).committed) }
+    ensures stops_beside { LeavesAtMost
+        (SetsUpIn (empty_register registrar.now day) (state S.Store conn.old).committed)
         (state S.Store conn.old) (state S.Store conn.new) }
 {
     if is_taken(conn.schema()) {
