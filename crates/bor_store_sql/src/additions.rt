@@ -32,7 +32,8 @@ fn insert_filing<S: Alter>(
     bytes: &[u8],
 ) -> Result<(), Error>
     ensures same_reference { tx.new.conn.ghost_name ≡ tx.old.conn.ghost_name }
-    ensures ran_open { RanOpen (state S.Store tx.old.conn.now) (state S.Store tx.new.conn.now) result }
+    ensures ran_open { RanOpen (state S.Store tx.old.conn.now)
+        (state S.Store tx.new.conn.now) result }
     ensures steps { Steps Any
         (with_filing_row agent.now (live_filing number key.now due bytes.now []))
         (state S.Store tx.old.conn.now) (state S.Store tx.new.conn.now) result }
@@ -332,7 +333,8 @@ fn insert_rows<S: Alter>(
     statements: &[Statement],
 ) -> Result<(), Error>
     ensures same_reference { tx.new.conn.ghost_name ≡ tx.old.conn.ghost_name }
-    ensures ran_open { RanOpen (state S.Store tx.old.conn.now) (state S.Store tx.new.conn.now) result }
+    ensures ran_open { RanOpen (state S.Store tx.old.conn.now)
+        (state S.Store tx.new.conn.now) result }
     ensures steps { Steps Any
         (with_live_filing agent.now number key.now due bytes.now statements.now)
         (state S.Store tx.old.conn.now) (state S.Store tx.new.conn.now) result }

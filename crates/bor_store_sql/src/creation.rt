@@ -25,7 +25,8 @@ use sqlite::{Alter, Connection, Error, Transaction};
 /// Makes the table `period` beside those of version 1, whatever rows they have.
 pub(crate) fn create_period<S: Alter>(tx: &mut Transaction<'_, S>) -> Result<(), Error>
     ensures same_reference { tx.new.conn.ghost_name ≡ tx.old.conn.ghost_name }
-    ensures ran_open { RanOpen (state S.Store tx.old.conn.now) (state S.Store tx.new.conn.now) result }
+    ensures ran_open { RanOpen (state S.Store tx.old.conn.now)
+        (state S.Store tx.new.conn.now) result }
     ensures moves { Moves MakesPeriod (state S.Store tx.old.conn.now)
         (state S.Store tx.new.conn.now) result }
     ensures adds { Moves (Adds (blank period_table ∷ []) []) (state S.Store tx.old.conn.now)
@@ -36,7 +37,8 @@ pub(crate) fn create_period<S: Alter>(tx: &mut Transaction<'_, S>) -> Result<(),
 
 fn create_lists<S: Alter>(tx: &mut Transaction<'_, S>) -> Result<(), Error>
     ensures same_reference { tx.new.conn.ghost_name ≡ tx.old.conn.ghost_name }
-    ensures ran_open { RanOpen (state S.Store tx.old.conn.now) (state S.Store tx.new.conn.now) result }
+    ensures ran_open { RanOpen (state S.Store tx.old.conn.now)
+        (state S.Store tx.new.conn.now) result }
     ensures leads { Leads (IsBlank no_schema) (IsBlank schema_3) (state S.Store tx.old.conn.now)
         (state S.Store tx.new.conn.now) result }
     ensures adds { Moves (Adds lists []) (state S.Store tx.old.conn.now)
@@ -75,7 +77,8 @@ fn create_indexes<S: Alter>(tx: &mut Transaction<'_, S>) -> Result<(), Error>
 // The tables of version 1.
 fn create_tables<S: Alter>(tx: &mut Transaction<'_, S>) -> Result<(), Error>
     ensures same_reference { tx.new.conn.ghost_name ≡ tx.old.conn.ghost_name }
-    ensures ran_open { RanOpen (state S.Store tx.old.conn.now) (state S.Store tx.new.conn.now) result }
+    ensures ran_open { RanOpen (state S.Store tx.old.conn.now)
+        (state S.Store tx.new.conn.now) result }
     ensures leads { Leads (IsBlank no_schema) (IsBlank first_schema) (state S.Store tx.old.conn.now)
         (state S.Store tx.new.conn.now) result }
     ensures adds { Moves (Adds (lists ++ details) four_indexes) (state S.Store tx.old.conn.now)
@@ -106,7 +109,8 @@ fn make_register<S: Alter>(
     day: Day,
 ) -> Result<(), Error>
     ensures same_reference { tx.new.conn.ghost_name ≡ tx.old.conn.ghost_name }
-    ensures ran_open { RanOpen (state S.Store tx.old.conn.now) (state S.Store tx.new.conn.now) result }
+    ensures ran_open { RanOpen (state S.Store tx.old.conn.now)
+        (state S.Store tx.new.conn.now) result }
     ensures leads { Leads (IsBlank no_schema) (Has (contents (empty_register registrar.now day)))
         (state S.Store tx.old.conn.now) (state S.Store tx.new.conn.now) result }
     ensures sets_up { Moves (SetsUp (empty_register registrar.now day))

@@ -57,7 +57,8 @@ fn set_version<S: Alter>(tx: &mut Transaction<'_, S>) -> Result<(), Error>
 // Makes the table `period` with these rows, and sets the version.
 fn move_rows<S: Alter>(tx: &mut Transaction<'_, S>, periods: &[PeriodRow]) -> Result<(), Error>
     ensures same_reference { tx.new.conn.ghost_name ≡ tx.old.conn.ghost_name }
-    ensures ran_open { RanOpen (state S.Store tx.old.conn.now) (state S.Store tx.new.conn.now) result }
+    ensures ran_open { RanOpen (state S.Store tx.old.conn.now)
+        (state S.Store tx.new.conn.now) result }
     ensures moves { Moves (MovesRows periods.now) (state S.Store tx.old.conn.now)
         (state S.Store tx.new.conn.now) result }
 {

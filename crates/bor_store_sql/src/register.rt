@@ -17,7 +17,8 @@ use sqlite::{Alter, Connection, Error, Transaction};
 
 fn update_day<S: Alter>(tx: &mut Transaction<'_, S>, day: Day) -> Result<(), Error>
     ensures same_reference { tx.new.conn.ghost_name ≡ tx.old.conn.ghost_name }
-    ensures ran_open { RanOpen (state S.Store tx.old.conn.now) (state S.Store tx.new.conn.now) result }
+    ensures ran_open { RanOpen (state S.Store tx.old.conn.now)
+        (state S.Store tx.new.conn.now) result }
     ensures steps { Steps (IsOneRegister day) (with_day day) (state S.Store tx.old.conn.now)
         (state S.Store tx.new.conn.now) result }
 {
@@ -30,7 +31,8 @@ fn insert_agent<S: Alter>(
     token: &str,
 ) -> Result<(), Error>
     ensures same_reference { tx.new.conn.ghost_name ≡ tx.old.conn.ghost_name }
-    ensures ran_open { RanOpen (state S.Store tx.old.conn.now) (state S.Store tx.new.conn.now) result }
+    ensures ran_open { RanOpen (state S.Store tx.old.conn.now)
+        (state S.Store tx.new.conn.now) result }
     ensures steps { Steps Any (with_agent_row (agent_columns (new_member agent.now token.now)))
         (state S.Store tx.old.conn.now) (state S.Store tx.new.conn.now) result }
 {

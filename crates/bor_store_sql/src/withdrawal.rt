@@ -20,7 +20,8 @@ fn withdraw_rows<S: Alter>(
     number: u32,
 ) -> Result<(), Error>
     ensures same_reference { tx.new.conn.ghost_name ≡ tx.old.conn.ghost_name }
-    ensures ran_open { RanOpen (state S.Store tx.old.conn.now) (state S.Store tx.new.conn.now) result }
+    ensures ran_open { RanOpen (state S.Store tx.old.conn.now)
+        (state S.Store tx.new.conn.now) result }
     ensures steps { Steps (IsOnce agent.now number) (withdrawn_in agent.now number)
         (state S.Store tx.old.conn.now) (state S.Store tx.new.conn.now) result }
 {

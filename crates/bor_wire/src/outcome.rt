@@ -45,13 +45,13 @@ fn write_reply<W: Write>(writer: &mut Counted<W>, status: u16, bytes: &[u8]) -> 
 ///
 /// With a status other than 503 the bytes that are written, of which a failing writer takes a
 /// front, are the reply to the one input, which each agent receives as it would alone, and the
-/// register left is the one after it. With 503 they are [`UNAVAILABLE`], and nothing changed, unless
-/// the store shut in its commit: then the next one to open it may find the change.
+/// register left is the one after it. With 503 they are [`UNAVAILABLE`], and nothing changed,
+/// unless the store shut in its commit: then the next one to open it may find the change.
 ///
 /// Of any keep it is said that 503 has [`UNAVAILABLE`] written, which refusal an input is told that
 /// spells no request, and, if its store has returned what was written, that a request has another
-/// status than 503 only where the keep ends clean, and that a stop leaves what one before might have
-/// left, or the register after the request. Of a keep that ends clean it is said
+/// status than 503 only where the keep ends clean, and that a stop leaves what one before might
+/// have left, or the register after the request. Of a keep that ends clean it is said
 /// - of any register: that a status of 400 or more, or a failed read, changes nothing;
 /// - of registers whose agents stand in order of their names, as every legal one's do: which reply
 ///   is written and which register is left;

@@ -31,7 +31,8 @@ use std::io::Read;
 pub enum Outgoing {
     /// A whole reply, with its status.
     Full(u16, Vec<u8>),
-    /// Memory was wanting, or the keep failed. Nothing changed, unless its store shut in its commit.
+    /// Memory was wanting, or the keep failed. Nothing changed, unless its store shut in its
+    /// commit.
     Unavailable,
 }
 

@@ -63,8 +63,8 @@ impl FullReply {
 pub enum Reply {
     /// The whole reply, with its status.
     Full(FullReply),
-    /// Memory was wanting, or the keep failed. Nothing changed, unless its store shut in its commit.
-    /// What is sent is [`UNAVAILABLE`](crate::rendering::UNAVAILABLE).
+    /// Memory was wanting, or the keep failed. Nothing changed, unless its store shut in its
+    /// commit. What is sent is [`UNAVAILABLE`](crate::rendering::UNAVAILABLE).
     Unavailable,
 }
 
