@@ -194,6 +194,40 @@ def files_of_other_programs_are_told(bor, folder):
         told_of(bor, folder, sql, reported, exchanged)
 
 
+# The tables of another program, with all that may stand in a database beside tables.
+OTHERS = """
+PRAGMA user_version = 5;
+CREATE TABLE customer (id INTEGER PRIMARY KEY AUTOINCREMENT, name TEXT NOT NULL UNIQUE);
+CREATE TABLE bill (customer INTEGER NOT NULL REFERENCES customer (id), cents INTEGER) STRICT;
+CREATE INDEX bill_of ON bill (customer);
+CREATE VIEW owing AS SELECT name, cents FROM customer JOIN bill ON bill.customer = customer.id;
+CREATE TABLE note (text);
+CREATE TRIGGER note_made AFTER INSERT ON note BEGIN UPDATE note SET text = upper(text); END;
+INSERT INTO note VALUES ('paid');
+INSERT INTO customer (name) VALUES ('Ann'), ('Ben');
+INSERT INTO bill VALUES (1, 250), (2, 1000), (2, NULL);
+"""
+# What is there of them: how each is defined, and its rows.
+OTHERS_READ = [
+    "SELECT type, name, tbl_name, rootpage, sql FROM sqlite_master WHERE tbl_name IN ('customer', 'bill', 'owing', 'note') ORDER BY name",
+    *(f"SELECT * FROM {it}" for it in ("customer", "bill", "owing", "note", "sqlite_sequence", "pragma_user_version")),
+]
+
+
+@check
+def a_register_stands_beside_other_tables(bor, folder):
+    """a register that is set up beside other tables answers as it does alone, and they stay as they were"""
+    changed(folder, OTHERS, "other.db")
+    before = [rows_of(folder, query, "other.db") for query in OTHERS_READ]
+    requests = [*map(str, sorted(DAY_FILES.glob("*.http")))]
+    alone = bor.run(["exchange", "--db", "day.db", *REGISTER, *requests], folder)
+    beside = bor.run(["exchange", "--db", "other.db", *REGISTER, *requests], folder)
+    is_so((beside.output, beside.status, beside.errors) == (alone.output, 1, b""), beside.told())
+    for query, there in zip(OTHERS_READ, before):
+        is_so(there and rows_of(folder, query, "other.db") == there, f"{query}: {rows_of(folder, query, 'other.db')}")
+    is_so(rows_of(folder, "PRAGMA integrity_check", "other.db") == [("ok",)], "the file isn't sound")
+
+
 # What is done to a register's own tables, and what is told then.
 SPOILED = [
     ("UPDATE register SET version = 7", SEVEN, SEVEN),
