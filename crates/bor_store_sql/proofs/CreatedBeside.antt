@@ -1,5 +1,5 @@
 -- Each text that makes a table or an index adds it to a database, whatever stands there.
-use Rattle.std.proofs.Common.{◌≡◌, List, [], ◌∷◌, ◌++◌, Ok, Result}
+use Rattle.std.proofs.Common.{◌≡◌, List, [], ◌∷◌, ◌++◌, Ok, Result, refl}
 use Rattle.sqlite.specs.Order.{Row}
 use Rattle.sqlite.specs.State.{State}
 use Rattle.sqlite.specs.Table.{Table}
@@ -17,25 +17,25 @@ use Rattle.bor_store_sql.proofs.Standing.{adds_all, indexes_all}
 
 module _ (given : Row) (old new : State) (result : Result (Unit {0}) Error) where
   pub register_added : Ran REGISTER_TABLE.now given old new result → given ≡ [] → Moves (Adds (blank register_table ∷ []) []) old new result
-  register_added ran is = moves_by _ REGISTER_TABLE.now given [] old new result ran is (λ count h. table_beside REGISTER_TABLE.now register_table register_reads register_is.3 old new count h)
+  register_added ran is = moves_by _ REGISTER_TABLE.now given [] old new result ran is (λ count h. table_beside REGISTER_TABLE.now register_table register_reads register_is.3 refl old new count h)
 
   pub agent_added : Ran AGENT_TABLE.now given old new result → given ≡ [] → Moves (Adds (blank agent_table ∷ []) []) old new result
-  agent_added ran is = moves_by _ AGENT_TABLE.now given [] old new result ran is (λ count h. table_beside AGENT_TABLE.now agent_table agent_reads agent_is.3 old new count h)
+  agent_added ran is = moves_by _ AGENT_TABLE.now given [] old new result ran is (λ count h. table_beside AGENT_TABLE.now agent_table agent_reads agent_is.3 refl old new count h)
 
   pub filing_added : Ran FILING_TABLE.now given old new result → given ≡ [] → Moves (Adds (blank filing_table ∷ []) []) old new result
-  filing_added ran is = moves_by _ FILING_TABLE.now given [] old new result ran is (λ count h. table_beside FILING_TABLE.now filing_table filing_reads filing_is.3 old new count h)
+  filing_added ran is = moves_by _ FILING_TABLE.now given [] old new result ran is (λ count h. table_beside FILING_TABLE.now filing_table filing_reads filing_is.3 refl old new count h)
 
   pub statement_added : Ran STATEMENT_TABLE.now given old new result → given ≡ [] → Moves (Adds (blank statement_table ∷ []) []) old new result
-  statement_added ran is = moves_by _ STATEMENT_TABLE.now given [] old new result ran is (λ count h. table_beside STATEMENT_TABLE.now statement_table statement_reads statement_is.3 old new count h)
+  statement_added ran is = moves_by _ STATEMENT_TABLE.now given [] old new result ran is (λ count h. table_beside STATEMENT_TABLE.now statement_table statement_reads statement_is.3 refl old new count h)
 
   pub interest_added : Ran INTEREST_TABLE.now given old new result → given ≡ [] → Moves (Adds (blank interest_table ∷ []) []) old new result
-  interest_added ran is = moves_by _ INTEREST_TABLE.now given [] old new result ran is (λ count h. table_beside INTEREST_TABLE.now interest_table interest_reads interest_is.3 old new count h)
+  interest_added ran is = moves_by _ INTEREST_TABLE.now given [] old new result ran is (λ count h. table_beside INTEREST_TABLE.now interest_table interest_reads interest_is.3 refl old new count h)
 
   pub identifier_added : Ran IDENTIFIER_TABLE.now given old new result → given ≡ [] → Moves (Adds (blank identifier_table ∷ []) []) old new result
-  identifier_added ran is = moves_by _ IDENTIFIER_TABLE.now given [] old new result ran is (λ count h. table_beside IDENTIFIER_TABLE.now identifier_table identifier_reads identifier_is.3 old new count h)
+  identifier_added ran is = moves_by _ IDENTIFIER_TABLE.now given [] old new result ran is (λ count h. table_beside IDENTIFIER_TABLE.now identifier_table identifier_reads identifier_is.3 refl old new count h)
 
   pub period_added : Ran PERIOD_TABLE.now given old new result → given ≡ [] → Moves (Adds (blank period_table ∷ []) []) old new result
-  period_added ran is = moves_by _ PERIOD_TABLE.now given [] old new result ran is (λ count h. table_beside PERIOD_TABLE.now period_table period_reads period_is.3 old new count h)
+  period_added ran is = moves_by _ PERIOD_TABLE.now given [] old new result ran is (λ count h. table_beside PERIOD_TABLE.now period_table period_reads period_is.3 refl old new count h)
 
   pub record_index_added : Ran RECORD_INDEX.now given old new result → given ≡ [] → Moves (AddsIndexes ((statement_table, record_index) ∷ [])) old new result
   record_index_added ran is = moves_by _ RECORD_INDEX.now given [] old new result ran is (λ count h. index_beside RECORD_INDEX.now statement_table record_index record_index_text old new count h)

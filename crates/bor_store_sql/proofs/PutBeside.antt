@@ -22,7 +22,7 @@ use Rattle.sqlite_schema.specs.Rules.{ParentKey}
 use Rattle.sqlite_schema.specs.declared.schema.Keys.{Keys}
 use Rattle.sqlite_schema.specs.declared.schema.Keys.TheVariants.{Enforced}
 use Rattle.sqlite_schema.specs.declared.schema.Reference.{Reference}
-use Rattle.bor_store_sql.specs.Beside.{HasIndexes, HasTables, PutsRegister, blank, details, four_indexes}
+use Rattle.bor_store_sql.specs.Beside.{HasIndexes, HasTables, MakesOnly, PutsRegister, blank, details, four_indexes, seven_tables}
 use Rattle.bor_store_sql.specs.Kept.{Keeps}
 use Rattle.bor_store_sql.proofs.Unread.{unread, unread_all}
 use Rattle.bor_store_sql.specs.Rows.Encoding.{register_columns}
@@ -76,7 +76,7 @@ module _ (old new : Database) (tree : ℕ) (schema_is : new.schema ≡ old.schem
 module _ (registrar : List ℕ) (day : ℤ) where
   -- the register's table is found without rows, and the row is put into it
   pub register_put_beside : (old new : State) (count : ℕ) → Executes insert_register_text (given_register day registrar) old new (Ok count) → PutsRegister (first_register registrar day) old.now new.now
-  register_put_beside old new count h before adds =
+  register_put_beside old new count h before adds sound =
       let x = register_columns (first_register registrar day) in
       let tree = adds.tables.0 in
       let own = adds.tables.2 in
@@ -96,7 +96,7 @@ module _ (registrar : List ℕ) (day : ℤ) where
               kept_at old.now new.now tree made.schema_is made.tables t later (λ same. omega (arith, same, table_below before.schema t has, adds.tables.1))
               ∙ all_has (λ t. old.now.trees t.tree ≡ before.trees t.tree) before.schema.tables t adds.spares.rows has);
         };
-        unread = unread_all before old.now new.now adds.sound adds.spares adds.unread (unread old.now new.now made.frozen);
+        unread = unread_all before old.now new.now adds.sound adds.spares adds.unread (unread old.now new.now made.frozen) sound;
         tables = (
           tree,
           adds.tables.1,
@@ -104,4 +104,5 @@ module _ (registrar : List ℕ) (day : ℤ) where
           tables_beside old.now new.now tree made.schema_is made.tables (tree + 1) others (omega arith) adds.tables.3,
         );
         indexes = subst (HasIndexes four_indexes) (sym made.schema_is) adds.indexes;
+        only = subst (MakesOnly seven_tables four_indexes before.schema) (sym made.schema_is) adds.only;
       }

@@ -1,7 +1,8 @@
 -- What stands in a database, while tables are made beside it.
-use Rattle.std.proofs.Common.{◌≡◌, ℕ, zero, suc, ◌+◌, ◌<◌, ◌≤◌, max, fold, Bool, true, false, cond, List, [], ◌∷◌, ◌++◌, append_assoc, length, slice_get, None, Some, refl, sym, ap, subst, ◌∙◌, arith}
+use Rattle.std.proofs.Common.{◌≡◌, ℕ, zero, suc, ◌+◌, ◌<◌, ◌≤◌, max, fold, Bool, true, false, cond, List, [], ◌∷◌, ◌++◌, append_assoc, length, slice_get, None, Some, inl, inr, refl, sym, ap, subst, ◌∙◌, arith}
 use Rattle.std.specs.List.{AllByRecursion, position_from}
 use Rattle.std.proofs.lemmas.Grind.{fold-append}
+use Rattle.std.proofs.lemmas.List.{map-append}
 use Rattle.sqlite.specs.Change.{next_tree}
 use Rattle.sqlite.specs.Effect.{Database}
 use Rattle.sqlite.specs.Table.{Table}
@@ -10,12 +11,12 @@ use Rattle.sqlite_catalog.specs.Change.{past_views}
 use Rattle.sqlite_catalog.proofs.ListFacts.{most_from}
 use Rattle.sqlite_catalog.proofs.StepLemmas.{table_below}
 use Rattle.sqlite_rules.specs.Lists.{Has}
-use Rattle.sqlite_rules.proofs.ListLemmas.{all_has, all_from, has_got, has_left}
+use Rattle.sqlite_rules.proofs.ListLemmas.{all_has, all_from, has_either, has_got, has_left, has_right}
 use Rattle.sqlite_schema.specs.Names.{same_name}
 use Rattle.sqlite_schema.specs.declared.schema.Index.{Index}
 use Rattle.sqlite_keyed.proofs.ListLemmas.{all-append}
 use Rattle.bor_register.specs.Register.{Register}
-use Rattle.bor_store_sql.specs.Beside.{Adds, AddsIndexes, HasIndex, HasMore, HasIndexes, HasTable, HasTables, HasTheirTables, SetsUp, SetsUpIn, Spares, details, four_indexes, lists}
+use Rattle.bor_store_sql.specs.Beside.{Adds, AddsIndexes, HasIndex, HasMore, HasIndexes, HasTable, HasTables, HasTheirTables, IsIndexMade, IsMade, IsOver, MakesOnly, SetsUp, SetsUpIn, Spares, details, four_indexes, lists, tables_of}
 use Rattle.bor_store_sql.specs.Kept.{Keeps}
 use Rattle.bor_store_sql.proofs.Unread.{unread_all}
 use Rattle.sqlite.specs.Order.{Row}
@@ -142,6 +143,49 @@ theirs_still : (old new : Database) → Spares old new → (indexes : List (Tabl
 theirs_still old new spares [] has = tt
 theirs_still old new spares (i ∷ indexes) has = ((has.0.0, has.0.1, table_still old new i.0 has.0.0 has.0.1 spares has.0.2), theirs_still old new spares indexes has.1)
 
+-- ---- nothing else
+
+module _ (old mid new : Database) (one : Spares old mid) (two : Spares mid new) (tables others : List Table) (indexes further : List (Table × Index)) where
+  table_made : MakesOnly tables indexes old.schema mid.schema → MakesOnly others further mid.schema new.schema → (t : Table) → Has new.schema.tables t → next_tree old.schema ≤ t.tree → IsMade (tables ++ others) old.schema t
+  table_made first second t has low = elim (has_either mid.schema.tables two.tables.0 t (subst (λ xs. Has xs t) two.tables.1 has)) [
+    | inl h ↦ elim (all_has (λ (t : Table). next_tree old.schema ≤ t.tree → IsMade tables old.schema t) mid.schema.tables t first.tables_are h low) [
+      | inl is ↦ inl (is.0, has_left tables others is.0 is.1, is.2)
+      | inr is ↦ inr is
+    ]
+    | inr h ↦ elim (all_has (λ (t : Table). next_tree mid.schema ≤ t.tree → IsMade others mid.schema t) new.schema.tables t second.tables_are has (all_has (λ (t : Table). next_tree mid.schema ≤ t.tree) two.tables.0 t two.tables.2 h)) [
+      | inl is ↦ inl (is.0, has_right tables others is.0 is.1, is.2)
+      | inr is ↦ inr (sym first.counts ∙ is.0, is.1)
+    ]
+  ]
+
+  over_still : (table : Table) (index i : Index) → IsOver mid.schema table index i → IsOver new.schema table index i
+  over_still table index i is = (
+    is.0,
+    is.1,
+    rw two.tables.1 (found_still (λ (t : Table). same_name t.name table.name) 0 mid.schema.tables two.tables.0 is.0 is.2),
+    rw two.tables.1 (got_still mid.schema.tables two.tables.0 is.0 is.1 is.3),
+    is.4,
+  )
+
+  index_made : MakesOnly tables indexes old.schema mid.schema → MakesOnly others further mid.schema new.schema → (i : Index) → Has new.schema.indexes i → next_tree old.schema ≤ i.tree → IsIndexMade (indexes ++ further) old.schema new.schema i
+  index_made first second i has low = elim (has_either mid.schema.indexes two.indexes.0 i (subst (λ xs. Has xs i) two.indexes.1 has)) [
+    | inl h ↦ elim (all_has (λ (i : Index). next_tree old.schema ≤ i.tree → IsIndexMade indexes old.schema mid.schema i) mid.schema.indexes i first.indexes_are h low) [
+      | inl is ↦ inl (is.0, has_left indexes further is.0 is.1, over_still is.0.0 is.0.1 i is.2)
+      | inr is ↦ inr (is.0, subst (λ xs. Has xs is.0) (sym two.tables.1) (has_left mid.schema.tables two.tables.0 is.0 is.1), is.2, is.3)
+    ]
+    | inr h ↦ elim (all_has (λ (i : Index). next_tree mid.schema ≤ i.tree → IsIndexMade further mid.schema new.schema i) new.schema.indexes i second.indexes_are has (all_has (λ (i : Index). next_tree mid.schema ≤ i.tree) two.indexes.0 i two.indexes.2 h)) [
+      | inl is ↦ inl (is.0, has_right indexes further is.0 is.1, is.2)
+      | inr is ↦ inr (is.0, is.1, omega (arith, is.2, next_rises old mid one), is.3)
+    ]
+  ]
+
+  pub only_all : MakesOnly tables indexes old.schema mid.schema → MakesOnly others further mid.schema new.schema → MakesOnly (tables ++ others) (indexes ++ further) old.schema new.schema
+  only_all first second = record {
+    tables_are = all_from (λ (t : Table). next_tree old.schema ≤ t.tree → IsMade (tables ++ others) old.schema t) new.schema.tables (table_made first second);
+    indexes_are = all_from (λ (i : Index). next_tree old.schema ≤ i.tree → IsIndexMade (indexes ++ further) old.schema new.schema i) new.schema.indexes (index_made first second);
+    counts = second.counts ∙ first.counts;
+  }
+
 -- ---- all that is added
 
 pub adds_all : (tables others : List (Table × List Row)) (indexes further : List (Table × Index)) (old mid new : Database) → Adds tables indexes old mid → Adds others further mid new
@@ -152,6 +196,7 @@ adds_all tables others indexes further old mid new one two = record {
   unread = unread_all old mid new one.sound one.spares one.unread two.unread;
   tables = both_there mid new two.spares (next_tree old.schema) tables others (next_rises old mid one.spares) one.tables two.tables;
   indexes = all-append (λ i. HasIndex new.schema i.0 i.1) indexes further (indexes_still mid new two.spares indexes one.indexes) two.indexes;
+  only = rw (map-append (λ (it : Table × List Row). it.0) tables others) (only_all old mid new one.spares two.spares (tables_of tables) (tables_of others) indexes further one.only two.only);
 }
 
 pub indexes_all : (indexes further : List (Table × Index)) (old mid new : Database) → AddsIndexes indexes old mid → AddsIndexes further mid new → AddsIndexes (indexes ++ further) old new
@@ -162,21 +207,26 @@ indexes_all indexes further old mid new one two = record {
   indexes = λ theirs.
       let both = parts_of (λ i. (tree : ℕ) × (rows : List Row) × HasTable old i.0 tree rows) indexes further theirs in
       all-append (λ i. HasIndex new.schema i.0 i.1) indexes further (indexes_still mid new two.spares indexes (one.indexes both.0)) (two.indexes (theirs_still old mid one.spares further both.1));
+  only = λ theirs.
+      let both = parts_of (λ i. (tree : ℕ) × (rows : List Row) × HasTable old i.0 tree rows) indexes further theirs in
+      only_all old mid new one.spares two.spares [] [] indexes further (one.only both.0) (two.only (theirs_still old mid one.spares further both.1));
 }
 
 -- the four indexes, over tables of version 1 that were added
 pub with_indexes : (old mid new : Database) → Adds (lists ++ details) [] old mid → AddsIndexes four_indexes mid new → Adds (lists ++ details) four_indexes old new
-with_indexes old mid new one two = record {
-  sound = two.sound;
-  spares = spares_all old mid new one.spares two.spares;
-  unread = unread_all old mid new one.sound one.spares one.unread two.unread;
-  tables = tables_still mid new two.spares (next_tree old.schema) (lists ++ details) one.tables;
-  indexes =
-      let filing = one.tables.3.3 in
-      let statement = filing.3 in
-      let identifier = statement.3.3 in
-      two.indexes ((statement.0, [], statement.2), ((statement.0, [], statement.2), ((identifier.0, [], identifier.2), ((filing.0, [], filing.2), tt))));
-}
+with_indexes old mid new one two =
+    let filing = one.tables.3.3 in
+    let statement = filing.3 in
+    let identifier = statement.3.3 in
+    let theirs : HasTheirTables four_indexes mid = ((statement.0, [], statement.2), ((statement.0, [], statement.2), ((identifier.0, [], identifier.2), ((filing.0, [], filing.2), tt)))) in
+    record {
+      sound = two.sound;
+      spares = spares_all old mid new one.spares two.spares;
+      unread = unread_all old mid new one.sound one.spares one.unread two.unread;
+      tables = tables_still mid new two.spares (next_tree old.schema) (lists ++ details) one.tables;
+      indexes = two.indexes theirs;
+      only = only_all old mid new one.spares two.spares (tables_of (lists ++ details)) [] [] four_indexes one.only (two.only theirs);
+    }
 
 -- ---- what a stop leaves
 

@@ -147,18 +147,21 @@ still_unread old new sound sound_new spares listed tree is =
       alone = alone;
     }
 
-pub unread_all : (first then last : Database) → IsDatabase then → Spares first then → SparesUnread first then → SparesUnread then last → SparesUnread first last
-unread_all first then last sound spares one two = record {
-  listed = λ row has is. two.listed row (one.listed row has is) is;
-  rows = λ sound_first tree is. two.rows sound tree (still_unread first then sound_first sound spares one.listed tree is) ∙ one.rows sound_first tree is;
-  version = two.version ∙ one.version;
-}
+pub unread_all : (first then last : Database) → IsDatabase then → Spares first then → (IsDatabase first → SparesUnread first then) → (IsDatabase then → SparesUnread then last) → IsDatabase first → SparesUnread first last
+unread_all first then last sound_then spares before after sound =
+    let one = before sound in
+    let two = after sound_then in
+    record {
+      listed = λ row has is. two.listed row (one.listed row has is) is;
+      rows = λ tree is. two.rows tree (still_unread first then sound sound_then spares one.listed tree is) ∙ one.rows tree is;
+      version = two.version ∙ one.version;
+    }
 
 -- one statement
-pub unread : (old new : Database) → SparesFrozen old new → SparesUnread old new
-unread old new frozen = record {
+pub unread : (old new : Database) → SparesFrozen old new → IsDatabase old → SparesUnread old new
+unread old new frozen sound = record {
   listed = frozen.texts;
-  rows = λ sound tree is.
+  rows = λ tree is.
       let bound = (low old sound tree is.no_table is.no_index is.frozen).1 in
       frozen.rows tree (λ same. omega (arith, bound, same)) (λ same. omega (arith, bound, same)) is.frozen;
   version = frozen.version;

@@ -6,7 +6,7 @@ ghost use Rattle.sqlite.specs.State.{HasCleanDisk};
 ghost use Rattle.bor_register.specs.Register.{empty_register};
 ghost use Rattle.bor_store_sql.specs.Texts.Tables.{no_schema, schema_3, schema_6, first_schema, period_table};
 ghost use Rattle.bor_store_sql.specs.Rows.Encoding.{contents};
-ghost use Rattle.bor_store_sql.specs.Beside.{Adds, AddsIndexes, PutsRegister, SetsUp, SetsUpIn, blank, details, four_indexes, lists};
+ghost use Rattle.bor_store_sql.specs.Beside.{Adds, AddsIndexes, PutsRegister, SetsUp, SetsUpIn, SetsUpSound, blank, details, four_indexes, lists};
 ghost use Rattle.bor_store_sql.specs.Blank.{IsBlank, Leads, no_contents};
 ghost use Rattle.bor_store_sql.specs.Moving.{MakesPeriod};
 ghost use Rattle.bor_store_sql.specs.Ran.{Moves, RanOpen};
@@ -113,7 +113,7 @@ fn make_register<S: Alter>(
         (state S.Store tx.new.conn.now) result }
     ensures leads { Leads (IsBlank no_schema) (Has (contents (empty_register registrar.now day)))
         (state S.Store tx.old.conn.now) (state S.Store tx.new.conn.now) result }
-    ensures sets_up { Moves (SetsUp (empty_register registrar.now day))
+    ensures sets_up { Moves (SetsUpSound (empty_register registrar.now day))
         (state S.Store tx.old.conn.now) (state S.Store tx.new.conn.now) result }
 {
     create_tables(tx)?;
@@ -144,8 +144,9 @@ pub fn set_up<S: Alter>(conn: &mut Connection<S>, registrar: &Token, day: Day) -
         (SetsUpIn (empty_register registrar.now day) (state S.Store conn.old).committed)
         (state S.Store conn.old) (state S.Store conn.new) }
 {
-    // Its clause says that the connection shows what the last commit left.
+    // Their clauses say that the connection shows what the last commit left, which is sound.
     let _settled = conn.is_autocommit();
+    let _live = conn.schema();
     // Their clauses say that the token has its form, and that the number is that of a day.
     let token = registrar.as_str();
     let _known = day.number();

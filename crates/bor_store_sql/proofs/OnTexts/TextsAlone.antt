@@ -1,8 +1,11 @@
 -- What the texts are that make the tables and put down the register's row, whatever the schema.
-use Rattle.std.proofs.Common.{◌≡◌, ℕ, List, [], Ok, refl}
+use Rattle.std.proofs.Common.{◌≡◌, ℕ, Bool, false, List, [], Ok, Err, Result, refl}
+use Rattle.sqlite.specs.Compile.{table_defined_by}
+use Rattle.sqlite.specs.Does.{sequence_text}
 use Rattle.sqlite.specs.Source.TheVariants.{Values}
 use Rattle.sqlite.specs.Table.{Table}
 use Rattle.sqlite_resolve.specs.Compile.{first, index_defined_by}
+use Rattle.sqlite_resolve.specs.declared.error.CompileError.{CompileError}
 use Rattle.sqlite_schema.specs.declared.schema.Index.{Index}
 use Rattle.sqlite_tied.specs.Compute.{everything}
 use Rattle.bor_store_sql.specs.Texts.Changes.{insert_register_text, insert_register_terms}
@@ -37,6 +40,15 @@ identifier_reads = (refl, refl)
 pub period_reads : Reads Makes PERIOD_TABLE.now (first PERIOD_TABLE.now)
 unfolding everything
 period_reads = (refl, refl)
+
+-- the table has AUTOINCREMENT
+abbrev pub counted_in : Result Table CompileError → Bool
+counted_in (Ok t) = t.is_counted
+counted_in (Err e) = false
+
+pub sequence_uncounted : counted_in (table_defined_by sequence_text) ≡ false
+unfolding everything
+sequence_uncounted = refl
 
 -- The text makes this index of a table like this one, whatever its tree.
 pub record IsIndexText (text : List ℕ) (table : Table) (index : Index) : Type 0 where
