@@ -8,7 +8,7 @@ ghost use Rattle.sqlite_schema.specs.Names.{same_name, column_named};
 ghost use Rattle.bor_register.specs.Register.{Register};
 ghost use Rattle.bor_store_sql.specs.Rows.Encoding.{tables_version};
 ghost use Rattle.bor_store_sql.specs.Found.{Asked};
-ghost use Rattle.bor_store_sql.specs.Shown.{IsClean, ShowsFirst, ShowsIn};
+ghost use Rattle.bor_store_sql.specs.Shown.{IsClean, IsUp, ShowsFirst, ShowsIn};
 ghost use Rattle.bor_store_reads.specs.Answering.{ReadsOnly};
 ghost use Rattle.bor_store.specs.Opening.{AreVersions, IsFailure, IsFaithful, IsJudged, RefusesFirst, has_all, has_first, is_versioned, version_in, version_text};
 ghost use Rattle.bor_store.specs.declared.open_fault.OpenFault.TheVariants as faults;
@@ -163,6 +163,7 @@ pub fn examine<S: Alter>(conn: &mut Connection<S>) -> Result<(), OpenFault>
         → result ≡ Err faults.NoRegister }
     ensures other { (n : ℤ) → result ≡ Err (faults.OtherVersion n) → n ≢ tables_version }
     ensures whole { OnOk result (IsTrue (has_all (state S.Store conn.old).now.schema)) }
+    ensures up { OnOk result (IsUp (state S.Store conn.new)) }
     ensures judged { HasCleanDisk (state S.Store conn.new)
         → IsJudged (state S.Store conn.old) result }
     ensures shown { HasCleanDisk (state S.Store conn.new) → IsTrue (state S.Store conn.old).is_open
@@ -200,6 +201,7 @@ impl<S: Alter + Drop> SqlKeep<S> {
             → ShowsIn r (state S.Store conn) → IfErr result IsFailure }
         ensures first { IsFaithful S.Store → IsTrue (state S.Store conn).is_open
             → (r : Register) → ShowsFirst r (state S.Store conn) → RefusesFirst result }
+        ensures up { IfOk result (λ k. IsUp (state S.Store k.conn)) }
         ensures began { IfOk result (λ k.
             IsClean (state S.Store k.conn) → IsClean (state S.Store conn)) }
         ensures shows { IfOk result (λ k.

@@ -5,7 +5,7 @@ ghost use Rattle.sqlite.specs.Files.{file_state};
 ghost use Rattle.sqlite.specs.State.{HasCleanDisk};
 ghost use Rattle.sqlite_wal.specs.Files.{image_at};
 ghost use Rattle.bor_register.specs.Register.{Register};
-ghost use Rattle.bor_store_sql.specs.Shown.{IsClean, ShowsIn};
+ghost use Rattle.bor_store_sql.specs.Shown.{IsClean, IsUp, ShowsIn};
 ghost use Rattle.bor_store.specs.Opening.{HoldsRegister, IsClosing, IsConnected, IsFailure};
 
 use crate::open_fault::OpenFault;
@@ -41,6 +41,7 @@ impl<S: Start> SqlKeep<FileStore<FileFrom<S>>> {
         path: &str,
         start: S,
     ) -> Result<SqlKeep<FileStore<FileFrom<S>>>, OpenFault>
+        ensures up { IfOk result (λ k. IsUp (file_state k.conn)) }
         ensures found { IfOk result (λ k. IsClean (file_state k.conn)
             → (r : Register) → HoldsRegister (image_at S.Start) r → ShowsIn r (file_state k.conn)) }
         ensures one { IfOk result (λ k.
