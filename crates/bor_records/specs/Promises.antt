@@ -8,7 +8,7 @@ pub record Kept {S V W : Type 0} (shows : S → V → Type 0) (is_clean is_sound
   pub sound : is_sound new → is_sound old
   pub stops : is_sound new → (left : W) → may_leave new left → may_leave old left
 
--- A state that ends clean began clean. Where the store of the later state has returned what was written, so had that of the earlier one, and a stop leaves what one before might have left; or, where the earlier state was clean, what is made of the value that it showed.
+-- A state that ends clean began clean. Where the store of the later state has returned what was written, so had that of the earlier one, and a stop leaves only what one before might have left; or, where the earlier state was clean, what is made of the value that it showed.
 pub record Leaves {S V W : Type 0} (shows : S → V → Type 0) (is_clean is_sound : S → Type 0) (may_leave : S → W → Type 0) (old new : S) (IsMade : V → W → Type 0) : Type 0 where
   pub began : is_clean new → is_clean old
   pub sound : is_sound new → is_sound old
@@ -45,7 +45,7 @@ pub record Reads {S V W T F : Type 0} (shows : S → V → Type 0) (is_clean is_
   pub told : Promised shows is_clean old new (λ v. IfErr result may_tell)
   pub answer : Promised shows is_clean old new (λ v. IfOk result (P v))
 
--- What a change promises: what was shown is now what the change makes of it, or as it was where a fault is answered. A fault adds one to the count and is one that may be told, and an answer leaves a clean state clean. The rest is `Leaves`: a stop leaves what one before might have left, or what shows the changed value.
+-- What a change promises: what was shown is now what the change makes of it, or as it was where a fault is answered. A fault adds one to the count and is one that may be told, and an answer leaves a clean state clean. The rest is `Leaves`: a stop leaves only what one before might have left, or what shows the changed value.
 pub record Changes {S V W T F : Type 0} (shows : S → V → Type 0) (is_clean is_sound : S → Type 0) (may_leave : S → W → Type 0) (left_shows : W → V → Type 0) (faults : S → ℕ) (may_tell : F → Type 0) (old new : S) (result : Result T F) (change : V → V) : Type 0 where
   pub leaves : Leaves shows is_clean is_sound may_leave old new (λ v left. left_shows left (change v))
   pub lasts : IfOk result (λ x. StaysClean is_clean is_sound old new)

@@ -166,7 +166,7 @@ UnlessUnavailable (WriteFailed status) P = status ≢ 503 → P
 
 -- ---- what a stop leaves
 
--- what is left shows the register after the input
+-- what is left shows the register after the input; where its bytes aren't known, after some input
 abbrev pub ShowsAfter : {W : Type 0} → (W → Register → Type 0) → Option (List ℕ) → Register → W → Type 0
 ShowsAfter left_shows known r left = (spelled : Spelled) × IsSpelled known spelled × left_shows left (after r spelled)
 

@@ -95,17 +95,17 @@ pub fn answers_are_runs<K: Keep>()
     ensures { AnswersAreRuns K.shows K.is_clean K.is_sound K.may_leave K.left_shows }
 {}
 
-/// Whatever a stop leaves after exchanges one after the other, from a keep of a legal register, it
-/// shows the register after a front of them, or after that and the next one. The front is a run and
-/// has all up to any exchange after which the keep was clean; those that ended with status 503 or
-/// with a failed read have no part in it. The store has returned what was written.
+/// What a stop leaves after exchanges one after the other, from a clean keep of a legal register,
+/// if its store has returned what was written: it shows the register after a front of them, or
+/// after that and the next one. The front is a run and has all up to any exchange after which the
+/// keep was clean; those that ended with status 503 or with a failed read have no part in it.
 pub fn stops_leave_runs<K: Keep>()
     ensures { StopsLeaveRuns K.shows K.is_clean K.is_sound K.may_leave K.left_shows }
 {}
 
 /// What was answered lasts: the front that [`stops_leave_runs`] speaks of has each request that was
 /// answered with another status than 503. A stop is one as an exchange ends; that one in its midst
-/// leaves no more is for the store to show.
+/// leaves no more is an argument of the store's.
 pub fn answers_last<K: Keep>()
     ensures { AnswersLast K.shows K.is_clean K.is_sound K.may_leave K.left_shows }
 {}

@@ -29,8 +29,9 @@ use bor_terms::{AgentName, Day, Ident, LodgeKey, Token};
 /// (`Reads`); a change makes what it says of it (`Changes`); a fault leaves it, and adds one to
 /// `faults`. While the store returns what was written (`is_sound`), an answer leaves a clean keep
 /// clean, and who has a token is told by a clean one alone: a store that has shut tells a fault.
-/// What a stop leaves (`may_leave`), by a change as by a fault, is what one before it might have
-/// left, or, after a change of a clean keep, what shows the changed register (`left_shows`).
+/// What a stop leaves (`may_leave`), whether a call goes well or answers a fault, is what one
+/// before it might have left, or, after a change of a clean keep, what shows the changed register
+/// (`left_shows`), while the store returns what was written.
 pub trait Keep {
     /// The state shows this register.
     ghost shows: { Self → Register → Type 0 };
