@@ -46,7 +46,7 @@ subject_listed day nodes r l h = by r.statement.details h
     entity (Some x) e = refl
 
     between : (subject party : Node) (interests : List Interest) (t : Bool) → (is_entity_info (info_in nodes subject) && is_some_info (info_in nodes party)) ≡ t
-        → cond t (Some (record { party = party; subject = subject; stake = is_stake day interests; holding = is_holding day interests })) None ≡ Some l → IsSome (listed_at nodes l.subject)
+        → cond t (Some (record { rec = r.statement.rec; party = party; subject = subject; stake = is_stake day interests; holding = is_holding day interests })) None ≡ Some l → IsSome (listed_at nodes l.subject)
     between subject party interests true f e =
         subst (λ (m : Node). IsSome (listed_at nodes m)) (ap (λ (k : Link). k.subject) (same_Some _ l e))
         (entity (listed_at nodes subject) (and_parts (is_entity_info (info_in nodes subject)) (is_some_info (info_in nodes party)) f).0)

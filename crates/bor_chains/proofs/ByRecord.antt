@@ -36,7 +36,7 @@ record IsFrom (nodes : List OpenNode) (r : Row) (l : Link) : Type 0 where
   into : is_into l.subject r.agent r.statement ≡ true
   entity : is_entity_info (info_in nodes l.subject) ≡ true
 
-from_between : (day : ℤ) (nodes : List OpenNode) (r : Row) (party subject : List ℕ) (interests : List Interest) (l : Link) → names subject r.statement.details ≡ true → link_between day nodes (beside r party) (beside r subject) interests ≡ Some l → IsFrom nodes r l
+from_between : (day : ℤ) (nodes : List OpenNode) (r : Row) (party subject : List ℕ) (interests : List Interest) (l : Link) → names subject r.statement.details ≡ true → link_between day nodes r.statement.rec (beside r party) (beside r subject) interests ≡ Some l → IsFrom nodes r l
 from_between day nodes r party subject interests l named h = at (is_entity_info (info_in nodes (beside r subject))) refl (is_some_info (info_in nodes (beside r party))) h
   where
     told : (k : Link) → k.subject ≡ beside r subject → is_entity_info (info_in nodes (beside r subject)) ≡ true → k ≡ l → IsFrom nodes r l
@@ -49,7 +49,7 @@ from_between day nodes r party subject interests l named h = at (is_entity_info 
           entity = subst (λ (n : Node). is_entity_info (info_in nodes n) ≡ true) (sym s) e;
         })
 
-    at : (a : Bool) → is_entity_info (info_in nodes (beside r subject)) ≡ a → (b : Bool) → cond (a && b) (Some (record { party = beside r party; subject = beside r subject; stake = is_stake day interests; holding = is_holding day interests })) None ≡ Some l → IsFrom nodes r l
+    at : (a : Bool) → is_entity_info (info_in nodes (beside r subject)) ≡ a → (b : Bool) → cond (a && b) (Some (record { rec = r.statement.rec; party = beside r party; subject = beside r subject; stake = is_stake day interests; holding = is_holding day interests })) None ≡ Some l → IsFrom nodes r l
     at true e true k = told _ refl e (same_Some _ l k)
     at true e false k = let no : None ≡ Some l = k in absurd cc
     at false e b k = let no : None ≡ Some l = k in absurd cc
@@ -103,20 +103,20 @@ no_links day rows n links e gone l = (
       absurd (let no : true ≡ false = sym is ∙ gone in cc)),
 )
 
-pub link_is : (day : ℤ) (nodes : List OpenNode) (n party subject : Node) (interests : List Interest) (stake holding : Bool) → same_node subject n ≡ true → is_entity_info (info_in nodes n) ≡ true → is_some_info (info_in nodes party) ≡ true
-    → stake ≡ is_stake day interests → holding ≡ is_holding day interests → Some (record { party = party; subject = subject; stake = stake; holding = holding }) ≡ only_into n (link_between day nodes party subject interests)
-link_is day nodes n party subject interests stake holding same entity known s h = sym (ap (only_into n) made ∙ only_made n l (same_node_is subject n same) ∙ ap (λ (k : Link). Some k) is)
+pub link_is : (day : ℤ) (nodes : List OpenNode) (rec : List ℕ) (n party subject : Node) (interests : List Interest) (stake holding : Bool) → same_node subject n ≡ true → is_entity_info (info_in nodes n) ≡ true → is_some_info (info_in nodes party) ≡ true
+    → stake ≡ is_stake day interests → holding ≡ is_holding day interests → Some (record { rec = rec; party = party; subject = subject; stake = stake; holding = holding }) ≡ only_into n (link_between day nodes rec party subject interests)
+link_is day nodes rec n party subject interests stake holding same entity known s h = sym (ap (only_into n) made ∙ only_made n l (same_node_is subject n same) ∙ ap (λ (k : Link). Some k) is)
   where
     l : Link
-    l = record { party = party; subject = subject; stake = is_stake day interests; holding = is_holding day interests }
+    l = record { rec = rec; party = party; subject = subject; stake = is_stake day interests; holding = is_holding day interests }
 
-    made : link_between day nodes party subject interests ≡ Some l
+    made : link_between day nodes rec party subject interests ≡ Some l
     made = ap (λ (b : Bool). cond b (Some l) None) (and_from (is_entity_info (info_in nodes subject)) (is_some_info (info_in nodes party)) (ap (λ (m : Node). is_entity_info (info_in nodes m)) (same_node_is subject n same) ∙ entity) known)
 
-    is : l ≡ record { party = party; subject = subject; stake = stake; holding = holding }
+    is : l ≡ record { rec = rec; party = party; subject = subject; stake = stake; holding = holding }
     is =
-        ap (λ (b : Bool). let k : Link = record { party = party; subject = subject; stake = b; holding = is_holding day interests } in k) (sym s)
-        ∙ ap (λ (b : Bool). let k : Link = record { party = party; subject = subject; stake = stake; holding = b } in k) (sym h)
+        ap (λ (b : Bool). let k : Link = record { rec = rec; party = party; subject = subject; stake = b; holding = is_holding day interests } in k) (sym s)
+        ∙ ap (λ (b : Bool). let k : Link = record { rec = rec; party = party; subject = subject; stake = stake; holding = b } in k) (sym h)
 
 -- ---- a candidate more
 

@@ -12,20 +12,20 @@ use Rattle.bor_records.specs.Links.Rows.{is_entity_info, is_some_info, link_betw
 use Rattle.bor_records.specs.Links.Shown.{info_in}
 use Rattle.bor_records.specs.Links.Stakes.{is_holding, is_stake}
 
-module _ (day : ℤ) (nodes : List OpenNode) (n party subject : Node) (interests : List Interest) where
+module _ (day : ℤ) (nodes : List OpenNode) (rec : List ℕ) (n party subject : Node) (interests : List Interest) where
   -- there is none where the subject is another node
-  pub no_link_elsewhere : same_node subject n ≡ false → None ≡ only_into n (link_between day nodes party subject interests)
+  pub no_link_elsewhere : same_node subject n ≡ false → None ≡ only_into n (link_between day nodes rec party subject interests)
   no_link_elsewhere other = go (is_entity_info (info_in nodes subject) && is_some_info (info_in nodes party))
     where
-      go : (b : Bool) → None ≡ only_into n (if b then Some (record { party = party; subject = subject; stake = is_stake day interests; holding = is_holding day interests }) else None)
+      go : (b : Bool) → None ≡ only_into n (if b then Some (record { rec = rec; party = party; subject = subject; stake = is_stake day interests; holding = is_holding day interests }) else None)
       go true = rw other refl
       go false = refl
 
   -- nor where the party isn't open
-  pub no_link_of_none : is_some_info (info_in nodes party) ≡ false → None ≡ only_into n (link_between day nodes party subject interests)
+  pub no_link_of_none : is_some_info (info_in nodes party) ≡ false → None ≡ only_into n (link_between day nodes rec party subject interests)
   no_link_of_none gone = rw gone (go (is_entity_info (info_in nodes subject)))
     where
-      go : (b : Bool) → None ≡ only_into n (if b && false then Some (record { party = party; subject = subject; stake = is_stake day interests; holding = is_holding day interests }) else None)
+      go : (b : Bool) → None ≡ only_into n (if b && false then Some (record { rec = rec; party = party; subject = subject; stake = is_stake day interests; holding = is_holding day interests }) else None)
       go true = refl
       go false = refl
 

@@ -1,8 +1,8 @@
 //! A person of a report.
 
-ghost use Rattle.std.specs.Prelude.{Some, refl};
+ghost use Rattle.std.specs.Prelude.{◌≡◌, Some, refl};
 ghost use Rattle.std.specs.Cmp.{partial_equiv_from_equiv};
-ghost use Rattle.bor_chains.specs.Lines.{same_line, line_cmp, line_equiv, line_po, line_total, line_ties};
+ghost use Rattle.bor_chains.specs.Lines.{reading_cmp, same_line, line_cmp, line_equiv, line_po, line_total, line_ties};
 
 use bods_read::FreeText;
 use bor_records::links::Node;
@@ -17,6 +17,19 @@ pub struct PersonLine {
     pub name: Option<FreeText>,
     /// The least number of links of a chain from the person.
     pub links: u64,
+}
+
+/// Two nodes as a reader looks for them.
+pub(crate) fn reading_cmp(one: &Node, other: &Node) -> Ordering
+    ensures { result ≡ reading_cmp one.now other.now }
+{
+    match one.agent.cmp(&other.agent) {
+        Ordering::Equal => match one.declaration.cmp(&other.declaration) {
+            Ordering::Equal => one.rec.cmp(&other.rec),
+            unequal => unequal,
+        },
+        unequal => unequal,
+    }
 }
 
 /// Two lines are compared by their nodes alone: in one report a node has one line.
@@ -55,12 +68,6 @@ impl Ord for PersonLine {
     ghost matches_eq = { line_ties };
 
     fn cmp(&self, other: &PersonLine) -> Ordering {
-        match self.node.agent.cmp(&other.node.agent) {
-            Ordering::Equal => match self.node.declaration.cmp(&other.node.declaration) {
-                Ordering::Equal => self.node.rec.cmp(&other.node.rec),
-                unequal => unequal,
-            },
-            unequal => unequal,
-        }
+        reading_cmp(&self.node, &other.node)
     }
 }

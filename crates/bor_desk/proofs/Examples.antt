@@ -73,7 +73,7 @@ abbrev p1 : Node
 p1 = node (codes "p1")
 
 abbrev held : Link
-held = record { party = p1; subject = e1; stake = true; holding = true }
+held = record { rec = codes "r1"; subject = e1; party = p1; stake = true; holding = true }
 
 abbrev worked : Shown
 worked = record {

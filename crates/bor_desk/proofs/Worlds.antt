@@ -208,11 +208,11 @@ entity_node n identifiers = record { node = n; info = nodes.Entity true; identif
 
 -- a1 holds a share of e1
 abbrev upper : Link
-upper = record { party = a1_node; subject = e1_node; stake = false; holding = true }
+upper = record { rec = codes "r1"; subject = e1_node; party = a1_node; stake = false; holding = true }
 
 -- bp has a majority of b1
 abbrev lower : Link
-lower = record { party = bp_node; subject = b1_node; stake = true; holding = true }
+lower = record { rec = codes "br"; subject = b1_node; party = bp_node; stake = true; holding = true }
 
 -- alder's own draft, and what birch has published
 abbrev seen : Shown

@@ -6,4 +6,5 @@ pub mod Identifiers
 pub mod OpenRecords
 pub mod Settled
 pub mod KeptLaws
+pub mod Sure
 pub mod OnLinks

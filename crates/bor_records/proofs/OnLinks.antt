@@ -4,6 +4,7 @@ pub mod Found
 pub mod Series
 pub mod EveryStake
 pub mod ByKey
+pub mod OfRows
 pub mod Examples
 pub mod Sames
 pub mod Exact

@@ -52,3 +52,12 @@ pub record Changes {S V W T F : Type 0} (shows : S → V → Type 0) (is_clean i
   pub counts : faults new ≡ counted result (faults old)
   pub told : Promised shows is_clean old new (λ v. IfErr result may_tell)
   pub changed : Promised shows is_clean old new (λ v. shows new (left_by result (change v) v))
+
+-- What a change promises of which nothing has to be known before: what `Changes` does of each value that it fits. A fault leaves what was shown, whether or not the change fits it.
+pub record ChangesWhere {S V W T F : Type 0} (shows : S → V → Type 0) (is_clean is_sound : S → Type 0) (may_leave : S → W → Type 0) (left_shows : W → V → Type 0) (faults : S → ℕ) (may_tell : F → Type 0) (old new : S) (result : Result T F) (Fits : V → Type 0) (change : V → V) : Type 0 where
+  pub leaves : Leaves shows is_clean is_sound may_leave old new (λ v left. Fits v → left_shows left (change v))
+  pub lasts : IfOk result (λ x. StaysClean is_clean is_sound old new)
+  pub counts : faults new ≡ counted result (faults old)
+  pub told : Promised shows is_clean old new (λ v. Fits v → IfErr result may_tell)
+  pub failed : Promised shows is_clean old new (λ v. IfErr result (λ e. shows new v))
+  pub made : Promised shows is_clean old new (λ v. Fits v → IfOk result (λ x. shows new (change v)))

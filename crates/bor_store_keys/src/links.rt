@@ -23,7 +23,7 @@ use bods_read::{Details, Interest};
 use bor_records::Row;
 use bor_records::links::{Link, Node, holding_of, record_of, stake_of};
 use bor_store_reads::ReadError;
-use bor_terms::{AgentName, Day};
+use bor_terms::{AgentName, Day, Ident};
 use sqlite::Alter;
 use std::alloc::Global;
 
@@ -34,6 +34,7 @@ fn link_between<S: Alter + Drop>(
     alloc: Global,
     view: &View,
     node: &Node,
+    rec: Ident,
     party: Node,
     subject: Node,
     interests: &[Interest],
@@ -43,7 +44,7 @@ fn link_between<S: Alter + Drop>(
         is_entity_info (info_of (seen view.now r) node.now) ≡ true
         → link ≡ only_into node.now
         (link_between view.now.day
-        (nodes_of view.now.day (rows_seen view.now r)) party subject interests.now)) }
+        (nodes_of view.now.day (rows_seen view.now r)) rec party subject interests.now)) }
 {
     if subject != *node {
         return Ok(None);
@@ -52,8 +53,9 @@ fn link_between<S: Alter + Drop>(
         return Ok(None);
     }
     Ok(Some(Link {
-        party,
+        rec,
         subject,
+        party,
         stake: stake_of(interests, view.day),
         holding: holding_of(interests, view.day),
     }))
@@ -80,11 +82,13 @@ fn link_into<S: Alter + Drop>(
         } => {
             let subject = record_of(alloc, row, subject)?;
             let party = record_of(alloc, row, party)?;
+            let rec = row.statement.rec.copy(alloc)?;
             link_between(
                 lookup,
                 alloc,
                 view,
                 node,
+                rec,
                 party,
                 subject,
                 interests.as_slice(),

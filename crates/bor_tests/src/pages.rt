@@ -6,7 +6,7 @@ use crate::files::{FIRST, file};
 use bods_read::{
     Details, Fault, Field, FileFault, Interest, ReadFault, RecordType, Statement, Status, read_file,
 };
-use bor_chains::{ListSource, persons_of};
+use bor_chains::{Evidence, ListSource, evidence_of, persons_of};
 use bor_desk::operations::{
     FILINGS_LIMIT, Keep, ListKeep, LodgeFault, Lodged, State, StoreFault, advance, enrol, lodge,
 };
@@ -127,6 +127,20 @@ fn the_page_of_chains(rt: HostRuntime) {
     };
     let is_person = person.node.rec.as_str() == "p1" && person.links == 2;
     holds(&rt, "p1", is_person);
+    let evidence = evidence_of(alloc, &mut source, &e1).expect(&rt, "no evidence");
+    holds(&rt, "r1, then r2", is_by_r1_and_r2(&evidence));
+}
+
+// One person is named, by r1 and then by r2, which is the last.
+fn is_by_r1_and_r2(evidence: &Evidence) -> bool {
+    match (evidence.persons.as_slice(), evidence.links.as_slice()) {
+        ([person], [first, last]) => {
+            let is_first = person.first == first.link && first.link.rec.as_str() == "r1";
+            let is_last = last.link.rec.as_str() == "r2" && last.next.is_none();
+            is_first && is_last && matches!(&first.next, Some(next) if *next == last.link)
+        }
+        _ => false,
+    }
 }
 
 /// Adds a filing of one statement, due on a day, where there is room.

@@ -14,7 +14,7 @@ use crate::memory::index::{Index, Place, node_named};
 use bods_read::{Details, Identifier, Interest, Statement, Status};
 use bor_records::links::{Link, Node, NodeInfo, OpenNode, holding_of, info_stated, once, stake_of};
 use bor_register::{AcceptedFiling, Member, own_filings};
-use bor_terms::{AgentName, Day, Listed};
+use bor_terms::{AgentName, Day, Ident, Listed};
 use std::alloc::{AllocError, Global};
 
 /// What a viewer sees of these members on the register's day, `today`, as it is told on a day.
@@ -208,6 +208,7 @@ pub(crate) fn node_in(sight: &Sight, node: &Node) -> Result<Option<OpenNode>, Al
 fn link_between(
     sight: &Sight,
     node: &Node,
+    rec: Ident,
     party: Node,
     subject: Node,
     interests: &[Interest],
@@ -216,7 +217,7 @@ fn link_between(
     ensures { is_entity_info (info_of (in_sight sight.now) node.now) ≡ true
         → result ≡ only_into node.now
         (link_between sight.now.day
-        (nodes_of sight.now.day (rows_in_sight sight.now)) party subject interests.now) }
+        (nodes_of sight.now.day (rows_in_sight sight.now)) rec party subject interests.now) }
 {
     if subject != *node {
         return None;
@@ -225,8 +226,9 @@ fn link_between(
         return None;
     }
     Some(Link {
-        party,
+        rec,
         subject,
+        party,
         stake: stake_of(interests, sight.day),
         holding: holding_of(interests, sight.day),
     })
@@ -253,7 +255,8 @@ fn link_stated(
             let declaration = &statement.declaration;
             let subject = node_named(sight.alloc, agent, declaration, subject)?;
             let party = node_named(sight.alloc, agent, declaration, party)?;
-            Ok(link_between(sight, node, party, subject, interests.as_slice()))
+            let rec = statement.rec.copy(sight.alloc)?;
+            Ok(link_between(sight, node, rec, party, subject, interests.as_slice()))
         }
         _ => Ok(None),
     }

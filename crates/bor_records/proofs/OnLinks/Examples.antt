@@ -176,7 +176,7 @@ abbrev link_row : Row
 link_row = of_record (codes "r1") 10 New (held_by (codes "e1") (codes "p1") (votes (exactly 60) ∷ []))
 
 abbrev p1_in_e1 : Bool → Bool → Link
-p1_in_e1 stake holding = record { party = of_c1 (codes "p1"); subject = of_c1 (codes "e1"); stake = stake; holding = holding }
+p1_in_e1 stake holding = record { rec = codes "r1"; party = of_c1 (codes "p1"); subject = of_c1 (codes "e1"); stake = stake; holding = holding }
 
 -- an entity, a person and a relationship are two nodes and a link
 shown_rows : shown_of (pos 10) (opened_row ∷ person_row ∷ link_row ∷ []) ≡ record {

@@ -7,13 +7,13 @@ use Rattle.bor_records.specs.Snapshot.{open_row}
 use Rattle.bor_records.specs.declared.links.node.Node.{Node}
 use Rattle.bor_records.specs.declared.links.node.Link.{Link}
 use Rattle.bor_records.specs.declared.links.node.OpenNode.{OpenNode}
-use Rattle.bor_records.specs.Links.Nodes.{same_node}
+use Rattle.bor_records.specs.Links.Nodes.{same_node, link_record}
 use Rattle.bor_records.specs.Links.Stakes.{HasPointsOfShare, is_stake, is_holding}
 use Rattle.bor_records.specs.OpenRows.{open_rows}
 use Rattle.bor_records.specs.Links.Series.{series_of, is_of, open_at}
 use Rattle.bor_records.specs.Links.Shown.{listed_at}
 use Rattle.bor_records.specs.Links.Aliases.{Alias}
-use Rattle.bor_records.specs.Links.Rows.{nodes_of, shown_of}
+use Rattle.bor_records.specs.Links.Rows.{link_in, links_of, nodes_of, shown_of}
 use Rattle.bor_records.specs.Links.Answers.{AreAliases, AreLinksInto}
 use Rattle.bor_records.specs.Links.ByKey.{rows_by, node_at, AreAlikeAt, IsMade, CoverLinks, CoverAliases}
 
@@ -46,6 +46,22 @@ AliasesAreReadByCandidates = (day : ℤ) (rows : List Row) (candidates : List No
 abbrev pub LinksAreReadByCandidates : Type 0
 LinksAreReadByCandidates = (day : ℤ) (rows : List Row) (candidates : List Node) (n : Node) (links : List Link) → CoverLinks rows candidates n
     → ((l : Link) → Contains links l ↔ (IsMade day rows candidates l × (l.subject ≡ n))) → AreLinksInto (shown_of day rows) n links
+
+-- A link is made of an open row, of the record that the link names, whose agent and declaration are those of both ends.
+pub record IsOfRow (day : ℤ) (rows : List Row) (l : Link) : Type 0 where
+  pub row : Row
+  pub is_open : Contains (open_rows day rows) row
+  pub made : link_in day (nodes_of day rows) row ≡ Some l
+  pub of_record : series_of row ≡ link_record l
+  pub agent : l.party.agent ≡ l.subject.agent
+  pub declaration : l.party.declaration ≡ l.subject.declaration
+
+abbrev pub LinksAreOfRows : Type 0
+LinksAreOfRows = (day : ℤ) (rows : List Row) (l : Link) → Contains (links_of day rows) l → IsOfRow day rows l
+
+-- two links of one record are one
+abbrev pub LinksAreKnownByRecord : Type 0
+LinksAreKnownByRecord = (day : ℤ) (rows : List Row) (l k : Link) → Contains (links_of day rows) l → Contains (links_of day rows) k → link_record l ≡ link_record k → l ≡ k
 
 -- no node is listed twice
 abbrev pub NodesAreDistinct : Type 0

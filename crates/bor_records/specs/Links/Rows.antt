@@ -60,10 +60,10 @@ is_some_info (Some info) = true
 abbrev pub beside : Row → List ℕ → Node
 beside r rec = record { agent = r.agent; declaration = r.statement.declaration; rec = rec }
 
--- a link on a day, where the subject is an open entity and the party an open entity or person
-abbrev pub link_between : ℤ → List OpenNode → Node → Node → List Interest → Option Link
-link_between day nodes party subject interests =
-    if is_entity_info (info_in nodes subject) && is_some_info (info_in nodes party) then Some (record { party = party; subject = subject; stake = is_stake day interests; holding = is_holding day interests })
+-- a link of a record on a day, where the subject is an open entity and the party an open entity or person
+abbrev pub link_between : ℤ → List OpenNode → List ℕ → Node → Node → List Interest → Option Link
+link_between day nodes rec party subject interests =
+    if is_entity_info (info_in nodes subject) && is_some_info (info_in nodes party) then Some (record { rec = rec; party = party; subject = subject; stake = is_stake day interests; holding = is_holding day interests })
     else None
 
 -- the link that a relationship's details make; an end that names no record makes none
@@ -72,7 +72,7 @@ link_with day nodes r (details.Entity kind name identifiers) = None
 link_with day nodes r (details.Person kind name) = None
 link_with day nodes r (details.Relationship None party interests) = None
 link_with day nodes r (details.Relationship (Some subject) None interests) = None
-link_with day nodes r (details.Relationship (Some subject) (Some party) interests) = link_between day nodes (beside r party) (beside r subject) interests
+link_with day nodes r (details.Relationship (Some subject) (Some party) interests) = link_between day nodes r.statement.rec (beside r party) (beside r subject) interests
 
 abbrev pub link_in : ℤ → List OpenNode → Row → Option Link
 link_in day nodes r = link_with day nodes r r.statement.details

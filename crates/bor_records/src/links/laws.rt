@@ -1,7 +1,7 @@
 //! Laws of nodes and links. Each function does nothing: its contract is the law, and it is proved
 //! for all lists.
 
-ghost use Rattle.bor_records.specs.Links.Laws.{EveryStakeIsAHolding, OpenRowsAreTheLatest, OpenRowsAreReadByKey, SnapshotsShowTheOpenRows, NodesAreReadByKey, AliasesAreReadByKey, AliasesAreReadByCandidates, LinksAreReadByCandidates, NodesAreDistinct};
+ghost use Rattle.bor_records.specs.Links.Laws.{EveryStakeIsAHolding, OpenRowsAreTheLatest, OpenRowsAreReadByKey, SnapshotsShowTheOpenRows, NodesAreReadByKey, AliasesAreReadByKey, AliasesAreReadByCandidates, LinksAreReadByCandidates, LinksAreOfRows, LinksAreKnownByRecord, NodesAreDistinct};
 
 /// The interests of a majority stake are a holding, where each share has points: a chain of stakes
 /// alone is a chain.
@@ -46,6 +46,16 @@ pub fn aliases_are_read_by_candidates()
 /// each row that, were it the latest, would make one.
 pub fn links_are_read_by_candidates()
     ensures { LinksAreReadByCandidates }
+{}
+
+/// A link of rows is of the record that it names, with the agent and the declaration of its ends.
+pub fn links_are_of_rows()
+    ensures { LinksAreOfRows }
+{}
+
+/// Two links of rows that name one record are equal.
+pub fn links_are_known_by_record()
+    ensures { LinksAreKnownByRecord }
 {}
 
 /// The nodes of rows are distinct.

@@ -155,12 +155,17 @@ fn has_identifier(identifiers: &[Identifier], one: &Identifier) -> bool
 }
 
 /// An open relationship between two nodes, from the party that holds to the subject that is held.
-#[derive(Drop)]
+/// Links are ordered by the identifiers of their records, then by subject and by party: of all that
+/// the rows of a register show, no two with one record in one declaration of one agent differ.
+#[derive(Drop, PartialEq, Eq, PartialOrd, Ord)]
 pub struct Link {
-    /// `interestedParty` (BODS 0.4).
-    pub party: Node,
+    /// `recordId` of the relationship (BODS 0.4). The record's agent and declaration are those of
+    /// the two ends.
+    pub rec: Ident,
     /// `subject` (BODS 0.4).
     pub subject: Node,
+    /// `interestedParty` (BODS 0.4).
+    pub party: Node,
     /// The party has a majority stake in the subject (UK Companies Act 2006, Schedule 1A, paragraph
     /// 18).
     pub stake: bool,
@@ -174,8 +179,9 @@ impl Link {
         ensures { IfOk result (λ copied. copied ≡ self.now) }
     {
         Ok(Link {
-            party: self.party.copy(alloc)?,
+            rec: self.rec.copy(alloc)?,
             subject: self.subject.copy(alloc)?,
+            party: self.party.copy(alloc)?,
             stake: self.stake,
             holding: self.holding,
         })

@@ -8,7 +8,7 @@ use Rattle.bor_store_keys.proofs.links.link_between.Goals as goal
 
 pub returns : goal.returns
 returns g c = read_so c.in_ok-is_node.ensures
-    (λ r stored is entity. link_is c.args.view.now.day (nodes_of c.args.view.now.day (rows_seen c.args.view.now r)) c.args.node.now c.args.party c.args.subject c.args.interests.now c.stake_of.result c.holding_of.result (not-false _ (sym c.if-ne.ensures)) entity
+    (λ r stored is entity. link_is c.args.view.now.day (nodes_of c.args.view.now.day (rows_seen c.args.view.now r)) c.args.rec c.args.node.now c.args.party c.args.subject c.args.interests.now c.stake_of.result c.holding_of.result (not-false _ (sym c.if-ne.ensures)) entity
     (sym is ∙ c.if-not-branch.false) c.stake_of.ensures c.holding_of.ensures)
 
 pub returns-in_err-is_node : goal.returns-in_err-is_node

@@ -1,0 +1,16 @@
+use Rattle.std.proofs.Common.{◌≡◌}
+use Rattle.bor_records.specs.Promises.{Kept, StaysClean, Promised}
+use Rattle.bor_chains.specs.Crossings.{AreCrossings}
+use Rattle.bor_chains.proofs.crossed.crossings_from.Given as goal
+
+-- the links into the marks so far are crossed
+abbrev pub invariant-loop-place : goal.invariant-loop-place
+invariant-loop-place g l =
+    let source = g.S.LinkSource in
+    record {
+      same_reference : source.lender l.source ≡ source.lender l.initial.source;
+      kept : Kept source.shows source.is_clean source.is_sound source.may_leave l.initial.source l.source;
+      lasts : StaysClean source.is_clean source.is_sound l.initial.source l.source;
+      counts : source.fault_count l.source ≡ source.fault_count l.initial.source;
+      crossed : Promised source.shows source.is_clean l.initial.source l.source (λ m. AreCrossings (source.shown m) l.marks l.start l.place l.crossings.items);
+    }

@@ -1,0 +1,5 @@
+use Rattle.bor_chains.proofs.OneWay.{ends_there}
+use Rattle.bor_chains.proofs.laws.evidence_ends_at_the_entity.Goals as goal
+
+pub returns : goal.returns
+returns c = ends_there

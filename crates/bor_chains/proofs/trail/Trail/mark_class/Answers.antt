@@ -1,0 +1,23 @@
+use Rattle.std.proofs.Common.{◌≡◌, true, false, Contains, List, Option, Some, sym, ap, ◌∙◌, refl, subst, inl, inr}
+use Rattle.bor_records.specs.declared.links.node.Node.{Node}
+use Rattle.bor_records.specs.declared.links.node.NodeInfo.TheVariants as infos
+use Rattle.bor_chains.specs.declared.marks.Mark.TheVariants.{Middle}
+use Rattle.bor_chains.specs.declared.trail.Step.{Step}
+use Rattle.bor_chains.specs.Marks.{IsOneOf}
+use Rattle.bor_chains.specs.Trail.{step_by, Gives}
+use Rattle.bor_chains.proofs.Marking.{gives_class}
+use Rattle.bor_chains.proofs.trail.Trail.mark_class.Goals as goal
+
+pub returns-then-has-clause-walked : goal.returns-then-has-clause-walked
+returns-then-has-clause-walked g c = λ m e k.
+    inl (subst (λ (n : Node). Contains c.args.self.now.marks (record { node = n; mark = Middle })) c.in_ok-copy.ensures (c.has.ensures.0 c.if-has.true), refl)
+
+pub returns-clause-walked : goal.returns-clause-walked
+returns-clause-walked g c = λ m e k. inr (
+  (λ h.
+      let t : c.has.result ≡ true = c.has.ensures.1 (subst (λ (n : Node). Contains c.args.self.now.marks (record { node = n; mark = Middle })) (sym c.in_ok-copy.ensures) h) in
+      let no : true ≡ false = sym t ∙ c.if-has.false in absurd cc),
+  gives_class (g.S.LinkSource.shown m) c.args.crossing.now.link.party Middle c.in-Ok.nodes.items (Some (step_by c.args.crossing.now (infos.Entity true))) c.args.self.now c.give.new.self (c.in-Ok.ensures.reads.answer m e k)
+      (subst (λ (o : Option Step). Gives (IsOneOf c.in-Ok.nodes.items Middle) o c.args.self.now c.give.new.self) (ap (λ (x : Step). Some x) c.in_ok-step_over.ensures)
+      (subst (λ (ns : List Node). Gives (IsOneOf ns Middle) (Some c.in_ok-step_over.field-0) c.args.self.now c.give.new.self) c.deref.ensures.value c.in_ok-give.ensures.gives)),
+)

@@ -1,0 +1,120 @@
+//! The links that a walk crosses on one level.
+
+ghost use Rattle.std.specs.Prelude.{◌≡◌, ◌≤◌, ◌++◌, OnOk, IfOk, IfErr, length};
+ghost use Rattle.std.specs.List.Sorted.{IsPermutation, IsSorted};
+ghost use Rattle.bor_records.specs.Promises.{Kept, StaysClean, Promised};
+ghost use Rattle.bor_records.specs.Links.Growth.{Grown};
+ghost use Rattle.bor_chains.specs.Promises.{walk_counted, OnWalkSource};
+ghost use Rattle.bor_chains.specs.Crossings.{crossing_cmp, counted_at, IsCountedOf, IsCrossingInto, AreCrossings};
+
+use crate::fault::WalkFault;
+use crate::marks::{Mark, Marked, Marks};
+use crate::source::LinkSource;
+use bor_records::links::Link;
+use std::alloc::{AllocError, Global};
+
+/// A link that counts, with the place of the mark that it leads down to. They are ordered by their
+/// links.
+#[derive(Drop, PartialEq, Eq, PartialOrd, Ord)]
+pub(crate) struct Crossing {
+    pub(crate) link: Link,
+    pub(crate) below: usize,
+}
+
+// Puts a link at the end with a mark's place, where it counts at the mark.
+fn push_one(
+    crossings: &mut Vec<Crossing>,
+    link: Link,
+    mark: Mark,
+    below: usize,
+) -> Result<(), AllocError>
+    ensures { OnOk result (crossings.new.items
+        ≡ crossings.old.items ++ counted_at mark below link) }
+{
+    if mark.counts(&link) {
+        Ok(crossings.push(Crossing { link, below })?)
+    } else {
+        Ok(())
+    }
+}
+
+// Puts those of the links that count at a mark at the end, with the mark's place.
+fn push_counted(
+    crossings: &mut Vec<Crossing>,
+    links: Vec<Link>,
+    mark: Mark,
+    below: usize,
+) -> Result<(), AllocError>
+    ensures { OnOk result (Grown (IsCountedOf links.items mark below)
+        crossings.old.items crossings.new.items) }
+{
+    let mut left = links;
+    while let Some(link) = left.pop() {
+        push_one(crossings, link, mark, below)?;
+    }
+    Ok(())
+}
+
+// Puts the links that count into a marked node at the end, with the mark's place.
+fn cross_one<S: LinkSource>(
+    source: &mut S,
+    crossings: &mut Vec<Crossing>,
+    marked: &Marked,
+    below: usize,
+) -> Result<(), WalkFault<S::Fault>>
+    ensures same_reference { S.lender source.new ≡ S.lender source.old }
+    ensures kept { Kept S.shows S.is_clean S.is_sound S.may_leave source.old source.new }
+    ensures counts { S.fault_count source.new ≡ walk_counted result (S.fault_count source.old) }
+    ensures lasts { OnOk result (StaysClean S.is_clean S.is_sound source.old source.new) }
+    ensures told { Promised S.shows S.is_clean source.old source.new (λ m.
+        IfErr result (λ f. OnWalkSource f S.may_tell)) }
+    ensures crossed { OnOk result (Promised S.shows S.is_clean source.old source.new (λ m.
+        Grown (IsCrossingInto (S.shown m) marked.now below)
+        crossings.old.items crossings.new.items)) }
+{
+    if marked.mark.is_holder() {
+        return Ok(());
+    }
+    let links = match source.links_into(&marked.node) {
+        Ok(links) => links,
+        Err(fault) => return Err(WalkFault::Source(fault)),
+    };
+    push_counted(crossings, links, marked.mark, below)?;
+    Ok(())
+}
+
+/// The links that count into the marks from `start` on, each with the place of its mark.
+pub(crate) fn crossings_from<S: LinkSource>(
+    alloc: Global,
+    source: &mut S,
+    marks: &Marks,
+    start: usize,
+) -> Result<Vec<Crossing>, WalkFault<S::Fault>>
+    requires { start ≤ length marks.now }
+    ensures same_reference { S.lender source.new ≡ S.lender source.old }
+    ensures kept { Kept S.shows S.is_clean S.is_sound S.may_leave source.old source.new }
+    ensures counts { S.fault_count source.new ≡ walk_counted result (S.fault_count source.old) }
+    ensures lasts { OnOk result (StaysClean S.is_clean S.is_sound source.old source.new) }
+    ensures told { Promised S.shows S.is_clean source.old source.new (λ m.
+        IfErr result (λ f. OnWalkSource f S.may_tell)) }
+    ensures crossed { IfOk result (λ crossings.
+        Promised S.shows S.is_clean source.old source.new (λ m.
+        AreCrossings (S.shown m) marks.now start (length marks.now) crossings.items)) }
+{
+    let mut crossings = Vec::new(alloc);
+    for place in start..marks.len() {
+        let marked = marks.copy_at(alloc, place)?;
+        cross_one(source, &mut crossings, &marked, place)?;
+    }
+    Ok(crossings)
+}
+
+/// The crossings in their order.
+pub(crate) fn in_order(crossings: Vec<Crossing>) -> Vec<Crossing>
+    ensures same { IsPermutation crossings.items result.items }
+    ensures sorted { IsSorted crossing_cmp result.items }
+{
+    let mut out = crossings;
+    out.sort_unstable();
+    out
+}

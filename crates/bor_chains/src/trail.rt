@@ -1,0 +1,296 @@
+//! The walk that keeps the reason for each mark.
+
+ghost use Rattle.std.specs.Prelude.{◌≡◌, ◌+◌, ◌≤◌, ℕ, true, Some, OnOk, IfOk, IfErr, length};
+ghost use Rattle.bor_records.specs.Promises.{Kept, StaysClean, Promised};
+ghost use Rattle.bor_records.specs.declared.links.node.Node.{Node};
+ghost use Rattle.bor_records.specs.declared.links.node.NodeInfo.TheVariants as infos;
+ghost use Rattle.bor_chains.specs.declared.marks.Mark.TheVariants.{Middle, Holder};
+ghost use Rattle.bor_chains.specs.Promises.{walk_counted, OnWalkSource};
+ghost use Rattle.bor_chains.specs.Marks.{IsOneOf, IsSameAs};
+ghost use Rattle.bor_chains.specs.Trail.{step_by, IsFilled, Gives, GivesUnlessThere, AreBeside, AreWhole, Follows, FollowsTo, IsAtLevel, IsAll};
+
+use crate::crossed::{Crossing, crossings_from, in_order};
+use crate::fault::WalkFault;
+use crate::marks::{Mark, Marked, Marks};
+use crate::source::LinkSource;
+use bor_records::links::{Link, Node, NodeInfo};
+use std::alloc::{AllocError, Global};
+
+/// The link by which a mark was given, with the place of the mark that it leads down to, and what
+/// the link's party is.
+#[derive(Drop)]
+pub(crate) struct Step {
+    pub(crate) link: Link,
+    pub(crate) below: usize,
+    pub(crate) info: NodeInfo,
+}
+
+// The step over a crossing.
+fn step_over(alloc: Global, crossing: &Crossing, info: NodeInfo) -> Result<Step, AllocError>
+    ensures { IfOk result (λ step. step ≡ step_by crossing.now info) }
+{
+    Ok(Step {
+        link: crossing.link.copy(alloc)?,
+        below: crossing.below,
+        info,
+    })
+}
+
+fn copied(alloc: Global, step: &Option<Step>) -> Result<Option<Step>, AllocError>
+    ensures { IfOk result (λ copied. copied ≡ step.now) }
+{
+    match step {
+        Some(step) => Ok(Some(Step {
+            link: step.link.copy(alloc)?,
+            below: step.below,
+            info: step.info.copy(alloc)?,
+        })),
+        None => Ok(None),
+    }
+}
+
+// Puts a step at the end, after copies of it, until there are so many.
+fn fill(
+    alloc: Global,
+    steps: &mut Vec<Option<Step>>,
+    count: usize,
+    step: Option<Step>,
+) -> Result<(), AllocError>
+    ensures { OnOk result (IsFilled count step steps.old.items steps.new.items) }
+{
+    let last = count.saturating_sub(1);
+    while steps.len() < last {
+        let one = copied(alloc, &step)?;
+        steps.push(one)?;
+    }
+    if steps.len() < count {
+        Ok(steps.push(step)?)
+    } else {
+        Ok(())
+    }
+}
+
+/// The marks that a walk has given, and of each the step by which it was: those that stand for the
+/// target have none.
+#[derive(Drop)]
+pub(crate) struct Trail {
+    pub(crate) marks: Marks,
+    pub(crate) steps: Vec<Option<Step>>,
+}
+
+impl Trail {
+    // Gives each of the nodes this mark, with this step.
+    fn give(
+        &mut self,
+        alloc: Global,
+        nodes: &[Node],
+        mark: Mark,
+        step: Option<Step>,
+    ) -> Result<(), AllocError>
+        ensures longer { OnOk result (length self.old.marks ≤ length self.new.marks) }
+        ensures gives { OnOk result (Gives (IsOneOf nodes.now mark) step self.old self.new) }
+    {
+        self.marks.add_all(alloc, nodes, mark)?;
+        fill(alloc, &mut self.steps, self.marks.len(), step)?;
+        Ok(())
+    }
+
+    // Gives the person on a crossing a mark, unless the person has it.
+    fn mark_person(
+        &mut self,
+        alloc: Global,
+        crossing: &Crossing,
+        info: NodeInfo,
+    ) -> Result<(), AllocError>
+        ensures longer { OnOk result (length self.old.marks ≤ length self.new.marks) }
+        ensures gives { OnOk result
+            (GivesUnlessThere (record { node = crossing.now.link.party; mark = Holder })
+            (λ n. n ≡ record { node = crossing.now.link.party; mark = Holder })
+            (Some (step_by crossing.now info)) self.old self.new) }
+    {
+        let marked = Marked {
+            node: crossing.link.party.copy(alloc)?,
+            mark: Mark::Holder,
+        };
+        if self.marks.has(&marked) {
+            return Ok(());
+        }
+        let step = Some(step_over(alloc, crossing, info)?);
+        self.marks.add(marked)?;
+        fill(alloc, &mut self.steps, self.marks.len(), step)?;
+        Ok(())
+    }
+
+    // Gives all nodes that are the same as the entity on a crossing a mark, unless it has it.
+    fn mark_class<S: LinkSource>(
+        &mut self,
+        alloc: Global,
+        source: &mut S,
+        crossing: &Crossing,
+    ) -> Result<(), WalkFault<S::Fault>>
+        ensures longer { OnOk result (length self.old.marks ≤ length self.new.marks) }
+        ensures same_reference { S.lender source.new ≡ S.lender source.old }
+        ensures kept { Kept S.shows S.is_clean S.is_sound S.may_leave source.old source.new }
+        ensures counts { S.fault_count source.new ≡ walk_counted result (S.fault_count source.old) }
+        ensures lasts { OnOk result (StaysClean S.is_clean S.is_sound source.old source.new) }
+        ensures told { Promised S.shows S.is_clean source.old source.new (λ m.
+            IfErr result (λ f. OnWalkSource f S.may_tell)) }
+        ensures walked { OnOk result (Promised S.shows S.is_clean source.old source.new (λ m.
+            GivesUnlessThere (record { node = crossing.now.link.party; mark = Middle })
+            (IsSameAs (S.shown m) crossing.now.link.party Middle)
+            (Some (step_by crossing.now (infos.Entity true))) self.old self.new)) }
+    {
+        let marked = Marked {
+            node: crossing.link.party.copy(alloc)?,
+            mark: Mark::Middle,
+        };
+        if self.marks.has(&marked) {
+            return Ok(());
+        }
+        let nodes = match source.same(&crossing.link.party) {
+            Ok(nodes) => nodes,
+            Err(fault) => return Err(WalkFault::Source(fault)),
+        };
+        let step = Some(step_over(alloc, crossing, NodeInfo::Entity { legal: true })?);
+        self.give(alloc, &nodes, Mark::Middle, step)?;
+        Ok(())
+    }
+
+    // Goes on over one crossing.
+    fn follow<S: LinkSource>(
+        &mut self,
+        alloc: Global,
+        source: &mut S,
+        crossing: &Crossing,
+    ) -> Result<(), WalkFault<S::Fault>>
+        ensures longer { OnOk result (length self.old.marks ≤ length self.new.marks) }
+        ensures same_reference { S.lender source.new ≡ S.lender source.old }
+        ensures kept { Kept S.shows S.is_clean S.is_sound S.may_leave source.old source.new }
+        ensures counts { S.fault_count source.new ≡ walk_counted result (S.fault_count source.old) }
+        ensures lasts { OnOk result (StaysClean S.is_clean S.is_sound source.old source.new) }
+        ensures told { Promised S.shows S.is_clean source.old source.new (λ m.
+            IfErr result (λ f. OnWalkSource f S.may_tell)) }
+        ensures walked { OnOk result (Promised S.shows S.is_clean source.old source.new (λ m.
+            AreWhole (S.shown m) self.old.marks → AreWhole (S.shown m) self.new.marks
+            × Follows (S.shown m) crossing.now self.old self.new)) }
+    {
+        match source.node(&crossing.link.party) {
+            Err(fault) => Err(WalkFault::Source(fault)),
+            Ok(None) => Ok(()),
+            Ok(Some(NodeInfo::Person { name })) => {
+                self.mark_person(alloc, crossing, NodeInfo::Person { name })?;
+                Ok(())
+            }
+            Ok(Some(NodeInfo::Entity { legal: false })) => Ok(()),
+            Ok(Some(NodeInfo::Entity { legal: true })) => {
+                self.mark_class(alloc, source, crossing)?;
+                Ok(())
+            }
+        }
+    }
+
+    // Goes on over each of the crossings, in their order.
+    fn follow_all<S: LinkSource>(
+        &mut self,
+        alloc: Global,
+        source: &mut S,
+        crossings: &[Crossing],
+    ) -> Result<(), WalkFault<S::Fault>>
+        ensures longer { OnOk result (length self.old.marks ≤ length self.new.marks) }
+        ensures same_reference { S.lender source.new ≡ S.lender source.old }
+        ensures kept { Kept S.shows S.is_clean S.is_sound S.may_leave source.old source.new }
+        ensures counts { S.fault_count source.new ≡ walk_counted result (S.fault_count source.old) }
+        ensures lasts { OnOk result (StaysClean S.is_clean S.is_sound source.old source.new) }
+        ensures told { Promised S.shows S.is_clean source.old source.new (λ m.
+            IfErr result (λ f. OnWalkSource f S.may_tell)) }
+        ensures walked { OnOk result (Promised S.shows S.is_clean source.old source.new (λ m.
+            AreBeside self.old → AreWhole (S.shown m) self.old.marks
+            → AreWhole (S.shown m) self.new.marks
+            × FollowsTo (S.shown m) crossings.now (length crossings.now) self.old self.new)) }
+    {
+        for crossing in crossings {
+            self.follow(alloc, source, crossing)?;
+        }
+        Ok(())
+    }
+
+    // Goes on over the links into the marks from `start` on. Of those that lead to one entity or
+    // person the least comes first, so by it a mark is given.
+    fn go_on<S: LinkSource>(
+        &mut self,
+        alloc: Global,
+        source: &mut S,
+        start: usize,
+    ) -> Result<(), WalkFault<S::Fault>>
+        requires { start ≤ length self.old.marks }
+        ensures longer { OnOk result (length self.old.marks ≤ length self.new.marks) }
+        ensures same_reference { S.lender source.new ≡ S.lender source.old }
+        ensures kept { Kept S.shows S.is_clean S.is_sound S.may_leave source.old source.new }
+        ensures counts { S.fault_count source.new ≡ walk_counted result (S.fault_count source.old) }
+        ensures lasts { OnOk result (StaysClean S.is_clean S.is_sound source.old source.new) }
+        ensures told { Promised S.shows S.is_clean source.old source.new (λ m.
+            IfErr result (λ f. OnWalkSource f S.may_tell)) }
+        ensures walked { OnOk result (Promised S.shows S.is_clean source.old source.new (λ m.
+            (e : Node) (level : ℕ) → IsAtLevel (S.shown m) e start level self.old
+            → IsAtLevel (S.shown m) e (length self.old.marks) (level + 1) self.new)) }
+    {
+        let found = crossings_from(alloc, source, &self.marks, start)?;
+        let crossings = in_order(found);
+        self.follow_all(alloc, source, &crossings)?;
+        Ok(())
+    }
+}
+
+// The marks of all that stand for the target.
+fn begin<S: LinkSource>(
+    alloc: Global,
+    source: &mut S,
+    target: &Node,
+) -> Result<Trail, WalkFault<S::Fault>>
+    ensures same_reference { S.lender source.new ≡ S.lender source.old }
+    ensures kept { Kept S.shows S.is_clean S.is_sound S.may_leave source.old source.new }
+    ensures counts { S.fault_count source.new ≡ walk_counted result (S.fault_count source.old) }
+    ensures lasts { OnOk result (StaysClean S.is_clean S.is_sound source.old source.new) }
+    ensures told { Promised S.shows S.is_clean source.old source.new (λ m.
+        IfErr result (λ f. OnWalkSource f S.may_tell)) }
+    ensures walked { IfOk result (λ trail. Promised S.shows S.is_clean source.old source.new (λ m.
+        IsAtLevel (S.shown m) target.now 0 0 trail)) }
+{
+    let nodes = match source.same(target) {
+        Ok(nodes) => nodes,
+        Err(fault) => return Err(WalkFault::Source(fault)),
+    };
+    let mut trail = Trail {
+        marks: Marks::new(alloc),
+        steps: Vec::new(alloc),
+    };
+    trail.give(alloc, &nodes, Mark::Target, None)?;
+    Ok(trail)
+}
+
+/// Walks from an entity until a level adds nothing. Each mark is given once, by the first link of
+/// the least of its chains, so the walk ends, and a class and the links into a node are asked for
+/// at most twice.
+pub(crate) fn trail_from<S: LinkSource>(
+    alloc: Global,
+    source: &mut S,
+    target: &Node,
+) -> Result<Trail, WalkFault<S::Fault>>
+    ensures same_reference { S.lender source.new ≡ S.lender source.old }
+    ensures kept { Kept S.shows S.is_clean S.is_sound S.may_leave source.old source.new }
+    ensures counts { S.fault_count source.new ≡ walk_counted result (S.fault_count source.old) }
+    ensures lasts { OnOk result (StaysClean S.is_clean S.is_sound source.old source.new) }
+    ensures told { Promised S.shows S.is_clean source.old source.new (λ m.
+        IfErr result (λ f. OnWalkSource f S.may_tell)) }
+    ensures walked { IfOk result (λ trail. Promised S.shows S.is_clean source.old source.new (λ m.
+        IsAll (S.shown m) target.now trail)) }
+{
+    let mut trail = begin(alloc, source, target)?;
+    let mut start = 0;
+    while start < trail.marks.len() {
+        let end = trail.marks.len();
+        trail.go_on(alloc, source, start)?;
+        start = end;
+    }
+    Ok(trail)
+}

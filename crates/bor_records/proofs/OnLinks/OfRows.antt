@@ -1,0 +1,54 @@
+-- A link of rows is known by its record.
+use Rattle.std.proofs.Common.{◌≡◌, ◌&&◌, ℕ, ℤ, Bool, true, false, cond, Option, Some, None, List, Contains, refl, sym, ap, ◌∙◌, subst}
+use Rattle.std.proofs.lemmas.Option.{same_Some}
+use Rattle.bods_read.specs.declared.details.Details.{Details}
+use Rattle.bods_read.specs.declared.details.Details.TheVariants as details
+use Rattle.bods_read.specs.declared.interest.Interest.{Interest}
+use Rattle.bor_records.specs.declared.row.Row.{Row}
+use Rattle.bor_records.specs.OpenRows.{open_rows}
+use Rattle.bor_records.specs.declared.links.node.Node.{Node}
+use Rattle.bor_records.specs.declared.links.node.OpenNode.{OpenNode}
+use Rattle.bor_records.specs.declared.links.node.Link.{Link}
+use Rattle.bor_records.specs.Links.Nodes.{link_record}
+use Rattle.bor_records.specs.Links.Series.{series_of, open_at}
+use Rattle.bor_records.specs.Links.Shown.{info_in}
+use Rattle.bor_records.specs.Links.Rows.{is_entity_info, is_some_info, beside, link_between, link_with, link_in, nodes_of}
+use Rattle.bor_records.specs.Links.Laws.{IsOfRow, LinksAreOfRows, LinksAreKnownByRecord}
+use Rattle.bor_records.proofs.OnLinks.Found.{Contains-from_filter_map}
+use Rattle.bor_records.proofs.OnLinks.ByKey.{open_row_at}
+
+-- the ends of a link and its record are beside the row
+record IsBeside (r : Row) (l : Link) : Type 0 where
+  of_record : series_of r ≡ link_record l
+  agent : l.party.agent ≡ l.subject.agent
+  declaration : l.party.declaration ≡ l.subject.declaration
+
+between : (day : ℤ) (nodes : List OpenNode) (r : Row) (party subject : List ℕ) (interests : List Interest) (l : Link) → link_between day nodes r.statement.rec (beside r party) (beside r subject) interests ≡ Some l → IsBeside r l
+between day nodes r party subject interests l h = at (is_entity_info (info_in nodes (beside r subject)) && is_some_info (info_in nodes (beside r party))) _ h (record { of_record = refl; agent = refl; declaration = refl })
+  where
+    at : (b : Bool) (k : Link) → cond b (Some k) None ≡ Some l → IsBeside r k → IsBeside r l
+    at true k e is = subst (λ (z : Link). IsBeside r z) (same_Some k l e) is
+    at false k e is = let no : None ≡ Some l = e in absurd cc
+
+made_beside : (day : ℤ) (nodes : List OpenNode) (r : Row) (d : Details) (l : Link) → link_with day nodes r d ≡ Some l → IsBeside r l
+made_beside day nodes r (details.Entity kind name identifiers) l h = let no : None ≡ Some l = h in absurd cc
+made_beside day nodes r (details.Person kind name) l h = let no : None ≡ Some l = h in absurd cc
+made_beside day nodes r (details.Relationship None party interests) l h = let no : None ≡ Some l = h in absurd cc
+made_beside day nodes r (details.Relationship (Some subject) None interests) l h = let no : None ≡ Some l = h in absurd cc
+made_beside day nodes r (details.Relationship (Some subject) (Some party) interests) l h = between day nodes r party subject interests l h
+
+pub links_of_rows : LinksAreOfRows
+links_of_rows day rows l h =
+    let m = Contains-from_filter_map (link_in day (nodes_of day rows)) (open_rows day rows) l h in
+    let is = made_beside day (nodes_of day rows) m.0 (m.0).statement.details l m.2 in
+    record { row = m.0; is_open = m.1; made = m.2; of_record = is.of_record; agent = is.agent; declaration = is.declaration }
+
+pub links_by_record : LinksAreKnownByRecord
+links_by_record day rows l k h j same =
+    let a = links_of_rows day rows l h in
+    let b = links_of_rows day rows k j in
+    let one = open_row_at day rows a.row a.is_open in
+    let two = open_row_at day rows b.row b.is_open in
+    let key : series_of a.row ≡ series_of b.row = a.of_record ∙ same ∙ sym b.of_record in
+    let row = same_Some a.row b.row (sym one ∙ ap (λ (n : Node). open_at day n rows) key ∙ two) in
+    same_Some l k (sym a.made ∙ ap (λ (r : Row). link_in day (nodes_of day rows) r) row ∙ b.made)
