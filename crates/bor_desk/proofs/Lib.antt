@@ -11,3 +11,4 @@ pub mod StepExamples
 pub mod Worlds
 pub mod OnOperations
 pub mod OnMemory
+pub mod OnMirror

@@ -4,5 +4,7 @@ pub mod Withdrawn
 pub mod Rows
 pub mod Maps
 pub mod Indexed
+pub mod Built
 pub mod Sighted
 pub mod Told
+pub mod Succeeded

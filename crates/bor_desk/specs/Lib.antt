@@ -9,3 +9,4 @@ pub mod CheckReport
 pub mod ChainReport
 pub mod Operations
 pub mod Memory
+pub mod Mirror

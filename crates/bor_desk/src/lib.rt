@@ -14,7 +14,8 @@
 //! ```
 //!
 //! [`check_text`] and [`report_text`] give what the program prints. What is done to a register on
-//! the way stands in [`operations`], and the register in memory in [`memory`].
+//! the way stands in [`operations`], the register in memory in [`memory`], and a keep with such a
+//! register beside it in [`mirror`].
 //!
 //! Nothing is read or printed here, and no HTTP is known of: requests come in as values, and
 //! replies go out as values or as bytes of a text.
@@ -24,6 +25,7 @@ mod check;
 mod desk;
 pub mod laws;
 pub mod memory;
+pub mod mirror;
 pub mod operations;
 mod refusal;
 mod reply;

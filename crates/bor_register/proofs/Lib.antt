@@ -10,3 +10,6 @@ pub mod SeenRows
 pub mod Withdrawals
 pub mod Examples
 pub mod OneAgent
+pub mod WithoutFiles
+pub mod BareReads
+pub mod BareChanges

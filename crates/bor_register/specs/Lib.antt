@@ -8,3 +8,6 @@ pub mod Withdrawal
 pub mod Forms
 pub mod Places
 pub mod Seen
+pub mod Bare
+pub mod Additions
+pub mod Held

@@ -23,6 +23,7 @@ mod caller;
 mod fault;
 mod filing;
 mod filings;
+mod held;
 pub mod keeping;
 pub mod laws;
 mod live;
@@ -36,6 +37,7 @@ pub use caller::Caller;
 pub use fault::StoreFault;
 pub use filing::{AcceptedFiling, Filing, FilingLine, Outward, State};
 pub use filings::{all_lines, filing_under, is_filed, line_under};
+pub use held::statement_count;
 pub use live::{any_live_has_id, last_live};
 pub use member::{
     Member, caller_with, enrol_member, is_enrolled, own_filings, push_filing, withdraw_of,

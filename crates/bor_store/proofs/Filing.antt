@@ -1,6 +1,6 @@
 -- What a change leaves and tells.
 use Rattle.std.proofs.Common.{◌≡◌, ℕ, Result, Ok, Err, sym, subst, refl, ◌∙◌, ap}
-use Rattle.std.specs.Prelude.{IfOk, OnErr, OnOk}
+use Rattle.std.specs.Prelude.{IfErr, IfOk, OnErr, OnOk}
 use Rattle.sqlite.specs.State.{State}
 use Rattle.sqlite.specs.declared.error.Error.{Error}
 use Rattle.bor_records.specs.Promises.{counted, left_by}
@@ -11,13 +11,15 @@ use Rattle.bor_store_sql.specs.Shown.{ShowsIn}
 use Rattle.bor_store.specs.Telling.{tells, tells_made, IsNextFiling}
 use Rattle.bor_store_reads.proofs.Found.{still_shows}
 
-pub left_shown : (made : Result ℕ ReadError) (told : Result ℕ StoreFault) (count : ℕ) (r changed : Register) (old new : State) → told ≡ tells made
-    → IfOk made (λ number. IsNextFiling number count changed new) → OnErr made (new.committed ≡ old.committed)
-    → ShowsIn r old → ShowsIn (left_by told changed r) new
-left_shown (Ok number) told count r changed old new e next kept shows =
-    subst (λ (t : Result ℕ StoreFault). ShowsIn (left_by t changed r) new) (sym e) next.shown
-left_shown (Err error) told count r changed old new e next kept shows =
-    subst (λ (t : Result ℕ StoreFault). ShowsIn (left_by t changed r) new) (sym e) (still_shows r old new kept shows)
+pub filed_shown : (made : Result ℕ ReadError) (told : Result ℕ StoreFault) (count : ℕ) (changed : Register) (new : State) → told ≡ tells made
+    → IfOk made (λ number. IsNextFiling number count changed new) → IfOk told (λ number. ShowsIn changed new)
+filed_shown (Ok number) told count changed new is next = subst (λ (t : Result ℕ StoreFault). IfOk t (λ number. ShowsIn changed new)) (sym is) next.shown
+filed_shown (Err error) told count changed new is next = subst (λ (t : Result ℕ StoreFault). IfOk t (λ number. ShowsIn changed new)) (sym is) tt
+
+pub unfiled_shown : (made : Result ℕ ReadError) (told : Result ℕ StoreFault) (r : Register) (old new : State) → told ≡ tells made
+    → OnErr made (new.committed ≡ old.committed) → ShowsIn r old → IfErr told (λ e. ShowsIn r new)
+unfiled_shown (Ok number) told r old new is kept shows = subst (λ (t : Result ℕ StoreFault). IfErr t (λ e. ShowsIn r new)) (sym is) tt
+unfiled_shown (Err error) told r old new is kept shows = subst (λ (t : Result ℕ StoreFault). IfErr t (λ e. ShowsIn r new)) (sym is) (still_shows r old new kept shows)
 
 counted_same : (made : Result ℕ ReadError) (n : ℕ) → counted made n ≡ counted (tells made) n
 counted_same (Ok number) n = refl
@@ -35,6 +37,15 @@ change_left {X} (Ok x) told r changed old new is shown kept shows =
     subst (λ (t : Result X StoreFault). ShowsIn (left_by t changed r) new) (sym is) shown
 change_left {X} (Err error) told r changed old new is shown kept shows =
     subst (λ (t : Result X StoreFault). ShowsIn (left_by t changed r) new) (sym is) (still_shows r old new kept shows)
+
+pub made_shown : {X : Type 0} (made : Result X Error) (told : Result X StoreFault) (changed : Register) (new : State) → told ≡ tells_made made → OnOk made (ShowsIn changed new) → IfOk told (λ x. ShowsIn changed new)
+made_shown {X} (Ok x) told changed new is shown = subst (λ (t : Result X StoreFault). IfOk t (λ x. ShowsIn changed new)) (sym is) shown
+made_shown {X} (Err error) told changed new is shown = subst (λ (t : Result X StoreFault). IfOk t (λ x. ShowsIn changed new)) (sym is) tt
+
+pub unmade_shown : {X : Type 0} (made : Result X Error) (told : Result X StoreFault) (r : Register) (old new : State) → told ≡ tells_made made → OnErr made (new.committed ≡ old.committed) → ShowsIn r old
+    → IfErr told (λ e. ShowsIn r new)
+unmade_shown {X} (Ok x) told r old new is kept shows = subst (λ (t : Result X StoreFault). IfErr t (λ e. ShowsIn r new)) (sym is) tt
+unmade_shown {X} (Err error) told r old new is kept shows = subst (λ (t : Result X StoreFault). IfErr t (λ e. ShowsIn r new)) (sym is) (still_shows r old new kept shows)
 
 pub counted_made : {X : Type 0} (made : Result X Error) (told : Result X StoreFault) (n m : ℕ) → told ≡ tells_made made → m ≡ counted made n → m ≡ counted told n
 counted_made {X} (Ok x) told n m is count = count ∙ ap (λ (t : Result X StoreFault). counted t n) (sym is)

@@ -50,3 +50,18 @@ keep_leaves state_of old new before after begins ends sound began Made stops cha
         | inr made ↦ inr (made.0, λ r shows. so made.0 r shows trees made.1)
       ]);
 }
+
+-- the same, told of those registers alone that the change fits
+pub keep_leaves_where : {K : Type 0} (state_of : K → State) (old new : K) (before after : State) → before ≡ state_of old → state_of new ≡ after → (HasCleanDisk after → HasCleanDisk before) → (IsClean after → IsClean before)
+    → (Made : Trees → Type 0) → LeavesAtMost Made before after → (Fits : Register → Type 0) (change : Register → Register) → ((r : Register) → ShowsIn r before → Fits r → (trees : Trees) → Made trees → Stands (change r) trees)
+    → Leaves (λ k r. ShowsIn r (state_of k)) (λ k. IsClean (state_of k)) (λ k. HasCleanDisk (state_of k)) (λ k trees. (state_of k).may_leave trees) old new (λ r trees. Fits r → Stands (change r) trees)
+keep_leaves_where state_of old new before after begins ends sound began Made stops Fits change so = record {
+  began = λ clean. subst IsClean begins (began (subst IsClean ends clean));
+  sound = λ clean. subst HasCleanDisk begins (sound (subst HasCleanDisk ends clean));
+  stops = λ clean trees may.
+      subst (λ s. s.may_leave trees ⊎ (IsClean s × ((r : Register) → ShowsIn r s → Fits r → Stands (change r) trees))) begins
+      (elim (stops (subst HasCleanDisk ends clean) trees (subst (λ s. s.may_leave trees) ends may)) [
+        | inl was ↦ inl was
+        | inr made ↦ inr (made.0, λ r shows fits. so r shows fits trees made.1)
+      ]);
+}

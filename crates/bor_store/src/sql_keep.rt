@@ -1,6 +1,6 @@
 //! A register in tables.
 
-ghost use Rattle.std.specs.Prelude.{◌≡◌, false};
+ghost use Rattle.std.specs.Prelude.{◌≡◌, false, IfOk};
 ghost use Rattle.std.proofs.Common.{sym};
 ghost use Rattle.sqlite.specs.Held.{state};
 ghost use Rattle.sqlite.specs.State.{HasCleanDisk};
@@ -12,6 +12,8 @@ ghost use Rattle.bor_store.specs.Telling.{tells, tells_made, store_fault_of, Tel
 
 use crate::lodging::add_next_filing;
 use bods_read::Statement;
+use bor_desk::memory::ListKeep;
+use bor_desk::mirror::MirrorStore;
 use bor_records::links::{Link, Node, NodeInfo};
 use bor_records::{Last, Row};
 use bor_register::keeping::Keep;
@@ -20,6 +22,7 @@ use bor_store_keys::{Lookup, read_links_into, read_node, read_same};
 use bor_store_reads::{
     ReadError, filing_count, has_agent, has_file, has_statement, has_successor, read_day,
     read_filing, read_filings, read_last, read_line, read_published, read_rows_of, read_who,
+    read_whole,
 };
 use bor_store_sql::{add_agent, set_day, withdraw_filing};
 use bor_terms::{AgentName, Day, Ident, LodgeKey, Token};
@@ -252,4 +255,21 @@ impl<S: Alter + Drop> Keep for SqlKeep<S> {
 
     ghost lasting = { λ k clean trees may r shows. stands_in r _ trees
         (sym (S.settled k.conn.store trees clean.1 may)) (shows.has, shows.stored) };
+}
+
+#[tactic(auto, using(bor_store_reads::proofs::Found::still_shows, crate::proofs::Kept::still_kept, crate::proofs::Lasting::lasts_told, crate::proofs::Lasting::up_told, crate::proofs::Undamaged::undamaged_told))]
+impl<S: Alter + Drop> MirrorStore for SqlKeep<S> {
+    fn whole(&mut self, most: u32) -> Result<Option<ListKeep>, StoreFault> {
+        let answer = read_whole(self.conn.connection(), self.alloc, most);
+        match self.told(answer) {
+            Ok(Some(whole)) => Ok(ListKeep::of_members(
+                self.alloc,
+                whole.registrar,
+                whole.day,
+                whole.members,
+            )),
+            Ok(None) => Ok(None),
+            Err(fault) => Err(fault),
+        }
+    }
 }

@@ -5,8 +5,8 @@ use Rattle.bor_register.specs.declared.filing.Outward.{Outward}
 use Rattle.bor_register.specs.declared.member.Member.{Member}
 use Rattle.bor_register.specs.Publication.{published}
 use Rattle.bor_register.specs.Rows.{visible}
-use Rattle.bor_store_sql.specs.Rows.Placed.{without_files}
-use Rattle.bor_store_sql.proofs.OnRows.WithoutFiles.{visible-bare, published-bare}
+use Rattle.bor_register.specs.Bare.{without_files}
+use Rattle.bor_register.proofs.WithoutFiles.{visible-bare, published-bare}
 
 pub visible_is : (viewer : List ℕ) (day : ℤ) (ms bare : List Member) (rows : List Row) → rows ≡ visible viewer day bare → bare ≡ without_files ms → rows ≡ visible viewer day ms
 visible_is viewer day ms bare rows e is = e ∙ ap (visible viewer day) is ∙ visible-bare viewer day ms

@@ -30,6 +30,6 @@ pub use records::{read_identified, read_place, read_record, read_series, read_su
 pub use register::read_day;
 pub use statements::{has_statement, read_last};
 pub use successors::has_successor;
-pub use tables::has_more;
+pub use tables::{WholeRegister, has_more, read_whole};
 pub use values::{all_values, first_value};
 pub use views::{read_published, read_visible};

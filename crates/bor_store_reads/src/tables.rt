@@ -1,14 +1,16 @@
 //! Whole tables, whether there are more statements than a number, and the members of the register
 //! that the tables are.
 
-ghost use Rattle.std.specs.Prelude.{◌≡◌, false, IfOk, length, map, nat_le, not};
+ghost use Rattle.std.specs.Prelude.{◌≡◌, ◌<◌, false, IfOk, MatchOption, length, map, nat_le, not};
 ghost use Rattle.std.specs.List.{flat_map};
 ghost use Rattle.sqlite.specs.Held.{state};
-ghost use Rattle.bor_store_sql.specs.Rows.Placed.{agent_row, bare, filing_lines, identifier_rows, interest_rows, line_of, period_rows, placed, without_files};
+ghost use Rattle.bor_store_sql.specs.Rows.Placed.{agent_row, bare, filing_lines, identifier_rows, interest_rows, line_of, period_rows, placed};
+ghost use Rattle.bor_register.specs.Bare.{without_files};
 ghost use Rattle.bor_store_sql.specs.Shown.{IsUp};
 ghost use Rattle.bor_store_reads.specs.Answering.{ReadsAs};
 
 use crate::fault::ReadError;
+use crate::register::read_register;
 use crate::values::{all_values, any};
 use bor_register::Member;
 use bor_store_sql::rows::{
@@ -19,8 +21,20 @@ use bor_store_sql::{
     all_agents, all_filings, all_identifiers, all_interests, all_periods, all_statements,
     more_statements,
 };
+use bor_terms::{Day, Token};
 use sqlite::{Alter, Connection};
 use std::alloc::Global;
+
+/// A register, each of its filings without its file.
+#[derive(Drop)]
+pub struct WholeRegister {
+    /// Its day.
+    pub day: Day,
+    /// The registrar's token.
+    pub registrar: Token,
+    /// Its members, by name.
+    pub members: Vec<Member>,
+}
 
 // The rows of all agents, by name.
 fn agents<S: Alter>(conn: &mut Connection<S>, alloc: Global) -> Result<Vec<AgentRow>, ReadError>
@@ -146,4 +160,41 @@ pub(crate) fn members<S: Alter>(
         filings.as_slice(),
         statements.as_slice(),
     )?)
+}
+
+// The register, each filing without its file.
+fn whole<S: Alter>(conn: &mut Connection<S>, alloc: Global) -> Result<WholeRegister, ReadError>
+    requires { conn.old.in_transaction ≡ false }
+    ensures reads { ReadsAs (state S.Store conn.old) (state S.Store conn.new) result (λ r whole.
+        (whole.day ≡ r.day) × (whole.registrar ≡ r.registrar)
+        × (whole.members.items ≡ without_files r.members)) }
+    ensures up { IfOk result (λ _. IsUp (state S.Store conn.new)) }
+{
+    let row = read_register(conn, alloc)?;
+    let members = members(conn, alloc)?;
+    Ok(WholeRegister {
+        day: row.day,
+        registrar: row.registrar,
+        members,
+    })
+}
+
+/// The register, each filing without its file; `None` where it has more live statements than so
+/// many. It is told by a connection that is open, if its disk has returned what was written.
+pub fn read_whole<S: Alter>(
+    conn: &mut Connection<S>,
+    alloc: Global,
+    most: u32,
+) -> Result<Option<WholeRegister>, ReadError>
+    requires { conn.old.in_transaction ≡ false }
+    ensures reads { ReadsAs (state S.Store conn.old) (state S.Store conn.new) result (λ r whole.
+        MatchOption whole (most < length (placed r.members)) (λ whole.
+        (whole.day ≡ r.day) × (whole.registrar ≡ r.registrar)
+        × (whole.members.items ≡ without_files r.members))) }
+    ensures up { IfOk result (λ _. IsUp (state S.Store conn.new)) }
+{
+    if has_more(conn, most)? {
+        return Ok(None);
+    }
+    Ok(Some(whole(conn, alloc)?))
 }

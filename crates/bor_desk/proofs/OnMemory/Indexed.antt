@@ -158,7 +158,7 @@ member_more name agent token [] h = go (is_same agent name)
     go false = refl
 member_more name agent token (m ∷ ms) h = grind (arith, member_more name agent token ms, filings_absent agent (m ∷ ms), same_is agent name)
 
-index_same : (ms ns : List Member) (x : Index) → ((name : List ℕ) → filings_of name ns ≡ filings_of name ms) → IsIndex ms x → IsIndex ns x
+pub index_same : (ms ns : List Member) (x : Index) → ((name : List ℕ) → filings_of name ns ≡ filings_of name ms) → IsIndex ms x → IsIndex ns x
 index_same ms ns x same h = record {
   series = λ n. subst (λ (fs : List AcceptedFiling). ArePlaces fs (has_record n) (under node_cmp x.series n)) (sym (same n.agent)) (h.series n);
   named = λ k. subst (λ (fs : List AcceptedFiling). ArePlaces fs (has_key k) (under key_cmp x.named k)) (sym (same k.agent)) (h.named k);

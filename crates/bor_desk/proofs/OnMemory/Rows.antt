@@ -123,7 +123,7 @@ live_sited i (f ∷ fs) =
     ∙ sym (map-append (λ (x : Sited). as_live x.filing.due x.statement) (sited_from i f 0 f.statements) (sited_in (i + 1) fs))
 
 -- a statement is of a record of its agent
-record_is : (n : Node) (s : Statement) → is_of_record n.declaration n.rec s ≡ has_record n s
+pub record_is : (n : Node) (s : Statement) → is_of_record n.declaration n.rec s ≡ has_record n s
 record_is n s = ap (λ (b : Bool). b && is_of_record n.declaration n.rec s) (sym (same_refl n.agent)) ∙ node_ties (stated n.agent s) n
 
 known_map : (o : Option Sited) → option_map known_of (option_map (λ (x : Sited). as_live x.filing.due x.statement) o) ≡ option_map (λ (x : Sited). known_of (as_live x.filing.due x.statement)) o

@@ -117,7 +117,7 @@ withdrawn_at number fs p =
     withdrawn_get (sited_of p) (λ f. refl) 0 number fs p.filing
     ∙ ap (λ (n : ℕ). if n == first_at 0 number fs then None else sited_at fs p) (let same : 0 + p.filing ≡ p.filing = omega arith in same)
 
-site_is : (fs : List AcceptedFiling) (p : Place) (x : Sited) → sited_at fs p ≡ Some x → x.place ≡ p
+pub site_is : (fs : List AcceptedFiling) (p : Place) (x : Sited) → sited_at fs p ≡ Some x → x.place ≡ p
 site_is fs p x e = go (slice_get fs p.filing) e
   where
     on : (f : AcceptedFiling) (o : Option Statement) → option_map (λ s. let y : Sited = record { filing = f; place = p; statement = s } in y) o ≡ Some x → x.place ≡ p

@@ -91,6 +91,10 @@ pub record IsIndex (ms : List Member) (x : Index) : Type 0 where
   pub naming : AllNoted subjects_of ms (under node_cmp x.naming)
   pub signed : AllNoted signs_of ms (under sign_cmp x.signed)
 
+-- the record of each statement that the agent may make leads to the places of its statements in the agent's filings
+abbrev pub LeadsToAll : List ℕ → List AcceptedFiling → Index → Type 0
+LeadsToAll agent fs x = (s : Statement) → ArePlaces fs (has_record (stated agent s)) (under node_cmp x.series (stated agent s))
+
 -- The statements of an agent's filing, which has this index, are added to the maps.
 pub record IsGrown (agent : List ℕ) (filing : ℕ) (ss : List Statement) (old new : Index) : Type 0 where
   pub series : (n : Node) → under node_cmp new.series n ≡ under node_cmp old.series n ++ places_from (λ s. is_eq (node_cmp (stated agent s) n)) filing 0 ss

@@ -1,6 +1,6 @@
 //! The register in memory.
 
-ghost use Rattle.std.specs.Prelude.{◌≡◌, ◌+◌, ◌++◌, ◌∷◌, [], ◌%◌, ◌^◌, true, IfOk, IfSome};
+ghost use Rattle.std.specs.Prelude.{◌≡◌, ◌+◌, ◌++◌, ◌∷◌, [], ◌%◌, ◌^◌, ◌<◌, true, IfOk, IfSome, List, length, min};
 ghost use Rattle.std.specs.Result.{result_map_both};
 ghost use Rattle.bor_records.specs.Admission.{last_of};
 ghost use Rattle.bor_records.specs.Promises.{counted};
@@ -10,24 +10,32 @@ ghost use Rattle.bor_records.specs.Links.Shown.{info_of};
 ghost use Rattle.bor_register.specs.declared.filing.AcceptedFiling.{AcceptedFiling};
 ghost use Rattle.bor_desk.specs.Memory.Indexed.{IsIndex};
 ghost use Rattle.bor_desk.specs.Memory.Sighted.{IsIndexed, in_sight};
+ghost use Rattle.bor_register.specs.Held.{statement_count};
+ghost use Rattle.bor_register.specs.Limits.{filings_limit};
 ghost use Rattle.bor_register.specs.Live.{live_of};
-ghost use Rattle.bor_register.specs.Register.{empty_register, filings_of, is_enrolled, with_filings};
+ghost use Rattle.bor_register.specs.declared.member.Member.{Member};
+ghost use Rattle.bor_register.specs.Register.{IsOrdered, empty_register, filings_of, is_enrolled, with_filings};
 ghost use Rattle.bor_register.specs.Seen.{seen_at};
+ghost use Rattle.bor_register.specs.Withdrawal.{has_successor};
+ghost use Rattle.bor_terms.specs.Texts.{is_below};
 
 use crate::memory::index::{Index, StatementKey, node_named};
 use crate::memory::last_asked::{LastAsked, forget};
 use crate::memory::sames::same_told;
 use crate::memory::sight::{Sight, links_told, node_told};
 use crate::memory::standing::{any_stands, last_known};
+use crate::memory::succession;
+use crate::operations::FILINGS_LIMIT;
 use bods_read::Statement;
 use bor_chains::{LinkSource, ListSource};
 use bor_records::links::{Link, Node, NodeInfo};
 use bor_records::{Last, Row};
 use bor_register::keeping::Keep;
 use bor_register::{
-    Caller, Filing, FilingLine, Member, Outward, StoreFault, all_lines, all_published, all_visible,
-    any_live_has_id, caller_with, enrol_member, filing_under, is_enrolled, is_filed, is_succeeded,
-    last_live, line_under, own_filings, push_filing, rows_seen, withdraw_of,
+    AcceptedFiling, Caller, Filing, FilingLine, Member, Outward, StoreFault, all_lines,
+    all_published, all_visible, any_live_has_id, caller_with, enrol_member, filing_under,
+    is_enrolled, is_filed, is_succeeded, last_live, line_under, own_filings, push_filing,
+    rows_seen, statement_count, withdraw_of,
 };
 use bor_terms::{AgentName, Day, Ident, LodgeKey, Token};
 use std::alloc::{AllocError, Global};
@@ -37,10 +45,11 @@ use std::marker::Model;
 /// its one fault is want of memory.
 ///
 /// Maps beside the filings (`Index`) follow each change, so what is asked of a record is read by
-/// its key, and a report takes what it meets. Where memory is wanting while a filing is added, they
-/// are let go: from then on statements are looked for one by one, and what a viewer sees is listed
-/// as nodes and links where a chain first asks for one of them. These lists are kept until another
-/// viewer or day is asked for, or the register changes.
+/// its key, and a report takes what it meets. Where memory is wanting for them while a filing is
+/// added, it isn't added and they are let go: from then on statements are looked for one by one,
+/// and what a viewer sees is listed as nodes and links where a chain first asks for one of them.
+/// These lists are kept until another viewer or day is asked for, or the register changes. An
+/// addition that doesn't fit the register is answered as want of memory, too, and changes nothing.
 #[derive(Drop)]
 pub struct ListKeep {
     alloc: Global,
@@ -92,6 +101,43 @@ impl ListKeep {
             last_asked: None,
             faults: 0,
         }
+    }
+
+    /// The register of these members; `None` where their names don't go up, or memory is wanting for
+    /// the maps.
+    pub fn of_members(
+        alloc: Global,
+        registrar: Token,
+        day: Day,
+        members: Vec<Member>,
+    ) -> Option<Self>
+        ensures { IfSome result (λ keep. keep ≡ record {
+          register = record { day = day; registrar = registrar; members = members.items };
+          faults = 0;
+        }) }
+    {
+        if !are_ordered(&members) {
+            return None;
+        }
+        match index_of(alloc, &members) {
+            Ok(index) => Some(ListKeep {
+                alloc,
+                day,
+                registrar,
+                members,
+                index: Some(index),
+                last_asked: None,
+                faults: 0,
+            }),
+            Err(_) => None,
+        }
+    }
+
+    /// How many live statements it has; `usize::MAX` where there are more.
+    pub fn statement_count(&self) -> usize
+        ensures { result ≡ min (statement_count self.now.register.members) usize.MAX }
+    {
+        statement_count(&self.members)
     }
 
     // The nodes and links that the viewer sees on a day. They are taken out, so that they can be
@@ -264,6 +310,27 @@ impl ListKeep {
         any_live_has_id(filings, id)
     }
 
+    // Whether a later filing of the agent stands on the one with this number.
+    fn is_followed(&self, agent: &AgentName, number: u32) -> bool
+        ensures { result ≡ has_successor number (filings_of agent.now self.now.register.members) }
+    {
+        let filings = own_filings(&self.members, agent);
+        if let Some(index) = &self.index {
+            if let Ok(has) = succession::has_successor(self.alloc, index, agent, filings, number) {
+                return has;
+            }
+        }
+        is_succeeded(filings, number)
+    }
+
+    // Whether the agent is enrolled and has room for one more filing.
+    fn has_room(&self, agent: &AgentName) -> bool
+        ensures { result ≡ true → (is_enrolled agent.now self.now.register.members ≡ true)
+            × (length (filings_of agent.now self.now.register.members) < filings_limit) }
+    {
+        is_enrolled(&self.members, agent) && own_filings(&self.members, agent).len() < FILINGS_LIMIT
+    }
+
     // The maps with a filing that is to be added to an agent's, where there is memory for it. They
     // are taken out.
     fn take_index(&mut self, agent: &AgentName, statements: &[Statement]) -> Option<Index>
@@ -301,6 +368,55 @@ impl ListKeep {
             Err(_) => Err(self.want_of_memory()),
         }
     }
+}
+
+// Whether the name of the one is below that of the other.
+fn is_before(one: &Member, other: &Member) -> bool
+    ensures { result ≡ is_below one.now.name other.now.name }
+{
+    one.name < other.name
+}
+
+// Whether the names go up.
+fn are_ordered(members: &[Member]) -> bool
+    ensures { result ≡ true → IsOrdered members.now }
+{
+    for i in 1..members.len() {
+        if !is_before(&members[i - 1], &members[i]) {
+            return false;
+        }
+    }
+    true
+}
+
+// The maps of the members' filings.
+fn index_of(alloc: Global, members: &[Member]) -> Result<Index, AllocError>
+    requires { IsOrdered members.now }
+    ensures { IfOk result (λ index. IsIndex members.now index) }
+{
+    let mut index = Index::new(alloc);
+    for member in members {
+        index = index_with(alloc, index, &member.name, member.filings.as_slice())?;
+    }
+    Ok(index)
+}
+
+// The maps with the filings of an agent who had none.
+fn index_with(
+    alloc: Global,
+    old: Index,
+    agent: &AgentName,
+    filings: &[AcceptedFiling],
+) -> Result<Index, AllocError>
+    ensures { IfOk result (λ index. (ms : List Member) → is_enrolled agent.now ms ≡ true
+        → filings_of agent.now ms ≡ [] → IsIndex ms old
+        → IsIndex (with_filings agent.now filings.now ms) index) }
+{
+    let mut index = old;
+    for (i, filing) in filings.iter().enumerate() {
+        index = index.with_filing(alloc, agent, i, filing.statements.as_slice())?;
+    }
+    Ok(index)
 }
 
 // An agent's statement, by its identifier.
@@ -400,7 +516,7 @@ impl Keep for ListKeep {
     }
 
     fn has_successor(&mut self, agent: &AgentName, number: u32) -> Result<bool, StoreFault> {
-        Ok(is_succeeded(own_filings(&self.members, agent), number))
+        Ok(self.is_followed(agent, number))
     }
 
     fn rows_of(
@@ -452,7 +568,14 @@ impl Keep for ListKeep {
         bytes: &[u8],
         statements: &[Statement],
     ) -> Result<u32, StoreFault> {
+        if !self.has_room(agent) {
+            return Err(self.want_of_memory());
+        }
+        let had_index = self.index.is_some();
         let index = self.take_index(agent, statements);
+        if had_index && index.is_none() {
+            return Err(self.want_of_memory());
+        }
         forget(&mut self.last_asked);
         match push_filing(
             self.alloc,
@@ -484,6 +607,9 @@ impl Keep for ListKeep {
     }
 
     fn add_agent(&mut self, agent: &AgentName, token: &Token) -> Result<(), StoreFault> {
+        if is_enrolled(&self.members, agent) {
+            return Err(self.want_of_memory());
+        }
         forget(&mut self.last_asked);
         let made = enrol_member(self.alloc, &mut self.members, agent, token);
         self.told(made)

@@ -20,5 +20,6 @@ mod list_keep;
 mod sames;
 mod sight;
 mod standing;
+mod succession;
 
 pub use list_keep::ListKeep;

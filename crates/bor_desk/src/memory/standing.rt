@@ -37,8 +37,8 @@ fn stands(filings: &[AcceptedFiling], place: Place) -> bool
     }
 }
 
-// The last of the places at which a statement stands.
-fn last_standing(filings: &[AcceptedFiling], places: &[Place]) -> Option<Place>
+/// The last of the places at which a statement stands.
+pub(crate) fn last_standing(filings: &[AcceptedFiling], places: &[Place]) -> Option<Place>
     ensures { result ≡ last_or None
         (filter (λ p. passes (λ x. true) (sited_at filings.now p)) places.now) }
 {

@@ -7,9 +7,10 @@ ghost use Rattle.bor_records.specs.Admission.{Live, last_of};
 ghost use Rattle.bor_records.specs.Settling.{has_id, settled, verdict};
 ghost use Rattle.bor_register.specs.declared.filing.AcceptedFiling.{AcceptedFiling};
 ghost use Rattle.bor_register.specs.Register.{Register, is_enrolled, filings_of, filing_keyed};
-ghost use Rattle.bor_register.specs.Live.{accepted, live_of};
+ghost use Rattle.bor_register.specs.Live.{AreNew, accepted, live_of};
+ghost use Rattle.bor_register.specs.Additions.{with_filing};
 ghost use Rattle.bor_register.specs.Publication.{state_of_live, line_of};
-ghost use Rattle.bor_records.specs.Promises.{Kept, Leaves, StaysClean, Promised, Sure, Reads};
+ghost use Rattle.bor_records.specs.Promises.{Changes, Kept, Leaves, StaysClean, Promised, Sure, Reads};
 ghost use Rattle.bor_desk.specs.declared.operations.fault.LodgeFault.TheVariants as lodge_faults;
 ghost use Rattle.bor_register.specs.Limits.{filings_limit};
 ghost use Rattle.bor_desk.specs.Operations.Earlier.{AreFound};
@@ -281,6 +282,32 @@ fn prepare<K: Keep>(
     })
 }
 
+// Adds a filing that fits each register that is shown.
+fn add_filing<K: Keep>(
+    keep: &mut K,
+    agent: &AgentName,
+    key: &LodgeKey,
+    due: Day,
+    bytes: &[u8],
+    statements: &[Statement],
+) -> Result<u32, StoreFault>
+    requires enrolled { Sure K.shows K.is_clean keep.old (λ r.
+        is_enrolled agent.now r.members ≡ true) }
+    requires room { Sure K.shows K.is_clean keep.old (λ r.
+        length (filings_of agent.now r.members) < filings_limit) }
+    requires fresh { Sure K.shows K.is_clean keep.old (λ r.
+        filing_keyed key.now (filings_of agent.now r.members) ≡ None) }
+    requires statements { Sure K.shows K.is_clean keep.old (λ r.
+        AreNew (live_of (filings_of agent.now r.members)) statements.now) }
+    ensures number { Promised K.shows K.is_clean keep.old keep.new (λ r. IfOk result (λ number.
+        number ≡ length (filings_of agent.now r.members) + 1)) }
+    ensures changes { Changes K.shows K.is_clean K.is_sound K.may_leave K.left_shows
+        K.fault_count K.may_tell keep.old keep.new result
+        (with_filing agent.now key.now due bytes.now statements.now) }
+{
+    keep.add_filing(agent, key, due, bytes, statements)
+}
+
 // Lodges a file under a key that is new to the agent.
 fn lodge_new<K: Keep>(
     alloc: Global,
@@ -308,7 +335,7 @@ fn lodge_new<K: Keep>(
         (StaysClean K.is_clean K.is_sound keep.old keep.new) }
 {
     let new = prepare(alloc, keep, agent, due, bytes)?;
-    let number = keep.add_filing(agent, key, due, bytes, &new.statements)?;
+    let number = add_filing(keep, agent, key, due, bytes, &new.statements)?;
     Ok(Lodged {
         number,
         due,

@@ -1,8 +1,9 @@
 //! What the registrar does: the day goes on, and agents are enrolled.
 
-ghost use Rattle.std.specs.Prelude.{◌≡◌};
-ghost use Rattle.bor_register.specs.Register.{Register, is_taken};
-ghost use Rattle.bor_records.specs.Promises.{Leaves, StaysClean, Promised, Reads};
+ghost use Rattle.std.specs.Prelude.{◌≡◌, false};
+ghost use Rattle.bor_register.specs.Register.{Register, is_enrolled, is_taken};
+ghost use Rattle.bor_register.specs.Additions.{with_agent};
+ghost use Rattle.bor_records.specs.Promises.{Changes, Leaves, StaysClean, Promised, Reads, Sure};
 ghost use Rattle.bor_desk.specs.Operations.Registrar.{advance_step, enrol_step};
 ghost use Rattle.bor_desk.specs.Operations.Outcomes.{of_advance, of_enrolment, IsOutcome, UnlessFailed, IsAccounted, TellsFaultOf};
 ghost use Rattle.bor_desk.specs.Operations.Legality.{IsLegal};
@@ -48,6 +49,17 @@ fn is_taken<K: Keep>(keep: &mut K, token: &Token) -> Result<bool, StoreFault>
     Ok(keep.who(token)?.is_some())
 }
 
+// Adds an agent whose name and token are new to each register that is shown.
+fn add_agent<K: Keep>(keep: &mut K, name: &AgentName, token: &Token) -> Result<(), StoreFault>
+    requires new_name { Sure K.shows K.is_clean keep.old (λ r.
+        is_enrolled name.now r.members ≡ false) }
+    requires new_token { Sure K.shows K.is_clean keep.old (λ r. is_taken token.now r ≡ false) }
+    ensures { Changes K.shows K.is_clean K.is_sound K.may_leave K.left_shows
+        K.fault_count K.may_tell keep.old keep.new result (with_agent name.now token.now) }
+{
+    keep.add_agent(name, token)
+}
+
 /// Enrols an agent under a name and a token, and hands the name back.
 ///
 /// The refusals are, in their order: `NameTaken` where an agent has the name, and `TokenTaken`
@@ -74,6 +86,6 @@ pub fn enrol<K: Keep>(keep: &mut K, name: AgentName, token: Token) -> Result<Age
     if is_taken(keep, &token)? {
         return Err(EnrolFault::TokenTaken);
     }
-    keep.add_agent(&name, &token)?;
+    add_agent(keep, &name, &token)?;
     Ok(name)
 }

@@ -1,17 +1,17 @@
 //! What keeps a register, however it does.
 
-ghost use Rattle.std.specs.Prelude.{◌≡◌, ℕ, ◌+◌, ◌<◌, None, IfOk, [], ◌∷◌, ◌++◌, map, option_map, length, true, false};
+ghost use Rattle.std.specs.Prelude.{◌≡◌, ℕ, ◌+◌, IfOk, map, option_map, length};
 ghost use Rattle.bor_register.specs.declared.fault.StoreFault.{StoreFault};
-ghost use Rattle.bor_register.specs.Limits.{filings_limit};
-ghost use Rattle.bor_register.specs.Register.{Register, caller_of, is_enrolled, is_taken, filings_of, with_filings, new_member, with_member, filing_keyed};
+ghost use Rattle.bor_register.specs.Register.{Register, caller_of, is_enrolled, filings_of, filing_keyed};
 ghost use Rattle.bor_register.specs.Publication.{published, line_of, filing_shown, has_bytes};
-ghost use Rattle.bor_register.specs.Live.{accepted, live_of, AreNew};
+ghost use Rattle.bor_register.specs.Live.{live_of};
 ghost use Rattle.bor_register.specs.Rows.{rows_of};
 ghost use Rattle.bor_register.specs.Seen.{seen_at};
-ghost use Rattle.bor_register.specs.Withdrawal.{has_successor, with_withdrawn};
+ghost use Rattle.bor_register.specs.Withdrawal.{has_successor};
+ghost use Rattle.bor_register.specs.Additions.{MayEnrol, MayFile, with_agent, with_filing, with_withdrawal};
 ghost use Rattle.bor_records.specs.Admission.{last_of};
 ghost use Rattle.bor_records.specs.Settling.{has_id};
-ghost use Rattle.bor_records.specs.Promises.{Changes, Promised, Reads, Sure};
+ghost use Rattle.bor_records.specs.Promises.{Changes, ChangesWhere, Promised, Reads};
 ghost use Rattle.bor_records.specs.Links.Shown.{info_of};
 ghost use Rattle.bor_records.specs.Links.Answers.{AreSame, AreLinksInto};
 
@@ -25,13 +25,14 @@ use bor_terms::{AgentName, Day, Ident, LodgeKey, Token};
 ///
 /// Its meaning is a relation to registers (`shows`). It promises something of a register only where
 /// it showed that one and ends clean (`is_clean`: its store has returned what was written, and is
-/// open), and asks for something only where it shows one and is clean. A read leaves what is shown
-/// (`Reads`); a change makes what it says of it (`Changes`); a fault leaves it, and adds one to
-/// `faults`. While the store returns what was written (`is_sound`), an answer leaves a clean keep
-/// clean, and who has a token is told by a clean one alone: a store that has shut tells a fault.
-/// What a stop leaves (`may_leave`), whether a call goes well or answers a fault, is what one
-/// before it might have left, or, after a change of a clean keep, what shows the changed register
-/// (`left_shows`), while the store returns what was written.
+/// open). A read leaves what is shown (`Reads`); a change makes what it says of it (`Changes`), an
+/// addition of each register that it fits (`ChangesWhere`); a fault leaves it, and adds one to
+/// `faults`. No call has a condition, so a keep over another one can hand each call on. While the
+/// store returns what was written (`is_sound`), an answer leaves a clean keep clean, and who has a
+/// token is told by a clean one alone: a store that has shut tells a fault. What a stop leaves
+/// (`may_leave`), whether a call goes well or answers a fault, is what one before it might have
+/// left, or, after a change of a clean keep, what shows the changed register (`left_shows`), while
+/// the store returns what was written.
 pub trait Keep {
     /// The state shows this register.
     ghost shows: { Self → Register → Type 0 };
@@ -188,9 +189,10 @@ pub trait Keep {
         ensures { Reads shows is_clean is_sound may_leave fault_count may_tell
             self.old self.new result (λ r outwards. outwards.items ≡ published r.day r.members) };
 
-    /// Adds a filing to those of an agent, who has room for one more and none under the key, and
-    /// gives its number. The statements are those of the file: each has its settled status, their
-    /// identifiers are distinct, and none of them is a live statement's of the agent.
+    /// Adds a filing to those of an agent, and gives its number. That is promised of each register
+    /// that the filing fits (`MayFile`): the agent is enrolled, and has room for one more and none
+    /// under the key; each statement has its settled status, and their identifiers are distinct and
+    /// no live statement's of the agent. Whether it fits is for the caller to test.
     fn add_filing(
         &mut self,
         agent: &AgentName,
@@ -199,32 +201,19 @@ pub trait Keep {
         bytes: &[u8],
         statements: &[Statement],
     ) -> Result<u32, StoreFault>
-        requires enrolled { Sure shows is_clean self.old (λ r.
-            is_enrolled agent.now r.members ≡ true) }
-        requires room { Sure shows is_clean self.old (λ r.
-            length (filings_of agent.now r.members) < filings_limit) }
-        requires fresh { Sure shows is_clean self.old (λ r.
-            filing_keyed key.now (filings_of agent.now r.members) ≡ None) }
-        requires statements { Sure shows is_clean self.old (λ r.
-            AreNew (live_of (filings_of agent.now r.members)) statements.now) }
-        ensures number { Promised shows is_clean self.old self.new (λ r. IfOk result (λ number.
+        ensures number { Promised shows is_clean self.old self.new (λ r.
+            MayFile agent.now key.now statements.now r → IfOk result (λ number.
             number ≡ length (filings_of agent.now r.members) + 1)) }
-        ensures changes { Changes shows is_clean is_sound may_leave left_shows
-            fault_count may_tell self.old self.new result (λ r.
-            let own = filings_of agent.now r.members in
-            record r {
-              members = with_filings agent.now
-                  (own ++ accepted own key.now due bytes.now statements.now ∷ []) r.members;
-            }) };
+        ensures changes { ChangesWhere shows is_clean is_sound may_leave left_shows
+            fault_count may_tell self.old self.new result
+            (MayFile agent.now key.now statements.now)
+            (with_filing agent.now key.now due bytes.now statements.now) };
 
     /// Withdraws the agent's filing with this number: its statements are gone, its number, key, due
     /// day and bytes stay. What may be withdrawn is for the caller to test.
     fn withdraw(&mut self, agent: &AgentName, number: u32) -> Result<(), StoreFault>
         ensures { Changes shows is_clean is_sound may_leave left_shows
-            fault_count may_tell self.old self.new result (λ r. record r {
-              members = with_filings agent.now
-                  (with_withdrawn number (filings_of agent.now r.members)) r.members;
-            }) };
+            fault_count may_tell self.old self.new result (with_withdrawal agent.now number) };
 
     /// Sets the register's day. That it isn't an earlier one is for the caller to test.
     fn set_day(&mut self, day: Day) -> Result<(), StoreFault>
@@ -232,15 +221,12 @@ pub trait Keep {
             fault_count may_tell self.old self.new result (λ r.
             record r { day = day }) };
 
-    /// Adds an agent whose name and token are new to the register.
+    /// Adds an agent. That is promised of each register to which its name and its token are new
+    /// (`MayEnrol`). Whether they are is for the caller to test.
     fn add_agent(&mut self, agent: &AgentName, token: &Token) -> Result<(), StoreFault>
-        requires new_name { Sure shows is_clean self.old (λ r.
-            is_enrolled agent.now r.members ≡ false) }
-        requires new_token { Sure shows is_clean self.old (λ r. is_taken token.now r ≡ false) }
-        ensures { Changes shows is_clean is_sound may_leave left_shows
-            fault_count may_tell self.old self.new result (λ r. record r {
-              members = with_member (new_member agent.now token.now) r.members;
-            }) };
+        ensures { ChangesWhere shows is_clean is_sound may_leave left_shows
+            fault_count may_tell self.old self.new result
+            (MayEnrol agent.now token.now) (with_agent agent.now token.now) };
 
     /// What was answered lasts: what a stop of a clean keep leaves shows each register that it
     /// showed.

@@ -12,7 +12,8 @@ use Rattle.bor_register.specs.declared.member.Member.{Member}
 use Rattle.bor_store_sql.specs.declared.rows.typed.AgentRow.{AgentRow}
 use Rattle.bor_store_sql.specs.declared.rows.typed.FilingRow.{FilingRow}
 use Rattle.bor_store_sql.specs.declared.rows.typed.Placed.{Placed}
-use Rattle.bor_store_sql.specs.Rows.Placed.{agent_row, filing_row, filing_lines, placed_from, placed_by, placed, without_file, member_without_files, without_files}
+use Rattle.bor_store_sql.specs.Rows.Placed.{agent_row, filing_row, filing_lines, placed_from, placed_by, placed}
+use Rattle.bor_register.specs.Bare.{without_file, member_without_files, without_files}
 use Rattle.bor_store_sql.specs.Rows.Stored.{AreNumbered, AllNumbered}
 use Rattle.bor_store_sql.proofs.OnRows.Numbers.{same_number}
 

@@ -164,16 +164,3 @@ placed (m ∷ ms) = placed_by m.name m.filings ++ placed ms
 abbrev pub AreApart : List Placed → Type 0
 AreApart [] = Unit {0}
 AreApart (p ∷ ps) = AllByRecursion (λ q. same_place q.at p.at ≡ false) ps × AreApart ps
-
--- ---- and back
-
--- a filing without its file
-abbrev pub without_file : AcceptedFiling → AcceptedFiling
-without_file f = record f { bytes = [] }
-
--- an agent, each of its filings without its file
-abbrev pub member_without_files : Member → Member
-member_without_files m = record m { filings = map without_file m.filings }
-
-abbrev pub without_files : List Member → List Member
-without_files ms = map member_without_files ms

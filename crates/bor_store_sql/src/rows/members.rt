@@ -4,7 +4,8 @@ ghost use Rattle.std.specs.Prelude.{◌≡◌, ◌++◌, ℕ, List, [], IfOk, ma
 ghost use Rattle.std.specs.List.{AllByRecursion, position_from};
 ghost use Rattle.bor_terms.specs.Texts.{is_same};
 ghost use Rattle.bor_register.specs.Register.{IsOrdered};
-ghost use Rattle.bor_store_sql.specs.Rows.Placed.{agent_row, filing_row, filing_lines, placed, placed_by, without_file, without_files, member_without_files};
+ghost use Rattle.bor_store_sql.specs.Rows.Placed.{agent_row, filing_row, filing_lines, placed, placed_by};
+ghost use Rattle.bor_register.specs.Bare.{without_file, without_files, member_without_files};
 ghost use Rattle.bor_store_sql.specs.Rows.Stored.{AreNumbered, AllNumbered};
 
 use crate::rows::typed::{AgentRow, FilingRow, Placed};

@@ -1,8 +1,7 @@
-use Rattle.std.proofs.Common.{◌≡◌, List, false, refl, ap, sym, subst}
+use Rattle.std.proofs.Common.{◌≡◌, ◌∙◌, List, false, sym, subst}
 use Rattle.std.specs.Prelude.{IfSome}
 use Rattle.std.proofs.lemmas.Option.{IfSome_then}
 use Rattle.bor_register.specs.declared.member.Member.{Member}
-use Rattle.bor_desk.specs.Memory.Holding.{Holding}
 use Rattle.bor_desk.specs.Memory.Indexed.{IsIndex}
 use Rattle.bor_register.specs.Register.{IsOrdered, is_enrolled, new_member, with_member}
 use Rattle.bor_register.proofs.Names.{ordered-with_member}
@@ -15,7 +14,7 @@ invariant_of-self c =
     let agent = c.args.agent.now in
     let before : List Member = c.self.inside.members.items in
     let fresh : is_enrolled agent before ≡ false =
-    subst (λ (ms : List Member). is_enrolled agent ms ≡ false) (sym (ap (λ (h : Holding). h.register.members) c.self.view_is)) (c.requires.new_name c.args.self.now.register refl tt) in
+    subst (λ (ms : List Member). is_enrolled agent ms ≡ false) c.deref.ensures.value (sym c.is_enrolled.ensures ∙ c.if-is_enrolled.false) in
     let Fits : List Member → Type 0 = λ ms. IsOrdered ms × IfSome c.self.inside.index (λ x. IsIndex ms x) × Unit {0} in
     rw c.forget.ensures (
     either_way c.enrol_member-made.result (c.enrol_member-made.new.members.items ≡ with_member (new_member agent c.args.token.now) before) (c.enrol_member-made.new.members.items ≡ before) (Fits c.enrol_member-made.new.members.items) c.enrol_member-made.ensures.ok c.enrol_member-made.ensures.err

@@ -10,7 +10,7 @@ use Rattle.bor_register.specs.Rows.{is_visible, rows_in, visible_in, rows_of, vi
 use Rattle.bor_register.specs.Withdrawal.{shares_record, has_successor}
 use Rattle.bor_register.specs.declared.filing.AcceptedFiling.{AcceptedFiling}
 use Rattle.bor_register.specs.declared.member.Member.{Member}
-use Rattle.bor_store_sql.specs.Rows.Placed.{without_file, without_files}
+use Rattle.bor_register.specs.Bare.{without_file, without_files}
 
 pub filings_of-bare : (name : List ℕ) (ms : List Member) → filings_of name (without_files ms) ≡ map without_file (filings_of name ms)
 filings_of-bare name [] = refl

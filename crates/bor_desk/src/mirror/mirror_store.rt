@@ -1,0 +1,21 @@
+//! What a keep is asked for that has a mirror.
+
+ghost use Rattle.std.specs.Prelude.{◌≡◌, IfOk, IfSome};
+ghost use Rattle.bor_records.specs.Promises.{Reads};
+ghost use Rattle.bor_register.specs.Bare.{bare_register};
+
+use crate::memory::ListKeep;
+use bor_register::StoreFault;
+use bor_register::keeping::Keep;
+
+/// A keep that can be mirrored: it hands out its register whole.
+pub trait MirrorStore: Keep {
+    /// The register in memory, each filing without its file; `None` where it has more live
+    /// statements than so many, or there is no memory for it. It is told by a store that is open, if
+    /// it has returned what was written.
+    fn whole(&mut self, most: u32) -> Result<Option<ListKeep>, StoreFault>
+        ensures reads { Reads Self.shows Self.is_clean Self.is_sound Self.may_leave Self.fault_count
+            Self.may_tell self.old self.new result (λ r whole.
+            IfSome whole (λ mirror. mirror.register ≡ bare_register r)) }
+        ensures up { IfOk result (λ _. Self.is_sound self.new → Self.is_clean self.new) };
+}

@@ -1,0 +1,457 @@
+//! A keep and its mirror.
+
+ghost use Rattle.std.specs.Prelude.{◌≡◌, ◌≤◌, ⊤, [], IfSome, None, min, option_map};
+ghost use Rattle.bor_records.specs.Promises.{Kept};
+ghost use Rattle.bor_register.specs.Additions.{MayEnrol, MayFile, with_agent, with_filing, with_withdrawal};
+ghost use Rattle.bor_register.specs.Held.{statement_count};
+ghost use Rattle.bor_register.specs.Register.{Register};
+ghost use Rattle.bor_desk.specs.Memory.Holding.{Holding};
+ghost use Rattle.bor_desk.specs.Mirror.Following.{IsFollowed};
+
+use crate::memory::ListKeep;
+use crate::mirror::mirror_store::MirrorStore;
+use bods_read::Statement;
+use bor_records::links::{Link, Node, NodeInfo};
+use bor_records::{Last, Row};
+use bor_register::keeping::Keep;
+use bor_register::{Caller, Filing, FilingLine, Outward, StoreFault};
+use bor_terms::{AgentName, Day, Ident, LodgeKey, Token};
+use std::marker::Model;
+
+/// A keep, its store, and the same register in memory without the files of its filings, its mirror.
+///
+/// Reads that need no file are answered by the mirror, where it is there and has the memory for the
+/// answer; the others by the store. So a fault is always the store's. A change goes to the store,
+/// and then to the mirror; where memory is wanting for the mirror's, or it would hold more
+/// statements than it may, the mirror is let go, and all is asked of the store from then on. Who
+/// has a token is told by the mirror as long as no call of the store has answered a fault since the
+/// store last told who has one: a store that has shut answers no request.
+#[derive(Drop)]
+pub struct MirroredKeep<K: MirrorStore + Drop> {
+    store: K,
+    // The live statements that the mirror may hold.
+    most: u32,
+    mirror: Option<ListKeep>,
+    is_up: bool,
+}
+
+impl<K: MirrorStore + Drop> Model for MirroredKeep<K> {
+    ghost use Rattle.std.specs.Prelude.{◌≡◌, Option, option_map, true};
+    ghost use Rattle.bor_desk.specs.Memory.Holding.{Holding};
+    ghost use Rattle.bor_register.specs.Register.{Register};
+
+    ghost Value = { K × Option Register };
+
+    ghost view = { λ k. (k.store, option_map (λ (h : Holding). h.register) k.mirror) };
+
+    // Where the mirror may tell who has a token, the store is open, if it has returned what was
+    // written.
+    ghost invariant = { λ k. k.is_up ≡ true → K.is_sound k.store → K.is_clean k.store };
+}
+
+impl<K: MirrorStore + Drop> MirroredKeep<K> {
+    /// The store, without a mirror. One that is made later holds at most so many live statements.
+    pub fn new(store: K, most: u32) -> Self
+        ensures { result ≡ (store, None) }
+    {
+        MirroredKeep {
+            store,
+            most,
+            mirror: None,
+            is_up: false,
+        }
+    }
+
+    /// The store.
+    pub fn into_store(self) -> K
+        ensures { result ≡ self.0 }
+    {
+        self.store
+    }
+
+    /// How many live statements the mirror holds, and `usize::MAX` of more; `None` where there is
+    /// no mirror.
+    pub fn mirrored(&self) -> Option<usize>
+        ensures { result ≡ option_map
+            (λ (m : Register). min (statement_count m.members) usize.MAX) self.now.1 }
+    {
+        match &self.mirror {
+            Some(mirror) => Some(mirror.statement_count()),
+            None => None,
+        }
+    }
+
+    /// Makes the mirror, where there is none and it may hold a statement: where the register has no
+    /// more live statements than it may hold, there is memory for it, and the store tells its
+    /// register.
+    pub fn fill(&mut self)
+        ensures { Kept ⟦<MirroredKeep<K> as Keep>⟧.shows ⟦<MirroredKeep<K> as Keep>⟧.is_clean
+            ⟦<MirroredKeep<K> as Keep>⟧.is_sound ⟦<MirroredKeep<K> as Keep>⟧.may_leave
+            self.old self.new }
+    {
+        if self.most == 0 || self.mirror.is_some() {
+            return;
+        }
+        match self.store.whole(self.most) {
+            Ok(mirror) => {
+                self.is_up = true;
+                self.mirror = mirror;
+            }
+            Err(_) => {
+                self.is_up = false;
+            }
+        }
+    }
+}
+
+// The mirror, where it holds at most so many live statements.
+fn within(mirror: ListKeep, most: u32) -> Option<ListKeep>
+    ensures bounded { IfSome result (λ (h : Holding).
+        min (statement_count h.register.members) usize.MAX ≤ most) }
+    ensures same { IfSome result (λ h. h ≡ mirror) }
+{
+    if mirror.statement_count() <= most as usize {
+        Some(mirror)
+    } else {
+        None
+    }
+}
+
+// The mirror once the filing is added, without its file; `None` where memory is wanting, or it
+// holds more than so many live statements.
+fn filed(
+    mirror: Option<ListKeep>,
+    most: u32,
+    agent: &AgentName,
+    key: &LodgeKey,
+    due: Day,
+    statements: &[Statement],
+) -> Option<ListKeep>
+    ensures bounded { IfSome result (λ (h : Holding).
+        min (statement_count h.register.members) usize.MAX ≤ most) }
+    ensures followed { IsFollowed mirror result (MayFile agent.now key.now statements.now)
+        (with_filing agent.now key.now due [] statements.now) }
+{
+    let mut mirror = mirror?;
+    match mirror.add_filing(agent, key, due, &[], statements) {
+        Ok(_) => within(mirror, most),
+        Err(_) => None,
+    }
+}
+
+// The mirror once the filing is withdrawn.
+fn withdrawn(mirror: Option<ListKeep>, agent: &AgentName, number: u32) -> Option<ListKeep>
+    ensures { IsFollowed mirror result (λ _. ⊤) (with_withdrawal agent.now number) }
+{
+    let mut mirror = mirror?;
+    match mirror.withdraw(agent, number) {
+        Ok(()) => Some(mirror),
+        Err(_) => None,
+    }
+}
+
+// The mirror once the day is set.
+fn dated(mirror: Option<ListKeep>, day: Day) -> Option<ListKeep>
+    ensures { IsFollowed mirror result (λ _. ⊤) (λ r. record r { day = day }) }
+{
+    let mut mirror = mirror?;
+    match mirror.set_day(day) {
+        Ok(()) => Some(mirror),
+        Err(_) => None,
+    }
+}
+
+// The mirror once the agent is added; `None` where memory is wanting.
+fn enrolled(mirror: Option<ListKeep>, agent: &AgentName, token: &Token) -> Option<ListKeep>
+    ensures { IsFollowed mirror result (MayEnrol agent.now token.now)
+        (with_agent agent.now token.now) }
+{
+    let mut mirror = mirror?;
+    match mirror.add_agent(agent, token) {
+        Ok(()) => Some(mirror),
+        Err(_) => None,
+    }
+}
+
+impl<K: MirrorStore + Drop> Keep for MirroredKeep<K> {
+    ghost use Rattle.std.specs.Prelude.{◌≡◌, IfSome};
+    ghost use Rattle.bor_register.specs.Bare.{bare_register};
+
+    ghost shows = { λ k r. K.shows k.0 r × IfSome k.1 (λ m. m ≡ bare_register r) };
+
+    ghost is_clean = { λ k. K.is_clean k.0 };
+
+    ghost is_sound = { λ k. K.is_sound k.0 };
+
+    ghost Left = { K.Left };
+
+    ghost may_leave = { λ k left. K.may_leave k.0 left };
+
+    ghost left_shows = { K.left_shows };
+
+    ghost fault_count = { λ k. K.fault_count k.0 };
+
+    ghost may_tell = { K.may_tell };
+
+    fn faults(&self) -> u64 {
+        self.store.faults()
+    }
+
+    fn who(&mut self, token: &Token) -> Result<Option<Caller>, StoreFault> {
+        if self.is_up {
+            if let Some(mirror) = &mut self.mirror {
+                if let Ok(caller) = mirror.who(token) {
+                    return Ok(caller);
+                }
+            }
+        }
+        let told = self.store.who(token);
+        self.is_up = told.is_ok();
+        told
+    }
+
+    fn has_agent(&mut self, agent: &AgentName) -> Result<bool, StoreFault> {
+        if let Some(mirror) = &mut self.mirror {
+            if let Ok(has) = mirror.has_agent(agent) {
+                return Ok(has);
+            }
+        }
+        let told = self.store.has_agent(agent);
+        self.is_up = self.is_up && told.is_ok();
+        told
+    }
+
+    fn day(&mut self) -> Result<Day, StoreFault> {
+        if let Some(mirror) = &mut self.mirror {
+            if let Ok(day) = mirror.day() {
+                return Ok(day);
+            }
+        }
+        let told = self.store.day();
+        self.is_up = self.is_up && told.is_ok();
+        told
+    }
+
+    fn filing(&mut self, agent: &AgentName, key: &LodgeKey) -> Result<Option<Filing>, StoreFault> {
+        let told = self.store.filing(agent, key);
+        self.is_up = self.is_up && told.is_ok();
+        told
+    }
+
+    fn line(
+        &mut self,
+        agent: &AgentName,
+        key: &LodgeKey,
+    ) -> Result<Option<FilingLine>, StoreFault> {
+        if let Some(mirror) = &mut self.mirror {
+            if let Ok(line) = mirror.line(agent, key) {
+                return Ok(line);
+            }
+        }
+        let told = self.store.line(agent, key);
+        self.is_up = self.is_up && told.is_ok();
+        told
+    }
+
+    fn has_file(
+        &mut self,
+        agent: &AgentName,
+        key: &LodgeKey,
+        bytes: &[u8],
+    ) -> Result<bool, StoreFault> {
+        let told = self.store.has_file(agent, key, bytes);
+        self.is_up = self.is_up && told.is_ok();
+        told
+    }
+
+    fn filing_count(&mut self, agent: &AgentName) -> Result<usize, StoreFault> {
+        if let Some(mirror) = &mut self.mirror {
+            if let Ok(count) = mirror.filing_count(agent) {
+                return Ok(count);
+            }
+        }
+        let told = self.store.filing_count(agent);
+        self.is_up = self.is_up && told.is_ok();
+        told
+    }
+
+    fn filings(&mut self, agent: &AgentName) -> Result<Vec<FilingLine>, StoreFault> {
+        if let Some(mirror) = &mut self.mirror {
+            if let Ok(lines) = mirror.filings(agent) {
+                return Ok(lines);
+            }
+        }
+        let told = self.store.filings(agent);
+        self.is_up = self.is_up && told.is_ok();
+        told
+    }
+
+    fn last(
+        &mut self,
+        agent: &AgentName,
+        declaration: &Ident,
+        rec: &Ident,
+    ) -> Result<Option<Last>, StoreFault> {
+        if let Some(mirror) = &mut self.mirror {
+            if let Ok(last) = mirror.last(agent, declaration, rec) {
+                return Ok(last);
+            }
+        }
+        let told = self.store.last(agent, declaration, rec);
+        self.is_up = self.is_up && told.is_ok();
+        told
+    }
+
+    fn has_statement(&mut self, agent: &AgentName, id: &Ident) -> Result<bool, StoreFault> {
+        if let Some(mirror) = &mut self.mirror {
+            if let Ok(has) = mirror.has_statement(agent, id) {
+                return Ok(has);
+            }
+        }
+        let told = self.store.has_statement(agent, id);
+        self.is_up = self.is_up && told.is_ok();
+        told
+    }
+
+    fn has_successor(&mut self, agent: &AgentName, number: u32) -> Result<bool, StoreFault> {
+        if let Some(mirror) = &mut self.mirror {
+            if let Ok(has) = mirror.has_successor(agent, number) {
+                return Ok(has);
+            }
+        }
+        let told = self.store.has_successor(agent, number);
+        self.is_up = self.is_up && told.is_ok();
+        told
+    }
+
+    fn rows_of(
+        &mut self,
+        viewer: &AgentName,
+        agent: &AgentName,
+        declaration: &Ident,
+    ) -> Result<Vec<Row>, StoreFault> {
+        if let Some(mirror) = &mut self.mirror {
+            if let Ok(rows) = mirror.rows_of(viewer, agent, declaration) {
+                return Ok(rows);
+            }
+        }
+        let told = self.store.rows_of(viewer, agent, declaration);
+        self.is_up = self.is_up && told.is_ok();
+        told
+    }
+
+    fn node(
+        &mut self,
+        viewer: &AgentName,
+        day: Day,
+        node: &Node,
+    ) -> Result<Option<NodeInfo>, StoreFault> {
+        if let Some(mirror) = &mut self.mirror {
+            if let Ok(info) = mirror.node(viewer, day, node) {
+                return Ok(info);
+            }
+        }
+        let told = self.store.node(viewer, day, node);
+        self.is_up = self.is_up && told.is_ok();
+        told
+    }
+
+    fn same(&mut self, viewer: &AgentName, day: Day, node: &Node) -> Result<Vec<Node>, StoreFault> {
+        if let Some(mirror) = &mut self.mirror {
+            if let Ok(nodes) = mirror.same(viewer, day, node) {
+                return Ok(nodes);
+            }
+        }
+        let told = self.store.same(viewer, day, node);
+        self.is_up = self.is_up && told.is_ok();
+        told
+    }
+
+    fn links_into(
+        &mut self,
+        viewer: &AgentName,
+        day: Day,
+        node: &Node,
+    ) -> Result<Vec<Link>, StoreFault> {
+        if let Some(mirror) = &mut self.mirror {
+            if let Ok(links) = mirror.links_into(viewer, day, node) {
+                return Ok(links);
+            }
+        }
+        let told = self.store.links_into(viewer, day, node);
+        self.is_up = self.is_up && told.is_ok();
+        told
+    }
+
+    fn published(&mut self) -> Result<Vec<Outward>, StoreFault> {
+        if let Some(mirror) = &mut self.mirror {
+            if let Ok(outwards) = mirror.published() {
+                return Ok(outwards);
+            }
+        }
+        let told = self.store.published();
+        self.is_up = self.is_up && told.is_ok();
+        told
+    }
+
+    fn add_filing(
+        &mut self,
+        agent: &AgentName,
+        key: &LodgeKey,
+        due: Day,
+        bytes: &[u8],
+        statements: &[Statement],
+    ) -> Result<u32, StoreFault> {
+        match self.store.add_filing(agent, key, due, bytes, statements) {
+            Ok(number) => {
+                self.mirror = filed(self.mirror.take(), self.most, agent, key, due, statements);
+                Ok(number)
+            }
+            Err(fault) => {
+                self.is_up = false;
+                Err(fault)
+            }
+        }
+    }
+
+    fn withdraw(&mut self, agent: &AgentName, number: u32) -> Result<(), StoreFault> {
+        match self.store.withdraw(agent, number) {
+            Ok(()) => {
+                self.mirror = withdrawn(self.mirror.take(), agent, number);
+                Ok(())
+            }
+            Err(fault) => {
+                self.is_up = false;
+                Err(fault)
+            }
+        }
+    }
+
+    fn set_day(&mut self, day: Day) -> Result<(), StoreFault> {
+        match self.store.set_day(day) {
+            Ok(()) => {
+                self.mirror = dated(self.mirror.take(), day);
+                Ok(())
+            }
+            Err(fault) => {
+                self.is_up = false;
+                Err(fault)
+            }
+        }
+    }
+
+    fn add_agent(&mut self, agent: &AgentName, token: &Token) -> Result<(), StoreFault> {
+        match self.store.add_agent(agent, token) {
+            Ok(()) => {
+                self.mirror = enrolled(self.mirror.take(), agent, token);
+                Ok(())
+            }
+            Err(fault) => {
+                self.is_up = false;
+                Err(fault)
+            }
+        }
+    }
+
+    ghost lasting = { λ k clean left may r shows. K.lasting k.0 clean left may r shows.0 };
+}

@@ -1,0 +1,22 @@
+//! A keep with its register in memory beside it.
+//!
+//! [`MirroredKeep`] is a keep over another one, its store. Beside it, it has the same register in
+//! memory, without the files of its filings: its mirror. A change goes to the store, and then to
+//! the mirror; what can be told without a file is told by the mirror, and the rest by the store:
+//!
+//! ```
+//! let mut keep = MirroredKeep::new(store, statements_within(256));
+//! keep.fill();
+//! answer(alloc, &mut keep, &token, &Request::Published);       // the store isn't asked
+//! ```
+//!
+//! A store that can be mirrored is a [`MirrorStore`]. What the mirror holds is bounded: where it
+//! would be more, or memory is wanting, it is let go, and all is asked of the store.
+
+mod mirror_store;
+mod mirrored_keep;
+mod room;
+
+pub use mirror_store::MirrorStore;
+pub use mirrored_keep::MirroredKeep;
+pub use room::statements_within;

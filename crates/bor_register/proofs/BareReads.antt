@@ -1,0 +1,78 @@
+-- What is read of a register, but the files themselves, is the same of one without files.
+use Rattle.std.proofs.Common.{◌≡◌, ℕ, ℤ, Bool, true, false, List, [], ◌∷◌, map, length, Option, Some, None, option_map, suc, refl, ap, ◌∙◌}
+use Rattle.std.specs.Prelude.{if◌then◌else◌, ◌||◌}
+use Rattle.bor_terms.specs.Texts.{is_same}
+use Rattle.bor_records.specs.Admission.{last_of}
+use Rattle.bor_records.specs.Settling.{has_id}
+use Rattle.bor_records.specs.Links.Rows.{shown_of}
+use Rattle.bor_register.specs.Live.{live_of}
+use Rattle.bor_register.specs.Publication.{line_of, published}
+use Rattle.bor_register.specs.Register.{Register, agent_with, caller_of, filing_keyed, filings_of, is_enrolled}
+use Rattle.bor_register.specs.Rows.{rows_of}
+use Rattle.bor_register.specs.Seen.{seen_at}
+use Rattle.bor_register.specs.Withdrawal.{has_successor}
+use Rattle.bor_register.specs.declared.caller.Caller.{Caller}
+use Rattle.bor_register.specs.declared.caller.Caller.TheVariants.{Registrar, Agent}
+use Rattle.bor_register.specs.declared.filing.AcceptedFiling.{AcceptedFiling}
+use Rattle.bor_register.specs.declared.member.Member.{Member}
+use Rattle.bor_register.specs.Bare.{bare_register, without_file, without_files}
+use Rattle.bor_register.proofs.WithoutFiles.{filings_of-bare, has_successor-bare, lines-bare, live_of-bare, published-bare, rows_of-bare, visible-bare}
+
+pub enrolled-bare : (name : List ℕ) (ms : List Member) → is_enrolled name (without_files ms) ≡ is_enrolled name ms
+enrolled-bare name [] = refl
+enrolled-bare name (m ∷ ms) = ap (λ (b : Bool). is_same m.name name || b) (enrolled-bare name ms)
+
+agent_with-bare : (token : List ℕ) (ms : List Member) → agent_with token (without_files ms) ≡ agent_with token ms
+agent_with-bare token [] = refl
+agent_with-bare token (m ∷ ms) = ap (λ (o : Option (List ℕ)). if is_same m.token token then Some m.name else o) (agent_with-bare token ms)
+
+pub caller-bare : (token : List ℕ) (r : Register) → caller_of token (bare_register r) ≡ caller_of token r
+caller-bare token r = ap (λ (o : Option (List ℕ)). if is_same r.registrar token then Some Registrar else option_map Agent o) (agent_with-bare token r.members)
+
+pub keyed-bare : (key : List ℕ) (fs : List AcceptedFiling) → filing_keyed key (map without_file fs) ≡ option_map without_file (filing_keyed key fs)
+keyed-bare key [] = refl
+keyed-bare key (f ∷ fs) =
+    elim (is_same f.key key) as (λ b. (if b then Some (without_file f) else filing_keyed key (map without_file fs)) ≡ option_map without_file (if b then Some f else filing_keyed key fs)) [
+      | true ↦ refl
+      | false ↦ keyed-bare key fs
+    ]
+
+line-bare : (day : ℤ) (o : Option AcceptedFiling) → option_map (line_of day) (option_map without_file o) ≡ option_map (line_of day) o
+line-bare day None = refl
+line-bare day (Some f) = refl
+
+pub line_is : (agent key : List ℕ) (day : ℤ) (ms : List Member) → option_map (line_of day) (filing_keyed key (filings_of agent (without_files ms))) ≡ option_map (line_of day) (filing_keyed key (filings_of agent ms))
+line_is agent key day ms =
+    ap (λ (fs : List AcceptedFiling). option_map (line_of day) (filing_keyed key fs)) (filings_of-bare agent ms)
+    ∙ ap (option_map (line_of day)) (keyed-bare key (filings_of agent ms)) ∙ line-bare day (filing_keyed key (filings_of agent ms))
+
+long-bare : (fs : List AcceptedFiling) → length (map without_file fs) ≡ length fs
+long-bare [] = refl
+long-bare (f ∷ fs) = ap (λ n. suc n) (long-bare fs)
+
+pub count_is : (agent : List ℕ) (ms : List Member) → length (filings_of agent (without_files ms)) ≡ length (filings_of agent ms)
+count_is agent ms = ap (λ (fs : List AcceptedFiling). length fs) (filings_of-bare agent ms) ∙ long-bare (filings_of agent ms)
+
+pub lines_are : (agent : List ℕ) (day : ℤ) (ms : List Member) → map (line_of day) (filings_of agent (without_files ms)) ≡ map (line_of day) (filings_of agent ms)
+lines_are agent day ms = ap (map (line_of day)) (filings_of-bare agent ms) ∙ lines-bare day (filings_of agent ms)
+
+pub live_is : (agent : List ℕ) (ms : List Member) → live_of (filings_of agent (without_files ms)) ≡ live_of (filings_of agent ms)
+live_is agent ms = ap live_of (filings_of-bare agent ms) ∙ live_of-bare (filings_of agent ms)
+
+pub last_is : (agent declaration rec : List ℕ) (ms : List Member) → last_of declaration rec (live_of (filings_of agent (without_files ms))) ≡ last_of declaration rec (live_of (filings_of agent ms))
+last_is agent declaration rec ms = ap (last_of declaration rec) (live_is agent ms)
+
+pub id_is : (agent id : List ℕ) (ms : List Member) → has_id id (live_of (filings_of agent (without_files ms))) ≡ has_id id (live_of (filings_of agent ms))
+id_is agent id ms = ap (has_id id) (live_is agent ms)
+
+pub successor_is : (agent : List ℕ) (number : ℕ) (ms : List Member) → has_successor number (filings_of agent (without_files ms)) ≡ has_successor number (filings_of agent ms)
+successor_is agent number ms = ap (has_successor number) (filings_of-bare agent ms) ∙ has_successor-bare number (filings_of agent ms)
+
+pub rows_are : (viewer : List ℕ) (day : ℤ) (agent declaration : List ℕ) (ms : List Member) → rows_of viewer day agent declaration (filings_of agent (without_files ms)) ≡ rows_of viewer day agent declaration (filings_of agent ms)
+rows_are viewer day agent declaration ms = ap (rows_of viewer day agent declaration) (filings_of-bare agent ms) ∙ rows_of-bare viewer day agent declaration (filings_of agent ms)
+
+pub seen_is : (viewer : List ℕ) (day : ℤ) (r : Register) → seen_at viewer day (bare_register r) ≡ seen_at viewer day r
+seen_is viewer day r = ap (shown_of day) (visible-bare viewer r.day r.members)
+
+pub published_are : (r : Register) → published r.day (without_files r.members) ≡ published r.day r.members
+published_are r = published-bare r.day r.members
