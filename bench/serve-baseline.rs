@@ -1,5 +1,6 @@
 //! The baseline's server: many clients at once on one thread, by `epoll`, of each one request and its reply. It keeps the limits of
-//! `bor serve`: 256 clients, ten seconds for a request and for its reply, one second and 16,777,216 bytes for what comes behind it.
+//! `bor serve`: 256 clients, ten seconds for a request, ten without a byte of its reply taken, 16,384 bytes of that a second in all,
+//! one second and 16,777,216 bytes for what comes behind it.
 
 use crate::asked::Progress;
 use std::{io::{self, ErrorKind, Read, Write}, net::{Shutdown, TcpListener, TcpStream}, os::fd::AsRawFd, time::{Duration, Instant}};
@@ -8,6 +9,7 @@ const PLACES: usize = 256;
 const PART: usize = 16_384;
 const REST: usize = 16_777_216;
 const PATIENCE: Duration = Duration::from_secs(10);
+const FLOOR: u32 = 16_384;
 const READABLE: u32 = 0x1;
 const WRITABLE: u32 = 0x4;
 const EDGE: u32 = 1 << 31;
@@ -20,7 +22,7 @@ extern "C" {
 }
 fn told(status: i32) -> io::Result<i32> { if status < 0 { Err(io::Error::last_os_error()) } else { Ok(status) } }
 
-enum Phase { Reading(Vec<u8>, Progress), Writing(Vec<u8>, usize), Draining(usize, bool) }
+enum Phase { Reading(Vec<u8>, Progress), Writing(Vec<u8>, usize, Instant), Draining(usize, bool) }
 struct Client { stream: TcpStream, phase: Phase, until: Instant, idle: Instant }
 struct Server<A> { epoll: i32, listener: TcpListener, clients: Vec<Option<Client>>, left: usize, part: Vec<u8>, answer: A }
 
@@ -47,11 +49,13 @@ impl Client {
                 request.extend_from_slice(&part[..count]);
                 *progress = progress.after(request);
                 if count > 0 && progress.wanted(request.len()) > 0 { return Ok(true); }
-                (self.phase, self.until) = (Phase::Writing(answer(request), 0), now + PATIENCE);
+                let (reply, now) = (answer(request), Instant::now());
+                (self.phase, self.until) = (Phase::Writing(reply, 0, now), now + PATIENCE);
             }
-            Phase::Writing(reply, sent) => {
+            Phase::Writing(reply, sent, since) => {
                 let count = self.stream.write(&reply[*sent..])?;
                 *sent += count;
+                self.until = (Instant::now() + PATIENCE).min(*since + PATIENCE + Duration::from_secs(*sent as u64) / FLOOR);
                 if count == 0 || *sent < reply.len() { return Ok(count > 0); }
                 self.stream.shutdown(Shutdown::Write)?;
                 (self.phase, self.until) = (Phase::Draining(REST, may_be_unread(reply)), now + PATIENCE / 10);
@@ -97,7 +101,8 @@ impl<A: FnMut(&[u8]) -> Vec<u8>> Server<A> {
     /// Gives up whose time is over, and tells when the next one's is, in milliseconds.
     fn give_up(&mut self, now: Instant) -> i32 {
         for client in &mut self.clients { if client.as_ref().is_some_and(|client| client.until <= now) { *client = None; } }
-        self.clients.iter().flatten().map(|client| (client.until - now).as_millis() as i32 + 1).min().unwrap_or(-1)
+        let now = Instant::now();
+        self.clients.iter().flatten().map(|client| client.until.saturating_duration_since(now).as_millis() as i32 + 1).min().unwrap_or(-1)
     }
     fn run(&mut self) -> io::Result<()> {
         let mut events = [Event { events: 0, number: 0 }; PLACES];

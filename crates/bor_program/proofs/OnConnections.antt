@@ -4,4 +4,5 @@ pub mod Phases
 pub mod Servers
 pub mod Running
 pub mod Streams
+pub mod Times
 pub mod Bounds

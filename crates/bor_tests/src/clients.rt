@@ -48,6 +48,8 @@ pub(crate) struct Client<'a> {
     pub(crate) sends: &'a [u8],
     pub(crate) piece: usize,
     pub(crate) takes: usize,
+    /// It takes no more once it has so much of its reply.
+    pub(crate) stops: usize,
     /// It ends its input behind its bytes; else it sends no more.
     pub(crate) ends: bool,
     pub(crate) sent: Cell<usize>,
@@ -68,6 +70,7 @@ impl<'a> Client<'a> {
             sends,
             piece,
             takes: usize::MAX,
+            stops: usize::MAX,
             ends: true,
             sent: Cell::new(0),
             ended: Cell::new(None),
@@ -132,7 +135,7 @@ impl<'a> Read for Line<'a> {
 
 impl<'a> Write for Line<'a> {
     fn write(&mut self, buf: &[u8]) -> io::Result<usize> {
-        if !self.0.may_take.get() {
+        if !self.0.may_take.get() || self.0.taken.get() >= self.0.stops {
             return Err(io::Error::from(ErrorKind::WouldBlock));
         }
         self.0.may_take.set(self.0.takes == usize::MAX);

@@ -95,20 +95,80 @@ fn a_request_has_ten_seconds(rt: HostRuntime) {
     all_hold(&rt, "replies", &have);
 }
 
-// The lodging is made, though its reply is not taken whole.
+// A client takes its reply in pieces, one at each turn, of at least ten bytes a second by this clock: so much is
+// taken, after so many waits. The clock is read again at once when the first piece was taken.
+fn is_taken(
+    rt: &impl Abort,
+    alloc: Global,
+    step: u64,
+    client: &Client<'_>,
+    (taken, count): (usize, usize),
+) {
+    let clients = [Some(client)];
+    let queue = Queue::new(&clients);
+    let mut waits = Waits::new(alloc, &queue);
+    let limits = Limits {
+        floor: 10,
+        ..Limits::of_a_server()
+    };
+    let status = if taken == CREATED.len() { 0 } else { 3 };
+    ends(
+        rt,
+        "a reply",
+        served_within(rt, alloc, (step, 1), &mut waits, limits),
+        status,
+    );
+    holds(rt, "what is taken", client.has_front(taken));
+    counts(rt, "waits", waits.limits.len(), count);
+    holds(
+        rt,
+        "a wait",
+        waits.limits.get(1) == Some(&Some(Duration::ZERO)),
+    );
+}
+
+// A client that lodges, and takes its reply in pieces of this size, and no more once it has so much.
+fn taking(lodging: &[u8], piece: usize, stops: usize) -> Client<'_> {
+    let mut client = Client::waiting(lodging, 1000, CREATED);
+    client.takes = piece;
+    client.stops = stops;
+    client
+}
+
+// One that takes a few bytes a second has little more than ten seconds, and the lodging is made. By a floor of ten
+// bytes a second one that takes 60 at once and then none has ten seconds, and one that takes ten has all its reply.
+// So has one whose reply takes eleven seconds until it is made.
 #[test]
-fn a_reply_has_ten_seconds(rt: HostRuntime) {
+fn a_reply_is_taken_in_time(rt: HostRuntime) {
     let alloc = rt.alloc();
     let lodging = request(&rt, alloc, LODGING);
-    let part = CREATED.len().div_ceil(12);
-    let mut slow = Client::waiting(&lodging, 1000, CREATED);
-    slow.takes = part;
+    let slow = taking(&lodging, 8, usize::MAX);
     let asking = Client::waiting(WITHDRAWAL, 1000, CONFLICT);
     let clients = [Some(&slow), Some(&asking)];
     ends(&rt, "slow", served_to_alder(&rt, alloc, 1000, &clients), 3);
-    let is_cut_off = slow.has_front(part.saturating_mul(11));
-    let have = [is_cut_off, slow.ended.get().is_none(), asking.has_all()];
+    let have = [
+        slow.has_front(104),
+        slow.ended.get().is_none(),
+        asking.has_all(),
+    ];
     all_hold(&rt, "replies", &have);
+    let whole = CREATED.len();
+    is_taken(&rt, alloc, 1000, &taking(&lodging, 60, 60), (60, 12));
+    let (tenth, third) = (whole.div_ceil(10), whole.div_ceil(3));
+    is_taken(
+        &rt,
+        alloc,
+        1000,
+        &taking(&lodging, 10, whole),
+        (whole, tenth),
+    );
+    is_taken(
+        &rt,
+        alloc,
+        11_000,
+        &taking(&lodging, third, whole),
+        (whole, 3),
+    );
 }
 
 // A client that sends its request in three pieces is waited for so, within these limits.
@@ -137,6 +197,7 @@ fn a_wait_lasts_for_what_is_left(rt: HostRuntime) {
     let own = Limits {
         request: Duration::from_millis(700),
         reply: Duration::from_millis(500),
+        floor: 1_000,
         rest: Duration::from_millis(300),
     };
     waits_for(&rt, rt.alloc(), own, &[0, 700, 600, 300, 200]);
@@ -323,6 +384,7 @@ fn the_longest_idle_gives_way(rt: HostRuntime) {
     let limits = Limits {
         request: short,
         reply: short,
+        floor: 1_000,
         rest: short,
     };
     let count = count_of(&clients);

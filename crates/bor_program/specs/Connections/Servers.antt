@@ -1,6 +1,8 @@
 -- What a server does, for clauses of private functions alone.
 use Rattle.std.specs.Prelude.{◌≡◌, ◌≤◌, ◌<◌, ◌+◌, ℕ, List, [], ◌∷◌, ◌++◌, length, map, get_or, remove, Option, if◌then◌else◌}
 use Rattle.std.specs.Duration.{as_nanos}
+use Rattle.std.specs.declared.time.Duration.{Duration}
+use Rattle.std.specs.VecDeque.{deque_capacity, deque_len}
 use Rattle.std.specs.List.{All, list_any}
 use Rattle.std.specs.List.Sorted.{IsPermutation}
 use Rattle.bor_register.specs.Register.{Register}
@@ -9,6 +11,7 @@ use Rattle.bor_program.specs.declared.connections.server.Server.{Server}
 use Rattle.bor_program.specs.Connections.Serving.{Answer, Ended, IsServing, absent_in, has_failed, told_in}
 use Rattle.bor_program.specs.Connections.Streams.{IsOf}
 use Rattle.bor_program.specs.Connections.Phases.{IsHeld, telling}
+use Rattle.bor_program.specs.Connections.Times.{IsTaking, IsUp, looked}
 use Rattle.bor_program.specs.Connections.Watching.{Act, AreDone, Does, IsOver, faults_after, refused_in, waits_in}
 
 -- what is being told to these clients
@@ -40,6 +43,25 @@ pub record IsLongestIdle {S : Type 0} (clients : List (Client S)) (place : ℕ) 
 -- of these clients, one that is idle for the longest leaves the others, where there is one
 abbrev pub GivesWay : {S : Type 0} → List (Client S) → List (Client S) → Type 0
 GivesWay old new = 0 < length old → (place : ℕ) × IsLongestIdle old place × (new ≡ remove old place)
+
+-- ---- the time of a client
+
+-- this client is put behind the others, which is sure where their queue has room for it
+pub record Stays {S : Type 0} (client : Client S) (old new : Server S) : Type 0 where
+  pub room : deque_len old.queue < deque_capacity old.queue → new.queue.items ≡ old.queue.items ++ client ∷ []
+  pub same : (last : Client S) → new.queue.items ≡ old.queue.items ++ last ∷ [] → last ≡ client
+
+-- The time of this client is looked at: where it is up, it leaves the others as they are; and else it is put behind them in its phase, which is sure where their queue has room for it.
+pub record IsTimely {S : Type 0} (now : Duration) (client : Client S) (old new : Server S) : Type 0 where
+  pub up : IsUp old.limits client.timing client.phase now → new.queue ≡ old.queue
+  pub stays : (IsUp old.limits client.timing client.phase now → ⊥) → deque_len old.queue < deque_capacity old.queue → (last : Client S) × (new.queue.items ≡ old.queue.items ++ last ∷ [])
+  pub same : (last : Client S) → new.queue.items ≡ old.queue.items ++ last ∷ [] → last.phase ≡ client.phase
+
+-- A client had its turn: where it is put behind the others, this is known of how it takes its reply, and nothing where that was made in this turn, after the clock was read.
+abbrev pub IsTimed : {S : Type 0} → Duration → Client S → Server S → Server S → Type 0
+IsTimed {S} now client old new = (last : Client S) → new.queue.items ≡ old.queue.items ++ last ∷ [] → IsTaking (looked client.phase now) last.phase
+
+-- ---- what stays the same
 
 -- its clients, its connections and its status are the same
 pub record Becomes {S : Type 0} (old new : Server S) : Type 0 where

@@ -10,8 +10,8 @@
 //!
 //! A client's bytes are gathered until its request is whole; then it is answered over the bytes in
 //! memory, and the reply is written as its client takes it. So no client waits for another one's
-//! reading or writing. A client has ten seconds for its request and ten for taking its reply
-//! ([`Limits`]); one that passes them is given up.
+//! reading or writing. A client has ten seconds for its request; of its reply it takes something
+//! within each ten seconds, and in all 16,384 bytes a second ([`Limits`]). Else it is given up.
 //!
 //! `bor_wire` says what is on the wire, and `bor_register` what a register is. The clauses say that
 //! what was answered is a run over the bytes of requests and replies, which are known; and of
@@ -26,6 +26,7 @@ mod server;
 mod service;
 mod serving;
 mod step;
+mod taking;
 mod timing;
 mod watch;
 mod writing;

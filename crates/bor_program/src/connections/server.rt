@@ -3,15 +3,15 @@
 ghost use Rattle.std.specs.Prelude.{◌≡◌, ◌+◌, ◌-◌, ◌<◌, ◌≤◌, ◌++◌, [], length, if◌then◌else◌, is_err, IsTrue};
 ghost use Rattle.std.specs.Duration.{as_nanos};
 ghost use Rattle.bor_program.specs.Connections.Phases.{IsHeld, telling};
-ghost use Rattle.bor_program.specs.Connections.Servers.{Advances, AreHeld, Becomes, GivesWay, IsLongestIdle, Lets, LetsIn, Serves, pending_in, telling_in};
+ghost use Rattle.bor_program.specs.Connections.Servers.{Advances, AreHeld, Becomes, GivesWay, IsLongestIdle, IsTimed, IsTimely, Lets, LetsIn, Serves, Stays, pending_in, telling_in};
 ghost use Rattle.bor_program.specs.Connections.Watching.{Does, Waits};
 
 use crate::connections::limits::Limits;
 use crate::connections::phase::{Phase, Step};
 use crate::connections::reading::Reading;
 use crate::connections::service::Service;
-use crate::connections::step::{gives_up, steps};
-use crate::connections::timing::{Timing, limit_of};
+use crate::connections::step::{gives_up, look, steps};
+use crate::connections::timing::Timing;
 use crate::connections::watch::{PLACES, Places, Watch};
 use bor_desk::operations::Keep;
 use std::alloc::Global;
@@ -263,6 +263,7 @@ impl<S: Read + Write + OpenStream + Drop> Server<S> {
         ensures held { AreHeld S.remaining S.contents self.new.queue.items }
         ensures serves { Serves K.shows K.is_clean K.is_sound K.may_leave K.left_shows S.remaining
             S.contents keep.old keep.new (telling client.phase) self.old self.new }
+        ensures time { IsTimed now client self.old self.new }
     {
         let Client {
             place,
@@ -272,6 +273,7 @@ impl<S: Read + Write + OpenStream + Drop> Server<S> {
         if self.places.is_woken(place) {
             timing.wake();
         }
+        let phase = look(phase, now);
         match steps(&mut self.service, keep, phase, &mut timing, now) {
             Step::Goes(phase, _) => self.go_on(
                 Client {
@@ -293,30 +295,32 @@ impl<S: Read + Write + OpenStream + Drop> Server<S> {
     fn go_on(&mut self, client: Client<S>, now: Duration)
         requires held { AreHeld S.remaining S.contents self.old.queue.items }
         requires client { IsHeld S.remaining S.contents client.phase }
-        ensures { Lets S.remaining S.contents (telling client.phase ++ telling_in self.old)
+        ensures lets { Lets S.remaining S.contents (telling client.phase ++ telling_in self.old)
             (pending_in self.old + 1) 0 self.old.status self.new }
+        ensures time { IsTimely now client self.old self.new }
     {
         let Client {
             place,
             mut timing,
             phase,
         } = client;
-        let left = timing.left(limit_of(self.limits, &phase), now);
+        let left = timing.left(self.limits, &phase, now);
         let client = Client {
             place,
             timing,
             phase,
         };
-        if left.is_zero() {
-            self.give_up(client);
-        } else {
-            let wait = if timing.is_ready() {
-                Duration::ZERO
-            } else {
-                left
-            };
-            self.wait = Some(self.wait.unwrap_or(wait).min(wait));
-            self.stay(client);
+        match left {
+            Some(left) => {
+                let wait = if timing.is_ready() {
+                    Duration::ZERO
+                } else {
+                    left
+                };
+                self.wait = Some(self.wait.unwrap_or(wait).min(wait));
+                self.stay(client);
+            }
+            None => self.give_up(client),
         }
     }
 
@@ -324,8 +328,9 @@ impl<S: Read + Write + OpenStream + Drop> Server<S> {
     fn stay(&mut self, client: Client<S>)
         requires held { AreHeld S.remaining S.contents self.old.queue.items }
         requires client { IsHeld S.remaining S.contents client.phase }
-        ensures { Lets S.remaining S.contents (telling client.phase ++ telling_in self.old)
+        ensures lets { Lets S.remaining S.contents (telling client.phase ++ telling_in self.old)
             (pending_in self.old + 1) 0 self.old.status self.new }
+        ensures stays { Stays client self.old self.new }
     {
         match self.queue.push_back(client) {
             Ok(()) => {}

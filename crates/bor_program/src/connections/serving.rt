@@ -45,7 +45,7 @@ where
 }
 
 /// Serves this many connections of a listener, up to 256 at once, and gives 0, or 3 where one
-/// failed: it couldn't be let in, its request didn't come in time, its reply wasn't taken in time,
+/// failed: it couldn't be let in, its request didn't come in time, its reply was taken too slowly,
 /// or the reply was 503. A connection that fails is one of them. Where a client comes in and all
 /// places are taken, the one that was idle for the longest gives way.
 ///

@@ -1,9 +1,11 @@
 //! One step of a client.
 
-ghost use Rattle.std.specs.Prelude.{◌≡◌, ◌∷◌, []};
+ghost use Rattle.std.specs.Prelude.{◌≡◌, ◌∷◌, [], None, Option};
 ghost use Rattle.bor_program.specs.Connections.Serving.{answer_of};
 ghost use Rattle.bor_program.specs.declared.connections.phase.Phase.TheVariants as Phase;
+ghost use Rattle.bor_program.specs.declared.connections.taking.Taking.{Taking};
 ghost use Rattle.bor_program.specs.Connections.Phases.{EndsAs, IsHeld, IsStep, phase_of, telling};
+ghost use Rattle.bor_program.specs.Connections.Times.{IsTaking, looked};
 
 use crate::connections::phase::{Pace, Phase, Step};
 use crate::connections::reading::{Reading, Taken};
@@ -30,6 +32,8 @@ pub(crate) fn step<K: Keep, S: Read + Write + OpenStream + Drop>(
     ensures held { IsHeld S.remaining S.contents (phase_of result) }
     ensures step { IsStep K.shows K.is_clean K.is_sound K.may_leave K.left_shows S.remaining
         S.contents keep.old keep.new (telling phase) (telling (phase_of result)) }
+    ensures time { (taking : Option Taking) → IsTaking taking phase
+        → IsTaking taking (phase_of result) }
 {
     match phase {
         Phase::Reading(reading) => read_on(service, keep, reading),
@@ -48,6 +52,7 @@ fn read_on<K: Keep, S: Read + Write + OpenStream + Drop>(
     ensures held { IsHeld S.remaining S.contents (phase_of result) }
     ensures step { IsStep K.shows K.is_clean K.is_sound K.may_leave K.left_shows S.remaining
         S.contents keep.old keep.new [] (telling (phase_of result)) }
+    ensures time { IsTaking None (phase_of result) }
 {
     match reading.read(service.alloc()) {
         Taken::More => Step::Goes(Phase::Reading(reading), Pace::Moved),
@@ -69,6 +74,7 @@ fn write_on<S: Read + Write + OpenStream + Drop>(mut writing: Writing<S>) -> Ste
     requires { IsHeld S.remaining S.contents (Phase.Writing writing) }
     ensures held { IsHeld S.remaining S.contents (phase_of result) }
     ensures tells { telling (phase_of result) ≡ answer_of writing.request.items writing.reply ∷ [] }
+    ensures time { IsTaking writing.taking (phase_of result) }
 {
     match writing.write() {
         Written::More => Step::Goes(Phase::Writing(writing), Pace::Moved),
@@ -84,11 +90,29 @@ fn drain_on<S: Read + Write + Drop>(mut draining: Draining<S>) -> Step<S>
     ensures held { IsHeld S.remaining S.contents (phase_of result) }
     ensures tells { telling (phase_of result)
         ≡ answer_of draining.request.items draining.reply ∷ [] }
+    ensures time { (taking : Option Taking) → IsTaking taking (phase_of result) }
 {
     match draining.drain() {
         Drained::More => Step::Goes(Phase::Draining(draining), Pace::Moved),
         Drained::Blocked => Step::Goes(Phase::Draining(draining), Pace::Blocked),
         Drained::Over => Step::Ends(Phase::Draining(draining)),
+    }
+}
+
+/// The clock is read, before the client has its turn.
+pub(crate) fn look<S: Read + Write + OpenStream + Drop>(phase: Phase<S>, now: Duration) -> Phase<S>
+    requires { IsHeld S.remaining S.contents phase }
+    ensures held { IsHeld S.remaining S.contents result }
+    ensures tells { telling result ≡ telling phase }
+    ensures time { IsTaking (looked phase now) result }
+{
+    match phase {
+        Phase::Writing(mut writing) => {
+            writing.look(now);
+            Phase::Writing(writing)
+        }
+        Phase::Reading(reading) => Phase::Reading(reading),
+        Phase::Draining(draining) => Phase::Draining(draining),
     }
 }
 
@@ -104,6 +128,8 @@ pub(crate) fn steps<K: Keep, S: Read + Write + OpenStream + Drop>(
     ensures held { IsHeld S.remaining S.contents (phase_of result) }
     ensures step { IsStep K.shows K.is_clean K.is_sound K.may_leave K.left_shows S.remaining
         S.contents keep.old keep.new (telling phase) (telling (phase_of result)) }
+    ensures time { (taking : Option Taking) → IsTaking taking phase
+        → IsTaking taking (phase_of result) }
 {
     for _ in 0..STEPS {
         if !timing.is_ready() {

@@ -1,15 +1,16 @@
 //! Since when a client is in its phase, and since when it is idle.
 
-ghost use Rattle.std.specs.Prelude.{◌≡◌, ◌≢◌, ◌-◌, Some, unwrap_or};
+ghost use Rattle.std.specs.Prelude.{◌≡◌, ◌≢◌, ◌-◌, Some, unwrap_or, MatchOption};
 ghost use Rattle.std.specs.Duration.{as_nanos};
 ghost use Rattle.bor_program.specs.declared.connections.phase.Pace.TheVariants.{Blocked};
+ghost use Rattle.bor_program.specs.Connections.Times.{IsUp};
 
 use crate::connections::limits::Limits;
 use crate::connections::phase::{Pace, Phase};
 use std::time::Duration;
 
-/// Since when a client is in its phase, once a clock was read in it; since when it is idle; and
-/// whether something may be read or written.
+/// Since when a client's request is read, or what it sends behind its reply, once a clock was read
+/// for that; since when it is idle; and whether something may be read or written.
 #[derive(Clone, Copy, PartialEq, Eq)]
 pub(crate) struct Timing {
     since: Option<Duration>,
@@ -63,9 +64,27 @@ impl Timing {
         }
     }
 
-    /// How much of a limit is left at this time. The time of a phase begins when it is first asked
-    /// for.
-    pub(crate) fn left(&mut self, limit: Duration, now: Duration) -> Duration
+    /// For how long a client in this phase may be waited for at this time, unless its time is up.
+    pub(crate) fn left<S>(
+        &mut self,
+        limits: Limits,
+        phase: &Phase<S>,
+        now: Duration,
+    ) -> Option<Duration>
+        ensures idle { self.new.idle_since ≡ self.old.idle_since }
+        ensures up { MatchOption result (IsUp limits self.old phase.now now)
+            (λ _. IsUp limits self.old phase.now now → ⊥) }
+    {
+        match phase {
+            Phase::Reading(_) => some_left(self.left_of(limits.request, now)),
+            Phase::Writing(writing) => writing.left(limits, now),
+            Phase::Draining(_) => some_left(self.left_of(limits.rest, now)),
+        }
+    }
+
+    // How much of a limit is left at this time. The time of a phase begins when it is first asked
+    // for.
+    fn left_of(&mut self, limit: Duration, now: Duration) -> Duration
         ensures idle { self.new.idle_since ≡ self.old.idle_since }
         ensures begun { self.new.since ≡ Some (unwrap_or self.old.since now) }
         ensures left { as_nanos result
@@ -77,11 +96,9 @@ impl Timing {
     }
 }
 
-/// The limit of a phase.
-pub(crate) fn limit_of<S>(limits: Limits, phase: &Phase<S>) -> Duration {
-    match phase {
-        Phase::Reading(_) => limits.request,
-        Phase::Writing(_) => limits.reply,
-        Phase::Draining(_) => limits.rest,
-    }
+// What is left of a time, where some is.
+fn some_left(left: Duration) -> Option<Duration>
+    ensures { MatchOption result (as_nanos left ≡ 0) (λ _. as_nanos left ≢ 0) }
+{
+    if left.is_zero() { None } else { Some(left) }
 }

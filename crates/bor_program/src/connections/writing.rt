@@ -1,25 +1,61 @@
 //! A client to whom its reply is written, and what it still sends behind it.
 
-ghost use Rattle.std.specs.Prelude.{◌≡◌, ◌≤◌, length};
+ghost use Rattle.std.specs.Prelude.{◌≡◌, ◌≤◌, length, MatchOption, None, Some, unwrap_or};
 ghost use Rattle.bor_http.specs.Incoming.Message.{request_limit};
 ghost use Rattle.bor_wire.specs.Exchanges.{bytes_out};
 ghost use Rattle.bor_program.specs.declared.connections.writing.Written.TheVariants.{Whole};
 ghost use Rattle.bor_program.specs.Connections.Serving.{Told, answer_of, has_failed};
 ghost use Rattle.bor_program.specs.Connections.Streams.{Came, Drops, IsDraining, IsReady, IsWriting};
+ghost use Rattle.bor_program.specs.Connections.Times.{IsSlow, begun, seen};
 
+use crate::connections::limits::Limits;
 use crate::connections::reading::{PART, Reading, is_blocked};
+use crate::connections::taking::Taking;
 use bor_wire::Outgoing;
 use std::io::{Read, Write};
 use std::net::{OpenStream, Shutdown};
+use std::time::Duration;
 
-/// A client to whom its reply is written: its request, the reply, and how much of that it was
-/// handed.
+/// A client to whom its reply is written: its request, the reply, how much of that it was handed,
+/// and how it takes it, once a clock was read since the reply was made.
 #[derive(Drop)]
 pub(crate) struct Writing<S> {
     stream: S,
     request: Vec<u8>,
     reply: Outgoing,
     sent: usize,
+    taking: Option<Taking>,
+}
+
+impl<S> Writing<S> {
+    /// The clock is read, before anything more is written.
+    pub(crate) fn look(&mut self, now: Duration)
+        ensures stream { self.new.stream ≡ self.old.stream }
+        ensures request { self.new.request ≡ self.old.request }
+        ensures reply { self.new.reply ≡ self.old.reply }
+        ensures sent { self.new.sent ≡ self.old.sent }
+        ensures taking { self.new.taking ≡ Some (seen self.old.taking self.old.sent now) }
+    {
+        self.taking = Some(Taking::seen(self.taking, self.sent, now));
+    }
+
+    /// For how long it may be waited for at this time, unless it takes its reply too slowly. Where
+    /// something was taken since the clock was read, that is to be read again at once.
+    pub(crate) fn left(&self, limits: Limits, now: Duration) -> Option<Duration>
+        ensures { let taking = unwrap_or self.now.taking (begun self.now.sent now) in
+            MatchOption result (IsSlow limits taking self.now.sent now)
+            (λ _. IsSlow limits taking self.now.sent now → ⊥) }
+    {
+        let taking = self.taking.unwrap_or(Taking::begun(self.sent, now));
+        if taking.is_slow(limits, self.sent, now) {
+            return None;
+        }
+        if self.taking.is_some() && taking.taken() == self.sent {
+            Some(taking.left(limits, now))
+        } else {
+            Some(Duration::ZERO)
+        }
+    }
 }
 
 /// What one write of a reply did.
@@ -46,12 +82,14 @@ impl<S: Read + Write + OpenStream> Writing<S> {
             (answer_of result.request.items result.reply) result.sent }
         ensures request { result.request.items ≡ reading.received.items }
         ensures reply { result.reply ≡ reply }
+        ensures taking { result.taking ≡ None }
     {
         Writing {
             stream: reading.stream,
             request: reading.received,
             reply,
             sent: 0,
+            taking: None,
         }
     }
 
@@ -63,6 +101,7 @@ impl<S: Read + Write + OpenStream> Writing<S> {
             (answer_of self.new.request.items self.new.reply) self.new.sent }
         ensures request { self.new.request ≡ self.old.request }
         ensures reply { self.new.reply ≡ self.old.reply }
+        ensures taking { self.new.taking ≡ self.old.taking }
         ensures whole { result ≡ Whole → self.new.sent ≡ length (bytes_out self.new.reply) }
     {
         let rest = &self.reply.bytes()[self.sent..];

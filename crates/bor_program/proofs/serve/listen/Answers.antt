@@ -22,7 +22,7 @@ returns-clause-hosted g c =
       ended = c.serve-served.new.watch;
       port = c.in-Some.ensures;
       waiter = c.waiter-waiter.ensures;
-      is_within = record { request = limits.ensures.request; reply = limits.ensures.reply; rest = limits.ensures.rest };
+      is_within = record { request = limits.ensures.request; reply = limits.ensures.reply; floor = limits.ensures.floor; rest = limits.ensures.rest };
       within = subst (λ n. g.H.Register.OpenRegister.serves c.args.register.now c.in-Some.listener limits.result c.args.asked.connections c.serve-served.new.self n) same
           c.serve-served.ensures.within;
       served = subst (λ n. IsServedOver g.H.Register.OpenRegister.shows g.H.Register.OpenRegister.is_clean g.H.Register.OpenRegister.is_sound g.H.Register.OpenRegister.may_leave g.H.Register.OpenRegister.left_shows (IsOf g.H.Listener.Stream.Read.remaining g.H.Listener.Stream.Write.contents)

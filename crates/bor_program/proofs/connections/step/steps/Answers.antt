@@ -7,10 +7,14 @@ returns-in-Ends-clause-step g c =
     then_steps g.K.Keep.shows g.K.Keep.is_clean g.K.Keep.is_sound g.K.Keep.may_leave g.K.Keep.left_shows g.S.Read.remaining g.S.Write.contents c.args.keep.now c.loop.keep c.step.new.keep (telling c.args.phase) (telling c.loop.phase) (telling c.in-Ends.last)
     c.loop.invariant.step c.in-Ends.ensures.step
 
+pub returns-in-Ends-clause-time : goal.returns-in-Ends-clause-time
+returns-in-Ends-clause-time g c = λ taking is. c.in-Ends.ensures.time taking (c.loop.invariant.time taking is)
+
 pub loop-preserved : goal.loop-preserved
 loop-preserved g c = record {
   held = c.in-Goes.ensures.held;
   step =
       then_steps g.K.Keep.shows g.K.Keep.is_clean g.K.Keep.is_sound g.K.Keep.may_leave g.K.Keep.left_shows g.S.Read.remaining g.S.Write.contents c.args.keep.now c.loop.keep c.step.new.keep (telling c.args.phase) (telling c.loop.phase) (telling c.in-Goes.next)
       c.loop.invariant.step c.in-Goes.ensures.step;
+  time = λ taking is. c.in-Goes.ensures.time taking (c.loop.invariant.time taking is);
 }

@@ -1,6 +1,7 @@
-use Rattle.std.proofs.Common.{◌+◌, ◌++◌}
+use Rattle.std.proofs.Common.{◌+◌, ◌++◌, subst, sym}
 use Rattle.bor_program.specs.Connections.Phases.{telling}
 use Rattle.bor_program.specs.Connections.Servers.{pending_in, telling_in}
+use Rattle.bor_program.specs.Connections.Times.{IsTaking, looked}
 use Rattle.bor_program.proofs.OnConnections.Servers.{lets_go_same}
 use Rattle.bor_program.proofs.connections.server.Server.serve.Goals as goal
 
@@ -8,10 +9,15 @@ pub returns-in-Goes-clause-serves : goal.returns-in-Goes-clause-serves
 returns-in-Goes-clause-serves g c = λ start connections absent before.
     let old = c.args.self.now in
     lets_go_same g.K.Keep.shows g.K.Keep.is_clean g.K.Keep.is_sound g.K.Keep.may_leave g.K.Keep.left_shows g.S.Read.remaining g.S.Write.contents start c.steps.new.keep (telling c.in-Goes.phase ++ telling_in old) connections (pending_in old + 1) absent old.status c.go_on.new.self
-    (c.in-Goes.ensures.step start (telling_in old) connections (pending_in old + 1) absent old.status before) c.go_on.ensures
+    (c.in-Goes.ensures.step start (telling_in old) connections (pending_in old + 1) absent old.status (rw c.look-phase.ensures.tells before)) c.go_on.ensures.lets
 
 pub returns-in-Ends-clause-serves : goal.returns-in-Ends-clause-serves
 returns-in-Ends-clause-serves g c = λ start connections absent before.
     let old = c.args.self.now in
     lets_go_same g.K.Keep.shows g.K.Keep.is_clean g.K.Keep.is_sound g.K.Keep.may_leave g.K.Keep.left_shows g.S.Read.remaining g.S.Write.contents start c.steps.new.keep (telling c.in-Ends.phase ++ telling_in old) connections (pending_in old + 1) absent old.status c.give_up.new.self
-    (c.in-Ends.ensures.step start (telling_in old) connections (pending_in old + 1) absent old.status before) c.give_up.ensures.lets
+    (c.in-Ends.ensures.step start (telling_in old) connections (pending_in old + 1) absent old.status (rw c.look-phase.ensures.tells before)) c.give_up.ensures.lets
+
+pub returns-in-Goes-clause-time : goal.returns-in-Goes-clause-time
+returns-in-Goes-clause-time g c = λ last is.
+    let taking = looked c.args.client.phase c.args.now in
+    subst (IsTaking taking) (sym (c.go_on.ensures.time.same last is)) (c.in-Goes.ensures.time taking c.look-phase.ensures.time)
