@@ -1,5 +1,7 @@
 """Checks of the program: each has a folder of its own, and says by a `Mismatch` what isn't as wanted."""
 import sqlite3
+import subprocess
+import tempfile
 from contextlib import closing
 from pathlib import Path
 
@@ -25,6 +27,19 @@ def check(function):
     """Has the function checked; its first line says what it checks."""
     CHECKS.append(function)
     return function
+
+
+def outcome(group, bor, function):
+    """How a check came out, in an empty folder of its own."""
+    name = f"{group}, {function.__doc__}"
+    with tempfile.TemporaryDirectory(prefix=f"bor-{group}-") as folder:
+        try:
+            function(bor, folder)
+        except Mismatch as found:
+            return name, str(found)
+        except (OSError, subprocess.SubprocessError, sqlite3.Error) as fault:
+            return name, f"{type(fault).__name__}: {fault}"
+    return name, None
 
 
 def is_so(holds, text):
@@ -66,9 +81,9 @@ def exchange(bor, folder, rows, db=DB):
     return ran
 
 
-def begun(bor, folder, *rows):
+def begun(bor, folder, *rows, db=DB):
     """A register in a file with alder, in which these rows have been asked."""
-    exchange(bor, folder, [ENROLLED, *rows])
+    exchange(bor, folder, [ENROLLED, *rows], db)
 
 
 def report(bor, folder, record="e1", db=DB, viewer="alder"):

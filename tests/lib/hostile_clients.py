@@ -26,6 +26,8 @@ REST_BYTES, HEAD_BYTES = 16_777_216, 16_384
 # What the system may keep of a connection, and what a clock and a busy machine may add.
 BUFFERS, LATE = 16_000_000, 4
 LARGE = 1_048_576
+# Bytes a second that a client takes which isn't cut off, though its reply has longer than the limit.
+SLOWLY = 750_000
 
 
 class Cut:
@@ -308,6 +310,24 @@ def never_reads_much(bor, folder):
     is_so(waited <= LATE, f"the next client waited {waited:.1f} s")
     is_so(REPLY_TIME - 0.5 <= seconds <= REPLY_TIME + LATE, f"cut off after {seconds:.1f} s")
     return Cut(0, seconds, b"")
+
+
+def takes_slowly(bor, folder):
+    """a client that takes a reply of many megabytes for longer than ten seconds has it whole"""
+    server = served(bor, folder, 2, BIRCH, *map(long_lodging, range(1, 25)))
+    start, reply, part = time.monotonic(), b"", b"-"
+    with that_never_reads(server, "birch published") as client:
+        while part:
+            part = client.recv(65_536)
+            reply += part
+            time.sleep(max(0, len(reply) / SLOWLY - (time.monotonic() - start)))
+    seconds = time.monotonic() - start
+    another_is_answered(server)
+    has_ended(server)
+    head, body = reply.split(b"\r\n\r\n", 1)
+    is_so(b"\r\nContent-Length: %d\r\n" % len(body) in head, f"it has {len(body):,} bytes of a body behind {head!r}")
+    is_so(seconds > REPLY_TIME + LATE, f"it took {seconds:.1f} s, which is too fast to tell")
+    return Cut(0, seconds, reply)
 
 
 # ---- many clients at once

@@ -5,9 +5,11 @@ Of a head with letters on which readers of HTTP may differ nothing is said.
 import re
 from urllib.parse import parse_qsl
 
-from lib.reading import Refused, day_of, ident
+from lib.reading import Refused
 from lib.register import Register, refused, told
 from lib.replies import reply
+
+from bods_rules import day_of, is_ident
 
 HEAD_END = re.compile(rb"\n\r?\n")
 LONGEST_HEAD, LINES, LONGEST_BODY = 16_384, 66, 1_048_576
@@ -54,6 +56,10 @@ class NoRequest(Exception):
 
 def fits(form):
     return lambda value: value if form.fullmatch(value) else None
+
+
+def ident(value):
+    return value if is_ident(value) else None
 
 
 VALUES = {
