@@ -1,10 +1,17 @@
 """Whether a value fits a schema of docs/openapi.yaml: the words of JSON Schema 2020-12 that it uses, and no others."""
+import functools
 import re
 
+
+def is_number(value):
+    return isinstance(value, (int, float)) and not isinstance(value, bool)
+
+
+# (a number without a fraction is an integer however it is written: 25.0 is one)
 TYPES = {
     "array": lambda value: isinstance(value, list),
     "boolean": lambda value: isinstance(value, bool),
-    "integer": lambda value: isinstance(value, int) and not isinstance(value, bool),
+    "integer": lambda value: is_number(value) and value % 1 == 0,
     "null": lambda value: value is None,
     "object": lambda value: isinstance(value, dict),
     "string": lambda value: isinstance(value, str),
@@ -49,6 +56,12 @@ def is_of_type(value, names):
     return any(TYPES[name](value) for name in ([names] if isinstance(names, str) else names))
 
 
+@functools.lru_cache
+def form_of(pattern):
+    """A pattern as Python has it, where $ isn't the end alone, but the place before a last line feed too."""
+    return re.compile(pattern.replace("$", r"\Z"))
+
+
 def has_members(document, schema, value):
     if not isinstance(value, dict):
         return True
@@ -63,11 +76,11 @@ WORDS = {
     "type": lambda document, schema, value: is_of_type(value, schema["type"]),
     "enum": lambda document, schema, value: any(same(value, it) for it in schema["enum"]),
     "const": lambda document, schema, value: same(value, schema["const"]),
-    "pattern": lambda document, schema, value: not isinstance(value, str) or bool(re.search(schema["pattern"], value)),
+    "pattern": lambda document, schema, value: not isinstance(value, str) or bool(form_of(schema["pattern"]).search(value)),
     "format": lambda document, schema, value: schema["format"] != "date" or not isinstance(value, str) or is_day(value),
     "minLength": lambda document, schema, value: not isinstance(value, str) or len(value) >= schema["minLength"],
-    "minimum": lambda document, schema, value: not TYPES["integer"](value) or value >= schema["minimum"],
-    "maximum": lambda document, schema, value: not TYPES["integer"](value) or value <= schema["maximum"],
+    "minimum": lambda document, schema, value: not is_number(value) or value >= schema["minimum"],
+    "maximum": lambda document, schema, value: not is_number(value) or value <= schema["maximum"],
     "minItems": lambda document, schema, value: not isinstance(value, list) or len(value) >= schema["minItems"],
     "maxItems": lambda document, schema, value: not isinstance(value, list) or len(value) <= schema["maxItems"],
     "items": lambda document, schema, value: not isinstance(value, list)
@@ -76,7 +89,8 @@ WORDS = {
     "properties": has_members,
     "additionalProperties": has_members,
     "oneOf": lambda document, schema, value: sum(fits(document, it, value) for it in schema["oneOf"]) == 1,
-    "description": lambda document, schema, value: True,
+    "not": lambda document, schema, value: not fits(document, schema["not"], value),
+    **dict.fromkeys(["description", "examples", "discriminator"], lambda document, schema, value: True),
 }
 
 
@@ -94,5 +108,5 @@ def schemas_in(document, schema):
     schema = led(document, schema)
     yield schema
     parts = [*schema.get("properties", {}).values(), *schema.get("oneOf", [])]
-    for part in [*parts, *([schema["items"]] if "items" in schema else [])]:
+    for part in [*parts, *(schema[word] for word in ("items", "not") if word in schema)]:
         yield from schemas_in(document, part)
