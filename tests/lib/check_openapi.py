@@ -1,11 +1,14 @@
-"""docs/openapi.yaml, held against what the program tells."""
+"""docs/openapi.yaml, held against what the program tells, and its examples and its schema of a file against what is recorded."""
 import os
 import tempfile
+from collections import Counter
 from concurrent.futures import ThreadPoolExecutor
 
+from lib.bods_files import chance_files, fuzz_files
 from lib.checking import DB, begun, changed, check, is_so
-from lib.openapi import PLACE, Document, Reply
 from lib.notation import request_of
+from lib.openapi import PLACE, Document, Reply
+from lib.openapi_examples import Examples, file_fault, is_fit, lodged, recorded, spoiled_files, value_of, words_fault
 from lib.replies import replies_in
 from lib.rows import all_rows, enrolments
 from lib.scripts import shown
@@ -101,3 +104,75 @@ def a_wrong_document_is_found(bor, folder):
                 came.add((key, reply.status, *reply.refusal()))
         more = set(document.refusals()) - came - {it for it in whole.refusals() if it[1] == 503}
         is_so(fault or more, f"{wrong!r} isn't found")
+
+
+# ---- examples, and the schema of a file: these ask no program
+
+SEED, CHANCE, FUZZED = 20240201, 150, 150
+# The refusals of files of which some can be told by a schema, since they are of one value and not of several.
+SAID = {"NotAList", "NoStatements", "TooMany", "Missing", "Bad", "TooLong", "Fraction", "ShareRange"}
+
+
+@check
+def each_example_is_recorded(_bor, _folder):
+    """each request of docs/openapi.yaml and each kind of reply has examples, which fit their schema and stand in the rows or in examples/day"""
+    fault = Examples(Document(), recorded()).fault()
+    is_so(fault is None, fault)
+
+
+@check
+def the_schema_of_a_file_takes_what_is_taken(_bor, _folder):
+    """each file of the rows that is taken fits its schema in docs/openapi.yaml, and none that is refused for what a schema can say"""
+    document, refused = Document(), Counter()
+    for data, refusal in lodged():
+        fault = file_fault(document, data, refusal is None)
+        is_so(fault is None, f"{refusal}: {fault}")
+        refused[refusal] += not is_fit(document, value_of(data))
+    told = {name for name, count in refused.items() if count}
+    is_so(SAID <= told and None not in told, f"the schema refuses files with these refusals: {told}")
+    fault = words_fault(document)
+    is_so(fault is None, fault)
+
+
+@check
+def the_schema_of_a_file_is_the_table(_bor, _folder):
+    """the same, by the table of members, of a file with each part in turn left out or of another form, of hostile ones and ones by chance"""
+    document = Document()
+    for data in [*spoiled_files(), *chance_files(CHANCE, SEED), *fuzz_files(FUZZED, SEED)]:
+        fault = file_fault(document, data)
+        is_so(fault is None, fault)
+
+
+# What is changed in the schema of a file, in an example, or in a word, and is then found without the program.
+PLANTED_IN_FILES = [
+    ("required: [subject, interestedParty]", "required: [subject]"),
+    ("enum: [new, updated, closed, null]", "enum: [new, updated, closed]"),
+    ("recordType: {const: person}", "recordType: {enum: [person, Person]}"),
+    ("      minItems: 1\n      maxItems: 1000\n", "      minItems: 1\n      maxItems: 999\n"),
+    ('type: [boolean, integer, "null"]', 'type: [boolean, integer]'),
+    ("written without a point and without an exponent.\n      minimum: 0", "written without a point and without an exponent.\n      minimum: 1"),
+    ("          not: {enum: [shareholding, votingRights, appointmentOfBoard]}\n", ""),
+    ('[12][0-9]|3[01])(T|$)"', '[12][0-9]|3[01])$"'),
+    ("{const: entity}", "{const: entity}\n        source: {type: object}"),
+    ("      required: [type]\n", ""),
+    ("[registeredEntity, legalEntity, arrangement, anonymousEntity, unknownEntity, state, stateBody]", "[registeredEntity, legalEntity]"),
+    ('relationship: "#/components/schemas/RelationshipStatement"', 'relationship: "#/components/schemas/PersonStatement"'),
+    ("{personType: knownPerson, names: [{fullName: Ann Moss}]}", "{personType: knownPerson, names: [{fullName: Ann}]}"),
+    ("          example: {due: \"2024-03-01\", filing: 1, state: withdrawn}", "          example: {due: \"2024-03-01\", filing: 1, state: draft}"),
+    ("              example: {day: \"2024-03-01\"}\n", ""),
+    ("          example: cedar\n", "          example: hazel\n"),
+    ("                HasSuccessor: {value: {refusal: HasSuccessor}}\n", ""),
+]
+
+
+@check
+def a_wrong_schema_or_example_is_found(_bor, _folder):
+    """an error that is planted in an example of docs/openapi.yaml or in its schema of a file is found by what is recorded"""
+    text, exchanges = Document().text, recorded()
+    files = [*((data, "spoiled") for data in spoiled_files()), *lodged()]
+    for right, wrong in PLANTED_IN_FILES:
+        is_so(text.count(right) == 1, f"{right!r} stands {text.count(right)} times in {PLACE}")
+        document = Document(text.replace(right, wrong))
+        faults = (file_fault(document, data, refusal is None) for data, refusal in files)
+        is_found = words_fault(document) or Examples(document, exchanges).fault() or any(faults)
+        is_so(is_found, f"{wrong!r} isn't found")

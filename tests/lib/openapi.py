@@ -68,20 +68,37 @@ class Document:
         item = self.all["paths"][path]
         return [self.led(it) for it in [*item.get("parameters", []), *item[method.lower()].get("parameters", [])]]
 
+    def content_of(self, part):
+        """The one content of a request's body or of a response: its type, and what is said of it."""
+        (kind, content), = self.led(part)["content"].items()
+        return kind, content
+
     def schema_of(self, response):
-        (kind, content), = self.led(response)["content"].items()
+        kind, content = self.content_of(response)
         return kind, content["schema"]
+
+    def examples_of(self, part):
+        """The examples of a parameter or of a content."""
+        alone = [part["example"]] if "example" in part else []
+        return alone + [self.led(it)["value"] for it in part.get("examples", {}).values()]
+
+    def given(self, key, request):
+        """What a request gives for each parameter of an operation, by the parameter's name."""
+        found = FIRST_LINE.match(request)
+        target, query = found[2].decode("latin-1"), (found[3] or b"").decode("latin-1")
+        pairs = parse_qsl(query, keep_blank_values=True, errors="replace")
+        return {
+            it["name"]: [target.split("/")[2]] if it["in"] == "path" else [value for name, value in pairs if name == it["name"]]
+            for it in self.parameters(key)
+        }
 
     # ---- what is wrong with a request that was answered, and with its reply
 
     def request_fault(self, key, request):
         """Why a request that was done isn't as its operation has it."""
-        found = FIRST_LINE.match(request)
-        target, query = found[2].decode("latin-1"), (found[3] or b"").decode("latin-1")
-        pairs = parse_qsl(query, keep_blank_values=True, errors="replace")
+        all_given = self.given(key, request)
         for parameter in self.parameters(key):
-            name = parameter["name"]
-            given = [target.split("/")[2]] if parameter["in"] == "path" else [it for it_name, it in pairs if it_name == name]
+            name, given = parameter["name"], all_given[parameter["name"]]
             if len(given) > 1 or (not given and parameter["required"]):
                 return f"{name} is there {len(given)} times"
             if not all(fits(self.all, parameter["schema"], it) for it in given):
@@ -130,11 +147,15 @@ class Document:
 
     def refusals(self):
         """Each operation, status, refusal and field that the document lists; those of no operation under None."""
+        for key, status, response in self.responses():
+            if status >= 400:
+                yield from ((key, status, *told) for told in self.listed_in(self.schema_of(response)[1]))
+
+    def responses(self):
+        """Each response with its operation and its status; those of no operation under None."""
         all_of = [(key, it["responses"]) for key, it in self.operations()]
         for key, responses in [*all_of, (None, self.all["x-elsewhere"])]:
-            for status, response in responses.items():
-                if int(status) >= 400:
-                    yield from ((key, int(status), *told) for told in self.listed_in(self.schema_of(response)[1]))
+            yield from ((key, int(status), response) for status, response in responses.items())
 
     def listed_in(self, schema):
         for part in schemas_in(self.all, schema):
