@@ -58,7 +58,7 @@ def tool(folder, *words, stdin=b"", **variables):
 def first_line(bor, folder, data):
     """What `bor check` says of a file: its refusal, or None where it is taken."""
     ran = bor.run(["check"], folder, data)
-    is_so(ran.status in (0, 1) and not ran.errors, f"bor check: {ran.told()}")
+    is_so(ran.status in (0, 1) and ran.output and not ran.errors, f"bor check: {ran.told()}")
     line = ran.output.decode().splitlines()[0]
     return line.removeprefix("refused ") if ran.status else None
 
