@@ -106,7 +106,7 @@ def older_interest(rng, interest):
 
 
 def renumbered(rng, value):
-    """The value with numbers of shares written otherwise: as texts, with a point, or with a fraction."""
+    """The value with numbers of shares written otherwise: as texts, with a point, a percent sign, or a fraction."""
     if isinstance(value, list):
         return [renumbered(rng, it) for it in value]
     if not isinstance(value, dict):
@@ -114,7 +114,7 @@ def renumbered(rng, value):
     told = {}
     for name, it in value.items():
         is_number = name in BOUNDS and isinstance(it, int) and not isinstance(it, bool)
-        told[name] = rng.choice([it, float(it), str(it), f"{it}.0", abs(it - 0.25)]) if is_number else renumbered(rng, it)
+        told[name] = rng.choice([it, float(it), str(it), f"{it}.0", f"{it}%", abs(it - 0.25)]) if is_number else renumbered(rng, it)
     return told
 
 

@@ -195,6 +195,7 @@ WARNED = [
 NAMES = '[{"statementId":"s1","statementDate":"2024-01-10","declarationSubject":"c1","recordId":"x1","recordType":"%s","recordDetails":%s}]'
 WARNED_DETAILS = [
     ("entity", '{"entityType":{"type":"state"},"name":"A","identifiers":[{"schemeName":"X","id":"1"}]}', "IdentifierPassedOver", "scheme"),
+    ("entity", '{"entityType":{"type":"state"},"name":"A","identifiers":[{"scheme":"X","id":10}]}', "IdentifierPassedOver", '"id":"10"'),
     ("person", '{"personType":"knownPerson","names":[{"givenName":"Ann","familyName":"Moss"}]}', "NameNotShown", '"Ann Moss"'),
     ("person", '{"personType":"KnownPerson","names":[{"fullName":"A"}]}', "UnknownWord", '"knownPerson"'),
     ("relationship", '{"subject":{"describedByEntityStatement":"s1"},"interestedParty":"x"}', "EndMakesNoLink", '"x1"'),
@@ -436,6 +437,33 @@ def older_statements_become_newer_ones(_bor, folder):
     parts = made([("FILE", (OLD + LATER).encode())])
     wanted = f"{NEW[:-3]},\n{UPDATE[2:]}"
     is_so(parts[0].data.decode() == wanted, f"wanted {wanted}, told {parts[0].data.decode()}")
+
+
+OLD_ENTITY = '{"statementID":"o8","statementType":"entityStatement",%s"entityType":"registeredEntity","name":"A"}\n'
+DATED = '"statementDate":"2021-01-10",'
+# What a publisher writes, and what is told of it or stands in what is made of it.
+PUBLISHED_FORMS = [
+    (OLD_ENTITY % "", 'there is no statementDate\n  write "statementDate":"YYYY-MM-DD"'),
+    (OLD_ENTITY % f'{DATED}"replacesStatements":["o0"],', 'RecordUnknown at 1 /replacesStatements\n  statement 1 "o8": it replaces ["o0"], which is in none'),
+    (OLD + OLD_ENTITY % f'{DATED}"replacesStatements":"o1",', '"recordId":"o1","recordStatus":"updated"'),
+    (OLD_ENTITY % f'{DATED}"entitySubtype":{{"generalCategory":"state-body","localTerm":"x"}},', '{"type":"registeredEntity","subtype":"body","details":"x"}'),
+    (OLD_ENTITY % f'{DATED}"entitySubtype":"limited",', '"entitySubtype":"limited"'),
+    (OLD.replace("75.0", '"75%"'), '"exact":75}'),
+    (OLD.replace("75.0", '"75.5 %"'), '"exclusiveMinimum":75,"exclusiveMaximum":76}'),
+    ('{"results":[{"statementID":"o1"}],"errors":[{"message":"x"}]}', "write the list of the statements alone"),
+]
+
+
+@check
+def what_publishers_write_is_read(_bor, _folder):
+    """forms that publishers write become what they mean, or it is told what to write"""
+    for source, wanted in PUBLISHED_FORMS:
+        try:
+            (parts,) = Conversion([("FILE", source.encode())], None, words()).parts
+            told = parts[0].data.decode()
+        except Unconverted as fault:
+            told = "\n".join(fault.lines)
+        is_so(wanted in told, f"{wanted} isn't in {told}, of {source}")
 
 
 @check

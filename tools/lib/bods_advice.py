@@ -5,7 +5,7 @@ import re
 from bods_file import CONVERTS
 from bods_json import written
 from bods_rules import BOUNDS, FILE_LIMIT, ITEMS_LIMIT, STATEMENTS_LIMIT, STATUSES, TYPES, day_of, is_object, member
-from bods_shares import is_whole, numeral, whole_text, widened
+from bods_shares import is_whole, numeral, percent, whole_text, widened
 
 IDENTS = ["statementId", "declarationSubject", "recordId"]
 OLD_TYPES = {"entityStatement": "entity", "personStatement": "person", "ownershipOrControlStatement": "relationship"}
@@ -51,8 +51,10 @@ def not_a_list(_fault, file):
     value = file.root.value
     if file.prefix:
         return f"the statements stand in the member {file.prefix[0]} of an object", f"the list alone{CONVERTS}"
+    if file.shape == "single":
+        return "the file is a statement, and no list of statements", f"[ and ] around the statement{CONVERTS}"
     if is_object(value):
-        return "the file is an object, and no list of statements", f"[ and ] around the statement{CONVERTS}"
+        return "the file is an object, and no list of statements", "the list of the statements alone"
     return f"the file is {shown(value)}, and no list of statements", "[..], a list of statements"
 
 
@@ -73,13 +75,20 @@ def is_old(statement):
     return is_object(statement) and "recordDetails" not in statement and any(name in statement for name in OLD_MEMBERS)
 
 
+def replaced_by(value):
+    """The identifiers of the statements that an older one replaces; some write a single one without a list."""
+    names = value.get("replacesStatements")
+    return [it for it in (names if isinstance(names, list) else [names]) if isinstance(it, str)]
+
+
 def missing(fault, file):
     holder = file.at(fault.path)
     if is_old(holder) and fault.field != "statementDate" and not file.is_converting:
         return f"there is no {fault.field}: this is a statement of BODS 0.3 or older", f"BODS 0.4{CONVERTS}"
     if fault.field in holder:
         return f"{fault.field} is null, which counts as absent", MEMBERS[fault.field]
-    others = [name for name in holder if name not in MEMBERS and name not in KNOWN]
+    known = [*MEMBERS, *KNOWN, *(OLD_MEMBERS if is_old(holder) else [])]
+    others = [name for name in holder if name not in known]
     other = nearest(fault.field, others)
     if other:
         return f"there is no {fault.field}, but a member {written(other)}", f"{written(fault.field)} in place of {written(other)}"
@@ -146,7 +155,7 @@ def bad_statement(_name, value):
 
 
 def bad_bound(name, value, file, path):
-    number = numeral(value.strip()) if isinstance(value, str) else None
+    number = percent(value) if isinstance(value, str) else None
     if number is not None and is_whole(number):
         return f"{shown(value)} is a text, and has to be a number", f"{written(name)}:{whole_text(number)}"
     if number is not None:
@@ -195,7 +204,7 @@ def bounds_of(file, path):
         part = node.get(name)
         if part is None:
             continue
-        value = part.value if isinstance(part.value, bool) else numeral(file.source[part.start : part.end].strip('" '))
+        value = part.value if isinstance(part.value, bool) else percent(file.source[part.start : part.end].strip('"'))
         if value is None:
             return None
         found[name] = value
@@ -258,6 +267,10 @@ def record_exists(fault, file):
 
 
 def record_unknown(fault, file):
+    names = replaced_by(file.statement(fault)) if file.is_converting else []
+    if names:
+        says = f"it replaces {shown(names)}, which {'are' if len(names) > 1 else 'is'} in none of these files"
+        return says, "the file that has it too, --against a register that has it, or no replacesStatements where the record begins here"
     where = "the register has no live statement of the record" if file.is_against else "a new register doesn't have the record"
     more = "" if file.is_against else " (--against asks the register where it may be)"
     return where, f'"new", or leave recordStatus out{more}'

@@ -2,19 +2,18 @@
 import json
 from dataclasses import dataclass
 
-from bods_advice import advice, is_old
+from bods_advice import advice, is_old, replaced_by
 from bods_file import File
 from bods_json import pointer, written
 from bods_lint import finding_in, text_of_faults
 from bods_packing import parts_of, ordered
 from bods_reports import Written
 from bods_rules import BOUNDS, FILE_LIMIT, NAMED, Fault, Records, day_of, file_faults, is_object, member, record_faults, statement_faults, text
-from bods_shares import is_whole, numeral, whole_text, widened
+from bods_shares import is_whole, percent, whole_text, widened
 from bods_versions import Rewriting, Unclear, Versions, end_id, joined, kind_meant
-from bods_warnings import items
 
 
-OLD_NAMES = {"statementId": "statementID", "recordType": "statementType"}
+OLD_NAMES = {"statementId": "statementID", "recordType": "statementType", "recordStatus": "replacesStatements"}
 # What stands beside a statement in a file of its own.
 BESIDE = 10
 
@@ -142,8 +141,7 @@ class Editor:
             if part is None or isinstance(part.value, bool):
                 bounds.update({name: part.value} if part else {})
                 continue
-            told = part.value.strip() if isinstance(part.value, str) else self.raw(part)
-            bounds[name] = numeral(told)
+            bounds[name] = percent(part.value if isinstance(part.value, str) else self.raw(part))
             if bounds[name] is not None and is_whole(bounds[name]):
                 texts[name] = whole_text(bounds[name])
         if self.widen and None not in bounds.values() and (found := widened(bounds)):
@@ -234,7 +232,7 @@ class Conversion:
                 rewriting = Rewriting(versions, item, item.edits)
                 item.told = rewriting.text()
                 item.change("Version", node, (), f"BODS 0.3 or older to 0.4: {'; '.join(rewriting.done)}")
-                item.needs = [versions.old[name] for name in items(item.value, "replacesStatements") if name in versions.old]
+                item.needs = [versions.old[name] for name in replaced_by(item.value) if name in versions.old]
             else:
                 item.told = item.edits.text(node.start, node.end)
             is_same = not item.edits.all and not is_old(item.value)

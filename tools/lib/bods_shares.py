@@ -20,6 +20,11 @@ def numeral(text):
     return value if 0 <= value <= 100 else None
 
 
+def percent(text):
+    """The number that a text means, also with blanks around it or with a percent sign behind it."""
+    return numeral(text.strip().removesuffix("%").rstrip())
+
+
 def is_whole(value):
     return value == value.to_integral_value(ROUND_FLOOR, EXACT)
 

@@ -5,10 +5,10 @@ An older statement has no record: the one that it replaces tells which record it
 """
 import re
 
-from bods_advice import OLD_TYPES, is_old, shown
+from bods_advice import OLD_TYPES, is_old, replaced_by, shown
 from bods_json import written
 from bods_rules import NAMED, is_object, text
-from bods_warnings import NOMINEES, OLD_ENDS, OTHER, TRUST, items
+from bods_warnings import NOMINEES, OLD_ENDS, OTHER, TRUST
 
 # Members beside the details, in 0.4 too.
 BESIDE = ["statementDate", "publicationDetails", "source", "annotations"]
@@ -39,10 +39,6 @@ def kind_meant(kind):
         return None
     camel = KINDS.get(kind) or re.sub("-(.)", lambda found: found[1].upper(), kind)
     return camel if camel in [*NAMED, *TRUST, *NOMINEES, *OTHER] else None
-
-
-def replaced_by(value):
-    return [it for it in items(value, "replacesStatements") if isinstance(it, str)]
 
 
 def end_id(value):
@@ -215,7 +211,7 @@ class Rewriting:
         """The members of the details, each as it is written but for those that 0.4 has otherwise."""
         found, moved = {}, []
         for name in self.node.parts:
-            if name in GONE or name in BESIDE or name == "entitySubtype" and is_text(self.value.get("entityType")):
+            if name in GONE or name in BESIDE or name == "entitySubtype" and self.is_subtype():
                 continue
             to = RENAMED.get(name, name)
             if to != name and to not in self.node.parts:
@@ -251,6 +247,10 @@ class Rewriting:
         told = [self.versions.record_of(it) if isinstance(it, str) else it for it in self.value[name]]
         self.done.append(f"{name} to componentRecords {shown(told)}")
         return written(told)
+
+    def is_subtype(self):
+        """Whether the subtype goes into 0.4's entityType; else it is moved as it is written."""
+        return is_text(self.value.get("entityType")) and is_object(self.value["entitySubtype"])
 
     def entity_type(self):
         """0.4 has the type, the subtype and its local term in one object."""

@@ -123,7 +123,9 @@ def unknown_entity(kind, place, path):
 def passed_over(item, place, path):
     lacking = [name for name in ("scheme", "id") if not text(member(item, name))]
     says = f"the identifier is passed over, since it has no text {' and no text '.join(lacking)}: it joins this entity to no other"
-    told = " and ".join(f'"{name}":".."' for name in lacking)
+    values = {name: member(item, name) for name in lacking}
+    is_number = {name: isinstance(it, (int, float)) and not isinstance(it, bool) for name, it in values.items()}
+    told = " and ".join(f'"{name}":"{values[name] if is_number[name] else ".."}"' for name in lacking)
     scheme_name = text(member(item, "schemeName"))
     if lacking == ["scheme"] and scheme_name:
         told += f" (schemeName {shown(scheme_name)} isn't read)"
