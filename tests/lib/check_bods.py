@@ -450,6 +450,7 @@ PUBLISHED_FORMS = [
     (OLD_ENTITY % f'{DATED}"entitySubtype":"limited",', '"entitySubtype":"limited"'),
     (OLD.replace("75.0", '"75%"'), '"exact":75}'),
     (OLD.replace("75.0", '"75.5 %"'), '"exclusiveMinimum":75,"exclusiveMaximum":76}'),
+    (OLD_ENTITY.replace('"o8"', "8") % DATED, '/statementID\n  statement 1: it is a number, and has to be a text\n  write "8"\n1 fault'),
     ('{"results":[{"statementID":"o1"}],"errors":[{"message":"x"}]}', "write the list of the statements alone"),
 ]
 

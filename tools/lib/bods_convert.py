@@ -254,7 +254,7 @@ class Conversion:
         for group in self.groups:
             for item in group:
                 item.source.file.records, item.source.file.is_against = records, self.live is not None
-                self.findings += [self.found(item, fault) for fault in statement_faults(item.became, 1)]
+                self.findings += [self.found(item, fault) for fault in statement_faults(item.became, 1) if not follows(item, fault)]
                 self.findings += [self.too_large(item)] if len(item.told.encode()) > FILE_LIMIT - BESIDE else []
             for item in group:
                 self.findings += [self.found(item, fault) for fault in record_faults([item.became], records, where=item.where())]
@@ -309,6 +309,12 @@ class Conversion:
     def write(self, names):
         """Writes the files and the reports, and gives the lines that tell of them."""
         return Written(self, names).lines()
+
+
+def follows(item, fault):
+    """Whether a fault comes of another alone: an older statement without an identifier that is a text has no record by it."""
+    is_nameless = is_old(item.value) and text(item.value.get("statementID")) is None
+    return is_nameless and fault.name == "Missing" and fault.field in ("declarationSubject", "recordId")
 
 
 def what_is_read(value):
