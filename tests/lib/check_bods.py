@@ -450,6 +450,12 @@ PUBLISHED_FORMS = [
     (OLD_ENTITY % f'{DATED}"entitySubtype":"limited",', '"entitySubtype":"limited"'),
     (OLD.replace("75.0", '"75%"'), '"exact":75}'),
     (OLD.replace("75.0", '"75.5 %"'), '"exclusiveMinimum":75,"exclusiveMaximum":76}'),
+    (OLD_ENTITY.replace("entityStatement", "Entity") % DATED, 'statementType is "Entity", and none of BODS 0.3\n  write "entityStatement" or'),
+    (file_of("E s2 e1 @2024-01-12 +updated; E s3 e1 @2024-01-13 +closed; E s1 e1 +new").decode(), '[{"statementId":"s1"'),
+    (file_of("E s2 e1 @2024-01-12; E s1 e1").decode(), '[{"statementId":"s1"'),
+    (file_of("E s1 e1 @2024-01-10Z").decode(), 'write "2024-01-10"'),
+    (file_of('E s1 e1; P s2 p1; R s3 r1 e1<-p1 V{"minimum":"25","exclusiveMinimum":"true"}').decode(), '{"minimum":25,"exclusiveMinimum":true}'),
+    (file_of('E s1 e1; P s2 p1; R s3 r1 e1<-p1 V{"minimum":"true"}').decode(), '"true" is no number'),
     (OLD_ENTITY.replace('"o8"', "8") % DATED, '/statementID\n  statement 1: it is a number, and has to be a text\n  write "8"\n1 fault'),
     ('{"results":[{"statementID":"o1"}],"errors":[{"message":"x"}]}', "write the list of the statements alone"),
 ]

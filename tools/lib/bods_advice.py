@@ -5,7 +5,7 @@ import re
 from bods_file import CONVERTS
 from bods_json import written
 from bods_rules import BOUNDS, FILE_LIMIT, ITEMS_LIMIT, STATEMENTS_LIMIT, STATUSES, TYPES, day_of, is_object, member
-from bods_shares import is_whole, numeral, percent, whole_text, widened
+from bods_shares import is_whole, numeral, percent, truth_meant, whole_text, widened
 
 IDENTS = ["statementId", "declarationSubject", "recordId"]
 OLD_TYPES = {"entityStatement": "entity", "personStatement": "person", "ownershipOrControlStatement": "relationship"}
@@ -85,6 +85,8 @@ def missing(fault, file):
     holder = file.at(fault.path)
     if is_old(holder) and fault.field != "statementDate" and not file.is_converting:
         return f"there is no {fault.field}: this is a statement of BODS 0.3 or older", f"BODS 0.4{CONVERTS}"
+    if is_old(holder) and fault.field == "recordType" and "statementType" in holder:
+        return f"statementType is {shown(holder['statementType'])}, and none of BODS 0.3", " or ".join(f'"{it}"' for it in OLD_TYPES)
     if fault.field in holder:
         return f"{fault.field} is null, which counts as absent", MEMBERS[fault.field]
     known = [*MEMBERS, *KNOWN, *(OLD_MEMBERS if is_old(holder) else [])]
@@ -110,7 +112,7 @@ def bad_ident(name, value):
 
 def day_meant(value):
     """The day that a text means where it has the right order."""
-    found = re.fullmatch(r"\s*(\d{4})[-/.]?(\d{1,2})[-/.]?(\d{1,2})(?:[ T].*)?\s*", value)
+    found = re.fullmatch(r"\s*(\d{4})[-/.]?(\d{1,2})[-/.]?(\d{1,2})(?:[ T].*|Z|[+-]\d\d:?\d\d)?\s*", value)
     return day_of(f"{found[1]}-{int(found[2]):02}-{int(found[3]):02}") if found else None
 
 
@@ -156,6 +158,9 @@ def bad_statement(_name, value):
 
 def bad_bound(name, value, file, path):
     number = percent(value) if isinstance(value, str) else None
+    truth = truth_meant(name, value)
+    if truth is not None:
+        return f"{shown(value)} is a text, and has to be a truth value", f"{written(name)}:{written(truth)}"
     if number is not None and is_whole(number):
         return f"{shown(value)} is a text, and has to be a number", f"{written(name)}:{whole_text(number)}"
     if number is not None:

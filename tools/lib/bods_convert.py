@@ -6,10 +6,10 @@ from bods_advice import advice, is_old, replaced_by
 from bods_file import File
 from bods_json import pointer, written
 from bods_lint import finding_in, text_of_faults
-from bods_packing import parts_of, ordered
+from bods_packing import ordered, parts_of, set_turns
 from bods_reports import Written
 from bods_rules import BOUNDS, FILE_LIMIT, NAMED, Fault, Records, day_of, file_faults, is_object, member, record_faults, statement_faults, text
-from bods_shares import is_whole, percent, whole_text, widened
+from bods_shares import is_whole, percent, truth_meant, whole_text, widened
 from bods_versions import Rewriting, Unclear, Versions, end_id, joined, kind_meant
 
 
@@ -138,8 +138,12 @@ class Editor:
         bounds, texts = {}, {}
         for name in BOUNDS:
             part = node.get(name)
-            if part is None or isinstance(part.value, bool):
-                bounds.update({name: part.value} if part else {})
+            if part is None:
+                continue
+            truth = part.value if isinstance(part.value, bool) else truth_meant(name, part.value)
+            if truth is not None:
+                bounds[name] = truth
+                texts.update({} if truth is part.value else {name: written(truth)})
                 continue
             bounds[name] = percent(part.value if isinstance(part.value, str) else self.raw(part))
             if bounds[name] is not None and is_whole(bounds[name]):
@@ -150,7 +154,8 @@ class Editor:
         for name, told in texts.items():
             part = node.parts[name]
             if self.raw(part) != told:
-                self.replace("NumberAsText" if isinstance(part.value, str) else "WholeNumber", part, (*path, name), told)
+                as_text = "NumberAsText" if told.isdigit() else "TruthAsText"
+                self.replace(as_text if isinstance(part.value, str) else "WholeNumber", part, (*path, name), told)
 
     def widen_share(self, node, path, found):
         others = {name: self.raw(part) for name, part in node.parts.items() if name not in BOUNDS}
@@ -237,6 +242,8 @@ class Conversion:
                 item.told = item.edits.text(node.start, node.end)
             is_same = not item.edits.all and not is_old(item.value)
             item.became = item.value if is_same else json.loads(item.told)
+        # (an older statement's turn is told by the one that it replaces)
+        set_turns([item for item in self.all if not is_old(item.value)])
 
     def is_there(self, item):
         """Whether the register has this very statement; its item is left out then."""

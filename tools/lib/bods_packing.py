@@ -1,5 +1,5 @@
 """Statements in an order in which none refers to a later one, and in as few files as hold them without tearing."""
-from bods_rules import FILE_LIMIT, STATEMENTS_LIMIT, member, text
+from bods_rules import FILE_LIMIT, STATEMENTS_LIMIT, day_of, member, text
 from bods_versions import Groups
 
 OPENING, BETWEEN, CLOSING = "[\n", ",\n", "\n]\n"
@@ -16,6 +16,26 @@ def ends_of(item):
     details = member(item.became, "recordDetails")
     names = [text(member(details, name)) for name in ("subject", "interestedParty")]
     return [(key_of(item)[0], name) for name in names if name is not None]
+
+
+def turn_of(item):
+    """What tells a statement's turn among those of its record: which one begins it, which one ends it, and their dates."""
+    status = text(member(item.became, "recordStatus"))
+    return {"new": 0, "closed": 2}.get(status, 1), day_of(member(item.became, "statementDate"))
+
+
+def set_turns(items):
+    """Has the statements of a record need one another in their turn, where they stand in another one."""
+    series = {}
+    for item in items:
+        if None not in key_of(item):
+            series.setdefault(key_of(item), []).append(item)
+    for found in series.values():
+        statuses, days = zip(*map(turn_of, found))
+        if all(days) and statuses.count(0) < 2 and statuses.count(2) < 2:
+            turned = sorted(found, key=turn_of)
+            for one, other in zip(turned, turned[1:] if turned != found else []):
+                other.needs = [*other.needs, one]
 
 
 def ordered(items):

@@ -106,7 +106,7 @@ class Written:
                 found += [] if id(item) in self.conversion.left_out else sorted(item.changes, key=lambda it: (it.line, it.column))
         for group in self.conversion.groups:
             for item in (it for it in group if it.before):
-                says = f"it stands before what refers to it now, the statement of {item.before.where()}"
+                says = f"it stands before what refers to it or goes on from it now, the statement of {item.before.where()}"
                 found.append(item.source.change("Order", says, item.node.start, "", item.became.get("statementId")))
         return found
 

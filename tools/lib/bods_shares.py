@@ -25,6 +25,12 @@ def percent(text):
     return numeral(text.strip().removesuffix("%").rstrip())
 
 
+def truth_meant(name, value):
+    """The truth value that is written as a text in a member that may be one, or None."""
+    is_read = name in ("exclusiveMinimum", "exclusiveMaximum") and isinstance(value, str)
+    return {"true": True, "false": False}.get(value.strip().lower()) if is_read else None
+
+
 def is_whole(value):
     return value == value.to_integral_value(ROUND_FLOOR, EXACT)
 
