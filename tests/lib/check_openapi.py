@@ -1,4 +1,5 @@
 """docs/openapi.yaml, held against what the program tells, and its examples and its schema of a file against what is recorded."""
+import itertools
 import os
 import tempfile
 from collections import Counter
@@ -8,10 +9,13 @@ from lib.bods_files import chance_files, fuzz_files
 from lib.checking import DB, begun, changed, check, is_so
 from lib.notation import request_of
 from lib.openapi import PLACE, Document, Reply
-from lib.openapi_examples import Examples, file_fault, is_fit, lodged, recorded, spoiled_files, value_of, words_fault
+from lib.openapi_examples import Examples, file_fault, is_fit, lodged, read_of, recorded, spoiled_files, words_fault
 from lib.replies import replies_in
 from lib.rows import all_rows, enrolments
+from lib.schemas import fits
 from lib.scripts import shown
+
+from bods_rules import day_of
 
 # What each operation asks for, of a register that has a value of no form where it looks.
 SPOILED = [
@@ -127,7 +131,7 @@ def the_schema_of_a_file_takes_what_is_taken(_bor, _folder):
     for data, refusal in lodged():
         fault = file_fault(document, data, refusal is None)
         is_so(fault is None, f"{refusal}: {fault}")
-        refused[refusal] += not is_fit(document, value_of(data))
+        refused[refusal] += not is_fit(document, read_of(data)[0])
     told = {name for name, count in refused.items() if count}
     is_so(SAID <= told and None not in told, f"the schema refuses files with these refusals: {told}")
     fault = words_fault(document)
@@ -143,6 +147,19 @@ def the_schema_of_a_file_is_the_table(_bor, _folder):
         is_so(fault is None, fault)
 
 
+@check
+def the_pattern_of_a_day_is_the_calendar(_bor, _folder):
+    """the pattern of a day in docs/openapi.yaml takes the days of the calendar, of leap years and others, and nothing else"""
+    document, count = Document(), 0
+    for year in (0, 4, 100, 400, 1600, 1900, 2000, 2012, *range(2021, 2029), 2096, 2100, 9996, 9999):
+        for month, day in itertools.product(range(14), range(33)):
+            for text in (f"{year:04}-{month:02}-{day:02}", f"{year:04}-{month:02}-{day:02}T\n", f"{year:04}-{month:02}-{day:02}Z"):
+                told = fits(document.all, document.all["components"]["schemas"]["NamedDay"], text)
+                is_so(told == (day_of(text) is not None), f"{text!r} is {'taken' if told else 'refused'}")
+                count += told
+    is_so(count > 10_000, f"{count} days")
+
+
 # What is changed in the schema of a file, in an example, or in a word, and is then found without the program.
 PLANTED_IN_FILES = [
     ("required: [subject, interestedParty]", "required: [subject]"),
@@ -153,6 +170,7 @@ PLANTED_IN_FILES = [
     ("written without a point and without an exponent.\n      minimum: 0", "written without a point and without an exponent.\n      minimum: 1"),
     ("          not: {enum: [shareholding, votingRights, appointmentOfBoard]}\n", ""),
     ('[12][0-9]|3[01])(T|$)"', '[12][0-9]|3[01])$"'),
+    ("-(02-3|(0[469]|11)-31)|", "-(02|(0[469]|11)-31)|"),
     ("{const: entity}", "{const: entity}\n        source: {type: object}"),
     ("      required: [type]\n", ""),
     ("[registeredEntity, legalEntity, arrangement, anonymousEntity, unknownEntity, state, stateBody]", "[registeredEntity, legalEntity]"),

@@ -1,4 +1,5 @@
 """The examples of docs/openapi.yaml and its schema of a file, held against what the rows and examples/day record."""
+import functools
 import json
 import re
 import sys
@@ -118,29 +119,29 @@ def is_as(given, wanted):
 # ---- files
 
 WITHIN = re.compile(r"[^\x00-\x1f\x7f]{1,255}")
-DAY_FORM = re.compile(r"[0-9]{4}-(0[1-9]|1[0-2])-(0[1-9]|[12][0-9]|3[01])(T.*)?", re.DOTALL)
+IDENTIFIERS = ["statementId", "declarationSubject", "recordId", "subject", "interestedParty"]
 
 
 def is_said(fault, value):
-    """Whether a schema can say a file's fault: none counts bytes, knows how long months are, tells 25.0 from 25, or compares."""
+    """Whether a schema can say a file's fault: none counts bytes, tells 25.0 from 25, or compares two members."""
     it = value
     for step in fault.path:
         it = it[step]
     if fault.name == "Fraction":
         return it % 1 != 0 or not 0 <= it <= 100
-    if fault.name == "Bad" and isinstance(it, str):
-        form = DAY_FORM if fault.field == "statementDate" else WITHIN
-        is_identifier = fault.field in ("statementId", "declarationSubject", "recordId", "subject", "interestedParty")
-        return not (form.fullmatch(it) and (is_identifier or form is DAY_FORM))
+    if fault.name == "Bad" and fault.field in IDENTIFIERS and isinstance(it, str):
+        return not WITHIN.fullmatch(it)
     return fault.name != "EmptyShare"
 
 
-def value_of(data):
-    """The value of a file's bytes, or JsonFault where they have none."""
+@functools.lru_cache(maxsize=None)
+def read_of(data):
+    """The value of a file's bytes, or JsonFault where they have none, and whether it has no fault that a schema can say."""
     try:
-        return Text(data.decode()).document().value
+        value = Text(data.decode()).document().value
     except (JsonFault, UnicodeDecodeError):
-        return JsonFault
+        return JsonFault, False
+    return value, not any(is_said(it, value) for it in file_faults(value))
 
 
 def lodged():
@@ -196,11 +197,11 @@ def spoiled_files():
 
 def file_fault(document, data, is_taken=False):
     """Why the schema of a file takes or refuses a file that it shouldn't, or nothing."""
-    value = value_of(data)
+    value, is_good = read_of(data)
     if value is JsonFault:
         return f"it can't be read: {data[:1000]!r}" if is_taken else None
-    wanted, told = is_taken or not any(is_said(it, value) for it in file_faults(value)), is_fit(document, value)
-    return None if told == wanted else f"the schema {'takes' if told else 'refuses'} {data[:1000]!r}"
+    told = is_fit(document, value)
+    return None if told == (is_taken or is_good) else f"the schema {'takes' if told else 'refuses'} {data[:1000]!r}"
 
 
 def is_fit(document, value):
