@@ -160,7 +160,7 @@ def the_pattern_of_a_day_is_the_calendar(_bor, _folder):
     is_so(count > 10_000, f"{count} days")
 
 
-# What is changed in the schema of a file, in an example, or in a word, and is then found without the program.
+# What is changed in the schema of a file, and what in an example or in a schema of one; each is then found without the program.
 PLANTED_IN_FILES = [
     ("required: [subject, interestedParty]", "required: [subject]"),
     ("enum: [new, updated, closed, null]", "enum: [new, updated, closed]"),
@@ -170,11 +170,13 @@ PLANTED_IN_FILES = [
     ("written without a point and without an exponent.\n      minimum: 0", "written without a point and without an exponent.\n      minimum: 1"),
     ("          not: {enum: [shareholding, votingRights, appointmentOfBoard]}\n", ""),
     ('[12][0-9]|3[01])(T|$)"', '[12][0-9]|3[01])$"'),
-    ("-(02-3|(0[469]|11)-31)|", "-(02|(0[469]|11)-31)|"),
     ("{const: entity}", "{const: entity}\n        source: {type: object}"),
     ("      required: [type]\n", ""),
     ("[registeredEntity, legalEntity, arrangement, anonymousEntity, unknownEntity, state, stateBody]", "[registeredEntity, legalEntity]"),
     ('relationship: "#/components/schemas/RelationshipStatement"', 'relationship: "#/components/schemas/PersonStatement"'),
+]
+PLANTED_IN_EXAMPLES = [
+    ("-(02-3|(0[469]|11)-31)|", "-(02|(0[469]|11)-31)|"),
     ("{personType: knownPerson, names: [{fullName: Ann Moss}]}", "{personType: knownPerson, names: [{fullName: Ann}]}"),
     ("          example: {due: \"2024-03-01\", filing: 1, state: withdrawn}", "          example: {due: \"2024-03-01\", filing: 1, state: draft}"),
     ("              example: {day: \"2024-03-01\"}\n", ""),
@@ -183,14 +185,26 @@ PLANTED_IN_FILES = [
 ]
 
 
-@check
-def a_wrong_schema_or_example_is_found(_bor, _folder):
-    """an error that is planted in an example of docs/openapi.yaml or in its schema of a file is found by what is recorded"""
-    text, exchanges = Document().text, recorded()
-    files = [*((data, "spoiled") for data in spoiled_files()), *lodged()]
-    for right, wrong in PLANTED_IN_FILES:
+def planted(errors):
+    """The document with each of the errors in turn, and what is wrong there."""
+    text = Document().text
+    for right, wrong in errors:
         is_so(text.count(right) == 1, f"{right!r} stands {text.count(right)} times in {PLACE}")
-        document = Document(text.replace(right, wrong))
+        yield Document(text.replace(right, wrong)), wrong
+
+
+@check
+def a_wrong_schema_of_a_file_is_found(_bor, _folder):
+    """an error that is planted in the schema of a file of docs/openapi.yaml is found by the files of the rows and by spoiled ones"""
+    files = [*((data, "spoiled") for data in spoiled_files()), *lodged()]
+    for document, wrong in planted(PLANTED_IN_FILES):
         faults = (file_fault(document, data, refusal is None) for data, refusal in files)
-        is_found = words_fault(document) or Examples(document, exchanges).fault() or any(faults)
-        is_so(is_found, f"{wrong!r} isn't found")
+        is_so(words_fault(document) or any(faults), f"{wrong!r} isn't found")
+
+
+@check
+def a_wrong_example_is_found(_bor, _folder):
+    """an error that is planted in an example of docs/openapi.yaml is found by what is recorded"""
+    exchanges = recorded()
+    for document, wrong in planted(PLANTED_IN_EXAMPLES):
+        is_so(Examples(document, exchanges).fault(), f"{wrong!r} isn't found")
