@@ -450,6 +450,7 @@ PUBLISHED_FORMS = [
     (OLD_ENTITY % f'{DATED}"entitySubtype":"limited",', '"entitySubtype":"limited"'),
     (OLD.replace("75.0", '"75%"'), '"exact":75}'),
     (OLD.replace("75.0", '"75.5 %"'), '"exclusiveMinimum":75,"exclusiveMaximum":76}'),
+    (OLD_ENTITY % '"statementDate":"2020",' + OLD_ENTITY.replace("o8", "o9") % f'{DATED}"replacesStatements":["o8"],', "with the day\n1 fault"),
     (OLD_ENTITY.replace("entityStatement", "Entity") % DATED, 'statementType is "Entity", and none of BODS 0.3\n  write "entityStatement" or'),
     (file_of("E s2 e1 @2024-01-12 +updated; E s3 e1 @2024-01-13 +closed; E s1 e1 +new").decode(), '[{"statementId":"s1"'),
     (file_of("E s2 e1 @2024-01-12; E s1 e1").decode(), '[{"statementId":"s1"'),

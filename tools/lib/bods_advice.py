@@ -272,7 +272,7 @@ def record_exists(fault, file):
 
 
 def record_unknown(fault, file):
-    names = replaced_by(file.statement(fault)) if file.is_converting else []
+    names = [it for it in replaced_by(file.statement(fault)) if it in file.assumed]
     if names:
         says = f"it replaces {shown(names)}, which {'are' if len(names) > 1 else 'is'} in none of these files"
         return says, "the file that has it too, --against a register that has it, or no replacesStatements where the record begins here"

@@ -228,7 +228,7 @@ class Conversion:
     def rewrite(self):
         """The text of each statement as it is written."""
         good = [item for item in self.all if is_object(item.value)]
-        versions = Versions(good, self.live, self.words.declaration)
+        versions = self.versions = Versions(good, self.live, self.words.declaration)
         for item in self.all:
             node = item.node
             if is_object(item.value):
@@ -257,14 +257,20 @@ class Conversion:
 
     def judge(self):
         """The faults that are left, each at its place in the source."""
-        records = self.live.copy() if self.live else Records()
+        records, faulty = self.live.copy() if self.live else Records(), set()
+        for source in self.sources:
+            source.file.records, source.file.is_against, source.file.assumed = records, self.live is not None, self.versions.assumed
         for group in self.groups:
             for item in group:
-                item.source.file.records, item.source.file.is_against = records, self.live is not None
-                self.findings += [self.found(item, fault) for fault in statement_faults(item.became, 1) if not follows(item, fault)]
+                found = [self.found(item, fault) for fault in statement_faults(item.became, 1) if not follows(item, fault)]
+                faulty |= {id(item)} if found else set()
+                self.findings += found
                 self.findings += [self.too_large(item)] if len(item.told.encode()) > FILE_LIMIT - BESIDE else []
             for item in group:
-                self.findings += [self.found(item, fault) for fault in record_faults([item.became], records, where=item.where())]
+                # (a record whose first statement is faulty isn't there, which needs no fault of its own)
+                is_known = any(id(it) in faulty for it in item.needs)
+                found = [it for it in record_faults([item.became], records, where=item.where()) if not (is_known and it.name == "RecordUnknown")]
+                self.findings += [self.found(item, fault) for fault in found]
         if self.findings:
             raise Unconverted(self.lines(self.findings))
 

@@ -25,10 +25,11 @@ class File:
 
     `shape` says how the statements stand there: "array", "lines" (JSON Lines), "package" (a member of an object) or
     "single"; None where nothing can be read. `nodes` are the statements, and `prefix` leads to their list. Advice needs
-    to know which `records` there are, whether a register told them, and whether older statements are converted.
+    to know which `records` there are, whether a register told them, whether older statements are converted, and which ones
+    that these name are `assumed`, since they are nowhere.
     """
 
-    records, is_against, is_converting = None, False, False
+    records, is_against, is_converting, assumed = None, False, False, ()
 
     def __init__(self, data):
         self.size, self.prefix, self.faults, self.shape = len(data), (), [], None
