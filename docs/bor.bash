@@ -13,7 +13,7 @@ _bor() {
         exchange)
             words='--db --registrar --registrar-file --day --help' paths='--db --registrar-file' values='--registrar --day' files=1 ;;
         serve)
-            words='--db --port --connections --log --help' paths='--db' values='--port --connections' files=0 ;;
+            words='--db --port --connections --memory --log --help' paths='--db' values='--port --connections --memory' files=0 ;;
         report)
             words='--db --viewer --agent --declaration --record --date --help' paths='--db' values='--viewer --agent --declaration --record --date' files=0 ;;
         migrate)

@@ -146,6 +146,12 @@ class Rows:
         for name in ("GET filings", "GET a file", "refused: NoAgent"):
             words = *listed[name][:2], None, 1, self.over_the_file
             yield f"serve: {name}, by SQLite", lambda name, words=words: self.serving(name, 800, *words)
+        yield "serve: PUT of three statements, by SQLite", self.lodging_served
+
+    def lodging_served(self, name):
+        """Lodgings of three statements by servers of one file."""
+        asked = [lodging(AGENTS[n % 4], f"n{n}", DAY, lodged(n // 4 % 7, f"-n{n}")) for n in range(3_000)]
+        return self.serving(name, 100, ("small", setup), asked, 2.0, 1, self.over_the_file)
 
     def reports(self):
         asked = request("birch", "GET", "/chains?agent=alder&declaration=c1&record=all")
@@ -155,7 +161,7 @@ class Rows:
             yield f"report: all of {records:,} records", lambda name, words=words: self.serving(name, *words)
 
     def serving(self, name, count, kept, asked, goal, clients=1, plain=None):
-        """One request of servers, ours over a copy of a file, the baseline after the same requests, in memory unless said."""
+        """One request of servers, or the next of a list, ours over a copy of a file, the baseline after the same requests, in memory unless said."""
         file, paths = self.kept(*kept)
 
         def ours(connections):

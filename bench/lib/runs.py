@@ -1,4 +1,5 @@
 """What is compared: commands, and servers. A row has our program first, and the baseline behind it."""
+import itertools
 import os
 import shutil
 import subprocess
@@ -74,26 +75,27 @@ class Commands:
 
 class Serving:
     """Servers of one register, which are asked the same by so many clients at once, in turn: what starts each of them for
-    so many connections."""
+    so many connections. What is asked is one request, or a list of which each time the next is asked."""
 
     def __init__(self, name, count, goal, starts, asked, clients=1):
-        self.name, self.count, self.goal, self.asked, self.clients = name, count, goal, asked, clients
+        self.name, self.count, self.goal, self.clients = name, count, goal, clients
+        self.asked = [asked] if isinstance(asked, str) else asked
         self.programs = [start for start in starts if start]
         self.peaks = []
 
     def seconds(self, runs):
         """The median seconds of a request of each server: after each request of the one comes one of the other."""
         turns = self.count // self.clients
-        warm = min(WARM, turns)
+        warm, asked = min(WARM, turns), itertools.cycle(self.asked)
         servers = [Server(start((warm + runs * turns) * self.clients + 1)) for start in self.programs]
         for _ in range(warm):
-            self.compare(servers)
+            self.compare(servers, next(asked))
         found = [[] for _ in servers]
         for _ in range(runs):
             before = [server.processor() for server in servers]
-            for _ in range(turns):
+            for one in itertools.islice(asked, turns):
                 for server in servers:
-                    told_at_once(server.address, self.asked, self.clients)
+                    told_at_once(server.address, one, self.clients)
             for spent, server, start in zip(found, servers, before):
                 spent.append((server.processor() - start) / (turns * self.clients))
         self.peaks = [server.memory("VmHWM") for server in servers]
@@ -101,19 +103,19 @@ class Serving:
             server.end()
         return [median(spent) for spent in found]
 
-    def compare(self, servers):
-        replies = {reply for server in servers for reply in told_at_once(server.address, self.asked, self.clients)}
+    def compare(self, servers, asked):
+        replies = {reply for server in servers for reply in told_at_once(server.address, asked, self.clients)}
         if len(replies) != 1:
             sys.exit(f"{self.name}: the replies differ")
 
     def counted(self, at, file, inclusive):
         """The instructions of a server for a request, by function and in all: it is counted once it has answered one."""
-        count = min(self.count, COUNTED)
+        count, asked = min(self.count, COUNTED), itertools.cycle(self.asked)
         server = Server([*counter(file, "--instr-atstart=no"), *self.programs[at](count + 2)])
-        server.ask(self.asked)
+        server.ask(next(asked))
         switched(server, "on")
-        for _ in range(count):
-            server.ask(self.asked)
+        for one in itertools.islice(asked, count):
+            server.ask(one)
         switched(server, "off")
         server.end()
         functions, whole = counted(file, inclusive)

@@ -46,7 +46,8 @@ def a_log_has_a_line_for_each_request(bor, folder):
     replies = [server.ask(request_of(ask)) for ask, _, _ in ASKS]
     ended = time.time()
     _, errors = server.end()
-    lines = errors.decode().split("\n")
+    first, *lines = errors.decode().split("\n")
+    is_so(first == "bor: 3 statements in memory", f"the first line is {first!r}")
     is_so(len(lines) == len(ASKS) + 1 and lines[-1] == "", f"{len(lines) - 1} lines for {len(ASKS)} requests: {errors!r:.300}")
     for (ask, wanted, agent), reply, line in zip(ASKS, replies, lines):
         found = LINE.fullmatch(line)

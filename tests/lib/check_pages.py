@@ -11,7 +11,7 @@ PAGES = loaded_from(TOP / "tools" / "pages")
 # What is typed behind `bor`, and what it may go on with where no file is there.
 TYPED = [
     (["se"], ["serve"]),
-    (["serve", "--"], ["--connections", "--db", "--help", "--log", "--port"]),
+    (["serve", "--"], ["--connections", "--db", "--help", "--log", "--memory", "--port"]),
     (["exchange", "--reg"], ["--registrar", "--registrar-file"]),
     (["exchange", "--registrar", ""], []),
     (["report", "--db", "reg"], ["register.db"]),

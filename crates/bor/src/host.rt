@@ -13,7 +13,9 @@ use crate::setup::find_or_set_up;
 use crate::waiting::{Waiting, time};
 use bor_desk::operations::Keep;
 use bor_program::{Failure, Opened, Ports, Registers, Stage};
-use bor_store::{OpenFault, SqlKeep, close_files, connect, migrate};
+use bor_store::{
+    Notice, OpenFault, ServedKeep, SqlKeep, close_files, connect, migrate, statements_within,
+};
 use bor_terms::{Day, Token};
 use mio::net;
 use sqlite::{FileFrom, FileStore, Start};
@@ -32,6 +34,9 @@ const MANY: usize = 20;
 
 // Before a file of so many bytes is opened, that is told: it takes about a second.
 const LARGE: u64 = 33_554_432;
+
+/// A register in a file that is open, and in memory beside it where it is served from there.
+pub type Served<'r, S> = ServedKeep<FileStore<FileFrom<S>>, Telling<'r>>;
 
 /// What opens registers in files of SQLite, and listens on ports of 127.0.0.1. `S` stands for what
 /// a file and its log hold as they are opened. Where standard error is a terminal, it tells there
@@ -64,11 +69,39 @@ impl<'r, S> Host<'r, S> {
     }
 }
 
-impl<S: Start + Copy> Registers for Host<'_, S> {
-    type Register = SqlKeep<FileStore<FileFrom<S>>>;
+/// Tells whether a register is read from memory: on a terminal, and in the log where there is one.
+#[derive(Clone, Copy)]
+pub struct Telling<'r> {
+    rt: &'r HostRuntime,
+    log: bool,
+}
 
-    ghost does = { let keep = ⟦<SqlKeep<FileStore<FileFrom<S>>> as Keep>⟧ in λ _ deed _.
-        IsDone keep.shows keep.is_clean (λ k. k.conn) (λ c. (closed : _) × IsClosing c closed)
+impl Telling<'_> {
+    // So many statements are in memory; `None` where the file is read.
+    fn tell(&self, mirrored: Option<usize>) {
+        let mut errors = self.rt.stderr();
+        if !self.log && !errors.is_terminal() {
+            return;
+        }
+        let _ = match mirrored {
+            Some(count) => writeln!(errors, "bor: {count} statements in memory"),
+            None => writeln!(errors, "bor: no statements in memory, the file is read"),
+        };
+    }
+}
+
+impl Notice for Telling<'_> {
+    fn let_go(&self) {
+        self.tell(None);
+    }
+}
+
+impl<'r, S: Start + Copy> Registers for Host<'r, S> {
+    type Register = Served<'r, S>;
+
+    ghost does = { let keep = ⟦<Served<'r, S> as Keep>⟧ in
+        λ _ deed _. IsDone keep.shows keep.is_clean (λ k. k.keep.0.conn)
+        (λ c. (closed : _) × IsClosing c closed)
         (HoldsRegister (image_at S.Start))
         (λ opened left. IsMoved (image_at S.Start) (file_state opened) (file_state left)) deed };
 
@@ -85,12 +118,16 @@ impl<S: Start + Copy> Registers for Host<'_, S> {
             }
             Stage::Answering(count) => writeln!(errors, "bor: answering {count} requests"),
             Stage::Reporting => writeln!(errors, "bor: reporting"),
+            Stage::Filling => writeln!(errors, "bor: reading the register into memory"),
         };
     }
 
-    fn open<'a>(&mut self, path: &'a str) -> Result<SqlKeep<FileStore<FileFrom<S>>>, Failure<'a>> {
+    fn open<'a>(
+        &mut self,
+        path: &'a str,
+    ) -> Result<Served<'r, S>, Failure<'a>> {
         find(self.rt, path)?;
-        told_of(path, SqlKeep::open(self.rt, path, self.start))
+        told_of(path, open_in(self.rt, path, self.start, 0, false))
     }
 
     fn open_or_set_up<'a>(
@@ -98,11 +135,8 @@ impl<S: Start + Copy> Registers for Host<'_, S> {
         path: &'a str,
         registrar: &Token,
         day: Day,
-    ) -> Result<Opened<SqlKeep<FileStore<FileFrom<S>>>>, Failure<'a>> {
-        told_of(
-            path,
-            found_or_set_up(self.rt, path, self.start, registrar, day),
-        )
+    ) -> Result<Opened<Served<'r, S>>, Failure<'a>> {
+        told_of(path, opened_in(self.rt, path, self.start, registrar, day))
     }
 
     fn migrate<'a>(&mut self, path: &'a str) -> Result<(), Failure<'a>> {
@@ -110,8 +144,8 @@ impl<S: Start + Copy> Registers for Host<'_, S> {
         told_of(path, migrate_in(self.rt, path, self.start))
     }
 
-    fn close(&mut self, _path: &str, register: SqlKeep<FileStore<FileFrom<S>>>) {
-        let _ = register.close();
+    fn close(&mut self, _path: &str, register: Served<'r, S>) {
+        let _ = register.into_store().close();
     }
 }
 
@@ -123,6 +157,17 @@ impl<'r, S: Start + Copy> Ports for Host<'r, S> {
     ghost listens = { λ _ _ _. ⊤ };
 
     ghost waits = { λ _ _ _. ⊤ };
+
+    // A server is asked often, so it has its register in memory too, where there is room.
+    fn open_to_serve<'a>(
+        &mut self,
+        path: &'a str,
+        memory: u32,
+        log: bool,
+    ) -> Result<Served<'r, S>, Failure<'a>> {
+        find(self.rt, path)?;
+        told_of(path, filled_in(self, path, statements_within(memory), log))
+    }
 
     fn listen(&self, port: u16) -> Option<TcpListener> {
         let address = SocketAddr::from(([127, 0, 0, 1], port));
@@ -168,6 +213,41 @@ fn is_vacant(rt: &HostRuntime, path: &str) -> io::Result<bool> {
     }
 }
 
+// The register in the file of this name, without a mirror; one of at most so many statements may be
+// made.
+fn open_in<'r, S: Start>(
+    rt: &'r HostRuntime,
+    path: &str,
+    start: S,
+    most: u32,
+    log: bool,
+) -> Result<Served<'r, S>, OpenFault>
+    ensures { let keep = ⟦<Served<'r, S> as Keep>⟧ in
+        IfOk result (λ register. keep.is_clean register → (r : Register)
+        → HoldsRegister (image_at S.Start) r → keep.shows register r) }
+{
+    let store = SqlKeep::open(rt, path, start)?;
+    Ok(ServedKeep::new(store, most, Telling { rt, log }))
+}
+
+// The register in the file of this name, with a mirror where there is room for one, which is told.
+fn filled_in<'r, S: Start + Copy>(
+    host: &Host<'r, S>,
+    path: &str,
+    most: u32,
+    log: bool,
+) -> Result<Served<'r, S>, OpenFault>
+    ensures { let keep = ⟦<Served<'r, S> as Keep>⟧ in
+        IfOk result (λ register. keep.is_clean register → (r : Register)
+        → HoldsRegister (image_at S.Start) r → keep.shows register r) }
+{
+    let mut register = open_in(host.rt, path, host.start, most, log)?;
+    host.reach(Stage::Filling);
+    register.fill();
+    Telling { rt: host.rt, log }.tell(register.mirrored());
+    Ok(register)
+}
+
 // The register in the file of this name, or one that is set up in it where it has none.
 fn found_or_set_up<S: Start>(
     rt: &HostRuntime,
@@ -183,6 +263,26 @@ fn found_or_set_up<S: Start>(
     make_private(rt, path);
     let conn = connect(rt, path, start)?;
     find_or_set_up(rt.alloc(), conn, registrar, day)
+}
+
+// The same, without a mirror.
+fn opened_in<'r, S: Start>(
+    rt: &'r HostRuntime,
+    path: &str,
+    start: S,
+    registrar: &Token,
+    day: Day,
+) -> Result<Opened<Served<'r, S>>, OpenFault>
+    ensures { let keep = ⟦<Served<'r, S> as Keep>⟧ in
+        IfOk result (λ opened.
+        FindsOrSetsUp keep.shows keep.is_clean (HoldsRegister (image_at S.Start)) registrar.now day
+        opened.register opened.origin) }
+{
+    let Opened { register, origin } = found_or_set_up(rt, path, start, registrar, day)?;
+    Ok(Opened {
+        register: ServedKeep::new(register, 0, Telling { rt, log: false }),
+        origin,
+    })
 }
 
 // Makes the file of this name for its owner alone, where there is none: a register has tokens and

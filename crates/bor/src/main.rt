@@ -8,6 +8,7 @@ mod waiting;
 
 use bor_program::{Failure, Status};
 use host::Host;
+use sqlite::Start;
 use start::Anything;
 use std::convert::AsStr;
 use std::env::{self, Env};
@@ -21,6 +22,7 @@ fn main(rt: HostRuntime) -> ExitCode {
     let code = match words(&rt) {
         Ok(words) => run(
             &rt,
+            Anything,
             words.as_slice(),
             &mut rt.stdin(),
             &mut rt.stdout(),
@@ -33,14 +35,15 @@ fn main(rt: HostRuntime) -> ExitCode {
 
 // Does what the words ask for, over registers in files and ports of this machine, as
 // `bor_program::run` does, and gives the exit status.
-fn run<S: AsStr, I: Read, O: Write, E: Write>(
+fn run<F: Start + Copy, S: AsStr, I: Read, O: Write, E: Write>(
     rt: &HostRuntime,
+    start: F,
     words: &[S],
     input: &mut I,
     output: &mut O,
     errors: &mut E,
 ) -> u8 {
-    let mut host = Host::new(rt, Anything);
+    let mut host = Host::new(rt, start);
     bor_program::run(rt, &mut host, words, input, output, errors)
 }
 

@@ -243,6 +243,8 @@ pub enum Stage<'a> {
     Answering(usize),
     /// A report is made next.
     Reporting,
+    /// The register is read into memory next.
+    Filling,
 }
 
 /// What opens the registers in files. Its states stand for those of the files: what is done to them
@@ -317,6 +319,25 @@ pub trait Ports: Registers {
 
     /// This waits for clients, with a log of what they are answered or without.
     ghost waits: { Self → Bool → Self.Waiter → Type 0 };
+
+    /// The register in the file of this name, made ready to be asked often: it may take so many
+    /// megabytes of memory for that. Where there is none, none is made. How it is made ready is
+    /// told whoever waits for the command, and in the log, where there is one.
+    ///
+    /// # Errors
+    ///
+    /// `NoRegister`, `OtherVersion` or `Taken` of this file; `Memory`; `Store`.
+    fn open_to_serve<'a>(
+        &mut self,
+        path: &'a str,
+        memory: u32,
+        log: bool,
+    ) -> Result<Self::Register, Failure<'a>>
+        ensures ok { IfOk result (λ register.
+            Self.does self.old (Opens path.entry register) self.new) }
+        ensures err { IfErr result (λ failure.
+            Self.does self.old (Fails path.entry failure) self.new) }
+        ensures cause { IfErr result (IsOpeningOf path.entry) };
 
     /// Listens on this port, if that can be done.
     fn listen(&self, port: u16) -> Option<Self::Listener>

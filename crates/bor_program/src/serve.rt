@@ -44,7 +44,7 @@ where
     ensures flushed { exit_code result ≤ 1 → O.is_flushed output.new }
 {
     host.reach(Stage::Opening(asked.db));
-    match host.open(asked.db) {
+    match host.open_to_serve(asked.db, asked.memory, asked.log) {
         Ok(mut register) => {
             let served = listen(rt, host, &mut register, asked, output);
             host.close(asked.db, register);

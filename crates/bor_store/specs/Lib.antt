@@ -1,3 +1,4 @@
+pub mod Room
 pub mod Telling
 pub mod Stopping
 pub mod Opening

@@ -82,6 +82,15 @@ impl Ports for Machine {
 
     ghost waits = { λ _ _ _. ⊤ };
 
+    fn open_to_serve<'a>(
+        &mut self,
+        path: &'a str,
+        _memory: u32,
+        _log: bool,
+    ) -> Result<ListKeep, Failure<'a>> {
+        self.open(path)
+    }
+
     fn listen(&self, _port: u16) -> Option<Queue<'static>> {
         Some(Queue::new(&[]))
     }

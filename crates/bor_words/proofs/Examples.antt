@@ -1,11 +1,11 @@
 -- What clap makes of no words, and of each command.
-use Rattle.std.proofs.Common.{◌≡◌, Bool, List, [], ◌∷◌, ◌++◌, Option, Some, None, false, true, refl, codes}
+use Rattle.std.proofs.Common.{◌≡◌, ℕ, Bool, List, [], ◌∷◌, ◌++◌, Option, Some, None, false, true, refl, codes}
 use Rattle.std.specs.Option.{option_map}
 use Rattle.clap.proofs.OnLiterals.{clap_on_literals}
-use Rattle.clap.specs.Words.{Text, fault_of}
+use Rattle.clap.specs.Words.{Text, fault_of, first_of}
 use Rattle.bor_words.specs.Asked.{EntersCheck}
 use Rattle.bor_words.specs.Words.{bor_app, entered_by, file_at, found_behind, is_set}
-use Rattle.bor_words.specs.Values.{first_unfit, values_of}
+use Rattle.bor_words.specs.Values.{first_unfit, memory_of, number_within, values_of}
 
 pub no_words : (fault_of bor_app [] ≡ []) × (entered_by [] ≡ None)
 unfolding clap_on_literals
@@ -45,3 +45,11 @@ logs words = option_map (is_set (codes "log")) (found_behind (codes "serve") (en
 pub logs_where_asked : (logs (serve_with (codes "--log" ∷ [])) ≡ Some true) × (logs (serve_with []) ≡ Some false)
 unfolding clap_on_literals
 logs_where_asked = (refl, refl)
+
+-- what a server's register may take in memory
+abbrev pub memory_told : List Text → Option (Option ℕ)
+memory_told words = option_map (λ rows. memory_of (first_of (codes "memory") rows)) (found_behind (codes "serve") (entered_by words))
+
+pub memory_where_told : (memory_told (serve_with (codes "--memory" ∷ codes "0" ∷ [])) ≡ Some (Some 0)) × (memory_told (serve_with []) ≡ Some (Some 256))
+unfolding clap_on_literals number_within
+memory_where_told = (refl, refl)

@@ -15,7 +15,7 @@ use Rattle.bor_words.specs.declared.report.Report.{Report}
 use Rattle.bor_words.specs.declared.source.Source.{Source}
 use Rattle.bor_words.specs.declared.source.Source.TheVariants.{StandardInput, File}
 use Rattle.bor_words.specs.Words.{Entered, bor_app, entered_by, file_at, files_named, found_behind, given, is_set}
-use Rattle.bor_words.specs.Values.{connections_of, first_unfit, port_of, values_of}
+use Rattle.bor_words.specs.Values.{connections_of, first_unfit, memory_of, port_of, values_of}
 
 -- ---- whether they ask for something
 
@@ -67,6 +67,7 @@ pub record IsServe (rows : List Row) (asked : Serve) : Type 0 where
   pub db : asked.db.now ≡ given (codes "db") rows
   pub port : Some asked.port ≡ port_of (given (codes "port") rows)
   pub connections : Some asked.connections ≡ connections_of (given (codes "connections") rows)
+  pub memory : Some asked.memory ≡ memory_of (first_of (codes "memory") rows)
   pub log : asked.log ≡ is_set (codes "log") rows
 
 -- what is asked of a report

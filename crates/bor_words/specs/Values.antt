@@ -32,6 +32,11 @@ port_of text = number_within 1 65_535 text
 abbrev pub connections_of : Text → Option ℕ
 connections_of text = number_within 0 1_000_000 text
 
+-- the megabytes that a register in memory may take; 256 where nothing is said
+abbrev pub memory_of : Option Text → Option ℕ
+memory_of None = Some 256
+memory_of (Some text) = number_within 0 1_000_000 text
+
 -- ---- the values behind each command
 
 -- a word, and whether what is given for it fits
@@ -53,7 +58,8 @@ exchange_values rows =
 abbrev pub serve_values : List Row → List Value
 serve_values rows =
     (codes "port", is_some (port_of (given (codes "port") rows)))
-    ∷ (codes "connections", is_some (connections_of (given (codes "connections") rows))) ∷ []
+    ∷ (codes "connections", is_some (connections_of (given (codes "connections") rows)))
+    ∷ (codes "memory", is_some (memory_of (first_of (codes "memory") rows))) ∷ []
 
 -- a date may be left out
 abbrev pub is_date : Option Text → Bool

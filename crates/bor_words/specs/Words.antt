@@ -33,8 +33,8 @@ exchange_app =
 
 abbrev pub serve_app : App
 serve_app =
-    with_rule (with_rule (with_rule (with_rule (new_app (codes "serve")) (required_rule (codes "db"))) (required_rule (codes "port")))
-    (required_rule (codes "connections"))) (flag_rule (codes "log"))
+    with_rule (with_rule (with_rule (with_rule (with_rule (new_app (codes "serve")) (required_rule (codes "db"))) (required_rule (codes "port")))
+    (required_rule (codes "connections"))) (option_rule (codes "memory"))) (flag_rule (codes "log"))
 
 -- whose chains, seen by whom
 abbrev pub report_app : App

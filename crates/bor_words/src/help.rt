@@ -56,6 +56,7 @@ Options:
       --db <PATH>            The register's file
       --port <PORT>          The port: 1 to 65535
       --connections <COUNT>  After how many connections it ends: 0 to 1000000
+      --memory <MB>          How much memory the register may take beside its file, in MB: 0 to 1000000; without it, 256
       --log                  A line for each request on standard error, with no token, key or body
   -h, --help                 Print help
 

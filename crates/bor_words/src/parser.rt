@@ -128,6 +128,12 @@ fn serve<'a>(alloc: Global) -> Result<Parser<'a>, AllocError>
             "COUNT",
             "After how many connections it ends: 0 to 1000000",
         ))?
+        .arg(option(
+            alloc,
+            "memory",
+            "MB",
+            "How much memory the register may take beside its file, in MB: 0 to 1000000; without it, 256",
+        ))?
         .arg(flag(
             alloc,
             "log",

@@ -8,7 +8,7 @@ ghost use Rattle.bor_words.specs.Values.{first_unfit, serve_values};
 
 use crate::matches::{given, is_set};
 use crate::unread::Unread;
-use crate::values::{connections, port};
+use crate::values::{connections, memory, port};
 use clap::ArgMatches;
 
 /// What `bor serve` is asked to do: to answer requests over HTTP, one after the other.
@@ -20,6 +20,8 @@ pub struct Serve<'a> {
     pub port: u16,
     /// After so many connections it ends: at most 1,000,000.
     pub connections: u32,
+    /// How many megabytes the register in memory may take: at most 1,000,000, and none at 0.
+    pub memory: u32,
     /// Whether a line is told of each request.
     pub log: bool,
 }
@@ -38,6 +40,7 @@ impl<'a> Serve<'a> {
             db: given(found, "db"),
             port: port(found)?,
             connections: connections(found)?,
+            memory: memory(found)?,
             log: is_set(found, "log"),
         })
     }

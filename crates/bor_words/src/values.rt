@@ -5,7 +5,7 @@ ghost use Rattle.bor_terms.specs.Texts.{is_agent_name, is_ident, is_token};
 ghost use Rattle.bor_terms.specs.Day.{day_of};
 ghost use Rattle.clap.specs.Words.{first_of, found_of, rows_of};
 ghost use Rattle.bor_words.specs.Words.{given};
-ghost use Rattle.bor_words.specs.Values.{connections_of, is_date, port_of};
+ghost use Rattle.bor_words.specs.Values.{connections_of, is_date, memory_of, port_of};
 ghost use Rattle.bor_words.specs.Unread.{IsUnfitAt};
 
 use crate::matches::{given, optional};
@@ -26,6 +26,8 @@ const AN_IDENT: &str = "an identifier, 1 to 255 bytes without control characters
 const A_PORT: &str = "a port, 1 to 65535";
 
 const A_COUNT: &str = "a number of connections, 0 to 1000000";
+
+const A_SIZE: &str = "a number of megabytes, 0 to 1000000";
 
 fn unfit<'a>(word: &'static str, value: &'a str, fitting: &'static str) -> Unread<'a>
     ensures { result ≡ Unread.Unfit
@@ -158,5 +160,22 @@ pub fn connections<'a>(found: &ArgMatches<'a>) -> Result<u32, Unread<'a>>
     match number_within(text, 0, 1_000_000) {
         Some(count) => Ok(count),
         None => Err(unfit("connections", text, A_COUNT)),
+    }
+}
+
+/// The megabytes that were given, or 256.
+pub fn memory<'a>(found: &ArgMatches<'a>) -> Result<u32, Unread<'a>>
+    ensures value { IfOk result (λ size.
+        Some size ≡ memory_of (first_of (codes "memory") (rows_of (found_of found.now)))) }
+    ensures err { IfErr result
+        (IsUnfitAt (codes "memory") (given (codes "memory") (rows_of (found_of found.now)))
+        (is_some (memory_of (first_of (codes "memory") (rows_of (found_of found.now)))))) }
+{
+    let Some(text) = optional(found, "memory") else {
+        return Ok(256);
+    };
+    match number_within(text, 0, 1_000_000) {
+        Some(size) => Ok(size),
+        None => Err(unfit("memory", text, A_SIZE)),
     }
 }

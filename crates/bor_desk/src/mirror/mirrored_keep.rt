@@ -1,6 +1,6 @@
 //! A keep and its mirror.
 
-ghost use Rattle.std.specs.Prelude.{◌≡◌, ◌≤◌, ⊤, [], IfSome, None, min, option_map};
+ghost use Rattle.std.specs.Prelude.{◌≡◌, ◌≤◌, ◌-◌, ⊤, [], IfSome, IsSome, None, is_some, length, min, option_map};
 ghost use Rattle.bor_records.specs.Promises.{Kept};
 ghost use Rattle.bor_register.specs.Additions.{MayEnrol, MayFile, with_agent, with_filing, with_withdrawal};
 ghost use Rattle.bor_register.specs.Held.{statement_count};
@@ -22,15 +22,17 @@ use std::marker::Model;
 ///
 /// Reads that need no file are answered by the mirror, where it is there and has the memory for the
 /// answer; the others by the store. So a fault is always the store's. A change goes to the store,
-/// and then to the mirror; where memory is wanting for the mirror's, or it would hold more
+/// and then to the mirror; where memory is wanting for the mirror's, or it would have taken more
 /// statements than it may, the mirror is let go, and all is asked of the store from then on. Who
 /// has a token is told by the mirror as long as no call of the store has answered a fault since the
 /// store last told who has one: a store that has shut answers no request.
 #[derive(Drop)]
 pub struct MirroredKeep<K: MirrorStore + Drop> {
     store: K,
-    // The live statements that the mirror may hold.
+    // The live statements that a mirror may hold as it is made.
     most: u32,
+    // How many more it may take. Those of a withdrawn filing count on: the maps keep their places.
+    room: usize,
     mirror: Option<ListKeep>,
     is_up: bool,
 }
@@ -57,6 +59,7 @@ impl<K: MirrorStore + Drop> MirroredKeep<K> {
         MirroredKeep {
             store,
             most,
+            room: 0,
             mirror: None,
             is_up: false,
         }
@@ -67,6 +70,13 @@ impl<K: MirrorStore + Drop> MirroredKeep<K> {
         ensures { result ≡ self.0 }
     {
         self.store
+    }
+
+    /// Whether there is a mirror.
+    pub fn is_mirrored(&self) -> bool
+        ensures { result ≡ is_some self.now.1 }
+    {
+        self.mirror.is_some()
     }
 
     /// How many live statements the mirror holds, and `usize::MAX` of more; `None` where there is
@@ -95,6 +105,7 @@ impl<K: MirrorStore + Drop> MirroredKeep<K> {
         match self.store.whole(self.most) {
             Ok(mirror) => {
                 self.is_up = true;
+                self.room = room_beside(&mirror, self.most);
                 self.mirror = mirror;
             }
             Err(_) => {
@@ -104,37 +115,37 @@ impl<K: MirrorStore + Drop> MirroredKeep<K> {
     }
 }
 
-// The mirror, where it holds at most so many live statements.
-fn within(mirror: ListKeep, most: u32) -> Option<ListKeep>
-    ensures bounded { IfSome result (λ (h : Holding).
-        min (statement_count h.register.members) usize.MAX ≤ most) }
-    ensures same { IfSome result (λ h. h ≡ mirror) }
+// How many more statements a mirror may take that may hold so many.
+fn room_beside(mirror: &Option<ListKeep>, most: u32) -> usize
+    ensures { IfSome mirror.now (λ (h : Holding).
+        result ≡ most - min (statement_count h.register.members) usize.MAX) }
 {
-    if mirror.statement_count() <= most as usize {
-        Some(mirror)
-    } else {
-        None
+    match mirror {
+        Some(mirror) => (most as usize).saturating_sub(mirror.statement_count()),
+        None => 0,
     }
 }
 
-// The mirror once the filing is added, without its file; `None` where memory is wanting, or it
-// holds more than so many live statements.
+// The mirror once the filing is added, without its file; `None` where memory is wanting, or the
+// filing has more than so many statements.
 fn filed(
     mirror: Option<ListKeep>,
-    most: u32,
+    room: usize,
     agent: &AgentName,
     key: &LodgeKey,
     due: Day,
     statements: &[Statement],
 ) -> Option<ListKeep>
-    ensures bounded { IfSome result (λ (h : Holding).
-        min (statement_count h.register.members) usize.MAX ≤ most) }
+    ensures bounded { IsSome result → length statements.now ≤ room }
     ensures followed { IsFollowed mirror result (MayFile agent.now key.now statements.now)
         (with_filing agent.now key.now due [] statements.now) }
 {
     let mut mirror = mirror?;
+    if statements.len() > room {
+        return None;
+    }
     match mirror.add_filing(agent, key, due, &[], statements) {
-        Ok(_) => within(mirror, most),
+        Ok(_) => Some(mirror),
         Err(_) => None,
     }
 }
@@ -404,7 +415,8 @@ impl<K: MirrorStore + Drop> Keep for MirroredKeep<K> {
     ) -> Result<u32, StoreFault> {
         match self.store.add_filing(agent, key, due, bytes, statements) {
             Ok(number) => {
-                self.mirror = filed(self.mirror.take(), self.most, agent, key, due, statements);
+                self.mirror = filed(self.mirror.take(), self.room, agent, key, due, statements);
+                self.room = self.room.saturating_sub(statements.len());
                 Ok(number)
             }
             Err(fault) => {

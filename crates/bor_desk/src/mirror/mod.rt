@@ -5,7 +5,7 @@
 //! the mirror; what can be told without a file is told by the mirror, and the rest by the store:
 //!
 //! ```
-//! let mut keep = MirroredKeep::new(store, statements_within(256));
+//! let mut keep = MirroredKeep::new(store, 200_000);
 //! keep.fill();
 //! answer(alloc, &mut keep, &token, &Request::Published);       // the store isn't asked
 //! ```
@@ -15,8 +15,6 @@
 
 mod mirror_store;
 mod mirrored_keep;
-mod room;
 
 pub use mirror_store::MirrorStore;
 pub use mirrored_keep::MirroredKeep;
-pub use room::statements_within;

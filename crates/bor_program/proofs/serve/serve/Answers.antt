@@ -10,7 +10,7 @@ returns-in-Ok-served-clause-done g c =
     inr (
       c.in-Ok.register,
       c.listen-served.new.register,
-      record { between = c.open.new.self; comes = c.in-Ok.ensures.ok; closes = c.close.ensures },
+      record { between = c.open_to_serve.new.self; comes = c.in-Ok.ensures.ok; closes = c.close.ensures },
       inr (record { hosted = served.hosted; served = served.ok.0; line = served.ok.1; silent = keeps_same _ }),
     )
 
@@ -18,7 +18,7 @@ pub returns-in-Err-served-clause-done : goal.returns-in-Err-served-clause-done
 returns-in-Err-served-clause-done g c = inr (
   c.in-Ok.register,
   c.listen-served.new.register,
-  record { between = c.open.new.self; comes = c.in-Ok.ensures.ok; closes = c.close.ensures },
+  record { between = c.open_to_serve.new.self; comes = c.in-Ok.ensures.ok; closes = c.close.ensures },
   inl (
     c.in-Err-served.ensures.unserved,
     record {

@@ -14,7 +14,8 @@ returns-clause-app c =
     let one = c.in_ok-arg.ensures.shape c.required.ensures.local ∙ ap₂ with_rule begun c.required.ensures.rule in
     let two = c.in_ok-arg-2.ensures.shape c.required-2.ensures.local ∙ ap₂ with_rule one c.required-2.ensures.rule in
     let three = c.in_ok-arg-3.ensures.shape c.required-3.ensures.local ∙ ap₂ with_rule two c.required-3.ensures.rule in
-    IfOk-weaker c.arg-4.result (AddsArg c.in_ok-arg-3.field-0 c.flag.result) _ (λ p h. h.shape c.flag.ensures.local ∙ ap₂ with_rule three c.flag.ensures.rule) c.arg-4.ensures
+    let four = c.in_ok-arg-4.ensures.shape c.option.ensures.local ∙ ap₂ with_rule three c.option.ensures.rule in
+    IfOk-weaker c.arg-5.result (AddsArg c.in_ok-arg-4.field-0 c.flag.result) _ (λ p h. h.shape c.flag.ensures.local ∙ ap₂ with_rule four c.flag.ensures.rule) c.arg-5.ensures
 
 pub returns-clause-local : goal.returns-clause-local
 returns-clause-local c =
@@ -23,4 +24,5 @@ returns-clause-local c =
     let one = c.in_ok-arg.ensures.globals ∙ ap₂ (λ a b. a || b) begun c.required.ensures.local in
     let two = c.in_ok-arg-2.ensures.globals ∙ ap₂ (λ a b. a || b) one c.required-2.ensures.local in
     let three = c.in_ok-arg-3.ensures.globals ∙ ap₂ (λ a b. a || b) two c.required-3.ensures.local in
-    IfOk-weaker c.arg-4.result (AddsArg c.in_ok-arg-3.field-0 c.flag.result) _ (λ p h. h.globals ∙ ap₂ (λ a b. a || b) three c.flag.ensures.local) c.arg-4.ensures
+    let four = c.in_ok-arg-4.ensures.globals ∙ ap₂ (λ a b. a || b) three c.option.ensures.local in
+    IfOk-weaker c.arg-5.result (AddsArg c.in_ok-arg-4.field-0 c.flag.result) _ (λ p h. h.globals ∙ ap₂ (λ a b. a || b) four c.flag.ensures.local) c.arg-5.ensures

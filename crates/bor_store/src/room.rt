@@ -1,7 +1,7 @@
 //! How much a mirror may hold.
 
 ghost use Rattle.std.specs.Prelude.{◌≡◌, ◌*◌, min};
-ghost use Rattle.bor_desk.specs.Mirror.Room.{statements_a_megabyte};
+ghost use Rattle.bor_store.specs.Room.{statements_a_megabyte};
 
 /// How many live statements a mirror may hold that may take so many megabytes of memory.
 pub fn statements_within(megabytes: u32) -> u32
