@@ -40,7 +40,7 @@ pub type Served<'r, S> = ServedKeep<FileStore<FileFrom<S>>, Telling<'r>>;
 
 /// What opens registers in files of SQLite, and listens on ports of 127.0.0.1. `S` stands for what
 /// a file and its log hold as they are opened. Where standard error is a terminal, it tells there
-/// where a command is that takes long.
+/// where a command is that takes long; and where standard input is one, that a file is read from it.
 #[derive(Drop)]
 pub struct Host<'r, S> {
     rt: &'r HostRuntime,
@@ -58,9 +58,18 @@ impl<'r, S> Host<'r, S> {
         }
     }
 
-    // Whether it is time to tell where a command is: a file is opened that takes long, many
-    // requests are answered next, or nothing was told for a second.
+    // Whether it is time to tell where a command is: somebody has to type what is read next, and
+    // else, on a terminal, a file is opened that takes long, many requests are answered next, or
+    // nothing was told for a second.
     fn is_due(&self, stage: Stage<'_>) -> bool {
+        match stage {
+            Stage::Input => self.rt.stdin().is_terminal(),
+            _ => self.rt.stderr().is_terminal() && self.is_long(stage),
+        }
+    }
+
+    // Whether a stage may take long, or nothing was told for a second.
+    fn is_long(&self, stage: Stage<'_>) -> bool {
         match stage {
             Stage::Opening(path) => is_large(self.rt, path),
             Stage::Answering(count) if count >= MANY => true,
@@ -106,17 +115,21 @@ impl<'r, S: Start + Copy> Registers for Host<'r, S> {
         (λ opened left. IsMoved (image_at S.Start) (file_state opened) (file_state left)) deed };
 
     fn reach(&self, stage: Stage<'_>) {
-        let mut errors = self.rt.stderr();
-        if !self.is_due(stage) || !errors.is_terminal() {
+        if !self.is_due(stage) {
             return;
         }
         self.told.set(time(self.rt));
+        let mut errors = self.rt.stderr();
         let _ = match stage {
             Stage::Opening(path) => writeln!(errors, "bor: opening {path}"),
             Stage::Reading { read, files } => {
                 writeln!(errors, "bor: read {read} of {files} files")
             }
             Stage::Answering(count) => writeln!(errors, "bor: answering {count} requests"),
+            Stage::Input => writeln!(
+                errors,
+                "bor: reading a file from standard input, end with Ctrl-D"
+            ),
             Stage::Reporting => writeln!(errors, "bor: reporting"),
             Stage::Filling => writeln!(errors, "bor: reading the register into memory"),
         };

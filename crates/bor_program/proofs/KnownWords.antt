@@ -5,13 +5,13 @@ use Rattle.clap.specs.declared.error.kind.ErrorKind.{ErrorKind}
 use Rattle.clap.specs.declared.error.kind.ErrorKind.TheVariants.{ArgumentConflict, DisplayHelp, MissingRequiredArgument, OutOfMemory, ValueValidation}
 use Rattle.bor_words.specs.declared.source.Source.{Source}
 use Rattle.bor_words.specs.declared.unread.Unread.{Unread}
-use Rattle.bor_words.specs.declared.unread.Unread.TheVariants.{Answered, NoRegistrar, TwoRegistrars, Unfit}
+use Rattle.bor_words.specs.declared.unread.Unread.TheVariants.{Answered, NoRegistrar, TwoRegistrars, Unfit, UnfitToken}
 use Rattle.bor_words.specs.Asked.{IsCommand, IsWrong, MayAskForHelp, name_of}
 use Rattle.bor_words.specs.Unread.{IsFaultOf, kind_of_answer}
 use Rattle.bor_words.specs.Values.{first_unfit, values_of}
 use Rattle.bor_words.specs.Words.{bor_app, entered_by}
 use Rattle.bor_program.specs.declared.failure.Failure.{Failure}
-use Rattle.bor_program.specs.declared.failure.Failure.TheVariants.{Unreadable, NoRegister, OtherVersion, Taken, NoToken, Memory, Store, Unlistening, Unwritable}
+use Rattle.bor_program.specs.declared.failure.Failure.TheVariants.{Unreadable, NoRegister, OtherVersion, Taken, Registered, NoToken, Memory, Store, Unlistening, Unwritable}
 use Rattle.bor_program.specs.declared.status.Status.{Status}
 use Rattle.bor_program.specs.declared.status.Status.TheVariants.{Done, Refused, Usage, Failed}
 use Rattle.bor_program.specs.Failures.{IsFailureOf, IsFailureOn, IsMetBy, IsMetOn, IsMetPrinting, IsOfPrinting, IsTold, LeavesOutput, failure_line}
@@ -27,6 +27,7 @@ pub only_memory : (words : List (List ℕ)) (unread : Unread) → IsCommand word
 only_memory words (Answered error) asked (inl h) = h
 only_memory words (Answered error) asked (inr h) = let P : Kinds → Type 0 = IsAmong (kind_of error) in absurd (subst P asked.0 h)
 only_memory words (Unfit unfit) asked h = absurd (no_value (first_unfit (values_of (entered_by words))) unfit.word.now asked.1 h.1)
+only_memory words UnfitToken asked h = absurd (no_value (first_unfit (values_of (entered_by words))) (codes "registrar") asked.1 h.1)
 only_memory words NoRegistrar asked h = absurd (no_value (first_unfit (values_of (entered_by words))) (codes "registrar") asked.1 h.1)
 only_memory words TwoRegistrars asked h = absurd (no_value (first_unfit (values_of (entered_by words))) (codes "registrar") asked.1 h.1)
 
@@ -36,6 +37,7 @@ pub wrong_words : (words : List (List ℕ)) (unread : Unread) → IsFaultOf word
 wrong_words words (Answered error) (inl h) no_help memory_left = absurd (memory_left h)
 wrong_words words (Answered error) (inr h) no_help memory_left = inl (kind_of error, h, no_help)
 wrong_words words (Unfit unfit) h no_help memory_left = inr (h.0, (unfit.word.now, h.1))
+wrong_words words UnfitToken h no_help memory_left = inr (h.0, (codes "registrar", h.1))
 wrong_words words NoRegistrar h no_help memory_left = inr (h.0, (codes "registrar", h.1))
 wrong_words words TwoRegistrars h no_help memory_left = inr (h.0, (codes "registrar", h.1))
 
@@ -44,6 +46,7 @@ pub help_asked : (words : List (List ℕ)) (unread : Unread) → IsFaultOf words
 help_asked words (Answered error) (inl h) help = let bad : DisplayHelp ≡ OutOfMemory = sym help ∙ h in cc
 help_asked words (Answered error) (inr h) help = let P : ErrorKind → Type 0 = λ kind. IsAmong kind (fault_of bor_app words) in subst P help h
 help_asked words (Unfit unfit) h help = let bad : ValueValidation ≡ DisplayHelp = help in cc
+help_asked words UnfitToken h help = let bad : ValueValidation ≡ DisplayHelp = help in cc
 help_asked words NoRegistrar h help = let bad : MissingRequiredArgument ≡ DisplayHelp = help in cc
 help_asked words TwoRegistrars h help = let bad : ArgumentConflict ≡ DisplayHelp = help in cc
 
@@ -87,6 +90,7 @@ failure_on_source words source Unwritable asked named h = tt
 failure_on_source words source (NoRegister path) asked named h = absurd h
 failure_on_source words source (OtherVersion path version) asked named h = absurd h
 failure_on_source words source (Taken path) asked named h = absurd h
+failure_on_source words source (Registered path) asked named h = absurd h
 failure_on_source words source (NoToken file) asked named h = absurd h
 failure_on_source words source Store asked named h = absurd h
 failure_on_source words source Unlistening asked named h = absurd h
@@ -98,6 +102,7 @@ failure_of_any_words words (Unreadable unread) h = absurd h
 failure_of_any_words words (NoRegister path) h = absurd h
 failure_of_any_words words (OtherVersion path version) h = absurd h
 failure_of_any_words words (Taken path) h = absurd h
+failure_of_any_words words (Registered path) h = absurd h
 failure_of_any_words words (NoToken file) h = absurd h
 failure_of_any_words words Store h = absurd h
 failure_of_any_words words Unlistening h = absurd h

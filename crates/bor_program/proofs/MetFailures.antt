@@ -5,7 +5,7 @@ use Rattle.std.specs.Io.KnownBytes.{Keeps}
 use Rattle.bor_register.specs.declared.fault.StoreFault.{StoreFault}
 use Rattle.bor_register.specs.declared.fault.StoreFault.TheVariants as fault
 use Rattle.bor_program.specs.declared.failure.Failure.{Failure}
-use Rattle.bor_program.specs.declared.failure.Failure.TheVariants.{Unreadable, NoRegister, OtherVersion, Taken, NoToken, Memory, Store, Unlistening, Unwritable}
+use Rattle.bor_program.specs.declared.failure.Failure.TheVariants.{Unreadable, NoRegister, OtherVersion, Taken, Registered, NoToken, Memory, Store, Unlistening, Unwritable}
 use Rattle.bor_program.specs.Failures.{IsMetIn, IsMetListening, IsMetOnKeep, IsOpeningOf, IsWantOfMemory, LeavesOutput, failure_line, failure_of}
 use Rattle.bor_program.specs.Deeds.{Deed, Fails}
 use Rattle.bor_program.specs.Performing.{FailsToOpen}
@@ -22,6 +22,7 @@ leaves before after (Unreadable source) h = h
 leaves before after (NoRegister path) h = h
 leaves before after (OtherVersion path version) h = h
 leaves before after (Taken path) h = h
+leaves before after (Registered path) h = h
 leaves before after (NoToken file) h = h
 leaves before after Memory h = h
 leaves before after Store h = h
@@ -61,6 +62,7 @@ met_wanting known (Unreadable source) e = cc
 met_wanting known (NoRegister path) e = cc
 met_wanting known (OtherVersion path version) e = cc
 met_wanting known (Taken path) e = cc
+met_wanting known (Registered path) e = cc
 met_wanting known (NoToken file) e = cc
 met_wanting known Store e = cc
 met_wanting known Unlistening e = cc
@@ -72,6 +74,7 @@ met_closed before after (Unreadable source) e = cc
 met_closed before after (NoRegister path) e = cc
 met_closed before after (OtherVersion path version) e = cc
 met_closed before after (Taken path) e = cc
+met_closed before after (Registered path) e = cc
 met_closed before after (NoToken file) e = cc
 met_closed before after Store e = cc
 met_closed before after Unlistening e = cc

@@ -1,5 +1,5 @@
 -- What follows of a run from what the command that it performed left.
-use Rattle.std.proofs.Common.{◌≡◌, ◌≤◌, ◌⊎◌, ℕ, List, Bool, Option, Some, None, IsSome, IsTrue, arith, inl, inr, refl, sym, subst, true, false, if◌then◌else◌}
+use Rattle.std.proofs.Common.{◌≡◌, ◌≤◌, ◌⊎◌, ℕ, ℤ, List, Bool, Option, Some, None, IsSome, IsTrue, arith, inl, inr, refl, sym, subst, true, false, if◌then◌else◌}
 use Rattle.std.specs.Borrow.{Bor}
 use Rattle.std.specs.Io.KnownBytes.{Keeps}
 use Rattle.clap.specs.Words.{Text as Words}
@@ -10,12 +10,15 @@ use Rattle.bor_program.specs.Deeds.{Deed}
 use Rattle.bor_program.specs.Connections.Serving.{has_failed}
 use Rattle.bor_desk.specs.declared.text.Text.{Text}
 use Rattle.bor_words.specs.declared.command.Command.{Command}
-use Rattle.bor_words.specs.declared.command.Command.TheVariants.{Check, Exchange, Serve, Report, Migrate}
+use Rattle.bor_words.specs.declared.command.Command.TheVariants.{Check, Init, Exchange, Serve, Report, Migrate}
+use Rattle.bor_words.specs.declared.init.Init.{Init as AskedInit}
 use Rattle.bor_words.specs.declared.serve.Serve.{Serve as Asked}
 use Rattle.bor_words.specs.declared.source.Source.{Source}
 use Rattle.bor_words.specs.Asked.{EntersCheck, IsAsked, IsCommand, name_of}
 use Rattle.bor_words.specs.Words.{Entered, entered_by, file_at}
-use Rattle.bor_program.specs.Performing.{Checks, Exchanges, Known, Performs, Serves, TellsRefusal, migrated}
+use Rattle.bor_program.specs.Performing.{Checks, EndsSettingUp, Exchanges, Inits, InitsOnceTold, Known, Performs, Serves, TellsRefusal, migrated}
+use Rattle.bor_program.specs.declared.host.Origin.{Origin}
+use Rattle.bor_program.specs.declared.host.Origin.TheVariants.{Found, New, Beside}
 use Rattle.bor_program.specs.declared.registrar.Exchanging.{Exchanging}
 use Rattle.bor_program.specs.Program.{IsWrittenOrCutOff, report_status}
 use Rattle.bor_program.specs.Streams.{TakesAtMostPart}
@@ -41,6 +44,7 @@ pub checked : {M K Left : Type 0} (Reads : Bor Words → List ℕ → Type 0) (H
     → Performs Reads Hosts shows is_clean is_sound may_leave left_shows tells does begun ended asked input rest output printed errors told status
     → (source : Source) × (name_of source ≡ file_at entered) × Checks source input rest output printed errors told status
 checked Reads Hosts shows is_clean is_sound may_leave left_shows tells does begun ended (Check source) entered input rest output printed errors told status h e p = (source, h.1, p.1)
+checked Reads Hosts shows is_clean is_sound may_leave left_shows tells does begun ended (Init asked) entered input rest output printed errors told status h e p = absurd (no_rows _ h.0 e.4 h.1)
 checked Reads Hosts shows is_clean is_sound may_leave left_shows tells does begun ended (Exchange asked) entered input rest output printed errors told status h e p = absurd (no_rows _ h.0 e.0 h.1)
 checked Reads Hosts shows is_clean is_sound may_leave left_shows tells does begun ended (Serve asked) entered input rest output printed errors told status h e p = absurd (no_rows _ h.0 e.1 h.1)
 checked Reads Hosts shows is_clean is_sound may_leave left_shows tells does begun ended (Report asked) entered input rest output printed errors told status h e p = absurd (no_rows _ h.0 e.2 h.1)
@@ -50,6 +54,7 @@ checked Reads Hosts shows is_clean is_sound may_leave left_shows tells does begu
 pub unread : {M K Left : Type 0} (Reads : Bor Words → List ℕ → Type 0) (Hosts : Asked → K → K → ℕ → Type 0) (shows : K → Register → Type 0) (is_clean is_sound : K → Type 0) (may_leave : K → Left → Type 0) (left_shows : Left → Register → Type 0) (tells : K → StoreFault → K → Type 0) (does : M → Deed K → M → Type 0) (begun ended : M) (asked : Command) (entered : Entered) (input rest output printed errors told : Known) (status : ℕ) → IsAsked entered asked → IsSome (file_at entered)
     → Performs Reads Hosts shows is_clean is_sound may_leave left_shows tells does begun ended asked input rest output printed errors told status → Keeps input rest
 unread Reads Hosts shows is_clean is_sound may_leave left_shows tells does begun ended (Check source) entered input rest output printed errors told status h named p = p.1.unread (subst IsSome (sym h.1) named)
+unread Reads Hosts shows is_clean is_sound may_leave left_shows tells does begun ended (Init asked) entered input rest output printed errors told status h named p = p.0
 unread Reads Hosts shows is_clean is_sound may_leave left_shows tells does begun ended (Exchange asked) entered input rest output printed errors told status h named p = p.0
 unread Reads Hosts shows is_clean is_sound may_leave left_shows tells does begun ended (Serve asked) entered input rest output printed errors told status h named p = p.0
 unread Reads Hosts shows is_clean is_sound may_leave left_shows tells does begun ended (Report asked) entered input rest output printed errors told status h named p = p.0
@@ -58,6 +63,7 @@ unread Reads Hosts shows is_clean is_sound may_leave left_shows tells does begun
 pub took : {M K Left : Type 0} (Reads : Bor Words → List ℕ → Type 0) (Hosts : Asked → K → K → ℕ → Type 0) (shows : K → Register → Type 0) (is_clean is_sound : K → Type 0) (may_leave : K → Left → Type 0) (left_shows : Left → Register → Type 0) (tells : K → StoreFault → K → Type 0) (does : M → Deed K → M → Type 0) (begun ended : M) (asked : Command) (input rest output printed errors told : Known) (status : ℕ)
     → Performs Reads Hosts shows is_clean is_sound may_leave left_shows tells does begun ended asked input rest output printed errors told status → TakesAtMostPart input rest
 took Reads Hosts shows is_clean is_sound may_leave left_shows tells does begun ended (Check source) input rest output printed errors told status p = p.1.at_most
+took Reads Hosts shows is_clean is_sound may_leave left_shows tells does begun ended (Init asked) input rest output printed errors told status p = took_none input rest p.0
 took Reads Hosts shows is_clean is_sound may_leave left_shows tells does begun ended (Exchange asked) input rest output printed errors told status p = took_none input rest p.0
 took Reads Hosts shows is_clean is_sound may_leave left_shows tells does begun ended (Serve asked) input rest output printed errors told status p = took_none input rest p.0
 took Reads Hosts shows is_clean is_sound may_leave left_shows tells does begun ended (Report asked) input rest output printed errors told status p = took_none input rest p.0
@@ -67,14 +73,32 @@ took Reads Hosts shows is_clean is_sound may_leave left_shows tells does begun e
 pub untaken : {M K Left : Type 0} (Reads : Bor Words → List ℕ → Type 0) (Hosts : Asked → K → K → ℕ → Type 0) (shows : K → Register → Type 0) (is_clean is_sound : K → Type 0) (may_leave : K → Left → Type 0) (left_shows : Left → Register → Type 0) (tells : K → StoreFault → K → Type 0) (does : M → Deed K → M → Type 0) (begun ended : M) (asked : Command) (words : List (List ℕ)) (input rest output printed errors told : Known) (status : ℕ) → IsCommand words
     → IsAsked (entered_by words) asked → ¬ AsksForCheck words → Performs Reads Hosts shows is_clean is_sound may_leave left_shows tells does begun ended asked input rest output printed errors told status → Keeps input rest
 untaken Reads Hosts shows is_clean is_sound may_leave left_shows tells does begun ended (Check source) words input rest output printed errors told status ok h unasked p = absurd (unasked (ok, h.0))
+untaken Reads Hosts shows is_clean is_sound may_leave left_shows tells does begun ended (Init asked) words input rest output printed errors told status ok h unasked p = p.0
 untaken Reads Hosts shows is_clean is_sound may_leave left_shows tells does begun ended (Exchange asked) words input rest output printed errors told status ok h unasked p = p.0
 untaken Reads Hosts shows is_clean is_sound may_leave left_shows tells does begun ended (Serve asked) words input rest output printed errors told status ok h unasked p = p.0
 untaken Reads Hosts shows is_clean is_sound may_leave left_shows tells does begun ended (Report asked) words input rest output printed errors told status ok h unasked p = p.0
 untaken Reads Hosts shows is_clean is_sound may_leave left_shows tells does begun ended (Migrate asked) words input rest output printed errors told status ok h unasked p = p.0
 
+unheard_of : (path : Bor Words) (origin : Origin) (errors told : Known) (status : ℕ) → status ≤ 1 → EndsSettingUp path origin errors told status → Keeps errors told
+unheard_of path Found errors told status le h = absurd (omega (arith, le, h.0))
+unheard_of path New errors told status le h = h.1
+unheard_of path Beside errors told status le h = h.1
+
+inits_unheard : {M K : Type 0} (shows : K → Register → Type 0) (is_clean : K → Type 0) (does : M → Deed K → M → Type 0) (begun ended : M) (path : Bor Words) (registrar : List ℕ) (day : ℤ) (output printed errors told : Known) (status : ℕ) → status ≤ 1
+    → Inits shows is_clean does begun ended path registrar day output printed errors told status → Keeps errors told
+inits_unheard shows is_clean does begun ended path registrar day output printed errors told status le p = elim p.done [
+  | inl h ↦ absurd (omega (arith, le, h.1))
+  | inr (inl h) ↦ absurd (omega (arith, le, h.status_is))
+  | inr (inr h) ↦ unheard_of path h.1 errors told status le h.3
+]
+
 pub unheard : {M K Left : Type 0} (Reads : Bor Words → List ℕ → Type 0) (Hosts : Asked → K → K → ℕ → Type 0) (shows : K → Register → Type 0) (is_clean is_sound : K → Type 0) (may_leave : K → Left → Type 0) (left_shows : Left → Register → Type 0) (tells : K → StoreFault → K → Type 0) (does : M → Deed K → M → Type 0) (begun ended : M) (asked : Command) (input rest output printed errors told : Known) (status : ℕ) → status ≤ 1
     → Performs Reads Hosts shows is_clean is_sound may_leave left_shows tells does begun ended asked input rest output printed errors told status → Keeps errors told
 unheard Reads Hosts shows is_clean is_sound may_leave left_shows tells does begun ended (Check source) input rest output printed errors told status le p = p.1.silent le
+unheard Reads Hosts shows is_clean is_sound may_leave left_shows tells does begun ended (Init asked) input rest output printed errors told status le p = elim p.1 [
+  | inl h ↦ absurd (omega (arith, le, h.status_is))
+  | inr (_, _, h) ↦ inits_unheard _ _ _ _ _ _ _ _ _ _ _ _ _ le h
+]
 unheard Reads Hosts shows is_clean is_sound may_leave left_shows tells does begun ended (Exchange asked) input rest output printed errors told status le p = elim p.1 [
   | inl h ↦ absurd (omega (arith, le, h.status_is))
   | inr h ↦ h.2.silent le
@@ -106,25 +130,39 @@ text_unusual text output printed (inl h) = unusual text.refused h.told
 text_unusual text output printed (inr h) = absurd (omega (arith, h.told))
 
 -- 0 or 3
-abbrev IsServersEnd : ℕ → Type 0
-IsServersEnd n = (n ≡ 0) ⊎ (n ≡ 3)
+abbrev IsDoneOrFailed : ℕ → Type 0
+IsDoneOrFailed n = (n ≡ 0) ⊎ (n ≡ 3)
 
-flag_end : (failed : Bool) → IsServersEnd (if failed then 3 else 0)
+flag_end : (failed : Bool) → IsDoneOrFailed (if failed then 3 else 0)
 flag_end true = inr refl
 flag_end false = inl refl
 
 serves_end : {M K Left : Type 0} (Hosts : Asked → K → K → ℕ → Type 0) (shows : K → Register → Type 0) (is_clean is_sound : K → Type 0) (may_leave : K → Left → Type 0) (left_shows : Left → Register → Type 0) (does : M → Deed K → M → Type 0) (begun ended : M) (asked : Asked) (output printed errors told : Known) (status : ℕ)
-    → Serves Hosts shows is_clean is_sound may_leave left_shows does begun ended asked output printed errors told status → IsServersEnd status
+    → Serves Hosts shows is_clean is_sound may_leave left_shows does begun ended asked output printed errors told status → IsDoneOrFailed status
 serves_end Hosts shows is_clean is_sound may_leave left_shows does begun ended asked output printed errors told status (inl h) = inr h.status_is
 serves_end Hosts shows is_clean is_sound may_leave left_shows does begun ended asked output printed errors told status (inr (_, _, _, inl h)) = inr h.1.status_is
 serves_end Hosts shows is_clean is_sound may_leave left_shows does begun ended asked output printed errors told status (inr (_, _, _, inr h)) =
-    let served = h.served.served in subst IsServersEnd (sym served.status) (flag_end (list_any has_failed served.ended))
+    let served = h.served.served in subst IsDoneOrFailed (sym served.status) (flag_end (list_any has_failed served.ended))
 
-no_one : (n : ℕ) → IsServersEnd n → n ≡ 1 → ⊥
+end_of : (path : Bor Words) (origin : Origin) (errors told : Known) (status : ℕ) → EndsSettingUp path origin errors told status → IsDoneOrFailed status
+end_of path Found errors told status h = inr h.0
+end_of path New errors told status h = inl h.0
+end_of path Beside errors told status h = inl h.0
+
+inits_end : {M K : Type 0} (shows : K → Register → Type 0) (is_clean : K → Type 0) (does : M → Deed K → M → Type 0) (begun ended : M) (asked : AskedInit) (output printed errors told : Known) (status : ℕ)
+    → InitsOnceTold shows is_clean does begun ended asked output printed errors told status → IsDoneOrFailed status
+inits_end shows is_clean does begun ended asked output printed errors told status (inl h) = inr h.status_is
+inits_end shows is_clean does begun ended asked output printed errors told status (inr h) = elim h.2.done [
+  | inl k ↦ inr k.1
+  | inr (inl k) ↦ inr k.status_is
+  | inr (inr k) ↦ end_of asked.db k.1 errors told status k.3
+]
+
+no_one : (n : ℕ) → IsDoneOrFailed n → n ≡ 1 → ⊥
 no_one n (inl h) e = absurd (omega (arith, h, e))
 no_one n (inr h) e = absurd (omega (arith, h, e))
 
-no_two : (n : ℕ) → IsServersEnd n → n ≡ 2 → ⊥
+no_two : (n : ℕ) → IsDoneOrFailed n → n ≡ 2 → ⊥
 no_two n (inl h) e = absurd (omega (arith, h, e))
 no_two n (inr h) e = absurd (omega (arith, h, e))
 
@@ -145,6 +183,7 @@ sent_unusual Reads shows is_clean is_sound may_leave left_shows does begun ended
 one_refusal : {M K Left : Type 0} (Reads : Bor Words → List ℕ → Type 0) (Hosts : Asked → K → K → ℕ → Type 0) (shows : K → Register → Type 0) (is_clean is_sound : K → Type 0) (may_leave : K → Left → Type 0) (left_shows : Left → Register → Type 0) (tells : K → StoreFault → K → Type 0) (does : M → Deed K → M → Type 0) (begun ended : M) (asked : Command) (input rest output printed errors told : Known)
     → Performs Reads Hosts shows is_clean is_sound may_leave left_shows tells does begun ended asked input rest output printed errors told 1 → TellsRefusal output printed
 one_refusal Reads Hosts shows is_clean is_sound may_leave left_shows tells does begun ended (Check source) input rest output printed errors told p = text_refuses _ output printed p.1.report.1
+one_refusal Reads Hosts shows is_clean is_sound may_leave left_shows tells does begun ended (Init asked) input rest output printed errors told p = absurd (no_one 1 (inits_end _ _ _ _ _ asked _ _ _ _ _ p.1) refl)
 one_refusal Reads Hosts shows is_clean is_sound may_leave left_shows tells does begun ended (Exchange asked) input rest output printed errors told p = elim p.1 [
   | inl h ↦ absurd (omega (arith, h.status_is))
   | inr h ↦ sent_refusal Reads shows is_clean is_sound may_leave left_shows does begun ended h.0 output printed errors told h.2
@@ -156,6 +195,7 @@ one_refusal Reads Hosts shows is_clean is_sound may_leave left_shows tells does 
 two_fault : {M K Left : Type 0} (Reads : Bor Words → List ℕ → Type 0) (Hosts : Asked → K → K → ℕ → Type 0) (shows : K → Register → Type 0) (is_clean is_sound : K → Type 0) (may_leave : K → Left → Type 0) (left_shows : Left → Register → Type 0) (tells : K → StoreFault → K → Type 0) (does : M → Deed K → M → Type 0) (begun ended : M) (asked : Command) (input rest output printed errors told : Known)
     → Performs Reads Hosts shows is_clean is_sound may_leave left_shows tells does begun ended asked input rest output printed errors told 2 → ⊥
 two_fault Reads Hosts shows is_clean is_sound may_leave left_shows tells does begun ended (Check source) input rest output printed errors told p = text_unusual _ output printed p.1.report.1
+two_fault Reads Hosts shows is_clean is_sound may_leave left_shows tells does begun ended (Init asked) input rest output printed errors told p = no_two 2 (inits_end _ _ _ _ _ asked _ _ _ _ _ p.1) refl
 two_fault Reads Hosts shows is_clean is_sound may_leave left_shows tells does begun ended (Exchange asked) input rest output printed errors told p = elim p.1 [
   | inl h ↦ absurd (omega (arith, h.status_is))
   | inr h ↦ sent_unusual Reads shows is_clean is_sound may_leave left_shows does begun ended h.0 output printed errors told h.2

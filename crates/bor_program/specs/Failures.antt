@@ -7,7 +7,7 @@ use Rattle.bor_words.specs.declared.source.Source.{Source}
 use Rattle.bor_words.specs.declared.source.Source.TheVariants.{File}
 use Rattle.bor_words.specs.Asked.{name_of, source_text}
 use Rattle.bor_program.specs.declared.failure.Failure.{Failure}
-use Rattle.bor_program.specs.declared.failure.Failure.TheVariants.{Unreadable, NoRegister, OtherVersion, Taken, NoToken, Memory, Store, Unlistening, Unwritable}
+use Rattle.bor_program.specs.declared.failure.Failure.TheVariants.{Unreadable, NoRegister, OtherVersion, Taken, Registered, NoToken, Memory, Store, Unlistening, Unwritable}
 use Rattle.bor_program.specs.Streams.{AppendsPart}
 use Rattle.bor_program.specs.Words.{AsksForCheck, file_of}
 use Rattle.clap.specs.Words.{Text}
@@ -26,6 +26,7 @@ failure_line (NoRegister path) = codes "bor: no register in " ++ path.now ++ 10 
 failure_line (OtherVersion path version) =
     codes "bor: register of version " ++ signed_decimal version ++ codes " in " ++ path.now ++ 10 ∷ []
 failure_line (Taken path) = codes "bor: " ++ (path.now ++ (codes " is not free for a register" ++ 10 ∷ []))
+failure_line (Registered path) = codes "bor: a register is in " ++ (path.now ++ (codes " already" ++ 10 ∷ []))
 failure_line (NoToken name) = codes "bor: no token in " ++ name.now ++ 10 ∷ []
 failure_line Memory = codes "bor: out of memory" ++ 10 ∷ []
 failure_line Store = codes "bor: store failed" ++ 10 ∷ []

@@ -1,5 +1,5 @@
 -- What each command leaves on the streams, and which exit status it gives.
-use Rattle.std.specs.Prelude.{◌≡◌, ◌≤◌, ◌⊎◌, ◌++◌, ◌∷◌, ℕ, List, [], Option, None, IfSome, IsSome, IsTrue, codes, decimal}
+use Rattle.std.specs.Prelude.{◌≡◌, ◌≤◌, ◌⊎◌, ◌++◌, ◌∷◌, ℕ, ℤ, List, [], Option, None, IfSome, IsSome, IsTrue, codes, decimal}
 use Rattle.std.specs.Io.KnownBytes.{Appends, Keeps}
 use Rattle.std.specs.Borrow.{Bor}
 use Rattle.bor_records.specs.Promises.{Kept}
@@ -13,6 +13,7 @@ use Rattle.clap.specs.Words.{Text as Words}
 use Rattle.bor_words.specs.declared.command.Command.{Command}
 use Rattle.bor_words.specs.declared.command.Command.TheVariants as command
 use Rattle.bor_words.specs.declared.exchange.Exchange.{Exchange}
+use Rattle.bor_words.specs.declared.init.Init.{Init}
 use Rattle.bor_words.specs.declared.migrate.Migrate.{Migrate}
 use Rattle.bor_words.specs.declared.registrar.RegistrarSource.{RegistrarSource}
 use Rattle.bor_words.specs.declared.report.Report.{Report}
@@ -20,7 +21,9 @@ use Rattle.bor_words.specs.declared.serve.Serve.{Serve}
 use Rattle.bor_words.specs.declared.source.Source.{Source}
 use Rattle.bor_words.specs.Asked.{name_of}
 use Rattle.bor_program.specs.declared.failure.Failure.{Failure}
+use Rattle.bor_program.specs.declared.failure.Failure.TheVariants.{Registered}
 use Rattle.bor_program.specs.declared.host.Origin.{Origin}
+use Rattle.bor_program.specs.declared.host.Origin.TheVariants.{Found, New, Beside}
 use Rattle.bor_program.specs.Deeds.{ComesToBe, Deed, Fails, Moves, Opens, Visits}
 use Rattle.bor_program.specs.Failures.{IsMetIn, IsMetListening, IsMetOn, IsMetOnKeep, IsOpeningOf, IsTold, TellsFiles, failure_line}
 use Rattle.bor_program.specs.declared.registrar.Exchanging.{Exchanging}
@@ -79,6 +82,28 @@ pub record LacksToken {M : Type 0} (begun ended : M) (source : RegistrarSource) 
   pub kept : Keeps output printed
   pub line : IsTold (IsUntold source) errors told
 
+-- how setting a register up ends where one came to be open like this: it was set up, and nothing is told; or one stands in the file of this name, and that is told
+abbrev pub EndsSettingUp : Bor Words → Origin → (errors told : Known) → (status : ℕ) → Type 0
+EndsSettingUp path Found errors told status = (status ≡ 3) × AppendsPart errors told (failure_line (Registered path))
+EndsSettingUp path New errors told status = (status ≡ 0) × Keeps errors told
+EndsSettingUp path Beside errors told status = (status ≡ 0) × Keeps errors told
+
+-- The register that stands in the file of this name, or a new one that was set up there, is closed there as it came to be open.
+abbrev pub SetsUpIn : {M K : Type 0} → (K → Register → Type 0) → (K → Type 0) → (M → Deed K → M → Type 0) → M → M → Bor Words → List ℕ → ℤ → Known → Known → ℕ → Type 0
+SetsUpIn {M} {K} shows is_clean does begun ended path registrar day errors told status =
+    (opened : K) × (origin : Origin) × Visits does begun ended path (ComesToBe shows is_clean path registrar day opened origin) opened
+    × EndsSettingUp path origin errors told status
+
+-- nothing is done, and nothing told, since standard output can't be written
+abbrev pub IsKeptFromOutput : {M : Type 0} → M → M → Known → Known → ℕ → Type 0
+IsKeptFromOutput begun ended errors told status = (ended ≡ begun) × (status ≡ 3) × Keeps errors told
+
+-- A register of this registrar and day is set up in the file of this name, if it has none. Nothing is printed.
+pub record Inits {M K : Type 0} (shows : K → Register → Type 0) (is_clean : K → Type 0) (does : M → Deed K → M → Type 0) (begun ended : M) (path : Bor Words) (registrar : List ℕ) (day : ℤ) (output printed errors told : Known) (status : ℕ) : Type 0 where
+  pub kept : Keeps output printed
+  pub done : IsKeptFromOutput begun ended errors told status
+      ⊎ (FailsToOpen does begun ended path output printed errors told status ⊎ SetsUpIn shows is_clean does begun ended path registrar day errors told status)
+
 -- with the registrar's token, the words ask for this
 pub record IsOnceTold (asked : Exchange) (told : Exchanging) : Type 0 where
   pub db : told.db ≡ asked.db
@@ -91,6 +116,12 @@ abbrev pub ExchangesOnceTold : {M K Left : Type 0} → (Bor Words → List ℕ �
 ExchangesOnceTold Reads shows is_clean is_sound may_leave left_shows does begun ended asked output printed errors told status =
     LacksToken begun ended asked.registrar output printed errors told status
     ⊎ ((once_told : Exchanging) × IsOnceTold asked once_told × Exchanges Reads shows is_clean is_sound may_leave left_shows does begun ended once_told output printed errors told status)
+
+-- the registrar's token isn't told, or with it a register is set up
+abbrev pub InitsOnceTold : {M K : Type 0} → (K → Register → Type 0) → (K → Type 0) → (M → Deed K → M → Type 0) → M → M → Init → Known → Known → Known → Known → ℕ → Type 0
+InitsOnceTold shows is_clean does begun ended asked output printed errors told status =
+    LacksToken begun ended asked.registrar output printed errors told status
+    ⊎ ((registrar : List ℕ) × IsToldBy asked.registrar registrar × Inits shows is_clean does begun ended asked.db registrar asked.day output printed errors told status)
 
 -- the line that tells that the server listens
 abbrev pub listening : ℕ → List ℕ
@@ -148,6 +179,8 @@ pub record Migrates {M K : Type 0} (does : M → Deed K → M → Type 0) (begun
 abbrev pub Performs : {M K Left : Type 0} → (Bor Words → List ℕ → Type 0) → (Serve → K → K → ℕ → Type 0) → (K → Register → Type 0) → (K → Type 0) → (K → Type 0) → (K → Left → Type 0) → (Left → Register → Type 0) → (K → StoreFault → K → Type 0) → (M → Deed K → M → Type 0) → M → M → Command → Known → Known → Known → Known → Known → Known → ℕ → Type 0
 Performs Reads Hosts shows is_clean is_sound may_leave left_shows tells does begun ended (command.Check source) input rest output printed errors told status =
     (ended ≡ begun) × Checks source input rest output printed errors told status
+Performs Reads Hosts shows is_clean is_sound may_leave left_shows tells does begun ended (command.Init asked) input rest output printed errors told status =
+    Keeps input rest × InitsOnceTold shows is_clean does begun ended asked output printed errors told status
 Performs Reads Hosts shows is_clean is_sound may_leave left_shows tells does begun ended (command.Exchange asked) input rest output printed errors told status =
     Keeps input rest × ExchangesOnceTold Reads shows is_clean is_sound may_leave left_shows does begun ended asked output printed errors told status
 Performs Reads Hosts shows is_clean is_sound may_leave left_shows tells does begun ended (command.Serve asked) input rest output printed errors told status =

@@ -26,6 +26,8 @@ pub enum Failure<'a> {
     OtherVersion(&'a str, i64),
     /// The file of this name has tables of another program, with names of a register's.
     Taken(&'a str),
+    /// A register is in the file of this name already.
+    Registered(&'a str),
     /// The first line of the file of this name is no token.
     NoToken(&'a str),
     /// Memory is wanting.
@@ -78,6 +80,9 @@ impl<'a> Failure<'a> {
                     errors,
                     &["bor: ", path, " is not free for a register", "\n"],
                 )
+            }
+            Failure::Registered(path) => {
+                write_texts(errors, &["bor: a register is in ", path, " already", "\n"])
             }
             Failure::NoToken(name) => write_texts(errors, &["bor: no token in ", name, "\n"]),
             Failure::Memory => write_texts(errors, &["bor: out of memory\n"]),

@@ -241,6 +241,8 @@ pub enum Stage<'a> {
     },
     /// So many requests are answered next.
     Answering(usize),
+    /// A file is read from standard input next. Whoever types it may not know.
+    Input,
     /// A report is made next.
     Reporting,
     /// The register is read into memory next.

@@ -18,6 +18,7 @@ pub mod connections;
 mod exchange;
 mod failure;
 mod host;
+mod init;
 mod inputs;
 pub mod log;
 mod migrate;

@@ -3,6 +3,7 @@
 ghost use Rattle.std.specs.Prelude.{◌≡◌, ◌≢◌, ◌≤◌, ◌⊎◌, ℕ, List, None, IfErr, IfSome, IsSome, OnOk, map};
 ghost use Rattle.std.specs.Io.KnownBytes.{Appends, Keeps};
 ghost use Rattle.bor_words.specs.Asked.{IsAsked, IsCommand, IsWrong, MayAskForHelp, name_of};
+ghost use Rattle.bor_words.specs.Help.{help_for};
 ghost use Rattle.bor_words.specs.Unread.{kind_of_answer};
 ghost use Rattle.bor_words.specs.Words.{entered_by};
 ghost use Rattle.bor_words.specs.declared.command.Command.{Command as Asked};
@@ -18,13 +19,14 @@ ghost use Rattle.bor_program.specs.Words.{AsksForCheck, ChecksInput, file_of};
 use crate::check::check;
 use crate::exchange::exchange;
 use crate::failure::Failure;
-use crate::host::{NamedFiles, Ports};
+use crate::host::{NamedFiles, Ports, Registers, Stage};
+use crate::init::init;
 use crate::migrate::migrate;
 use crate::output::{Output, write_text};
 use crate::report::report;
 use crate::serve::serve;
 use crate::status::Status;
-use bor_words::{Command, HELP, Source, Unread};
+use bor_words::{Command, Source, Unread, help_for};
 use clap::error::ErrorKind;
 use std::convert::AsStr;
 use std::io::{Read, Write};
@@ -92,9 +94,11 @@ where
     // Where no command is asked for, the registers in files are left alone,
     ensures unopened { ¬ IsCommand (map S.text words.now) → host.new ≡ host.old }
 
-    // and nothing is written on standard output but the help, or a front of it.
+    // and nothing is written on standard output but the help that these words ask for, or a front
+    // of it.
     ensures help { ¬ IsCommand (map S.text words.now)
-        → AppendsPart (O.contents output.old) (O.contents output.new) HELP.now }
+        → AppendsPart (O.contents output.old) (O.contents output.new)
+        (help_for (map S.text words.now)) }
 
     // Whatever the words, status 1 stands for a refusal that was written,
     ensures refused { result ≡ 1 → IsCommand (map S.text words.now)
@@ -103,7 +107,8 @@ where
     // status 0 for a command, or for help that was written whole,
     ensures done { result ≡ 0
         → IsCommand (map S.text words.now) ⊎ (MayAskForHelp (map S.text words.now)
-        × Appends (O.contents output.old) (O.contents output.new) HELP.now) }
+        × Appends (O.contents output.old) (O.contents output.new)
+        (help_for (map S.text words.now))) }
 
     // and status 2 for words with a fault: nothing was read, and no output written.
     ensures usage { result ≡ 2 → IsWrong (map S.text words.now)
@@ -129,7 +134,7 @@ where
 {
     let status = match Command::read(rt.alloc(), words) {
         Ok(command) => perform(rt, host, command, input, output, errors),
-        Err(unread) => answer(unread, output, errors),
+        Err(unread) => answer(unread, help_for(words), output, errors),
     };
     status.code()
 }
@@ -157,7 +162,8 @@ where
     ensures flushed { exit_code result ≤ 1 → O.is_flushed output.new }
 {
     match command {
-        Command::Check(source) => check_told(rt, source, input, output, errors),
+        Command::Check(source) => check_told(rt, host, source, input, output, errors),
+        Command::Init(asked) => init(rt, host, asked, output, errors),
         Command::Exchange(asked) => exchange(rt, host, asked, output, errors),
         Command::Serve(asked) => serve(rt, host, asked, output, errors),
         Command::Report(asked) => report(rt.alloc(), host, &asked, output, errors),
@@ -166,8 +172,9 @@ where
 }
 
 // Checks what is asked for, and tells on standard error why it could not be done.
-fn check_told<R: NamedFiles + AllocGlobal, I: Read, O: Output, E: Write>(
+fn check_told<R: NamedFiles + AllocGlobal, H: Registers, I: Read, O: Output, E: Write>(
     rt: &R,
+    host: &H,
     source: Source<'_>,
     input: &mut I,
     output: &mut O,
@@ -190,15 +197,17 @@ fn check_told<R: NamedFiles + AllocGlobal, I: Read, O: Output, E: Write>(
         → IsTold (IsMetOn source.entry (O.contents output.old) (O.contents output.new))
         (E.contents errors.old) (E.contents errors.new) }
 {
-    match check_source(rt, source, input, output) {
+    match check_source(rt, host, source, input, output) {
         Ok(status) => status,
         Err(failure) => failure.tell(errors),
     }
 }
 
-// Checks standard input, or the file that is named.
-fn check_source<'a, R: NamedFiles + AllocGlobal, I: Read, O: Output>(
+// Checks standard input, of which the host tells whoever may have to type it, or the file that is
+// named.
+fn check_source<'a, R: NamedFiles + AllocGlobal, H: Registers, I: Read, O: Output>(
     rt: &R,
+    host: &H,
     source: Source<'a>,
     input: &mut I,
     output: &mut O,
@@ -217,7 +226,10 @@ fn check_source<'a, R: NamedFiles + AllocGlobal, I: Read, O: Output>(
         (IsMetOn source.entry (O.contents output.old) (O.contents output.new)) }
 {
     match source {
-        Source::StandardInput => check(rt.alloc(), source, input, output),
+        Source::StandardInput => {
+            host.reach(Stage::Input);
+            check(rt.alloc(), source, input, output)
+        }
         Source::File(name) => check_file(rt, name, output),
     }
 }
@@ -241,16 +253,21 @@ fn check_file<'a, R: NamedFiles + AllocGlobal, O: Output>(
     }
 }
 
-// Answers words that ask for no command: the help on standard output, or what is wrong with them on
-// standard error.
-fn answer<O: Output, E: Write>(unread: Unread<'_>, output: &mut O, errors: &mut E) -> Status
+// Answers words that ask for no command: this help on standard output, or what is wrong with them
+// on standard error.
+fn answer<O: Output, E: Write>(
+    unread: Unread<'_>,
+    help: &str,
+    output: &mut O,
+    errors: &mut E,
+) -> Status
     ensures memory { kind_of_answer unread.entry ≡ ErrorKind.OutOfMemory → (result ≡ Status.Failed)
         × IsTold IsWantOfMemory (E.contents errors.old) (E.contents errors.new) }
     ensures never { result ≢ Status.Refused }
     ensures done { result ≡ Status.Done → (kind_of_answer unread.entry ≡ ErrorKind.DisplayHelp)
-        × Appends (O.contents output.old) (O.contents output.new) HELP.now }
+        × Appends (O.contents output.old) (O.contents output.new) help.now }
     ensures flushed { exit_code result ≤ 1 → O.is_flushed output.new }
-    ensures help { AppendsPart (O.contents output.old) (O.contents output.new) HELP.now }
+    ensures help { AppendsPart (O.contents output.old) (O.contents output.new) help.now }
     ensures kept { kind_of_answer unread.entry ≢ ErrorKind.DisplayHelp
         → Keeps (O.contents output.old) (O.contents output.new) }
     ensures silent { result ≡ Status.Done → Keeps (E.contents errors.old) (E.contents errors.new) }
@@ -262,7 +279,7 @@ fn answer<O: Output, E: Write>(unread: Unread<'_>, output: &mut O, errors: &mut 
 {
     match unread.kind() {
         ErrorKind::OutOfMemory => Failure::Memory.tell(errors),
-        ErrorKind::DisplayHelp => match write_text(output, HELP.as_bytes()) {
+        ErrorKind::DisplayHelp => match write_text(output, help.as_bytes()) {
             Ok(()) => Status::Done,
             Err(failure) => failure.tell(errors),
         },

@@ -4,6 +4,8 @@ use Rattle.std.specs.Option.{option_map}
 use Rattle.clap.proofs.OnLiterals.{clap_on_literals}
 use Rattle.clap.specs.Words.{Text, fault_of, first_of}
 use Rattle.bor_words.specs.Asked.{EntersCheck}
+use Rattle.bor_words.specs.declared.help.TheConstants.{HELP, CHECK_HELP, INIT_HELP}
+use Rattle.bor_words.specs.Help.{help_for}
 use Rattle.bor_words.specs.Words.{bor_app, entered_by, file_at, found_behind, is_set}
 use Rattle.bor_words.specs.Values.{first_unfit, memory_of, number_within, values_of}
 
@@ -13,11 +15,17 @@ no_words = (refl, refl)
 
 pub check_alone : EntersCheck (entered_by (codes "check" ∷ [])) × (file_at (entered_by (codes "check" ∷ [])) ≡ None)
 unfolding clap_on_literals
-check_alone = ((refl, refl, refl, refl), refl)
+check_alone = ((refl, refl, refl, refl, refl), refl)
 
 pub check_of_a_file : file_at (entered_by (codes "check" ∷ codes "a.json" ∷ [])) ≡ Some (codes "a.json")
 unfolding clap_on_literals
 check_of_a_file = refl
+
+-- a hyphen is standard input, and any other way to spell it a file
+pub check_of_input : (fault_of bor_app (codes "check" ∷ codes "-" ∷ []) ≡ []) × (file_at (entered_by (codes "check" ∷ codes "-" ∷ [])) ≡ None)
+    × (file_at (entered_by (codes "check" ∷ codes "./-" ∷ [])) ≡ Some (codes "./-"))
+unfolding clap_on_literals
+check_of_input = (refl, refl, refl)
 
 -- the words of an exchange that tell the registrar's token so
 abbrev pub exchange_with : List Text → List Text
@@ -53,3 +61,8 @@ memory_told words = option_map (λ rows. memory_of (first_of (codes "memory") ro
 pub memory_where_told : (memory_told (serve_with (codes "--memory" ∷ codes "0" ∷ [])) ≡ Some (Some 0)) × (memory_told (serve_with []) ≡ Some (Some 256))
 unfolding clap_on_literals number_within
 memory_where_told = (refl, refl)
+
+-- the page of the command that is named, and all of them where none is
+pub pages : (help_for (codes "help" ∷ codes "check" ∷ []) ≡ CHECK_HELP.now) × (help_for (codes "init" ∷ codes "--help" ∷ []) ≡ INIT_HELP.now)
+    × (help_for (codes "help" ∷ []) ≡ HELP.now) × (help_for (codes "-h" ∷ codes "check" ∷ []) ≡ HELP.now)
+pages = (refl, refl, refl, refl)

@@ -7,6 +7,7 @@ use Rattle.clap.specs.declared.error.kind.ErrorKind.TheVariants.{DisplayHelp}
 use Rattle.bor_words.specs.declared.command.Command.{Command}
 use Rattle.bor_words.specs.declared.command.Command.TheVariants as command
 use Rattle.bor_words.specs.declared.exchange.Exchange.{Exchange}
+use Rattle.bor_words.specs.declared.init.Init.{Init}
 use Rattle.bor_words.specs.declared.migrate.Migrate.{Migrate}
 use Rattle.bor_words.specs.declared.registrar.RegistrarSource.{RegistrarSource}
 use Rattle.bor_words.specs.declared.registrar.RegistrarSource.TheVariants as registrar
@@ -49,11 +50,18 @@ source_text (File name) = name.now
 abbrev pub EntersCheck : Entered → Type 0
 EntersCheck entered = (found_behind (codes "exchange") entered ≡ None) × (found_behind (codes "serve") entered ≡ None)
     × (found_behind (codes "report") entered ≡ None) × (found_behind (codes "migrate") entered ≡ None)
+    × (found_behind (codes "init") entered ≡ None)
 
 -- what is told of the registrar's token: the token, or the name of the file that has it
 abbrev pub IsRegistrar : List Row → RegistrarSource → Type 0
 IsRegistrar rows (registrar.Token token) = Some token ≡ first_of (codes "registrar") rows
 IsRegistrar rows (registrar.File name) = Some name.now ≡ first_of (codes "registrar-file") rows
+
+-- what is asked of setting a register up
+pub record IsInit (rows : List Row) (asked : Init) : Type 0 where
+  pub db : asked.db.now ≡ given (codes "db") rows
+  pub registrar : IsRegistrar rows asked.registrar
+  pub day : Some asked.day ≡ day_of (given (codes "day") rows)
 
 -- what is asked of an exchange
 pub record IsExchange (rows : List Row) (asked : Exchange) : Type 0 where
@@ -86,6 +94,7 @@ pub record IsMigrate (rows : List Row) (asked : Migrate) : Type 0 where
 -- the command is what is asked for
 abbrev pub IsAsked : Entered → Command → Type 0
 IsAsked entered (command.Check source) = EntersCheck entered × (name_of source ≡ file_at entered)
+IsAsked entered (command.Init asked) = (rows : List Row) × (found_behind (codes "init") entered ≡ Some rows) × IsInit rows asked
 IsAsked entered (command.Exchange asked) = (rows : List Row) × (found_behind (codes "exchange") entered ≡ Some rows) × IsExchange rows asked
 IsAsked entered (command.Serve asked) = (rows : List Row) × (found_behind (codes "serve") entered ≡ Some rows) × IsServe rows asked
 IsAsked entered (command.Report asked) = (rows : List Row) × (found_behind (codes "report") entered ≡ Some rows) × IsReport rows asked

@@ -2,3 +2,4 @@ pub mod Words
 pub mod Values
 pub mod Asked
 pub mod Unread
+pub mod Help

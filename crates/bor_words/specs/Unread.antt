@@ -1,5 +1,7 @@
 -- Why words ask for no command, as it is answered.
-use Rattle.std.specs.Prelude.{◌≡◌, List, [], Bool, false, None, Some, IsSome, codes}
+use Rattle.std.specs.Prelude.{◌≡◌, List, [], Bool, false, true, not, None, Some, IsSome, codes}
+use Rattle.std.specs.Str.{bytes_eq}
+use Rattle.bor_terms.specs.Texts.{is_token}
 use Rattle.clap.specs.Words.{HasKind, Row, Text, fault_of, first_of, kind_of}
 use Rattle.clap.specs.declared.error.kind.ErrorKind.{ErrorKind}
 use Rattle.clap.specs.declared.error.kind.ErrorKind.TheVariants.{ArgumentConflict, MissingRequiredArgument, OutOfMemory, ValueValidation}
@@ -12,6 +14,7 @@ use Rattle.bor_words.specs.Values.{Value, first_unfit, is_registrar, values_of}
 abbrev pub kind_of_answer : Unread → ErrorKind
 kind_of_answer (unread.Answered error) = kind_of error
 kind_of_answer (unread.Unfit unfit) = ValueValidation
+kind_of_answer unread.UnfitToken = ValueValidation
 kind_of_answer unread.NoRegistrar = MissingRequiredArgument
 kind_of_answer unread.TwoRegistrars = ArgumentConflict
 
@@ -19,8 +22,26 @@ kind_of_answer unread.TwoRegistrars = ArgumentConflict
 abbrev pub IsMemory : Unread → Type 0
 IsMemory (unread.Answered error) = kind_of error ≡ OutOfMemory
 IsMemory (unread.Unfit unfit) = ⊥
+IsMemory unread.UnfitToken = ⊥
 IsMemory unread.NoRegistrar = ⊥
 IsMemory unread.TwoRegistrars = ⊥
+
+-- the value of this word may be told to whoever reads what is wrong with the words: it is not the registrar's token
+abbrev pub may_be_told : Text → Bool
+may_be_told word = not (bytes_eq word (codes "registrar"))
+
+-- memory was wanting, or this is no token; what it is isn't told
+abbrev pub IsUnfitToken : Text → Unread → Type 0
+IsUnfitToken token (unread.Answered error) = kind_of error ≡ OutOfMemory
+IsUnfitToken token (unread.Unfit unfit) = ⊥
+IsUnfitToken token unread.UnfitToken = is_token token ≡ false
+IsUnfitToken token unread.NoRegistrar = ⊥
+IsUnfitToken token unread.TwoRegistrars = ⊥
+
+-- the registrar's token is told by itself, and is none
+abbrev pub HasUnfitToken : List Row → Type 0
+HasUnfitToken rows = (token : Text) × (first_of (codes "registrar") rows ≡ Some token)
+    × (first_of (codes "registrar-file") rows ≡ None) × (is_token token ≡ false)
 
 -- the registrar's token is told by no word
 abbrev pub HasNoRegistrar : List Row → Type 0
@@ -34,23 +55,25 @@ HasTwoRegistrars rows = IsSome (first_of (codes "registrar") rows) × IsSome (fi
 abbrev pub IsUnfitAt : Text → Text → Bool → Unread → Type 0
 IsUnfitAt word value fits (unread.Answered error) = kind_of error ≡ OutOfMemory
 IsUnfitAt word value fits (unread.Unfit unfit) = (unfit.word.now ≡ word) × (unfit.value.now ≡ value) × (fits ≡ false)
+IsUnfitAt word value fits unread.UnfitToken = ⊥
 IsUnfitAt word value fits unread.NoRegistrar = ⊥
 IsUnfitAt word value fits unread.TwoRegistrars = ⊥
 
 -- memory was wanting, the token that is told is none, or it isn't told once
 abbrev pub IsUnfitRegistrar : List Row → Unread → Type 0
 IsUnfitRegistrar rows (unread.Answered error) = kind_of error ≡ OutOfMemory
-IsUnfitRegistrar rows (unread.Unfit unfit) =
-    (unfit.word.now ≡ codes "registrar") × (unfit.value.now ≡ given (codes "registrar") rows)
-    × (is_registrar (first_of (codes "registrar") rows) (first_of (codes "registrar-file") rows) ≡ false)
+IsUnfitRegistrar rows (unread.Unfit unfit) = ⊥
+IsUnfitRegistrar rows unread.UnfitToken = HasUnfitToken rows
 IsUnfitRegistrar rows unread.NoRegistrar = HasNoRegistrar rows
 IsUnfitRegistrar rows unread.TwoRegistrars = HasTwoRegistrars rows
 
--- memory was wanting, or the word is the first of these whose value doesn't fit, and the value is the one that was given for it;
--- the registrar's token doesn't fit either where it isn't told once
+-- memory was wanting, or the word is the first of these whose value doesn't fit, and the value is the one that was given for it,
+-- but for the registrar's token, which isn't told; it doesn't fit either where it isn't told once
 abbrev pub IsUnfitAmong : List Row → List Value → Unread → Type 0
 IsUnfitAmong rows values (unread.Answered error) = kind_of error ≡ OutOfMemory
-IsUnfitAmong rows values (unread.Unfit unfit) = (first_unfit values ≡ Some unfit.word.now) × (unfit.value.now ≡ given unfit.word.now rows)
+IsUnfitAmong rows values (unread.Unfit unfit) =
+    (first_unfit values ≡ Some unfit.word.now) × (unfit.value.now ≡ given unfit.word.now rows) × (may_be_told unfit.word.now ≡ true)
+IsUnfitAmong rows values unread.UnfitToken = (first_unfit values ≡ Some (codes "registrar")) × HasUnfitToken rows
 IsUnfitAmong rows values unread.NoRegistrar = (first_unfit values ≡ Some (codes "registrar")) × HasNoRegistrar rows
 IsUnfitAmong rows values unread.TwoRegistrars = (first_unfit values ≡ Some (codes "registrar")) × HasTwoRegistrars rows
 
@@ -59,7 +82,10 @@ abbrev pub IsFaultOf : List Text → Unread → Type 0
 IsFaultOf words (unread.Answered error) = HasKind (fault_of bor_app words) error
 IsFaultOf words (unread.Unfit unfit) =
     (fault_of bor_app words ≡ []) × (first_unfit (values_of (entered_by words)) ≡ Some unfit.word.now)
-    × (unfit.value.now ≡ given unfit.word.now (rows_in (entered_by words)))
+    × (unfit.value.now ≡ given unfit.word.now (rows_in (entered_by words))) × (may_be_told unfit.word.now ≡ true)
+IsFaultOf words unread.UnfitToken =
+    (fault_of bor_app words ≡ []) × (first_unfit (values_of (entered_by words)) ≡ Some (codes "registrar"))
+    × HasUnfitToken (rows_in (entered_by words))
 IsFaultOf words unread.NoRegistrar =
     (fault_of bor_app words ≡ []) × (first_unfit (values_of (entered_by words)) ≡ Some (codes "registrar"))
     × HasNoRegistrar (rows_in (entered_by words))

@@ -50,10 +50,14 @@ is_registrar None (Some name) = true
 is_registrar (Some token) (Some name) = false
 is_registrar None None = false
 
-abbrev pub exchange_values : List Row → List Value
-exchange_values rows =
+-- of a register that is set up
+abbrev pub init_values : List Row → List Value
+init_values rows =
     (codes "registrar", is_registrar (first_of (codes "registrar") rows) (first_of (codes "registrar-file") rows))
     ∷ (codes "day", is_some (day_of (given (codes "day") rows))) ∷ []
+
+abbrev pub exchange_values : List Row → List Value
+exchange_values rows = init_values rows
 
 abbrev pub serve_values : List Row → List Value
 serve_values rows =
@@ -77,7 +81,8 @@ abbrev pub values_behind : Text → List Row → List Value
 values_behind name rows =
     if bytes_eq name (codes "exchange") then exchange_values rows
     else (if bytes_eq name (codes "serve") then serve_values rows
-    else (if bytes_eq name (codes "report") then report_values rows else []))
+    else (if bytes_eq name (codes "report") then report_values rows
+    else (if bytes_eq name (codes "init") then init_values rows else [])))
 
 -- the values of the command that is entered
 abbrev pub values_of : Entered → List Value

@@ -26,6 +26,12 @@ files_rule = record (new_rule (codes "FILE")) { action = Some Append; required =
 abbrev pub check_app : App
 check_app = with_rule (new_app (codes "check")) (new_rule (codes "FILE"))
 
+-- a register that is set up
+abbrev pub init_app : App
+init_app =
+    with_rule (with_rule (with_rule (with_rule (new_app (codes "init")) (required_rule (codes "db"))) (option_rule (codes "registrar")))
+    (option_rule (codes "registrar-file"))) (required_rule (codes "day"))
+
 abbrev pub exchange_app : App
 exchange_app =
     with_rule (with_rule (with_rule (with_rule (with_rule (new_app (codes "exchange")) (option_rule (codes "db"))) (option_rule (codes "registrar")))
@@ -51,8 +57,8 @@ without_name a = record a { top = record a.top { no_binary_name = true } }
 
 abbrev pub bor_app : App
 bor_app =
-    with_subcommand (with_subcommand (with_subcommand (with_subcommand (with_subcommand (without_name (new_app (codes "bor"))) check_app.top)
-    exchange_app.top) serve_app.top) report_app.top) migrate_app.top
+    with_subcommand (with_subcommand (with_subcommand (with_subcommand (with_subcommand (with_subcommand (without_name (new_app (codes "bor"))) check_app.top)
+    init_app.top) exchange_app.top) serve_app.top) report_app.top) migrate_app.top
 
 -- ---- what clap finds
 
@@ -83,6 +89,14 @@ is_set word rows = option_map_or (λ text. bytes_eq text (codes "true")) (first_
 abbrev pub files_named : List Row → List Text
 files_named rows = unwrap_or (all_of (codes "FILE") rows) []
 
+-- what is named behind check
+abbrev pub name_at : Entered → Option Text
+name_at entered = option_and_then (first_of (codes "FILE")) (found_behind (codes "check") entered)
+
+-- the file that a name stands for; a hyphen stands for none, but for standard input
+abbrev pub file_named : Text → Option Text
+file_named name = if bytes_eq name (codes "-") then None else Some name
+
 -- the file that is named behind check
 abbrev pub file_at : Entered → Option Text
-file_at entered = option_and_then (first_of (codes "FILE")) (found_behind (codes "check") entered)
+file_at entered = option_and_then file_named (name_at entered)

@@ -5,9 +5,10 @@ ghost use Rattle.clap.specs.Words.{HasKind, fault_of, subcommand_rows_of};
 ghost use Rattle.bor_words.specs.Asked.{IsAsked, IsCommand};
 ghost use Rattle.bor_words.specs.Unread.{IsFaultOf, IsUnfitAmong};
 ghost use Rattle.bor_words.specs.Values.{first_unfit, values_of};
-ghost use Rattle.bor_words.specs.Words.{bor_app, entered_by, file_at, rows_in};
+ghost use Rattle.bor_words.specs.Words.{bor_app, entered_by, name_at, rows_in};
 
 use crate::exchange::Exchange;
+use crate::init::Init;
 use crate::matches::{behind, optional};
 use crate::migrate::Migrate;
 use crate::parser::parser;
@@ -24,6 +25,8 @@ use std::convert::AsStr;
 pub enum Command<'a> {
     /// Lodge the file into an empty register, and print what becomes of it.
     Check(Source<'a>),
+    /// Set up a register in a file.
+    Init(Init<'a>),
     /// Answer the requests in files.
     Exchange(Exchange<'a>),
     /// Answer requests over HTTP.
@@ -70,10 +73,13 @@ impl<'a> Command<'a> {
         if let Some(found) = behind(matches, "report") {
             return Ok(Command::Report(Report::read(alloc, found)?));
         }
+        if let Some(found) = behind(matches, "init") {
+            return Ok(Command::Init(Init::read(alloc, found)?));
+        }
         if let Some(found) = behind(matches, "migrate") {
             return Ok(Command::Migrate(Migrate::read(found)));
         }
-        Ok(Command::Check(Source::of(file_named(matches))))
+        Ok(Command::Check(Source::of(name_given(matches))))
     }
 }
 
@@ -87,9 +93,9 @@ fn parsed<'a, S: AsStr>(alloc: Global, words: &'a [S]) -> Result<ArgMatches<'a>,
     parser(alloc)?.try_get_matches_from(words)
 }
 
-// The file that is named behind check.
-fn file_named<'a>(matches: &ArgMatches<'a>) -> Option<&'a str>
-    ensures { option_map (λ name. name.now) result ≡ file_at (subcommand_rows_of matches.now) }
+// What is named behind check.
+fn name_given<'a>(matches: &ArgMatches<'a>) -> Option<&'a str>
+    ensures { option_map (λ name. name.now) result ≡ name_at (subcommand_rows_of matches.now) }
 {
     optional(behind(matches, "check")?, "FILE")
 }

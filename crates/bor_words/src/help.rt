@@ -1,12 +1,50 @@
 //! The help.
 
-/// What is printed where help is asked for: what clap tells of the program, and of each command.
-pub const HELP: &str = "A register of beneficial ownership
+ghost use Rattle.std.specs.Prelude.{◌≡◌, map, option_map};
+ghost use Rattle.bor_words.specs.Help.{help_for, page_of, topic_of, word_at};
+
+use std::convert::AsStr;
+
+// Of pages with names, the one of a name; of the program, all of them.
+macro_rules! page {
+    (program, program $program:literal $($name:ident $page:literal)*) => {
+        concat!($program $(, "\n", $page)*)
+    };
+    (check, check $page:literal $($rest:tt)*) => {
+        $page
+    };
+    (init, init $page:literal $($rest:tt)*) => {
+        $page
+    };
+    (exchange, exchange $page:literal $($rest:tt)*) => {
+        $page
+    };
+    (serve, serve $page:literal $($rest:tt)*) => {
+        $page
+    };
+    (report, report $page:literal $($rest:tt)*) => {
+        $page
+    };
+    (migrate, migrate $page:literal $($rest:tt)*) => {
+        $page
+    };
+    ($of:ident, $other:ident $page:literal $($rest:tt)*) => {
+        page!($of, $($rest)*)
+    };
+}
+
+// What clap tells of the program, and of each command.
+macro_rules! help {
+    ($of:ident) => {
+        page!(
+            $of,
+            program "A register of beneficial ownership
 
 Usage: bor [COMMAND]
 
 Commands:
   check     Checks a BODS file, and prints what a register would make of it
+  init      Sets up a new register in a file that has none
   exchange  Answers HTTP requests in files, one after the other, and prints the replies
   serve     Answers HTTP requests on 127.0.0.1, one after the other
   report    Prints which persons hold an entity, directly or through a chain, as an agent sees it
@@ -17,21 +55,35 @@ Options:
   -h, --help  Print help
 
 Without a command, standard input is checked. The pages of the commands:
-
-Checks a BODS file, and prints what a register would make of it
+"
+            check "Checks a BODS file, and prints what a register would make of it
 
 Usage: bor check [FILE]
 
 Arguments:
-  [FILE]  The file; without it, standard input is read
+  [FILE]  The file; without it, or for -, standard input is read
 
 Options:
   -h, --help  Print help
 
 Example:
   bor check filing.json
+"
+            init "Sets up a new register in a file that has none
 
-Answers HTTP requests in files, one after the other, and prints the replies
+Usage: bor init [OPTIONS] --db <PATH> --day <DAY>
+
+Options:
+      --db <PATH>              The register's file, which is made where there is none
+      --registrar <TOKEN>      The registrar's token: 16 to 64 visible ASCII characters
+      --registrar-file <FILE>  The file whose first line is that token, in place of --registrar
+      --day <DAY>              The register's day: a day, YYYY-MM-DD
+  -h, --help                   Print help
+
+Example:
+  bor init --db register.db --registrar-file token --day 2024-02-01
+"
+            exchange "Answers HTTP requests in files, one after the other, and prints the replies
 
 Usage: bor exchange [OPTIONS] --day <DAY> <FILE>...
 
@@ -47,8 +99,8 @@ Options:
 
 Example:
   bor exchange --db register.db --registrar registrar-token-0001 --day 2024-02-01 enrol.http lodge.http
-
-Answers HTTP requests on 127.0.0.1, one after the other
+"
+            serve "Answers HTTP requests on 127.0.0.1, one after the other
 
 Usage: bor serve [OPTIONS] --db <PATH> --port <PORT> --connections <COUNT>
 
@@ -62,8 +114,8 @@ Options:
 
 Example:
   bor serve --db register.db --port 8080 --connections 1000
-
-Prints which persons hold an entity, directly or through a chain, as an agent sees it
+"
+            report "Prints which persons hold an entity, directly or through a chain, as an agent sees it
 
 Usage: bor report [OPTIONS] --db <PATH> --viewer <AGENT> --agent <AGENT> --declaration <IDENT> --record <IDENT>
 
@@ -78,8 +130,8 @@ Options:
 
 Example:
   bor report --db register.db --viewer alder --agent alder --declaration c1 --record e1
-
-Moves a register of version 1 to version 2, in which an interest counts within its dates
+"
+            migrate "Moves a register of version 1 to version 2, in which an interest counts within its dates
 
 Usage: bor migrate --db <PATH>
 
@@ -89,4 +141,73 @@ Options:
 
 Example:
   bor migrate --db register.db
-";
+"
+        )
+    };
+}
+
+/// All of the help: what clap tells of the program, and then of each command.
+pub const HELP: &str = help!(program);
+
+/// The page of `bor check`.
+pub const CHECK_HELP: &str = help!(check);
+
+/// The page of `bor init`.
+pub const INIT_HELP: &str = help!(init);
+
+/// The page of `bor exchange`.
+pub const EXCHANGE_HELP: &str = help!(exchange);
+
+/// The page of `bor serve`.
+pub const SERVE_HELP: &str = help!(serve);
+
+/// The page of `bor report`.
+pub const REPORT_HELP: &str = help!(report);
+
+/// The page of `bor migrate`.
+pub const MIGRATE_HELP: &str = help!(migrate);
+
+/// What is printed where these words ask for help: the page of the command that the first of them
+/// names, or the one behind `help`; all of the help where that is none.
+pub fn help_for<S: AsStr>(words: &[S]) -> &'static str
+    ensures { result.now ≡ help_for (map S.text words.now) }
+{
+    page_of(topic_of(words)).unwrap_or(HELP)
+}
+
+// What help is asked on.
+fn topic_of<S: AsStr>(words: &[S]) -> &str
+    ensures { result.now ≡ topic_of (map S.text words.now) }
+{
+    let first = word_at(words, 0);
+    if first == "help" {
+        word_at(words, 1)
+    } else {
+        first
+    }
+}
+
+// The word in this place; nothing where there are fewer.
+fn word_at<S: AsStr>(words: &[S], place: usize) -> &str
+    ensures { result.now ≡ word_at (map S.text words.now) place }
+{
+    match words.get(place) {
+        Some(word) => word.as_str(),
+        None => "",
+    }
+}
+
+// The page of the command of this name, if there is one.
+fn page_of(topic: &str) -> Option<&'static str>
+    ensures { option_map (λ page. page.now) result ≡ page_of topic.now }
+{
+    match topic {
+        "check" => Some(CHECK_HELP),
+        "init" => Some(INIT_HELP),
+        "exchange" => Some(EXCHANGE_HELP),
+        "serve" => Some(SERVE_HELP),
+        "report" => Some(REPORT_HELP),
+        "migrate" => Some(MIGRATE_HELP),
+        _ => None,
+    }
+}

@@ -15,6 +15,7 @@
 mod command;
 mod exchange;
 mod help;
+mod init;
 mod matches;
 mod migrate;
 mod numbers;
@@ -28,7 +29,10 @@ mod values;
 
 pub use command::Command;
 pub use exchange::Exchange;
-pub use help::HELP;
+pub use help::{
+    CHECK_HELP, EXCHANGE_HELP, HELP, INIT_HELP, MIGRATE_HELP, REPORT_HELP, SERVE_HELP, help_for,
+};
+pub use init::Init;
 pub use migrate::Migrate;
 pub use registrar::RegistrarSource;
 pub use report::Report;

@@ -3,10 +3,13 @@
 ghost use Rattle.std.specs.Prelude.{◌≡◌, IfOk, false};
 ghost use Rattle.clap.specs.Words.{app_of, rule_of};
 ghost use Rattle.clap.specs.declared.builder.command.Command.TheViews.{out-Command as fields_of};
-ghost use Rattle.bor_words.specs.Words.{bor_app, check_app, exchange_app, files_rule, flag_rule, migrate_app, option_rule, report_app, required_rule, serve_app};
+ghost use Rattle.bor_words.specs.Words.{bor_app, check_app, exchange_app, files_rule, flag_rule, init_app, migrate_app, option_rule, report_app, required_rule, serve_app};
 
 use clap::{Arg, ArgAction, Command as Parser};
 use std::alloc::{AllocError, Global};
+
+const INIT_EXAMPLE: &str = "Example:
+  bor init --db register.db --registrar-file token --day 2024-02-01";
 
 const EXCHANGE_EXAMPLE: &str = "Example:
   bor exchange --db register.db --registrar registrar-token-0001 --day 2024-02-01 enrol.http lodge.http";
@@ -72,11 +75,41 @@ fn check<'a>(alloc: Global) -> Result<Parser<'a>, AllocError>
     ensures app { IfOk result (λ parser. app_of parser ≡ check_app) }
     ensures local { IfOk result (λ parser. (fields_of parser).has_globals ≡ false) }
 {
-    let file = Arg::new(alloc, "FILE").help("The file; without it, standard input is read");
+    let file = Arg::new(alloc, "FILE").help(
+        "The file; without it, or for -, standard input is read",
+    );
     Parser::new(alloc, "check")
         .about("Checks a BODS file, and prints what a register would make of it")
         .after_help(CHECK_EXAMPLE)
         .arg(file)
+}
+
+fn init<'a>(alloc: Global) -> Result<Parser<'a>, AllocError>
+    ensures app { IfOk result (λ parser. app_of parser ≡ init_app) }
+    ensures local { IfOk result (λ parser. (fields_of parser).has_globals ≡ false) }
+{
+    Parser::new(alloc, "init")
+        .about("Sets up a new register in a file that has none")
+        .after_help(INIT_EXAMPLE)
+        .arg(required(
+            alloc,
+            "db",
+            "PATH",
+            "The register's file, which is made where there is none",
+        ))?
+        .arg(option(
+            alloc,
+            "registrar",
+            "TOKEN",
+            "The registrar's token: 16 to 64 visible ASCII characters",
+        ))?
+        .arg(option(
+            alloc,
+            "registrar-file",
+            "FILE",
+            "The file whose first line is that token, in place of --registrar",
+        ))?
+        .arg(required(alloc, "day", "DAY", "The register's day: a day, YYYY-MM-DD"))
 }
 
 fn exchange<'a>(alloc: Global) -> Result<Parser<'a>, AllocError>
@@ -205,6 +238,7 @@ pub fn parser<'a>(alloc: Global) -> Result<Parser<'a>, AllocError>
         .about("A register of beneficial ownership")
         .after_help("Without a command, standard input is checked. The pages of the commands:")
         .subcommand(check(alloc)?)?
+        .subcommand(init(alloc)?)?
         .subcommand(exchange(alloc)?)?
         .subcommand(serve(alloc)?)?
         .subcommand(report(alloc)?)?

@@ -35,7 +35,7 @@ impl<'a> RegistrarSource<'a> {
             optional(found, "registrar"),
             optional(found, "registrar-file"),
         ) {
-            (Some(_), None) => Ok(RegistrarSource::Token(token(alloc, found, "registrar")?)),
+            (Some(text), None) => Ok(RegistrarSource::Token(token(alloc, text)?)),
             (None, Some(name)) => Ok(RegistrarSource::File(name)),
             (None, None) => Err(Unread::NoRegistrar),
             (Some(_), Some(_)) => Err(Unread::TwoRegistrars),

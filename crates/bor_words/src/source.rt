@@ -1,7 +1,8 @@
 //! Where a file is read.
 
-ghost use Rattle.std.specs.Prelude.{◌≡◌, codes, option_map};
+ghost use Rattle.std.specs.Prelude.{◌≡◌, codes, option_and_then, option_map};
 ghost use Rattle.bor_words.specs.Asked.{name_of, source_text};
+ghost use Rattle.bor_words.specs.Words.{file_named};
 
 /// Where a file's bytes are read.
 #[derive(Clone, Copy, Debug, PartialEq, Eq)]
@@ -22,13 +23,14 @@ impl<'a> Source<'a> {
         }
     }
 
-    /// The file of this name, if one is named.
-    pub(crate) fn of(file: Option<&'a str>) -> Self
-        ensures { name_of result ≡ option_map (λ name. name.now) file.entry }
+    /// The file of this name, if one is named. A hyphen names standard input.
+    pub(crate) fn of(name: Option<&'a str>) -> Self
+        ensures { name_of result
+            ≡ option_and_then file_named (option_map (λ text. text.now) name.entry) }
     {
-        match file {
+        match name {
+            Some("-") | None => Source::StandardInput,
             Some(name) => Source::File(name),
-            None => Source::StandardInput,
         }
     }
 }

@@ -15,6 +15,8 @@ pub enum Unread<'a> {
     Answered(Error),
     /// A value doesn't fit its word.
     Unfit(Unfit<'a>),
+    /// The registrar's token is none. It may be a secret all the same, so it isn't kept here.
+    UnfitToken,
     /// The registrar's token is told neither by itself nor by a file.
     NoRegistrar,
     /// It is told by both.
@@ -33,15 +35,15 @@ pub struct Unfit<'a> {
 }
 
 impl Unread<'_> {
-    /// What went wrong, or what was asked for. A value that doesn't fit is `ValueValidation`, a
-    /// token that isn't told `MissingRequiredArgument`, and one that is told twice
-    /// `ArgumentConflict`.
+    /// What went wrong, or what was asked for. A value that doesn't fit, a token's too, is
+    /// `ValueValidation`, a token that isn't told `MissingRequiredArgument`, and one that is told
+    /// twice `ArgumentConflict`.
     pub fn kind(&self) -> ErrorKind
         ensures { result ≡ kind_of_answer self.now }
     {
         match self {
             Unread::Answered(error) => error.kind(),
-            Unread::Unfit(_) => ErrorKind::ValueValidation,
+            Unread::Unfit(_) | Unread::UnfitToken => ErrorKind::ValueValidation,
             Unread::NoRegistrar => ErrorKind::MissingRequiredArgument,
             Unread::TwoRegistrars => ErrorKind::ArgumentConflict,
         }
@@ -65,6 +67,10 @@ impl fmt::Display for Unread<'_> {
         match self {
             Unread::Answered(error) => write!(f, "{error}"),
             Unread::Unfit(unfit) => write!(f, "{unfit}"),
+            Unread::UnfitToken => writeln!(
+                f,
+                "error: invalid value for '--registrar': it has to be a token, 16 to 64 visible ASCII characters"
+            ),
             Unread::NoRegistrar => writeln!(
                 f,
                 "error: one of '--registrar <TOKEN>' and '--registrar-file <FILE>' has to be given"

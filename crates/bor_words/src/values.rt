@@ -6,7 +6,7 @@ ghost use Rattle.bor_terms.specs.Day.{day_of};
 ghost use Rattle.clap.specs.Words.{first_of, found_of, rows_of};
 ghost use Rattle.bor_words.specs.Words.{given};
 ghost use Rattle.bor_words.specs.Values.{connections_of, is_date, memory_of, port_of};
-ghost use Rattle.bor_words.specs.Unread.{IsUnfitAt};
+ghost use Rattle.bor_words.specs.Unread.{IsUnfitAt, IsUnfitToken};
 
 use crate::matches::{given, optional};
 use crate::numbers::number_within;
@@ -14,8 +14,6 @@ use crate::unread::{Unfit, Unread};
 use bor_terms::{AgentName, Day, Ident, Token};
 use clap::ArgMatches;
 use std::alloc::Global;
-
-const A_TOKEN: &str = "a token, 16 to 64 visible ASCII characters";
 
 const A_DAY: &str = "a day, YYYY-MM-DD";
 
@@ -40,22 +38,15 @@ fn unfit<'a>(word: &'static str, value: &'a str, fitting: &'static str) -> Unrea
     })
 }
 
-/// The token that was given for this word.
-pub fn token<'a>(
-    alloc: Global,
-    found: &ArgMatches<'a>,
-    word: &'static str,
-) -> Result<Token, Unread<'a>>
-    ensures value { IfOk result (λ read. read ≡ given word.now (rows_of (found_of found.now))) }
-    ensures fits { OnOk result (is_token (given word.now (rows_of (found_of found.now))) ≡ true) }
-    ensures err { IfErr result
-        (IsUnfitAt word.now (given word.now (rows_of (found_of found.now)))
-        (is_token (given word.now (rows_of (found_of found.now))))) }
+/// The registrar's token that was given.
+pub fn token<'a>(alloc: Global, text: &str) -> Result<Token, Unread<'a>>
+    ensures value { IfOk result (λ read. read ≡ text.now) }
+    ensures fits { OnOk result (is_token text.now ≡ true) }
+    ensures err { IfErr result (IsUnfitToken text.now) }
 {
-    let text = given(found, word);
     match Token::read(alloc, text)? {
         Some(token) => Ok(token),
-        None => Err(unfit(word, text, A_TOKEN)),
+        None => Err(Unread::UnfitToken),
     }
 }
 

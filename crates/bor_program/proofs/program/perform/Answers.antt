@@ -16,6 +16,9 @@ returns-in-Check-clause-done g c = rw c.in-Check.is (
   },
 )
 
+pub returns-in-Init-clause-done : goal.returns-in-Init-clause-done
+returns-in-Init-clause-done g c = rw c.in-Init.is (keeps_same _, c.init.ensures.done)
+
 pub returns-in-Exchange-clause-done : goal.returns-in-Exchange-clause-done
 returns-in-Exchange-clause-done g c = rw c.in-Exchange.is (keeps_same _, c.exchange.ensures.done)
 

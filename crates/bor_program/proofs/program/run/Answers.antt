@@ -1,6 +1,7 @@
 use Rattle.std.proofs.Common.{rules, ◌∙◌, ◌≤◌, ℕ, ap, arith, inl, inr, map, refl, subst, sym, []}
 use Rattle.bor_words.specs.Words.{entered_by}
 use Rattle.bor_program.specs.Program.{exit_code}
+use Rattle.bor_program.specs.Streams.{AppendsPart}
 use Rattle.bor_program.proofs.Ends.{cut_unwritten, kept_as, memory_is_no_help, part_as, whatever}
 use Rattle.bor_program.proofs.KnownBytes.{took_none}
 use Rattle.bor_program.proofs.KnownWords.{done_of, failed_of, help_asked, met_by_check, met_by_words, only_memory, refused_of, told_as, usage_of, usage_or_failed, wrong_words}
@@ -125,7 +126,7 @@ returns-clause-help g c unasked =
       | in-Ok w ↦
           absurd (unasked w.in-Ok.ensures.ok)
       | in-Err w ↦
-          part_as _ _ _ _ (ap g.O.Write.contents w.output-is) w.answer-status.ensures.help
+          part_as _ _ _ _ (ap g.O.Write.contents w.output-is) (subst (AppendsPart _ _) w.help_for.ensures w.answer-status.ensures.help)
     ]
 
 pub returns-clause-refused : goal.returns-clause-refused

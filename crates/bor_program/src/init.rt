@@ -1,0 +1,75 @@
+//! `bor init`.
+
+ghost use Rattle.std.specs.Prelude.{◌≡◌, ◌≤◌};
+ghost use Rattle.bor_program.specs.Performing.{EndsSettingUp, Inits, InitsOnceTold};
+ghost use Rattle.bor_program.specs.Program.{exit_code};
+
+use crate::failure::Failure;
+use crate::host::{NamedFiles, Opened, Origin, Registers, Stage};
+use crate::output::Output;
+use crate::registrar::token_told;
+use crate::status::Status;
+use bor_terms::{Day, Token};
+use bor_words::Init;
+use std::alloc::Global;
+use std::io::Write;
+
+/// Does what `bor init` is asked to do, once the registrar's token is known; where it isn't, that is
+/// told.
+pub fn init<R: NamedFiles + AllocGlobal, H: Registers, O: Output, E: Write>(
+    rt: &R,
+    host: &mut H,
+    asked: Init<'_>,
+    output: &mut O,
+    errors: &mut E,
+) -> Status
+    ensures done { InitsOnceTold H.Register.shows H.Register.is_clean H.does host.old host.new
+        asked.entry (O.contents output.old) (O.contents output.new) (E.contents errors.old)
+        (E.contents errors.new) (exit_code result) }
+    ensures flushed { exit_code result ≤ 1 → O.is_flushed output.new }
+{
+    let Init { db, registrar, day } = asked;
+    match token_told(rt, registrar) {
+        Ok(registrar) => init_told(host, db, &registrar, day, output, errors),
+        Err(failure) => failure.tell(errors),
+    }
+}
+
+// Sets up a register of this day and registrar in the file of this name, where it has none, and
+// closes it. What is still to be printed is handed on first, so that what is done ends as done.
+fn init_told<H: Registers, O: Output, E: Write>(
+    host: &mut H,
+    path: &str,
+    registrar: &Token,
+    day: Day,
+    output: &mut O,
+    errors: &mut E,
+) -> Status
+    ensures done { Inits H.Register.shows H.Register.is_clean H.does host.old host.new path.entry
+        registrar.now day (O.contents output.old) (O.contents output.new) (E.contents errors.old)
+        (E.contents errors.new) (exit_code result) }
+    ensures flushed { exit_code result ≤ 1 → O.is_flushed output.new }
+{
+    if let Err(_) = output.hand_on() {
+        return Failure::Unwritable.tell(errors);
+    }
+    host.reach(Stage::Opening(path));
+    match host.open_or_set_up(path, registrar, day) {
+        Ok(Opened { register, origin }) => {
+            host.close(path, register);
+            tell_of(path, origin, errors)
+        }
+        Err(failure) => failure.tell(errors),
+    }
+}
+
+// How it ends where a register came to be open like this; tells of one that was there.
+fn tell_of<E: Write>(path: &str, origin: Origin, errors: &mut E) -> Status
+    ensures { EndsSettingUp path.entry origin (E.contents errors.old) (E.contents errors.new)
+        (exit_code result) }
+{
+    match origin {
+        Origin::Found => Failure::Registered(path).tell(errors),
+        Origin::New | Origin::Beside => Status::Done,
+    }
+}
