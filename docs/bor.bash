@@ -3,13 +3,15 @@ _bor() {
     local current=${COMP_WORDS[COMP_CWORD]} before='' command='' words='' paths='' values='' files=0
     COMPREPLY=()
     if ((COMP_CWORD == 1)); then
-        mapfile -t COMPREPLY < <(compgen -W 'check exchange serve report migrate help --help' -- "$current")
+        mapfile -t COMPREPLY < <(compgen -W 'check init exchange serve report migrate help --help' -- "$current")
         return
     fi
     before=${COMP_WORDS[COMP_CWORD - 1]} command=${COMP_WORDS[1]}
     case $command in
         check)
             words='--help' paths='' values='' files=1 ;;
+        init)
+            words='--db --registrar --registrar-file --day --help' paths='--db --registrar-file' values='--registrar --day' files=0 ;;
         exchange)
             words='--db --registrar --registrar-file --day --help' paths='--db --registrar-file' values='--registrar --day' files=1 ;;
         serve)
@@ -19,7 +21,7 @@ _bor() {
         migrate)
             words='--db --help' paths='--db' values='' files=0 ;;
         help)
-            ((COMP_CWORD > 2)) || words='check exchange serve report migrate help' ;;
+            ((COMP_CWORD > 2)) || words='check init exchange serve report migrate help' ;;
     esac
     case " $values " in *" $before "*) return ;; esac
     case " $paths " in

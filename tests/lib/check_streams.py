@@ -11,37 +11,12 @@ from lib.replies import reply_of
 
 LISTED = "filing 1 published\n1\tentity\tnew\tc1\te1\n2\tperson\tnew\tc1\tp1\n3\trelationship\tnew\tc1\tr1\n"
 TAKEN = (ENROLMENT, "409 NameTaken")
-HELP = [["--help"], ["help"], ["-h"], ["check", "-h"], ["exchange", "--help"], ["help", "check"], ["serve", "-h"]]
-HELP += [["migrate", "--help"]]
-# The commands with their words, as they are asked for.
-COMMANDS = {
-    "check": ["[FILE]"],
-    "exchange": ["--db <PATH>", "--registrar <TOKEN>", "--day <DAY>", "<FILE>..."],
-    "serve": ["--db <PATH>", "--port <PORT>", "--connections <COUNT>"],
-    "report": ["--viewer <AGENT>", "--agent <AGENT>", "--declaration <IDENT>", "--record <IDENT>", "--date <DAY>"],
-    "migrate": ["--db <PATH>", "version 1 to version 2"],
-}
 
 
 def piped(bor, folder, words, **streams):
     """A run whose streams are given."""
     streams = {"stdin": subprocess.DEVNULL, "stdout": subprocess.PIPE, "stderr": subprocess.PIPE, **streams}
     return Ended(subprocess.run([bor.path, *words], cwd=folder, timeout=SECONDS, **streams))
-
-
-@check
-def help_is_told(bor, folder):
-    """help is printed where it is asked for, and names each command and its words"""
-    pages = set()
-    for words in HELP:
-        ran = bor.run(words, folder)
-        is_so((ran.status, ran.errors) == (0, b""), f"{words}: {ran.told()}")
-        pages.add(ran.output)
-    is_so(len(pages) == 1, "the help is not the same each way")
-    page = pages.pop().decode()
-    for command, words in COMMANDS.items():
-        missing = [word for word in [f"bor {command}", *words] if word not in page]
-        is_so(not missing, f"the help on {command} does not name {missing}")
 
 
 @check
