@@ -8,7 +8,7 @@ use crate::streams::{Drip, Gate};
 use bor_desk::operations::StoreFault;
 use bor_program::{Failure, OpenRegister, Status, exchange_on, report_on, run};
 use bor_wire::UNAVAILABLE;
-use bor_words::{Command, HELP, Report, Unread};
+use bor_words::{CHECK_HELP, Command, HELP, Report, Unread, help_for};
 use std::alloc::Global;
 use std::io::ErrorKind;
 use std::process::Abort;
@@ -40,6 +40,16 @@ const SERVE: [&str; 7] = [
 ];
 
 const MIGRATE: [&str; 3] = ["migrate", "--db", "a.db"];
+
+const INIT: [&str; 7] = [
+    "init",
+    "--db",
+    "a.db",
+    "--registrar",
+    "registrar-token-0001",
+    "--day",
+    "2024-02-01",
+];
 
 const EXCHANGE: [&str; 8] = [
     "exchange",
@@ -85,9 +95,10 @@ fn fails_untold<R: Files + Clock + AllocGlobal + Abort>(
 // Words and the text that is printed, of which the output takes nothing or nine bytes, or hands nothing on.
 #[test]
 fn an_output_that_fails_is_not_told(rt: HostRuntime) {
-    let cases: [(&[&str], &str); 5] = [
+    let cases: [(&[&str], &str); 6] = [
         (&[], "refused NoStatements\n"),
         (&["--help"], HELP),
+        (&["help", "check"], CHECK_HELP),
         (&REPORT, "refused NoEntity\n"),
         (&SERVE, "listening 127.0.0.1:80\n"),
         (&MIGRATE, "version 2\n"),
@@ -102,6 +113,14 @@ fn an_output_that_fails_is_not_told(rt: HostRuntime) {
         output.flushes = false;
         fails_untold(&rt, words, output, text);
     }
+}
+
+// A register isn't set up where an output hands nothing on.
+#[test]
+fn an_output_that_hands_nothing_on_is_not_told(rt: HostRuntime) {
+    let mut output = Gate::open(rt.alloc());
+    output.flushes = false;
+    fails_untold(&rt, &INIT, output, b"");
 }
 
 // A run on these words ends as failed, prints nothing, and tells this line alone, of which standard error
@@ -138,7 +157,7 @@ fn an_input_that_breaks_off_is_told(rt: HostRuntime) {
 
 #[test]
 fn a_register_for_which_there_is_no_memory_is_told(rt: HostRuntime) {
-    let cases: [&[&str]; 4] = [&REPORT, &SERVE, &MIGRATE, &EXCHANGE];
+    let cases: [&[&str]; 5] = [&REPORT, &SERVE, &MIGRATE, &EXCHANGE, &INIT];
     for words in cases {
         let input = Drip::new(b"", 1);
         fails_by_line(&rt, true, words, input, (100, b"bor: out of memory\n"));
@@ -248,28 +267,41 @@ fn a_report_of_a_store_that_fails_prints_nothing(rt: HostRuntime) {
     }
 }
 
-// Whether clap answers these words by a page that the help has.
-fn is_in_help(rt: &impl Abort, alloc: Global, words: &[&str]) -> bool {
-    let Err(unread) = Command::read(alloc, words) else {
-        return false;
-    };
-    let page = format!(in alloc; "{unread}").expect(rt, "memory");
-    matches!(unread, Unread::Answered(_)) && HELP.contains(page.as_str())
+// The page by which clap answers these words.
+fn page_of(rt: &impl Abort, alloc: Global, words: &[&str]) -> String {
+    match Command::read(alloc, words) {
+        Err(unread @ Unread::Answered(_)) => format!(in alloc; "{unread}").expect(rt, "memory"),
+        _ => panic!(rt; "no page"),
+    }
 }
 
-// The pages that clap tells of each command.
+// The help on a command is the page that clap tells of it.
 #[test]
-fn the_help_has_the_pages_of_its_commands(rt: HostRuntime) {
-    let cases: [&[&str]; 6] = [
-        &["help"],
+fn the_help_on_a_command_is_its_page(rt: HostRuntime) {
+    let cases: [&[&str]; 7] = [
         &["help", "check"],
+        &["init", "--help"],
         &["exchange", "--help"],
         &["serve", "-h"],
-        &["report", "--help"],
+        &["report", "--db", "a.db", "--help"],
         &["migrate", "--help"],
+        &["help", "exchange"],
     ];
     for (place, words) in cases.iter().enumerate() {
-        let is_there = is_in_help(&rt, rt.alloc(), words);
-        holds_at(&rt, "a page", place, is_there);
+        let page = page_of(&rt, rt.alloc(), words);
+        holds_at(&rt, "a page", place, help_for(words) == page.as_str());
+        holds_at(&rt, "in the help", place, HELP.contains(page.as_str()));
+    }
+}
+
+// All of the help begins with the page that clap tells of the program.
+#[test]
+fn the_help_begins_with_the_commands(rt: HostRuntime) {
+    let cases: [&[&str]; 3] = [&["help"], &["--help"], &["-h", "check"]];
+    for (place, words) in cases.iter().enumerate() {
+        let page = page_of(&rt, rt.alloc(), words);
+        let help = help_for(words);
+        holds_at(&rt, "the front", place, help.starts_with(page.as_str()));
+        holds_at(&rt, "the whole", place, help == HELP);
     }
 }
