@@ -12,8 +12,8 @@ use std::alloc::{AllocError, Global};
 use std::io;
 use std::io::{ErrorKind, Read};
 
-/// The most bytes that are read, or dropped, at once.
-pub(crate) const PART: usize = 16_384;
+// The most bytes that are read at once.
+const PART: usize = 16_384;
 
 // The first room for a request, in which most heads fit.
 const FIRST_ROOM: usize = 960;
@@ -120,7 +120,8 @@ fn make_room(received: &mut Vec<u8>, wanted: usize) -> Result<usize, AllocError>
     Ok((received.capacity() - len).min(wanted).min(PART))
 }
 
-// Reads once, at most as many bytes as there is room for.
+// Reads once, at most as many bytes as there is room for. A part is cleared before it is read into,
+// so what fits into the first room is read into a small one.
 fn receive<S: Read>(stream: &mut S, received: &mut Vec<u8>, room: usize) -> io::Result<usize>
     requires some { 0 < room }
     requires within { room ≤ 16384 }
@@ -131,8 +132,30 @@ fn receive<S: Read>(stream: &mut S, received: &mut Vec<u8>, room: usize) -> io::
         (λ _. Keeps (S.remaining stream.old) (S.remaining stream.new)
         × (received.new.items ≡ received.old.items)) }
 {
+    if room <= FIRST_ROOM {
+        let mut part = [0; FIRST_ROOM];
+        return receive_into(stream, received, &mut part[..room]);
+    }
     let mut part = [0; PART];
-    let count = stream.read(&mut part[..room])?;
+    receive_into(stream, received, &mut part[..room])
+}
+
+// Reads once into the part, and adds what came to the bytes that were received.
+fn receive_into<S: Read>(
+    stream: &mut S,
+    received: &mut Vec<u8>,
+    part: &mut [u8],
+) -> io::Result<usize>
+    requires some { 0 < length part.old }
+    requires within { length part.old ≤ 16384 }
+    requires room { vec_len received.old + length part.old ≤ vec_capacity received.old }
+    ensures { MatchResult result
+        (λ n. Received (S.remaining stream.old)
+        (S.remaining stream.new) received.old.items received.new.items (length part.old) n)
+        (λ _. Keeps (S.remaining stream.old) (S.remaining stream.new)
+        × (received.new.items ≡ received.old.items)) }
+{
+    let count = stream.read(part)?;
     if received.extend_from_slice(&part[..count]).is_err() {
         unreachable!();
     }

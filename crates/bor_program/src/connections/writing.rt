@@ -9,7 +9,7 @@ ghost use Rattle.bor_program.specs.Connections.Streams.{Came, Drops, IsDraining,
 ghost use Rattle.bor_program.specs.Connections.Times.{IsSlow, begun, seen};
 
 use crate::connections::limits::Limits;
-use crate::connections::reading::{PART, Reading, is_blocked};
+use crate::connections::reading::{Reading, is_blocked};
 use crate::connections::taking::Taking;
 use bor_wire::Outgoing;
 use std::io::{Read, Write};
@@ -157,6 +157,9 @@ fn may_be_unread(status: u16) -> bool {
 // How many bytes are read behind a reply, and dropped.
 const REST: usize = 16_777_216;
 
+// How many of them at once. Most clients send none, and a part is cleared before it is read into.
+const DROPPED: usize = 1_024;
+
 /// A client that was handed its reply, and may still be sending: how much of that is read, and
 /// whether it is waited for.
 #[derive(Drop)]
@@ -196,8 +199,8 @@ impl<S: Read + Write> Draining<S> {
         ensures dropped { Drops (S.remaining self.old.stream)
             (S.remaining self.new.stream) self.old.left self.new.left }
     {
-        let mut part = [0; PART];
-        let room = self.left.min(PART);
+        let mut part = [0; DROPPED];
+        let room = self.left.min(DROPPED);
         match self.stream.read(&mut part[..room]) {
             Ok(0) => Drained::Over,
             Ok(count) => {
