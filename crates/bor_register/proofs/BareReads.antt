@@ -4,14 +4,15 @@ use Rattle.std.specs.Prelude.{if◌then◌else◌, ◌||◌}
 use Rattle.bor_terms.specs.Texts.{is_same}
 use Rattle.bor_records.specs.Admission.{last_of}
 use Rattle.bor_records.specs.Settling.{has_id}
+use Rattle.bor_records.specs.declared.links.node.Node.{Node}
 use Rattle.bor_records.specs.Links.Rows.{shown_of}
+use Rattle.bor_records.specs.Links.Series.{open_at}
 use Rattle.bor_register.specs.Live.{live_of}
 use Rattle.bor_register.specs.Publication.{line_of, published}
 use Rattle.bor_register.specs.Register.{Register, agent_with, caller_of, filing_keyed, filings_of, is_enrolled}
-use Rattle.bor_register.specs.Rows.{rows_of}
+use Rattle.bor_register.specs.Rows.{rows_of, visible}
 use Rattle.bor_register.specs.Seen.{seen_at}
 use Rattle.bor_register.specs.Withdrawal.{has_successor}
-use Rattle.bor_register.specs.declared.caller.Caller.{Caller}
 use Rattle.bor_register.specs.declared.caller.Caller.TheVariants.{Registrar, Agent}
 use Rattle.bor_register.specs.declared.filing.AcceptedFiling.{AcceptedFiling}
 use Rattle.bor_register.specs.declared.member.Member.{Member}
@@ -71,8 +72,14 @@ successor_is agent number ms = ap (has_successor number) (filings_of-bare agent 
 pub rows_are : (viewer : List ℕ) (day : ℤ) (agent declaration : List ℕ) (ms : List Member) → rows_of viewer day agent declaration (filings_of agent (without_files ms)) ≡ rows_of viewer day agent declaration (filings_of agent ms)
 rows_are viewer day agent declaration ms = ap (rows_of viewer day agent declaration) (filings_of-bare agent ms) ∙ rows_of-bare viewer day agent declaration (filings_of agent ms)
 
+pub visible_are : (viewer : List ℕ) (r : Register) → visible viewer r.day (without_files r.members) ≡ visible viewer r.day r.members
+visible_are viewer r = visible-bare viewer r.day r.members
+
+pub open_row_is : (viewer : List ℕ) (day : ℤ) (n : Node) (r : Register) → open_at day n (visible viewer r.day (without_files r.members)) ≡ open_at day n (visible viewer r.day r.members)
+open_row_is viewer day n r = ap (open_at day n) (visible_are viewer r)
+
 pub seen_is : (viewer : List ℕ) (day : ℤ) (r : Register) → seen_at viewer day (bare_register r) ≡ seen_at viewer day r
-seen_is viewer day r = ap (shown_of day) (visible-bare viewer r.day r.members)
+seen_is viewer day r = ap (shown_of day) (visible_are viewer r)
 
 pub published_are : (r : Register) → published r.day (without_files r.members) ≡ published r.day r.members
 published_are r = published-bare r.day r.members

@@ -43,6 +43,6 @@ pub use member::{
     Member, caller_with, enrol_member, is_enrolled, own_filings, push_filing, withdraw_of,
 };
 pub use publication::all_published;
-pub use rows::{all_visible, rows_seen};
+pub use rows::{all_visible, row_of, rows_seen};
 pub use statements::known;
 pub use withdrawal::is_succeeded;

@@ -10,7 +10,8 @@ use bor_records::Row;
 use bor_terms::{AgentName, Day, Ident};
 use std::alloc::{AllocError, Global};
 
-fn row(
+/// The row of an agent's statement, which stands at this place of the filing, counted from 1.
+pub fn row_of(
     alloc: Global,
     agent: &AgentName,
     filing: u32,
@@ -52,7 +53,7 @@ fn add_rows(
 {
     for (i, statement) in filing.statements.as_slice().iter().enumerate() {
         if is_asked(declaration, statement) {
-            rows.push(row(alloc, agent, filing.number, i + 1, statement)?)?;
+            rows.push(row_of(alloc, agent, filing.number, i + 1, statement)?)?;
         }
     }
     Ok(())

@@ -172,6 +172,19 @@ impl<S: Alter + Drop, N: Notice + Drop> Keep for ServedKeep<S, N> {
         self.keep.rows_of(viewer, agent, declaration)
     }
 
+    fn visible_rows(&mut self, viewer: &AgentName) -> Result<Vec<Row>, StoreFault> {
+        self.keep.visible_rows(viewer)
+    }
+
+    fn open_row(
+        &mut self,
+        viewer: &AgentName,
+        day: Day,
+        node: &Node,
+    ) -> Result<Option<Row>, StoreFault> {
+        self.keep.open_row(viewer, day, node)
+    }
+
     fn node(
         &mut self,
         viewer: &AgentName,
@@ -179,6 +192,15 @@ impl<S: Alter + Drop, N: Notice + Drop> Keep for ServedKeep<S, N> {
         node: &Node,
     ) -> Result<Option<NodeInfo>, StoreFault> {
         self.keep.node(viewer, day, node)
+    }
+
+    fn aliases(
+        &mut self,
+        viewer: &AgentName,
+        day: Day,
+        node: &Node,
+    ) -> Result<Vec<Node>, StoreFault> {
+        self.keep.aliases(viewer, day, node)
     }
 
     fn same(&mut self, viewer: &AgentName, day: Day, node: &Node) -> Result<Vec<Node>, StoreFault> {

@@ -18,11 +18,11 @@ use bor_records::links::{Link, Node, NodeInfo};
 use bor_records::{Last, Row};
 use bor_register::keeping::Keep;
 use bor_register::{Caller, Filing, FilingLine, Outward, StoreFault};
-use bor_store_keys::{Lookup, read_links_into, read_node, read_same};
+use bor_store_keys::{Lookup, read_aliases, read_links_into, read_node, read_open_row, read_same};
 use bor_store_reads::{
     ReadError, filing_count, has_agent, has_file, has_statement, has_successor, read_day,
-    read_filing, read_filings, read_last, read_line, read_published, read_rows_of, read_who,
-    read_whole,
+    read_filing, read_filings, read_last, read_line, read_published, read_rows_of, read_visible,
+    read_who, read_whole,
 };
 use bor_store_sql::{add_agent, set_day, withdraw_filing};
 use bor_terms::{AgentName, Day, Ident, LodgeKey, Token};
@@ -188,6 +188,21 @@ impl<S: Alter + Drop> Keep for SqlKeep<S> {
         self.told(answer)
     }
 
+    fn visible_rows(&mut self, viewer: &AgentName) -> Result<Vec<Row>, StoreFault> {
+        let answer = read_visible(self.conn.connection(), self.alloc, viewer);
+        self.told(answer)
+    }
+
+    fn open_row(
+        &mut self,
+        viewer: &AgentName,
+        day: Day,
+        node: &Node,
+    ) -> Result<Option<Row>, StoreFault> {
+        let answer = read_open_row(&mut self.conn, self.alloc, viewer, day, node);
+        self.told(answer)
+    }
+
     fn node(
         &mut self,
         viewer: &AgentName,
@@ -195,6 +210,16 @@ impl<S: Alter + Drop> Keep for SqlKeep<S> {
         node: &Node,
     ) -> Result<Option<NodeInfo>, StoreFault> {
         let answer = read_node(&mut self.conn, self.alloc, viewer, day, node);
+        self.told(answer)
+    }
+
+    fn aliases(
+        &mut self,
+        viewer: &AgentName,
+        day: Day,
+        node: &Node,
+    ) -> Result<Vec<Node>, StoreFault> {
+        let answer = read_aliases(&mut self.conn, self.alloc, viewer, day, node);
         self.told(answer)
     }
 

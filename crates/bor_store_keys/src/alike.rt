@@ -1,9 +1,9 @@
-//! Which nodes stand for one entity with a node.
+//! Which nodes stand for one entity with a node, and which are one alias away from it.
 
 ghost use Rattle.std.specs.Prelude.{◌≡◌, ◌∷◌, [], false, map};
 ghost use Rattle.std.specs.BTreeSet.{contains};
 ghost use Rattle.sqlite.specs.Held.{state};
-ghost use Rattle.bor_records.specs.Links.Answers.{AreSame};
+ghost use Rattle.bor_records.specs.Links.Answers.{AreAliases, AreSame};
 ghost use Rattle.bor_records.specs.Links.ByKey.{node_at};
 ghost use Rattle.bor_records.specs.Links.Growth.{Grown};
 ghost use Rattle.bor_records.specs.Links.Shown.{is_like};
@@ -186,6 +186,42 @@ fn add_aliases<S: Alter + Drop>(
         return Ok(());
     }
     add_signs(lookup, alloc, view, class, looked, &one)
+}
+
+// The nodes one alias away from a node, each once.
+fn aliases_in<S: Alter + Drop>(
+    lookup: &mut Lookup<S>,
+    alloc: Global,
+    view: &View,
+    node: &Node,
+) -> Result<Vec<Node>, ReadError>
+    requires { lookup.old.in_transaction ≡ false }
+    ensures { ReadsAs (state S.Store lookup.old)
+        (state S.Store lookup.new) result (λ r nodes.
+        AreAliases (seen view.now r) node.now nodes.items) }
+{
+    let mut class = Class::new(alloc);
+    let mut looked = BTreeSet::new(alloc);
+    add_aliases(lookup, alloc, view, &mut class, &mut looked, node)?;
+    Ok(class.into_nodes())
+}
+
+/// The nodes one alias away from a node on a day, of what the viewer sees, each once and in any
+/// order; none where the node isn't an open entity.
+pub fn read_aliases<S: Alter + Drop>(
+    lookup: &mut Lookup<S>,
+    alloc: Global,
+    viewer: &AgentName,
+    day: Day,
+    node: &Node,
+) -> Result<Vec<Node>, ReadError>
+    requires { lookup.old.in_transaction ≡ false }
+    ensures { ReadsAs (state S.Store lookup.old)
+        (state S.Store lookup.new) result (λ r nodes.
+        AreAliases (seen_at viewer.now day r) node.now nodes.items) }
+{
+    let view = view_of(lookup, alloc, viewer, day)?;
+    aliases_in(lookup, alloc, &view, node)
 }
 
 // All nodes that stand for one entity with a node, each once. Each sign of them is looked up once.

@@ -1,4 +1,4 @@
-//! Nodes, links and aliases of a register in tables, read by key over a connection.
+//! Nodes, links, aliases and open rows of a register in tables, read by key over a connection.
 //!
 //! A read asks by the indexes of the tables for the statements of the records that it meets. What a
 //! record shows is the latest statement of its series that the viewer sees, where it isn't closed;
@@ -22,7 +22,8 @@ mod records;
 mod view;
 mod views;
 
-pub use alike::read_same;
+pub use alike::{read_aliases, read_same};
 pub use links::read_links_into;
 pub use lookup::Lookup;
 pub use nodes::read_node;
+pub use opened::read_open_row;

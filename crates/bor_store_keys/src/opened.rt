@@ -3,6 +3,7 @@
 ghost use Rattle.std.specs.Prelude.{◌≡◌, false, map};
 ghost use Rattle.sqlite.specs.Held.{state};
 ghost use Rattle.bor_records.specs.Links.Series.{open_at};
+ghost use Rattle.bor_register.specs.Rows.{visible};
 ghost use Rattle.bor_store_sql.specs.Selected.{identifiers_at, interests_at};
 ghost use Rattle.bor_store_reads.specs.Answering.{ReadsAs};
 ghost use Rattle.bor_store_keys.specs.Latest.{listed_row};
@@ -11,11 +12,13 @@ ghost use Rattle.bor_store_keys.specs.Viewed.{rows_seen};
 use crate::latest::open_statement;
 use crate::lookup::Lookup;
 use crate::view::View;
+use crate::views::view_of;
 use bods_read::{Identifier, Interest};
 use bor_records::Row;
 use bor_records::links::Node;
 use bor_store_reads::ReadError;
 use bor_store_sql::rows::{At, Part, StatementRow};
+use bor_terms::{AgentName, Day};
 use sqlite::Alter;
 use std::alloc::Global;
 
@@ -91,4 +94,21 @@ pub(crate) fn open_row<S: Alter + Drop>(
         }
         None => Ok(None),
     }
+}
+
+/// The row that a record shows on a day, of what the viewer sees: its latest statement dated at or
+/// before the day, where that isn't closed.
+pub fn read_open_row<S: Alter + Drop>(
+    lookup: &mut Lookup<S>,
+    alloc: Global,
+    viewer: &AgentName,
+    day: Day,
+    node: &Node,
+) -> Result<Option<Row>, ReadError>
+    requires { lookup.old.in_transaction ≡ false }
+    ensures { ReadsAs (state S.Store lookup.old) (state S.Store lookup.new) result (λ r row.
+        row ≡ open_at day node.now (visible viewer.now r.day r.members)) }
+{
+    let view = view_of(lookup, alloc, viewer, day)?;
+    open_row(lookup, alloc, &view, node)
 }

@@ -1,11 +1,11 @@
 //! What a register in tables answers to each question of a keep, over a connection. What is asked
-//! of nodes and links is in `bor_store_keys`.
+//! of open records, nodes and links is in `bor_store_keys`.
 //!
 //! Each read but those of all rows (`read_visible`, `read_published`, `has_more`) asks by key for
 //! the rows that it needs. Where the connection shows a register (`bor_store_sql`), the answer is
-//! what `Keep` of `bor_register::keeping` says of that register, or, of `read_visible` and the
-//! reads of single rows, the rows that a definition names; or memory or the store failed:
-//! [`ReadError::Damaged`] is never answered of such tables (`specs/Answering`).
+//! what `Keep` of `bor_register::keeping` says of that register, or, of the reads of single rows,
+//! the rows that a definition names; or memory or the store failed: [`ReadError::Damaged`] is never
+//! answered of such tables (`specs/Answering`).
 #![tactic(auto)]
 
 mod agents;

@@ -8,6 +8,8 @@ mod damage;
 #[cfg(test)]
 mod first;
 #[cfg(test)]
+mod reads;
+#[cfg(test)]
 mod stopped;
 #[cfg(test)]
 mod stores;

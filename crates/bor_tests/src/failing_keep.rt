@@ -186,6 +186,23 @@ impl<K: Keep> Keep for FailingKeep<K> {
         self.end(told)
     }
 
+    fn visible_rows(&mut self, viewer: &AgentName) -> Result<Vec<Row>, StoreFault> {
+        self.begin("visible_rows")?;
+        let told = self.keep.visible_rows(viewer);
+        self.end(told)
+    }
+
+    fn open_row(
+        &mut self,
+        viewer: &AgentName,
+        day: Day,
+        node: &Node,
+    ) -> Result<Option<Row>, StoreFault> {
+        self.begin_of("open_row:", node)?;
+        let told = self.keep.open_row(viewer, day, node);
+        self.end(told)
+    }
+
     fn node(
         &mut self,
         viewer: &AgentName,
@@ -194,6 +211,17 @@ impl<K: Keep> Keep for FailingKeep<K> {
     ) -> Result<Option<NodeInfo>, StoreFault> {
         self.begin_of("node:", node)?;
         let told = self.keep.node(viewer, day, node);
+        self.end(told)
+    }
+
+    fn aliases(
+        &mut self,
+        viewer: &AgentName,
+        day: Day,
+        node: &Node,
+    ) -> Result<Vec<Node>, StoreFault> {
+        self.begin_of("aliases:", node)?;
+        let told = self.keep.aliases(viewer, day, node);
         self.end(told)
     }
 

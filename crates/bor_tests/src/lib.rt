@@ -30,6 +30,8 @@ mod pages;
 #[cfg(test)]
 mod programs;
 #[cfg(test)]
+mod reads;
+#[cfg(test)]
 mod request_pages;
 #[cfg(test)]
 mod serving;

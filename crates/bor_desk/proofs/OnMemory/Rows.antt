@@ -30,15 +30,12 @@ use Rattle.bor_register.specs.Register.{IsOrdered, filings_of}
 use Rattle.bor_register.specs.Rows.{is_visible, row_of, rows_from, rows_in, visible, visible_in}
 use Rattle.bor_desk.specs.Memory.Indexed.{has_key, has_record, statements_in}
 use Rattle.bor_desk.specs.Memory.Sighted.{unless_closed}
-use Rattle.bor_desk.specs.Memory.Sited.{Sited, ArePlaces, is_told, passes, sited_at, sited_from, sited_in}
+use Rattle.bor_desk.specs.Memory.Sited.{Sited, ArePlaces, is_told, passes, row_sited, sited_at, sited_from, sited_in}
 use Rattle.bor_register.proofs.OneAgent.{one_agent}
 use Rattle.bor_desk.proofs.OnMemory.Lists.{filter-map, filter_between, filter_true, last_map}
 use Rattle.bor_desk.proofs.OnMemory.Sited.{picked}
 
 -- ---- rows
-
-abbrev pub row_sited : List ℕ → Sited → Row
-row_sited name x = row_of name x.filing.number (x.place.statement + 1) x.statement
 
 rows_sited : (name : List ℕ) (i : ℕ) (f : AcceptedFiling) (j : ℕ) (ss : List Statement) → map (row_sited name) (sited_from i f j ss) ≡ rows_from name f.number (j + 1) ss
 rows_sited name i f j [] = refl
@@ -109,6 +106,13 @@ module _ (viewer : List ℕ) (today day : ℤ) (n : Node) (ms : List Member) (or
       ap (option_and_then unless_closed) (is ∙ ap (λ (q : Option Place). option_map (λ (x : Sited). x.statement) (option_and_then (sited_at (filings_of n.agent ms)) q)) last)
       ∙ closed_alike (option_and_then (sited_at (filings_of n.agent ms)) (last_or None (filter (λ p. passes (is_told viewer today day n.agent) (sited_at (filings_of n.agent ms) p)) ps)))
       ∙ ap (λ (r : Option Row). option_map (λ (q : Row). q.statement) (option_and_then row_unless_closed r)) (sym latest_sited)
+
+  -- so is its row
+  pub opened_sited : (o : Option Place) → o ≡ last_or None (filter (λ p. passes (is_told viewer today day n.agent) (sited_at (filings_of n.agent ms) p)) ps)
+      → option_and_then row_unless_closed (option_map (row_sited n.agent) (option_and_then (sited_at (filings_of n.agent ms)) o)) ≡ open_at day n (visible viewer today ms)
+  opened_sited o last =
+      ap (λ (q : Option Place). option_and_then row_unless_closed (option_map (row_sited n.agent) (option_and_then (sited_at (filings_of n.agent ms)) q))) last
+      ∙ ap (option_and_then row_unless_closed) (sym latest_sited)
 
 -- ---- an agent's live statements
 

@@ -4,7 +4,8 @@ use Rattle.std.specs.List.{filter_map, AllByRecursion}
 use Rattle.bods_read.specs.declared.statement.Statement.{Statement}
 use Rattle.bor_register.specs.declared.filing.AcceptedFiling.{AcceptedFiling}
 use Rattle.bor_desk.specs.declared.memory.index.Place.{Place}
-use Rattle.bor_register.specs.Rows.{is_visible}
+use Rattle.bor_records.specs.declared.row.Row.{Row}
+use Rattle.bor_register.specs.Rows.{is_visible, row_of}
 
 -- a live statement, with its filing and where it stands: at which place there, and which filing that is, both from 0
 pub record Sited : Type 0 where
@@ -38,6 +39,10 @@ passes test (Some x) = test x
 -- the viewer sees a statement of the agent on the register's day, and it is dated at or before the day
 abbrev pub is_told : List ℕ → ℤ → ℤ → List ℕ → Sited → Bool
 is_told viewer today day agent x = is_visible viewer today agent x.filing && int_le x.statement.day day
+
+-- the row of an agent's statement, by where it stands
+abbrev pub row_sited : List ℕ → Sited → Row
+row_sited agent x = row_of agent x.filing.number (x.place.statement + 1) x.statement
 
 -- the places of those of a filing's statements that pass, from a place on
 abbrev pub places_from : (Statement → Bool) → ℕ → ℕ → List Statement → List Place

@@ -5,24 +5,26 @@ ghost use Rattle.std.specs.Result.{result_map_both};
 ghost use Rattle.bor_records.specs.Admission.{last_of};
 ghost use Rattle.bor_records.specs.Promises.{counted};
 ghost use Rattle.bor_records.specs.Settling.{has_id};
-ghost use Rattle.bor_records.specs.Links.Answers.{AreLinksInto, AreSame};
+ghost use Rattle.bor_records.specs.Links.Answers.{AreAliases, AreLinksInto, AreSame};
+ghost use Rattle.bor_records.specs.Links.Series.{open_at};
 ghost use Rattle.bor_records.specs.Links.Shown.{info_of};
 ghost use Rattle.bor_register.specs.declared.filing.AcceptedFiling.{AcceptedFiling};
 ghost use Rattle.bor_desk.specs.Memory.Indexed.{IsIndex};
-ghost use Rattle.bor_desk.specs.Memory.Sighted.{IsIndexed, in_sight};
+ghost use Rattle.bor_desk.specs.Memory.Sighted.{IsIndexed, in_sight, rows_in_sight};
 ghost use Rattle.bor_register.specs.Held.{statement_count};
 ghost use Rattle.bor_register.specs.Limits.{filings_limit};
 ghost use Rattle.bor_register.specs.Live.{live_of};
 ghost use Rattle.bor_register.specs.declared.member.Member.{Member};
 ghost use Rattle.bor_register.specs.Register.{IsOrdered, empty_register, filings_of, is_enrolled, with_filings};
+ghost use Rattle.bor_register.specs.Rows.{visible};
 ghost use Rattle.bor_register.specs.Seen.{seen_at};
 ghost use Rattle.bor_register.specs.Withdrawal.{has_successor};
 ghost use Rattle.bor_terms.specs.Texts.{is_below};
 
 use crate::memory::index::{Index, StatementKey, node_named};
 use crate::memory::last_asked::{LastAsked, forget};
-use crate::memory::sames::same_told;
-use crate::memory::sight::{Sight, links_told, node_told};
+use crate::memory::sames::{aliases_told, same_told};
+use crate::memory::sight::{Sight, links_told, node_told, row_told};
 use crate::memory::standing::{any_stands, last_known};
 use crate::memory::succession;
 use crate::operations::FILINGS_LIMIT;
@@ -48,8 +50,9 @@ use std::marker::Model;
 /// its key, and a report takes what it meets. Where memory is wanting for them while a filing is
 /// added, it isn't added and they are let go: from then on statements are looked for one by one,
 /// and what a viewer sees is listed as nodes and links where a chain first asks for one of them.
-/// These lists are kept until another viewer or day is asked for, or the register changes. An
-/// addition that doesn't fit the register is answered as want of memory, too, and changes nothing.
+/// These lists are kept until another viewer or day is asked for, or the register changes. The maps
+/// are made again where the row of a record or the aliases of a node are asked for. An addition
+/// that doesn't fit the register is answered as want of memory, too, and changes nothing.
 #[derive(Drop)]
 pub struct ListKeep {
     alloc: Global,
@@ -218,22 +221,85 @@ impl ListKeep {
         told
     }
 
+    // What the viewer sees on a day, by these maps.
+    fn sight_by<'a>(&'a self, index: &'a Index, viewer: &'a AgentName, day: Day) -> Sight<'a>
+        requires { IsIndex self.now.register.members index.now }
+        ensures indexed { IsIndexed result }
+        ensures day { result.day ≡ day }
+        ensures rows { rows_in_sight result
+            ≡ visible viewer.now self.now.register.day self.now.register.members }
+    {
+        Sight {
+            alloc: self.alloc,
+            index,
+            members: &self.members,
+            viewer,
+            today: self.day,
+            day,
+        }
+    }
+
     // What the viewer sees on a day, where the maps are there.
     fn sight<'a>(&'a self, viewer: &'a AgentName, day: Day) -> Option<Sight<'a>>
         ensures { IfSome result (λ sight.
             IsIndexed sight × (in_sight sight ≡ seen_at viewer.now day self.now.register)) }
     {
         match &self.index {
-            Some(index) => Some(Sight {
-                alloc: self.alloc,
-                index,
-                members: &self.members,
-                viewer,
-                today: self.day,
-                day,
-            }),
+            Some(index) => Some(self.sight_by(index, viewer, day)),
             None => None,
         }
+    }
+
+    // The maps, which are made again where they were let go. They are taken out, so that they can
+    // be asked.
+    fn take_maps(&mut self) -> Result<Index, AllocError>
+        ensures kept { self.new ≡ self.old }
+        ensures maps { IfOk result (λ index. IsIndex self.old.register.members index) }
+    {
+        match self.index.take() {
+            Some(index) => Ok(index),
+            None => index_of(self.alloc, &self.members),
+        }
+    }
+
+    // Puts them back.
+    fn put_maps(&mut self, index: Index)
+        requires { IsIndex self.old.register.members index }
+        ensures { self.new ≡ self.old }
+    {
+        self.index = Some(index);
+    }
+
+    fn row_seen(
+        &mut self,
+        viewer: &AgentName,
+        day: Day,
+        node: &Node,
+    ) -> Result<Option<Row>, AllocError>
+        ensures kept { self.new ≡ self.old }
+        ensures told { IfOk result (λ row. row ≡ open_at day node.now
+            (visible viewer.now self.old.register.day self.old.register.members)) }
+    {
+        let index = self.take_maps()?;
+        let told = row_told(&self.sight_by(&index, viewer, day), node);
+        self.put_maps(index);
+        told
+    }
+
+    fn aliases_seen(
+        &mut self,
+        viewer: &AgentName,
+        day: Day,
+        node: &Node,
+    ) -> Result<Vec<Node>, AllocError>
+        ensures kept { self.new ≡ self.old }
+        ensures told { IfOk result (λ nodes.
+            AreAliases (seen_at viewer.now day self.old.register) node.now nodes.items) }
+    {
+        let index = self.take_maps()?;
+        let told = aliases_told(&self.sight_by(&index, viewer, day), node);
+        self.put_maps(index);
+        told
     }
 
     fn node_seen(
@@ -530,6 +596,21 @@ impl Keep for ListKeep {
         self.told(rows)
     }
 
+    fn visible_rows(&mut self, viewer: &AgentName) -> Result<Vec<Row>, StoreFault> {
+        let rows = all_visible(self.alloc, viewer, self.day, &self.members);
+        self.told(rows)
+    }
+
+    fn open_row(
+        &mut self,
+        viewer: &AgentName,
+        day: Day,
+        node: &Node,
+    ) -> Result<Option<Row>, StoreFault> {
+        let row = self.row_seen(viewer, day, node);
+        self.told(row)
+    }
+
     fn node(
         &mut self,
         viewer: &AgentName,
@@ -538,6 +619,16 @@ impl Keep for ListKeep {
     ) -> Result<Option<NodeInfo>, StoreFault> {
         let info = self.node_seen(viewer, day, node);
         self.told(info)
+    }
+
+    fn aliases(
+        &mut self,
+        viewer: &AgentName,
+        day: Day,
+        node: &Node,
+    ) -> Result<Vec<Node>, StoreFault> {
+        let nodes = self.aliases_seen(viewer, day, node);
+        self.told(nodes)
     }
 
     fn same(&mut self, viewer: &AgentName, day: Day, node: &Node) -> Result<Vec<Node>, StoreFault> {

@@ -2,7 +2,7 @@
 
 ghost use Rattle.std.specs.Prelude.{◌≡◌, ◌∷◌, [], IfOk, OnOk, map};
 ghost use Rattle.std.specs.BTreeSet.{contains};
-ghost use Rattle.bor_records.specs.Links.Answers.{AreSame};
+ghost use Rattle.bor_records.specs.Links.Answers.{AreAliases, AreSame};
 ghost use Rattle.bor_records.specs.Links.ByKey.{node_at};
 ghost use Rattle.bor_records.specs.Links.Growth.{Grown};
 ghost use Rattle.bor_records.specs.Links.Shown.{is_like};
@@ -147,6 +147,17 @@ fn add_aliases(
         return Ok(());
     }
     add_signs(sight, class, looked, &one)
+}
+
+/// The nodes one alias away from a node, each once.
+pub(crate) fn aliases_told(sight: &Sight, node: &Node) -> Result<Vec<Node>, AllocError>
+    requires { IsIndexed sight.now }
+    ensures { IfOk result (λ nodes. AreAliases (in_sight sight.now) node.now nodes.items) }
+{
+    let mut class = Class::new(sight.alloc);
+    let mut looked = BTreeSet::new(sight.alloc);
+    add_aliases(sight, &mut class, &mut looked, node)?;
+    Ok(class.into_nodes())
 }
 
 /// All nodes that stand for one entity with a node, each once. Each sign of them is looked up once.

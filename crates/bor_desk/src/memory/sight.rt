@@ -5,15 +5,19 @@ ghost use Rattle.std.specs.List.{cons_option, filter_map, last_or};
 ghost use Rattle.bor_records.specs.Links.Answers.{AreLinksInto, only_into};
 ghost use Rattle.bor_records.specs.Links.ByKey.{node_at};
 ghost use Rattle.bor_records.specs.Links.Rows.{info_stated, is_entity_info, is_some_info, link_between, node_with, nodes_of};
+ghost use Rattle.bor_records.specs.Links.Series.{open_at};
 ghost use Rattle.bor_records.specs.Links.Shown.{info_of};
+ghost use Rattle.bor_records.specs.Snapshot.{unless_closed as row_unless_closed};
 ghost use Rattle.bor_chains.specs.Candidates.{link_at, link_into};
-ghost use Rattle.bor_desk.specs.Memory.Sited.{is_told, passes, sited_at};
+ghost use Rattle.bor_desk.specs.Memory.Sited.{is_told, passes, row_sited, sited_at};
+ghost use Rattle.bor_register.specs.Rows.{row_of};
 ghost use Rattle.bor_desk.specs.Memory.Sighted.{IsIndexed, as_row, identifiers_in, in_sight, rows_in_sight, statement_open, unless_closed};
 
 use crate::memory::index::{Index, Place, node_named};
 use bods_read::{Details, Identifier, Interest, Statement, Status};
+use bor_records::Row;
 use bor_records::links::{Link, Node, NodeInfo, OpenNode, holding_of, info_stated, once, stake_of};
-use bor_register::{AcceptedFiling, Member, own_filings};
+use bor_register::{AcceptedFiling, Member, own_filings, row_of};
 use bor_terms::{AgentName, Day, Ident, Listed};
 use std::alloc::{AllocError, Global};
 
@@ -109,6 +113,56 @@ fn open_statement<'a>(sight: &Sight<'a>, node: &Node) -> Option<&'a Statement>
     match latest(sight, node) {
         Some(statement) => unless_closed(statement),
         None => None,
+    }
+}
+
+// The row of an agent's statement, unless it is closed.
+fn row_open(
+    alloc: Global,
+    agent: &AgentName,
+    filing: u32,
+    place: usize,
+    statement: &Statement,
+) -> Result<Option<Row>, AllocError>
+    ensures { IfOk result (λ row.
+        row ≡ row_unless_closed (row_of agent.now filing place statement.now)) }
+{
+    if statement.status == Some(Status::Closed) {
+        return Ok(None);
+    }
+    Ok(Some(row_of(alloc, agent, filing, place, statement)?))
+}
+
+// The row of the agent's statement at a place, unless it is closed.
+fn row_at(
+    alloc: Global,
+    agent: &AgentName,
+    filings: &[AcceptedFiling],
+    place: Place,
+) -> Result<Option<Row>, AllocError>
+    ensures { IfOk result (λ row. row ≡ option_and_then row_unless_closed
+        (option_map (row_sited agent.now) (sited_at filings.now place))) }
+{
+    let Some(filing) = filings.get(place.filing) else {
+        return Ok(None);
+    };
+    match filing.statements.as_slice().get(place.statement) {
+        Some(statement) => row_open(alloc, agent, filing.number, place.statement + 1, statement),
+        None => Ok(None),
+    }
+}
+
+/// The row that a record shows: its latest statement that the viewer sees, where it isn't closed.
+pub(crate) fn row_told(sight: &Sight, node: &Node) -> Result<Option<Row>, AllocError>
+    requires { IsIndexed sight.now }
+    ensures { IfOk result (λ row.
+        row ≡ open_at sight.now.day node.now (rows_in_sight sight.now)) }
+{
+    let filings = own_filings(sight.members, &node.agent);
+    let places = sight.index.places_of(node);
+    match last_told(sight, &node.agent, filings, places) {
+        Some(place) => row_at(sight.alloc, &node.agent, filings, place),
+        None => Ok(None),
     }
 }
 

@@ -351,6 +351,33 @@ impl<K: MirrorStore + Drop> Keep for MirroredKeep<K> {
         told
     }
 
+    fn visible_rows(&mut self, viewer: &AgentName) -> Result<Vec<Row>, StoreFault> {
+        if let Some(mirror) = &mut self.mirror {
+            if let Ok(rows) = mirror.visible_rows(viewer) {
+                return Ok(rows);
+            }
+        }
+        let told = self.store.visible_rows(viewer);
+        self.is_up = self.is_up && told.is_ok();
+        told
+    }
+
+    fn open_row(
+        &mut self,
+        viewer: &AgentName,
+        day: Day,
+        node: &Node,
+    ) -> Result<Option<Row>, StoreFault> {
+        if let Some(mirror) = &mut self.mirror {
+            if let Ok(row) = mirror.open_row(viewer, day, node) {
+                return Ok(row);
+            }
+        }
+        let told = self.store.open_row(viewer, day, node);
+        self.is_up = self.is_up && told.is_ok();
+        told
+    }
+
     fn node(
         &mut self,
         viewer: &AgentName,
@@ -363,6 +390,22 @@ impl<K: MirrorStore + Drop> Keep for MirroredKeep<K> {
             }
         }
         let told = self.store.node(viewer, day, node);
+        self.is_up = self.is_up && told.is_ok();
+        told
+    }
+
+    fn aliases(
+        &mut self,
+        viewer: &AgentName,
+        day: Day,
+        node: &Node,
+    ) -> Result<Vec<Node>, StoreFault> {
+        if let Some(mirror) = &mut self.mirror {
+            if let Ok(nodes) = mirror.aliases(viewer, day, node) {
+                return Ok(nodes);
+            }
+        }
+        let told = self.store.aliases(viewer, day, node);
         self.is_up = self.is_up && told.is_ok();
         told
     }

@@ -5,15 +5,16 @@ ghost use Rattle.bor_register.specs.declared.fault.StoreFault.{StoreFault};
 ghost use Rattle.bor_register.specs.Register.{Register, caller_of, is_enrolled, filings_of, filing_keyed};
 ghost use Rattle.bor_register.specs.Publication.{published, line_of, filing_shown, has_bytes};
 ghost use Rattle.bor_register.specs.Live.{live_of};
-ghost use Rattle.bor_register.specs.Rows.{rows_of};
+ghost use Rattle.bor_register.specs.Rows.{rows_of, visible};
 ghost use Rattle.bor_register.specs.Seen.{seen_at};
 ghost use Rattle.bor_register.specs.Withdrawal.{has_successor};
 ghost use Rattle.bor_register.specs.Additions.{MayEnrol, MayFile, with_agent, with_filing, with_withdrawal};
 ghost use Rattle.bor_records.specs.Admission.{last_of};
 ghost use Rattle.bor_records.specs.Settling.{has_id};
 ghost use Rattle.bor_records.specs.Promises.{Changes, ChangesWhere, Promised, Reads};
+ghost use Rattle.bor_records.specs.Links.Series.{open_at};
 ghost use Rattle.bor_records.specs.Links.Shown.{info_of};
-ghost use Rattle.bor_records.specs.Links.Answers.{AreSame, AreLinksInto};
+ghost use Rattle.bor_records.specs.Links.Answers.{AreAliases, AreSame, AreLinksInto};
 
 use crate::{Caller, Filing, FilingLine, Outward, StoreFault};
 use bods_read::Statement;
@@ -153,6 +154,27 @@ pub trait Keep {
             ≡ rows_of viewer.now r.day agent.now declaration.now
             (filings_of agent.now r.members)) };
 
+    /// The rows of all agents that the viewer sees: of its own live filings, and of the others'
+    /// published ones. They stand by agent, then in order of acceptance and of place. A viewer that
+    /// isn't enrolled sees what is published.
+    fn visible_rows(&mut self, viewer: &AgentName) -> Result<Vec<Row>, StoreFault>
+        ensures { Reads shows is_clean is_sound may_leave fault_count may_tell
+            self.old self.new result (λ r rows.
+            rows.items ≡ visible viewer.now r.day r.members) };
+
+    /// The row that a record shows on a day by what the viewer sees: its latest statement dated at
+    /// or before the day; `None` where it has none, and where that one is closed. The day is any
+    /// day; what the viewer sees goes by the register's.
+    fn open_row(
+        &mut self,
+        viewer: &AgentName,
+        day: Day,
+        node: &Node,
+    ) -> Result<Option<Row>, StoreFault>
+        ensures { Reads shows is_clean is_sound may_leave fault_count may_tell
+            self.old self.new result (λ r row.
+            row ≡ open_at day node.now (visible viewer.now r.day r.members)) };
+
     /// What a node is on a day by what the viewer sees, or `None` where it isn't open then. The day
     /// is any day; what the viewer sees goes by the register's.
     fn node(
@@ -164,6 +186,19 @@ pub trait Keep {
         ensures { Reads shows is_clean is_sound may_leave fault_count may_tell
             self.old self.new result (λ r info.
             info ≡ info_of (seen_at viewer.now day r) node.now) };
+
+    /// The nodes one alias away from a node on a day by what the viewer sees, each once and in any
+    /// order: the other open entities that have its record in another declaration of its agent, or
+    /// share an identifier with it. A node that isn't an open entity has none.
+    fn aliases(
+        &mut self,
+        viewer: &AgentName,
+        day: Day,
+        node: &Node,
+    ) -> Result<Vec<Node>, StoreFault>
+        ensures { Reads shows is_clean is_sound may_leave fault_count may_tell
+            self.old self.new result (λ r nodes.
+            AreAliases (seen_at viewer.now day r) node.now nodes.items) };
 
     /// All nodes that stand for one entity with a node on a day by what the viewer sees, by
     /// finitely many aliases, each once and in any order. The node itself is one of them; where it
