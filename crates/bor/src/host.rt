@@ -135,10 +135,7 @@ impl<'r, S: Start + Copy> Registers for Host<'r, S> {
         };
     }
 
-    fn open<'a>(
-        &mut self,
-        path: &'a str,
-    ) -> Result<Served<'r, S>, Failure<'a>> {
+    fn open<'a>(&mut self, path: &'a str) -> Result<Served<'r, S>, Failure<'a>> {
         find(self.rt, path)?;
         told_of(path, open_in(self.rt, path, self.start, 0, false))
     }
