@@ -1,5 +1,5 @@
 -- How a register comes to be open on a connection that was looked at.
-use Rattle.std.proofs.Common.{◌≡◌, ◌≢◌, ◌∙◌, ℕ, ℤ, List, Result, Ok, Err, IfOk, IsTrue, inl, inr, subst, sym}
+use Rattle.std.proofs.Common.{◌≡◌, ◌≢◌, ◌∙◌, ℕ, ℤ, List, Result, Ok, Err, IfOk, inl, inr, subst, sym}
 use Rattle.sqlite.specs.State.{State}
 use Rattle.bor_register.specs.Register.{Register, empty_register}
 use Rattle.bor_store_sql.specs.Rows.Encoding.{contents}

@@ -1,5 +1,5 @@
 -- What is done to registers in files of SQLite.
-use Rattle.std.specs.Prelude.{◌≡◌, ◌≢◌, ⊤, List, ℕ, ℤ, Result}
+use Rattle.std.specs.Prelude.{◌≡◌, ◌≢◌, ⊤, List, ℕ, ℤ}
 use Rattle.sqlite.specs.State.{HasCleanDisk, State}
 use Rattle.sqlite_wal.specs.Recovery.{Image}
 use Rattle.bor_register.specs.Register.{Register, empty_register}
