@@ -51,8 +51,11 @@ from_published = led (codes "published") (end paths.Published) ++ from_snapshot
 abbrev from_filings : RowsOf (RouteOf Path)
 from_filings = led (codes "filings") of_filings ++ from_published
 
+abbrev from_evidence : RowsOf (RouteOf Path)
+from_evidence = led (codes "evidence") (end paths.Evidence) ++ from_filings
+
 abbrev from_day : RowsOf (RouteOf Path)
-from_day = led (codes "day") (end paths.Day) ++ from_filings
+from_day = led (codes "day") (end paths.Day) ++ from_evidence
 
 abbrev from_chains : RowsOf (RouteOf Path)
 from_chains = led (codes "chains") (end paths.Chains) ++ from_day
@@ -94,7 +97,8 @@ to_filings rest =
     ∙ along (codes "/") from_agents (codes "filings" ++ rest) (text_of (codes "/") refl)
     ∙ past 97 102 (codes "gents") (end paths.Agents) from_chains (codes "ilings" ++ rest) (omega arith) (record { param = refl; catch_all = refl }) (λ e. omega arith)
     ∙ past 99 102 (codes "hains") (end paths.Chains) from_day (codes "ilings" ++ rest) (omega arith) (record { param = refl; catch_all = refl }) (λ e. omega arith)
-    ∙ past 100 102 (codes "ay") (end paths.Day) from_filings (codes "ilings" ++ rest) (omega arith) (record { param = refl; catch_all = refl }) (λ e. omega arith)
+    ∙ past 100 102 (codes "ay") (end paths.Day) from_evidence (codes "ilings" ++ rest) (omega arith) (record { param = refl; catch_all = refl }) (λ e. omega arith)
+    ∙ past 101 102 (codes "vidence") (end paths.Evidence) from_filings (codes "ilings" ++ rest) (omega arith) (record { param = refl; catch_all = refl }) (λ e. omega arith)
     ∙ into 102 (codes "ilings") of_filings from_published rest (text_of (codes "filings") refl) (record { param = refl; catch_all = refl }) refl
 
 to_keyed : (rest : List ℕ) → first router (codes "/filings/" ++ rest) ≡ first (keyed (entry paths.File) (entry paths.Filing)) rest
@@ -117,6 +121,7 @@ is_found paths.Filings text bytes is = ap (path_in router) is
 is_found paths.Published text bytes is = ap (path_in router) is
 is_found paths.Snapshot text bytes is = ap (path_in router) is
 is_found paths.Chains text bytes is = ap (path_in router) is
+is_found paths.Evidence text bytes is = ap (path_in router) is
 is_found paths.Day text bytes is = ap (path_in router) is
 is_found paths.Agents text bytes is = ap (path_in router) is
 
@@ -182,11 +187,18 @@ from_filings_on rest row bytes e =
       | inr h ↦ in_published rest row h
     ]
 
+from_evidence_on : (rest : List ℕ) (row : Row) → IsText rest → first from_evidence rest ≡ Some row → IsPath row.value (47 ∷ rest)
+from_evidence_on rest row bytes e =
+    elim (found 101 (codes "vidence") (end paths.Evidence) from_filings rest row (text_of (codes "evidence") refl) (record { param = refl; catch_all = refl }) refl e) [
+      | inl h ↦ leaf paths.Evidence (codes "evidence") rest h.0 row (λ text e. e) refl h.1 h.2
+      | inr h ↦ from_filings_on rest row bytes h
+    ]
+
 from_day_on : (rest : List ℕ) (row : Row) → IsText rest → first from_day rest ≡ Some row → IsPath row.value (47 ∷ rest)
 from_day_on rest row bytes e =
-    elim (found 100 (codes "ay") (end paths.Day) from_filings rest row (text_of (codes "day") refl) (record { param = refl; catch_all = refl }) refl e) [
+    elim (found 100 (codes "ay") (end paths.Day) from_evidence rest row (text_of (codes "day") refl) (record { param = refl; catch_all = refl }) refl e) [
       | inl h ↦ leaf paths.Day (codes "day") rest h.0 row (λ text e. e) refl h.1 h.2
-      | inr h ↦ from_filings_on rest row bytes h
+      | inr h ↦ from_evidence_on rest row bytes h
     ]
 
 from_chains_on : (rest : List ℕ) (row : Row) → IsText rest → first from_chains rest ≡ Some row → IsPath row.value (47 ∷ rest)

@@ -50,6 +50,7 @@ each_path =
     ∷ (codes "/published", Some paths.Published)
     ∷ (codes "/snapshot", Some paths.Snapshot)
     ∷ (codes "/chains", Some paths.Chains)
+    ∷ (codes "/evidence", Some paths.Evidence)
     ∷ (codes "/day", Some paths.Day)
     ∷ (codes "/agents", Some paths.Agents)
     ∷ []
@@ -126,6 +127,7 @@ asked =
     ∷ ((paths.Published, codes "GET"), Some asks.Published)
     ∷ ((paths.Snapshot, codes "GET"), Some asks.Snapshot)
     ∷ ((paths.Chains, codes "GET"), Some asks.Chains)
+    ∷ ((paths.Evidence, codes "GET"), Some asks.Evidence)
     ∷ ((paths.Day, codes "POST"), Some asks.Day)
     ∷ ((paths.Agents, codes "POST"), Some asks.Enrol)
     ∷ ((paths.Filings, codes "HEAD"), None)
@@ -137,6 +139,7 @@ asked =
     ∷ ((paths.Filing, codes "PATCH"), None)
     ∷ ((paths.Filing, []), None)
     ∷ ((paths.File, codes "DELETE"), None)
+    ∷ ((paths.Evidence, codes "POST"), None)
     ∷ ((paths.Day, codes "GET"), None)
     ∷ ((paths.Agents, codes "PUT"), None)
     ∷ []
@@ -148,9 +151,9 @@ asked_found = refl
 -- ---- the methods of a path
 
 abbrev every_path : List Path
-every_path = paths.Filing ∷ paths.Filings ∷ paths.File ∷ paths.Published ∷ paths.Snapshot ∷ paths.Chains ∷ paths.Day ∷ paths.Agents ∷ []
+every_path = paths.Filing ∷ paths.Filings ∷ paths.File ∷ paths.Published ∷ paths.Snapshot ∷ paths.Chains ∷ paths.Evidence ∷ paths.Day ∷ paths.Agents ∷ []
 
 methods : map allow every_path
-    ≡ codes "DELETE, PUT" ∷ codes "GET" ∷ codes "GET" ∷ codes "GET" ∷ codes "GET" ∷ codes "GET" ∷ codes "POST" ∷ codes "POST" ∷ []
+    ≡ codes "DELETE, PUT" ∷ codes "GET" ∷ codes "GET" ∷ codes "GET" ∷ codes "GET" ∷ codes "GET" ∷ codes "GET" ∷ codes "POST" ∷ codes "POST" ∷ []
 unfolding allow
 methods = refl

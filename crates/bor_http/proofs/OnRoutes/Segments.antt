@@ -159,6 +159,7 @@ is_the_path paths.File text h = is_file text h
 is_the_path paths.Published text h = plain_path text paths.Published refl h
 is_the_path paths.Snapshot text h = plain_path text paths.Snapshot refl h
 is_the_path paths.Chains text h = plain_path text paths.Chains refl h
+is_the_path paths.Evidence text h = plain_path text paths.Evidence refl h
 is_the_path paths.Day text h = plain_path text paths.Day refl h
 is_the_path paths.Agents text h = plain_path text paths.Agents refl h
 
@@ -203,6 +204,7 @@ path_said paths.Filings text is = ap path_of is
 path_said paths.Published text is = ap path_of is
 path_said paths.Snapshot text is = ap path_of is
 path_said paths.Chains text is = ap path_of is
+path_said paths.Evidence text is = ap path_of is
 path_said paths.Day text is = ap path_of is
 path_said paths.Agents text is = ap path_of is
 

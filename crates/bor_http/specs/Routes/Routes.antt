@@ -18,6 +18,7 @@ path_word paths.File = codes "/filings/{key}/file"
 path_word paths.Published = codes "/published"
 path_word paths.Snapshot = codes "/snapshot"
 path_word paths.Chains = codes "/chains"
+path_word paths.Evidence = codes "/evidence"
 path_word paths.Day = codes "/day"
 path_word paths.Agents = codes "/agents"
 
@@ -40,6 +41,7 @@ table =
     ∷ line (codes "GET") paths.Published asks.Published
     ∷ line (codes "GET") paths.Snapshot asks.Snapshot
     ∷ line (codes "GET") paths.Chains asks.Chains
+    ∷ line (codes "GET") paths.Evidence asks.Evidence
     ∷ line (codes "POST") paths.Day asks.Day
     ∷ line (codes "POST") paths.Agents asks.Enrol
     ∷ []

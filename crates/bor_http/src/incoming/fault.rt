@@ -20,6 +20,8 @@ pub enum Path {
     Snapshot,
     /// `/chains`
     Chains,
+    /// `/evidence`
+    Evidence,
     /// `/day`
     Day,
     /// `/agents`

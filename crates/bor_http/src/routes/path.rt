@@ -19,6 +19,7 @@ fn router_of_paths(alloc: Global) -> Result<Router<Path>, InsertError>
     router.insert("/published", Path::Published)?;
     router.insert("/snapshot", Path::Snapshot)?;
     router.insert("/chains", Path::Chains)?;
+    router.insert("/evidence", Path::Evidence)?;
     router.insert("/day", Path::Day)?;
     router.insert("/agents", Path::Agents)?;
     Ok(router)

@@ -23,6 +23,8 @@ pub enum Route {
     Snapshot,
     /// Names the persons behind an entity.
     Chains,
+    /// Tells why the persons behind an entity are named.
+    Evidence,
     /// Moves the register's day.
     Day,
     /// Enrols an agent.
@@ -56,6 +58,7 @@ pub fn route_at(path: Path, method: &[u8]) -> Option<Route>
         Path::Published => by(&Method::GET, method, Route::Published),
         Path::Snapshot => by(&Method::GET, method, Route::Snapshot),
         Path::Chains => by(&Method::GET, method, Route::Chains),
+        Path::Evidence => by(&Method::GET, method, Route::Evidence),
         Path::Day => by(&Method::POST, method, Route::Day),
         Path::Agents => by(&Method::POST, method, Route::Enrol),
     }
@@ -68,7 +71,12 @@ pub fn allow_of(path: Path) -> &'static str
 {
     match path {
         Path::Filing => "DELETE, PUT",
-        Path::Filings | Path::File | Path::Published | Path::Snapshot | Path::Chains => "GET",
+        Path::Filings
+        | Path::File
+        | Path::Published
+        | Path::Snapshot
+        | Path::Chains
+        | Path::Evidence => "GET",
         Path::Day | Path::Agents => "POST",
     }
 }

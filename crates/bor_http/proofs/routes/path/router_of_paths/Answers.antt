@@ -13,13 +13,15 @@ returns c =
     let e = with_path-inserted paths.Published c.insert-3.new.self c.insert-4.new.self tt c.in_ok-insert-4.ensures in
     let f = with_path-inserted paths.Snapshot c.insert-4.new.self c.insert-5.new.self tt c.in_ok-insert-5.ensures in
     let h = with_path-inserted paths.Chains c.insert-5.new.self c.insert-6.new.self tt c.in_ok-insert-6.ensures in
-    let i = with_path-inserted paths.Day c.insert-6.new.self c.insert-7.new.self tt c.in_ok-insert-7.ensures in
-    let j = with_path-inserted paths.Agents c.insert-7.new.self c.insert-8.new.self tt c.in_ok-insert-8.ensures in
-    j ∙ ap (λ rows. with_path rows paths.Agents)
-    (i ∙ ap (λ rows. with_path rows paths.Day)
+    let i = with_path-inserted paths.Evidence c.insert-6.new.self c.insert-7.new.self tt c.in_ok-insert-7.ensures in
+    let j = with_path-inserted paths.Day c.insert-7.new.self c.insert-8.new.self tt c.in_ok-insert-8.ensures in
+    let k = with_path-inserted paths.Agents c.insert-8.new.self c.insert-9.new.self tt c.in_ok-insert-9.ensures in
+    k ∙ ap (λ rows. with_path rows paths.Agents)
+    (j ∙ ap (λ rows. with_path rows paths.Day)
+    (i ∙ ap (λ rows. with_path rows paths.Evidence)
     (h ∙ ap (λ rows. with_path rows paths.Chains)
     (f ∙ ap (λ rows. with_path rows paths.Snapshot)
     (e ∙ ap (λ rows. with_path rows paths.Published)
     (d ∙ ap (λ rows. with_path rows paths.File)
     (b ∙ ap (λ rows. with_path rows paths.Filings)
-    (a ∙ ap (λ rows. with_path rows paths.Filing) c.new-router.ensures)))))))
+    (a ∙ ap (λ rows. with_path rows paths.Filing) c.new-router.ensures))))))))
