@@ -54,6 +54,18 @@ pub logs_where_asked : (logs (serve_with (codes "--log" ∷ [])) ≡ Some true) 
 unfolding clap_on_literals
 logs_where_asked = (refl, refl)
 
+-- a report tells its links where it is asked to
+abbrev pub report_with : List Text → List Text
+report_with told = codes "report" ∷ codes "--db" ∷ codes "a" ∷ codes "--viewer" ∷ codes "alder" ∷ codes "--agent" ∷ codes "birch"
+    ∷ codes "--declaration" ∷ codes "c1" ∷ codes "--record" ∷ codes "e1" ∷ told
+
+abbrev pub tells_links : List Text → Option Bool
+tells_links words = option_map (is_set (codes "evidence")) (found_behind (codes "report") (entered_by words))
+
+pub links_where_asked : (tells_links (report_with (codes "--evidence" ∷ [])) ≡ Some true) × (tells_links (report_with []) ≡ Some false)
+unfolding clap_on_literals
+links_where_asked = (refl, refl)
+
 -- what a server's register may take in memory
 abbrev pub memory_told : List Text → Option (Option ℕ)
 memory_told words = option_map (λ rows. memory_of (first_of (codes "memory") rows)) (found_behind (codes "serve") (entered_by words))

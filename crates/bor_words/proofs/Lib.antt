@@ -1,4 +1,5 @@
 pub mod Numerals
 pub mod KnownWords
+pub mod Locals
 pub mod Reporting
 mod Examples

@@ -86,6 +86,7 @@ pub record IsReport (rows : List Row) (asked : Report) : Type 0 where
   pub declaration : asked.declaration ≡ given (codes "declaration") rows
   pub rec : asked.rec ≡ given (codes "record") rows
   pub date : asked.date ≡ option_and_then day_of (first_of (codes "date") rows)
+  pub evidence : asked.evidence ≡ is_set (codes "evidence") rows
 
 -- what is asked of a migration
 pub record IsMigrate (rows : List Row) (asked : Migrate) : Type 0 where

@@ -8,7 +8,7 @@ use Rattle.clap.specs.declared.error.kind.ErrorKind.TheVariants.{ArgumentConflic
 use Rattle.bor_words.specs.declared.unread.Unread.{Unread}
 use Rattle.bor_words.specs.declared.unread.Unread.TheVariants as unread
 use Rattle.bor_words.specs.Words.{bor_app, entered_by, given, rows_in}
-use Rattle.bor_words.specs.Values.{Value, first_unfit, is_registrar, values_of}
+use Rattle.bor_words.specs.Values.{Value, first_unfit, values_of}
 
 -- what went wrong, or what was asked for
 abbrev pub kind_of_answer : Unread → ErrorKind

@@ -26,27 +26,31 @@ files_rule = record (new_rule (codes "FILE")) { action = Some Append; required =
 abbrev pub check_app : App
 check_app = with_rule (new_app (codes "check")) (new_rule (codes "FILE"))
 
+-- what a register is set up by beside its file: the registrar's token, by itself or by the file that has it, and the day
+abbrev pub with_setup : App → App
+with_setup a = with_rule (with_rule (with_rule a (option_rule (codes "registrar"))) (option_rule (codes "registrar-file"))) (required_rule (codes "day"))
+
 -- a register that is set up
 abbrev pub init_app : App
-init_app =
-    with_rule (with_rule (with_rule (with_rule (new_app (codes "init")) (required_rule (codes "db"))) (option_rule (codes "registrar")))
-    (option_rule (codes "registrar-file"))) (required_rule (codes "day"))
+init_app = with_setup (with_rule (new_app (codes "init")) (required_rule (codes "db")))
 
 abbrev pub exchange_app : App
-exchange_app =
-    with_rule (with_rule (with_rule (with_rule (with_rule (new_app (codes "exchange")) (option_rule (codes "db"))) (option_rule (codes "registrar")))
-    (option_rule (codes "registrar-file"))) (required_rule (codes "day"))) files_rule
+exchange_app = with_rule (with_setup (with_rule (new_app (codes "exchange")) (option_rule (codes "db")))) files_rule
 
 abbrev pub serve_app : App
 serve_app =
     with_rule (with_rule (with_rule (with_rule (with_rule (new_app (codes "serve")) (required_rule (codes "db"))) (required_rule (codes "port")))
     (required_rule (codes "connections"))) (option_rule (codes "memory"))) (flag_rule (codes "log"))
 
--- whose chains, seen by whom
+-- which entity: who lodged it, in which declaration, as which record
+abbrev pub with_entity : App → App
+with_entity a = with_rule (with_rule (with_rule a (required_rule (codes "agent"))) (required_rule (codes "declaration"))) (required_rule (codes "record"))
+
+-- whose chains, seen by whom, on which day, and whether with their links
 abbrev pub report_app : App
 report_app =
-    with_rule (with_rule (with_rule (with_rule (with_rule (with_rule (new_app (codes "report")) (required_rule (codes "db"))) (required_rule (codes "viewer")))
-    (required_rule (codes "agent"))) (required_rule (codes "declaration"))) (required_rule (codes "record"))) (option_rule (codes "date"))
+    with_rule (with_rule (with_entity (with_rule (with_rule (new_app (codes "report")) (required_rule (codes "db"))) (required_rule (codes "viewer"))))
+    (option_rule (codes "date"))) (flag_rule (codes "evidence"))
 
 abbrev pub migrate_app : App
 migrate_app = with_rule (new_app (codes "migrate")) (required_rule (codes "db"))

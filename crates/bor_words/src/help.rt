@@ -75,9 +75,9 @@ Usage: bor init [OPTIONS] --db <PATH> --day <DAY>
 
 Options:
       --db <PATH>              The register's file, which is made where there is none
-      --registrar <TOKEN>      The registrar's token: 16 to 64 visible ASCII characters
+      --registrar <TOKEN>      The registrar's token of a new register: 16 to 64 visible ASCII characters
       --registrar-file <FILE>  The file whose first line is that token, in place of --registrar
-      --day <DAY>              The register's day: a day, YYYY-MM-DD
+      --day <DAY>              The day of a new register: a day, YYYY-MM-DD
   -h, --help                   Print help
 
 Example:
@@ -126,6 +126,7 @@ Options:
       --declaration <IDENT>  The declaration's subject: an identifier, 1 to 255 bytes without control characters
       --record <IDENT>       The entity's record: an identifier, 1 to 255 bytes without control characters
       --date <DAY>           The date: a day, YYYY-MM-DD; without it, the register's day
+      --evidence             Tells why, too: each person's line ends with the first link of its chain, and below is a line for each link, with the next one
   -h, --help                 Print help
 
 Example:

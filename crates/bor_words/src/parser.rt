@@ -1,9 +1,9 @@
 //! The words that clap is told of.
 
-ghost use Rattle.std.specs.Prelude.{◌≡◌, IfOk, false};
+ghost use Rattle.std.specs.Prelude.{◌≡◌, IfOk, codes, false};
 ghost use Rattle.clap.specs.Words.{app_of, rule_of};
 ghost use Rattle.clap.specs.declared.builder.command.Command.TheViews.{out-Command as fields_of};
-ghost use Rattle.bor_words.specs.Words.{bor_app, check_app, exchange_app, files_rule, flag_rule, init_app, migrate_app, option_rule, report_app, required_rule, serve_app};
+ghost use Rattle.bor_words.specs.Words.{bor_app, check_app, exchange_app, files_rule, flag_rule, init_app, migrate_app, option_rule, report_app, required_rule, serve_app, with_entity, with_setup};
 
 use clap::{Arg, ArgAction, Command as Parser};
 use std::alloc::{AllocError, Global};
@@ -71,60 +71,21 @@ fn files<'a>(alloc: Global, help: &'a str) -> Arg<'a>
         .help(help)
 }
 
-fn check<'a>(alloc: Global) -> Result<Parser<'a>, AllocError>
-    ensures app { IfOk result (λ parser. app_of parser ≡ check_app) }
-    ensures local { IfOk result (λ parser. (fields_of parser).has_globals ≡ false) }
+// `--db PATH`, the register's file.
+fn register_file<'a>(alloc: Global, help: &'a str) -> Arg<'a>
+    ensures rule { rule_of result ≡ required_rule (codes "db") }
+    ensures local { result.global ≡ false }
 {
-    let file = Arg::new(alloc, "FILE").help(
-        "The file; without it, or for -, standard input is read",
-    );
-    Parser::new(alloc, "check")
-        .about("Checks a BODS file, and prints what a register would make of it")
-        .after_help(CHECK_EXAMPLE)
-        .arg(file)
+    required(alloc, "db", "PATH", help)
 }
 
-fn init<'a>(alloc: Global) -> Result<Parser<'a>, AllocError>
-    ensures app { IfOk result (λ parser. app_of parser ≡ init_app) }
-    ensures local { IfOk result (λ parser. (fields_of parser).has_globals ≡ false) }
+// What a register is set up by beside its file: the registrar's token and the day.
+fn with_setup<'a>(alloc: Global, parser: Parser<'a>) -> Result<Parser<'a>, AllocError>
+    ensures app { IfOk result (λ more. app_of more ≡ with_setup (app_of parser.entry)) }
+    ensures local { IfOk result (λ more.
+        (fields_of more).has_globals ≡ (fields_of parser.entry).has_globals) }
 {
-    Parser::new(alloc, "init")
-        .about("Sets up a new register in a file that has none")
-        .after_help(INIT_EXAMPLE)
-        .arg(required(
-            alloc,
-            "db",
-            "PATH",
-            "The register's file, which is made where there is none",
-        ))?
-        .arg(option(
-            alloc,
-            "registrar",
-            "TOKEN",
-            "The registrar's token: 16 to 64 visible ASCII characters",
-        ))?
-        .arg(option(
-            alloc,
-            "registrar-file",
-            "FILE",
-            "The file whose first line is that token, in place of --registrar",
-        ))?
-        .arg(required(alloc, "day", "DAY", "The register's day: a day, YYYY-MM-DD"))
-}
-
-fn exchange<'a>(alloc: Global) -> Result<Parser<'a>, AllocError>
-    ensures app { IfOk result (λ parser. app_of parser ≡ exchange_app) }
-    ensures local { IfOk result (λ parser. (fields_of parser).has_globals ≡ false) }
-{
-    Parser::new(alloc, "exchange")
-        .about("Answers HTTP requests in files, one after the other, and prints the replies")
-        .after_help(EXCHANGE_EXAMPLE)
-        .arg(option(
-            alloc,
-            "db",
-            "PATH",
-            "The register's file, which is made where there is none; without it, the register is a new one in memory",
-        ))?
+    parser
         .arg(option(
             alloc,
             "registrar",
@@ -142,8 +103,76 @@ fn exchange<'a>(alloc: Global) -> Result<Parser<'a>, AllocError>
             "day",
             "DAY",
             "The day of a new register: a day, YYYY-MM-DD",
+        ))
+}
+
+// Which entity is asked about: who lodged it, in which declaration, as which record.
+fn with_entity<'a>(alloc: Global, parser: Parser<'a>) -> Result<Parser<'a>, AllocError>
+    ensures app { IfOk result (λ more. app_of more ≡ with_entity (app_of parser.entry)) }
+    ensures local { IfOk result (λ more.
+        (fields_of more).has_globals ≡ (fields_of parser.entry).has_globals) }
+{
+    parser
+        .arg(required(
+            alloc,
+            "agent",
+            "AGENT",
+            "The agent that lodged the entity: an agent's name, 1 to 32 of a-z, 0-9 and -",
         ))?
-        .arg(files(alloc, "The files, each with one HTTP request"))
+        .arg(required(
+            alloc,
+            "declaration",
+            "IDENT",
+            "The declaration's subject: an identifier, 1 to 255 bytes without control characters",
+        ))?
+        .arg(required(
+            alloc,
+            "record",
+            "IDENT",
+            "The entity's record: an identifier, 1 to 255 bytes without control characters",
+        ))
+}
+
+fn check<'a>(alloc: Global) -> Result<Parser<'a>, AllocError>
+    ensures app { IfOk result (λ parser. app_of parser ≡ check_app) }
+    ensures local { IfOk result (λ parser. (fields_of parser).has_globals ≡ false) }
+{
+    let file = Arg::new(alloc, "FILE").help(
+        "The file; without it, or for -, standard input is read",
+    );
+    Parser::new(alloc, "check")
+        .about("Checks a BODS file, and prints what a register would make of it")
+        .after_help(CHECK_EXAMPLE)
+        .arg(file)
+}
+
+fn init<'a>(alloc: Global) -> Result<Parser<'a>, AllocError>
+    ensures app { IfOk result (λ parser. app_of parser ≡ init_app) }
+    ensures local { IfOk result (λ parser. (fields_of parser).has_globals ≡ false) }
+{
+    let parser = Parser::new(alloc, "init")
+        .about("Sets up a new register in a file that has none")
+        .after_help(INIT_EXAMPLE)
+        .arg(register_file(
+            alloc,
+            "The register's file, which is made where there is none",
+        ))?;
+    with_setup(alloc, parser)
+}
+
+fn exchange<'a>(alloc: Global) -> Result<Parser<'a>, AllocError>
+    ensures app { IfOk result (λ parser. app_of parser ≡ exchange_app) }
+    ensures local { IfOk result (λ parser. (fields_of parser).has_globals ≡ false) }
+{
+    let file = register_file(
+        alloc,
+        "The register's file, which is made where there is none; without it, the register is a new one in memory",
+    );
+    let parser = Parser::new(alloc, "exchange")
+        .about("Answers HTTP requests in files, one after the other, and prints the replies")
+        .after_help(EXCHANGE_EXAMPLE)
+        .arg(file.required(false))?;
+    with_setup(alloc, parser)?.arg(files(alloc, "The files, each with one HTTP request"))
 }
 
 fn serve<'a>(alloc: Global) -> Result<Parser<'a>, AllocError>
@@ -153,7 +182,7 @@ fn serve<'a>(alloc: Global) -> Result<Parser<'a>, AllocError>
     Parser::new(alloc, "serve")
         .about("Answers HTTP requests on 127.0.0.1, one after the other")
         .after_help(SERVE_EXAMPLE)
-        .arg(required(alloc, "db", "PATH", "The register's file"))?
+        .arg(register_file(alloc, "The register's file"))?
         .arg(required(alloc, "port", "PORT", "The port: 1 to 65535"))?
         .arg(required(
             alloc,
@@ -178,41 +207,29 @@ fn report<'a>(alloc: Global) -> Result<Parser<'a>, AllocError>
     ensures app { IfOk result (λ parser. app_of parser ≡ report_app) }
     ensures local { IfOk result (λ parser. (fields_of parser).has_globals ≡ false) }
 {
-    Parser::new(alloc, "report")
+    let parser = Parser::new(alloc, "report")
         .about(
             "Prints which persons hold an entity, directly or through a chain, as an agent sees it",
         )
         .after_help(REPORT_EXAMPLE)
-        .arg(required(alloc, "db", "PATH", "The register's file"))?
+        .arg(register_file(alloc, "The register's file"))?
         .arg(required(
             alloc,
             "viewer",
             "AGENT",
             "Who asks: an agent's name, 1 to 32 of a-z, 0-9 and -",
-        ))?
-        .arg(required(
-            alloc,
-            "agent",
-            "AGENT",
-            "The agent that lodged the entity: an agent's name, 1 to 32 of a-z, 0-9 and -",
-        ))?
-        .arg(required(
-            alloc,
-            "declaration",
-            "IDENT",
-            "The declaration's subject: an identifier, 1 to 255 bytes without control characters",
-        ))?
-        .arg(required(
-            alloc,
-            "record",
-            "IDENT",
-            "The entity's record: an identifier, 1 to 255 bytes without control characters",
-        ))?
+        ))?;
+    with_entity(alloc, parser)?
         .arg(option(
             alloc,
             "date",
             "DAY",
             "The date: a day, YYYY-MM-DD; without it, the register's day",
+        ))?
+        .arg(flag(
+            alloc,
+            "evidence",
+            "Tells why, too: each person's line ends with the first link of its chain, and below is a line for each link, with the next one",
         ))
 }
 
@@ -225,7 +242,7 @@ fn migrate<'a>(alloc: Global) -> Result<Parser<'a>, AllocError>
             "Moves a register of version 1 to version 2, in which an interest counts within its dates",
         )
         .after_help(MIGRATE_EXAMPLE)
-        .arg(required(alloc, "db", "PATH", "The register's file"))
+        .arg(register_file(alloc, "The register's file"))
 }
 
 /// The words that `bor` takes.

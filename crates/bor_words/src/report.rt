@@ -6,7 +6,7 @@ ghost use Rattle.bor_words.specs.Asked.{IsReport};
 ghost use Rattle.bor_words.specs.Unread.{IsUnfitAmong};
 ghost use Rattle.bor_words.specs.Values.{first_unfit, report_values};
 
-use crate::matches::given;
+use crate::matches::{given, is_set};
 use crate::unread::Unread;
 use crate::values::{agent_name, date, ident};
 use bor_terms::{AgentName, Day, Ident};
@@ -28,6 +28,8 @@ pub struct Report<'a> {
     pub rec: Ident,
     /// The day; the register's where it is left out.
     pub date: Option<Day>,
+    /// Whether the links of the chains are told too.
+    pub evidence: bool,
 }
 
 impl<'a> Report<'a> {
@@ -52,6 +54,7 @@ impl<'a> Report<'a> {
             declaration,
             rec,
             date,
+            evidence: is_set(found, "evidence"),
         })
     }
 }

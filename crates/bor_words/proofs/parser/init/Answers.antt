@@ -1,26 +1,23 @@
 use Rattle.std.proofs.Common.{◌≡◌, ◌∙◌, ◌||◌, ap, ap₂, codes, false}
 use Rattle.std.proofs.lemmas.Result.{IfOk-weaker}
-use Rattle.clap.specs.Words.{AddsArg, app_of, new_app, with_rule}
+use Rattle.clap.specs.Words.{app_of, new_app, with_rule}
 use Rattle.clap.specs.Simple.{app_of_fields}
 use Rattle.clap.specs.declared.builder.command.Command.{Command}
 use Rattle.clap.specs.declared.builder.command.Command.TheOpen.{Command-F}
 use Rattle.clap.specs.declared.builder.command.Command.TheViews.{out-Command as fields_of}
+use Rattle.bor_words.specs.Words.{with_setup}
 use Rattle.bor_words.proofs.parser.init.Goals as goal
 
 pub returns-clause-app : goal.returns-clause-app
 returns-clause-app c =
     let begun : app_of c.after_help.result ≡ new_app (codes "init") =
     ap app_of_fields c.after_help.ensures ∙ ap app_of_fields c.about.ensures ∙ c.new.ensures.app in
-    let one = c.in_ok-arg.ensures.shape c.required.ensures.local ∙ ap₂ with_rule begun c.required.ensures.rule in
-    let two = c.in_ok-arg-2.ensures.shape c.option.ensures.local ∙ ap₂ with_rule one c.option.ensures.rule in
-    let three = c.in_ok-arg-3.ensures.shape c.option-2.ensures.local ∙ ap₂ with_rule two c.option-2.ensures.rule in
-    IfOk-weaker c.arg-4.result (AddsArg c.in_ok-arg-3.field-0 c.required-2.result) _ (λ p h. h.shape c.required-2.ensures.local ∙ ap₂ with_rule three c.required-2.ensures.rule) c.arg-4.ensures
+    let one = c.in_ok-parser.ensures.shape c.register_file.ensures.local ∙ ap₂ with_rule begun c.register_file.ensures.rule in
+    IfOk-weaker c.with_setup.result (λ p. app_of p ≡ with_setup (app_of c.in_ok-parser.parser)) _ (λ p h. h ∙ ap with_setup one) c.with_setup.ensures.app
 
 pub returns-clause-local : goal.returns-clause-local
 returns-clause-local c =
     let begun : (fields_of c.after_help.result).has_globals ≡ false =
     ap (λ (f : Command-F Command). f.has_globals) c.after_help.ensures ∙ ap (λ (f : Command-F Command). f.has_globals) c.about.ensures ∙ c.new.ensures.local in
-    let one = c.in_ok-arg.ensures.globals ∙ ap₂ (λ a b. a || b) begun c.required.ensures.local in
-    let two = c.in_ok-arg-2.ensures.globals ∙ ap₂ (λ a b. a || b) one c.option.ensures.local in
-    let three = c.in_ok-arg-3.ensures.globals ∙ ap₂ (λ a b. a || b) two c.option-2.ensures.local in
-    IfOk-weaker c.arg-4.result (AddsArg c.in_ok-arg-3.field-0 c.required-2.result) _ (λ p h. h.globals ∙ ap₂ (λ a b. a || b) three c.required-2.ensures.local) c.arg-4.ensures
+    let one = c.in_ok-parser.ensures.globals ∙ ap₂ (λ a b. a || b) begun c.register_file.ensures.local in
+    IfOk-weaker c.with_setup.result (λ p. (fields_of p).has_globals ≡ (fields_of c.in_ok-parser.parser).has_globals) _ (λ p h. h ∙ one) c.with_setup.ensures.local
