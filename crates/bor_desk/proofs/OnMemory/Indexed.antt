@@ -171,7 +171,7 @@ index_enrolled ms agent token x fresh h = index_same ms (with_member (new_member
 
 -- ---- no agents
 
-empty_under : {K X : Type 0} (cmp : K → K → Ordering) (m : BTreeMap K (Vec X Global)) (k : K) → m.entries ≡ [] → under cmp m k ≡ []
+pub empty_under : {K X : Type 0} (cmp : K → K → Ordering) (m : BTreeMap K (Vec X Global)) (k : K) → m.entries ≡ [] → under cmp m k ≡ []
 empty_under {K} {X} cmp m k e = ap (λ (es : List (K × Vec X Global)). items_of (lookup (is_at (cmp k)) es)) e
 
 pub index_none : (x : Index) → IsEmpty x.series → IsEmpty x.named → IsIndex [] x

@@ -84,6 +84,17 @@ module _ {K : Type 0} (cmp : K → K → Ordering) (exact : CmpEqualImpliesEq cm
     | inr e ↦ inr (subst (λ (z : K). Contains (now z) m) e (subst (λ (ns : List Node). Contains ns m) (sym at) (subst (λ (x : Node). Contains (was key ++ n ∷ []) x) same (Contains-push (was key) n))))
   ]
 
+  -- what one value more adds
+  pub only_put : (key : K) (n : Node) (was now : K → List Node) → ((q : K) → now q ≡ cond (is_eq (cmp key q)) (was key ++ n ∷ []) (was q)) → (k : K) (m : Node) → Contains (now k) m → Contains (was k) m ⊎ ((key ≡ k) × (m ≡ n))
+  only_put key n was now put k m h = go (is_eq (cmp key k)) refl (subst (λ (ns : List Node). Contains ns m) (put k) h)
+    where
+      go : (b : Bool) → is_eq (cmp key k) ≡ b → Contains (cond b (was key ++ n ∷ []) (was k)) m → Contains (was k) m ⊎ ((key ≡ k) × (m ≡ n))
+      go true e on = elim (Contains-push_cases (was key) n m on) [
+        | inl old ↦ inl (subst (λ (z : K). Contains (was z) m) (tells_apart exact key k e) old)
+        | inr is ↦ inr (tells_apart exact key k e, sym is)
+      ]
+      go false e on = inl on
+
 -- ---- the records of statements
 
 pub all_noted_none : {K : Type 0} (keys : List ℕ → Statement → List K) (agent : List ℕ) (was : K → List Node) → AreNoted keys agent [] was was

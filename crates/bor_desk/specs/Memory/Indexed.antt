@@ -1,5 +1,5 @@
 -- Maps beside the filings of a register in memory; for clauses of private functions alone.
-use Rattle.std.specs.Prelude.{◌≡◌, ◌++◌, ℕ, List, [], ◌∷◌, map, Contains, Bool, Option, None, Some}
+use Rattle.std.specs.Prelude.{◌≡◌, ◌⊎◌, ◌++◌, ℕ, List, [], ◌∷◌, map, Contains, Bool, Option, None, Some}
 use Rattle.std.specs.BTreeMap.{BTreeMap, get}
 use Rattle.std.specs.Ordering.{is_eq, ordering_then}
 use Rattle.std.specs.declared.cmp.Ordering.{Ordering}
@@ -65,10 +65,11 @@ signs_in n (details.Relationship subject party interests) = []
 abbrev pub signs_of : List ℕ → Statement → List Sign
 signs_of agent s = signs_in (stated agent s) s.details
 
--- A node is added under these keys, and what was there stays.
+-- A node is added under these keys and no others, and what was there stays.
 pub record IsNoted {K : Type 0} (ks : List K) (n : Node) (was now : K → List Node) : Type 0 where
   pub stays : (k : K) (m : Node) → Contains (was k) m → Contains (now k) m
   pub there : (k : K) → Contains ks k → Contains (now k) n
+  pub only : (k : K) (m : Node) → Contains (now k) m → Contains (was k) m ⊎ (Contains ks k × (m ≡ n))
 
 -- The record of each statement of the agent is added under the statement's keys, and what was there stays.
 pub record AreNoted {K : Type 0} (keys : List ℕ → Statement → List K) (agent : List ℕ) (ss : List Statement) (was now : K → List Node) : Type 0 where

@@ -231,8 +231,8 @@ fn add_named(
     Ok(())
 }
 
-// Puts a record under each of these keys.
-fn note<K: Ord + Drop>(
+/// Puts a record under each of these keys.
+pub(crate) fn note<K: Ord + Drop>(
     alloc: Global,
     map: &mut BTreeMap<K, Vec<Node>>,
     mut keys: Vec<K>,
@@ -285,8 +285,8 @@ fn add_naming(
     Ok(())
 }
 
-// Adds the signs of identifiers.
-fn push_signs(
+/// Adds the signs of identifiers.
+pub(crate) fn push_signs(
     alloc: Global,
     signs: &mut Vec<Sign>,
     identifiers: &[Identifier],

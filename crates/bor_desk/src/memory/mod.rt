@@ -23,4 +23,5 @@ mod sight;
 mod standing;
 mod succession;
 
+pub(crate) use index::{note, push_signs};
 pub use list_keep::ListKeep;
