@@ -12,3 +12,4 @@ pub mod Worlds
 pub mod OnOperations
 pub mod OnMemory
 pub mod OnMirror
+pub mod OnEvidence

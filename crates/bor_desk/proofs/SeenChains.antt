@@ -1,15 +1,13 @@
--- Who stands behind an entity, by the nodes and links that a viewer sees.
-use Rattle.std.proofs.Common.{◌≡◌, ◌≢◌, ℕ, ℤ, cond, inl, inr, Option, Some, None, List, Result, Ok, Err, IsErr, IsErrAnd, Vec, Global, refl, sym, ap, subst}
+-- Who stands behind an entity, and why, by the nodes and links that a viewer sees.
+use Rattle.std.proofs.Common.{◌≡◌, ◌≢◌, ℕ, ℤ, cond, inl, inr, Option, Some, None, List, Result, Ok, Err, IsErr, IsErrAnd, refl, sym, ap, subst}
 use Rattle.bor_records.specs.declared.links.node.Node.{Node}
 use Rattle.bor_records.specs.declared.links.node.NodeInfo.{NodeInfo}
 use Rattle.bor_records.specs.declared.links.node.NodeInfo.TheVariants.{Entity, Person}
 use Rattle.bor_records.specs.Promises.{Kept, StaysClean, Promised}
-use Rattle.bor_chains.specs.declared.line.PersonLine.{PersonLine}
 use Rattle.bor_chains.specs.declared.fault.ChainFault.{ChainFault}
 use Rattle.bor_chains.specs.declared.fault.ChainFault.TheVariants as chains
 use Rattle.bor_records.specs.Links.Shown.{Shown, info_of, IsEntity}
 use Rattle.bor_records.specs.Links.Rows.{is_entity_info, shown_of}
-use Rattle.bor_chains.specs.Chains.{AreJoined}
 use Rattle.bor_chains.specs.Promises.{chain_counted, IfToldBy, OnNoEntity, OnSource}
 use Rattle.bor_register.specs.declared.fault.StoreFault.{StoreFault}
 use Rattle.bor_register.specs.Register.{Register}
@@ -23,7 +21,7 @@ use Rattle.bor_desk.specs.declared.refusal.Refusal.TheVariants.{NoEntity}
 use Rattle.bor_desk.specs.declared.refusal.DeskFault.{DeskFault}
 use Rattle.bor_desk.specs.Refusals.{IsOfChains, failed}
 use Rattle.bor_desk.specs.Step.{report, refused, report_on}
-use Rattle.bor_desk.specs.Outcomes.{AreFound}
+use Rattle.bor_desk.specs.Outcomes.{IsFoundOf}
 
 -- ---- the report
 
@@ -38,64 +36,64 @@ no_entity-refused s n day none = at (info_of s n) refl
     at (Some (Person name)) e = ap (λ (i : Option NodeInfo). cond (is_entity_info i) (report n day s) (refused NoEntity)) e
     at (Some (Entity legal)) e = absurd (none (legal, e))
 
--- what was found of the nodes and links that a viewer sees
-pub persons-found : (day : ℤ) (viewer : List ℕ) (r : Register) (n : Node) (persons : List PersonLine) → IsEntity (seen_at viewer day r) n → AreJoined (seen_at viewer day r) n persons →
-    (report_on (shown_of day (seen_by viewer r)) n day ≡ report n day (shown_of day (seen_by viewer r))) × AreJoined (shown_of day (seen_by viewer r)) n persons
-persons-found day viewer r n persons entity joined =
-    subst (λ (s : Shown). (report_on s n day ≡ report n day s) × AreJoined s n persons) (sym (numbers_make_no_links day viewer r)) (entity-report (seen_at viewer day r) n day entity, joined)
+-- what is right by the nodes and links that a viewer sees
+pub chains-found : (right : Shown → Type 0) (day : ℤ) (viewer : List ℕ) (r : Register) (n : Node) → IsEntity (seen_at viewer day r) n → right (seen_at viewer day r) →
+    (report_on (shown_of day (seen_by viewer r)) n day ≡ report n day (shown_of day (seen_by viewer r))) × right (shown_of day (seen_by viewer r))
+chains-found right day viewer r n entity is =
+    subst (λ (s : Shown). (report_on s n day ≡ report n day s) × right s) (sym (numbers_make_no_links day viewer r)) (entity-report (seen_at viewer day r) n day entity, is)
 
--- why nothing was
-refusal-found : {P F : Type 0} (into : F → StoreFault → Type 0) (items : P → List PersonLine) (day : ℤ) (viewer : List ℕ) (r : Register) (n : Node) (fault : ChainFault F) (given : DeskFault) → OnNoEntity fault (IsEntity (seen_at viewer day r) n → ⊥) → IsOfChains into fault given →
-    AreFound items (Err given) (shown_of day (seen_by viewer r)) n day
-refusal-found into items day viewer r n chains.NoEntity given none is =
-    subst (λ (g : DeskFault). AreFound items (Err g) (shown_of day (seen_by viewer r)) n day) (sym is)
+-- why nothing was found
+refusal-found : {P F : Type 0} (into : F → StoreFault → Type 0) (right : Shown → P → Type 0) (day : ℤ) (viewer : List ℕ) (r : Register) (n : Node) (fault : ChainFault F) (given : DeskFault) → OnNoEntity fault (IsEntity (seen_at viewer day r) n → ⊥) → IsOfChains into fault given →
+    IsFoundOf right (Err given) (shown_of day (seen_by viewer r)) n day
+refusal-found into right day viewer r n chains.NoEntity given none is =
+    subst (λ (g : DeskFault). IsFoundOf right (Err g) (shown_of day (seen_by viewer r)) n day) (sym is)
     (subst (λ (s : Shown). report_on s n day ≡ refused NoEntity) (sym (numbers_make_no_links day viewer r)) (no_entity-refused (seen_at viewer day r) n day none))
-refusal-found into items day viewer r n (chains.Source f) given none is =
-    subst (λ (g : DeskFault). AreFound items (Err g) (shown_of day (seen_by viewer r)) n day) (sym is.2) tt
-refusal-found into items day viewer r n chains.Memory given none is =
-    subst (λ (g : DeskFault). AreFound items (Err g) (shown_of day (seen_by viewer r)) n day) (sym is) tt
+refusal-found into right day viewer r n (chains.Source f) given none is =
+    subst (λ (g : DeskFault). IsFoundOf right (Err g) (shown_of day (seen_by viewer r)) n day) (sym is.2) tt
+refusal-found into right day viewer r n chains.Memory given none is =
+    subst (λ (g : DeskFault). IsFoundOf right (Err g) (shown_of day (seen_by viewer r)) n day) (sym is) tt
 
-pub persons-refused : {P F : Type 0} (into : F → StoreFault → Type 0) (items : P → List PersonLine) (day : ℤ) (viewer : List ℕ) (r : Register) (n : Node) (fault : ChainFault F) (made : Result P DeskFault) → OnNoEntity fault (IsEntity (seen_at viewer day r) n → ⊥) →
-    IsErr made → IsErrAnd made (IsOfChains into fault) → AreFound items made (shown_of day (seen_by viewer r)) n day
-persons-refused into items day viewer r n fault (Ok persons) none is_err gives = absurd cc
-persons-refused into items day viewer r n fault (Err given) none is_err gives = refusal-found into items day viewer r n fault given none gives
+pub chains-refused : {P F : Type 0} (into : F → StoreFault → Type 0) (right : Shown → P → Type 0) (day : ℤ) (viewer : List ℕ) (r : Register) (n : Node) (fault : ChainFault F) (made : Result P DeskFault) → OnNoEntity fault (IsEntity (seen_at viewer day r) n → ⊥) →
+    IsErr made → IsErrAnd made (IsOfChains into fault) → IsFoundOf right made (shown_of day (seen_by viewer r)) n day
+chains-refused into right day viewer r n fault (Ok found) none is_err gives = absurd cc
+chains-refused into right day viewer r n fault (Err given) none is_err gives = refusal-found into right day viewer r n fault given none gives
 
 -- ---- whose fault it is
 
 -- a fault of the source is the keep's, and counted; any other leaves the count
-refusal-accounted : (fault : ChainFault StoreFault) (given : DeskFault) (before after : ℕ) → IsOfChains (λ f s. s ≡ f) fault given →
-    after ≡ chain_counted {T = Vec PersonLine Global} (Err fault) before → OnSource fault (λ _. after ≢ before) → ByStore (failed given) (after ≡ before) (IsFaultOf before after)
-refusal-accounted chains.NoEntity given before after is counts moved = subst (λ (g : DeskFault). ByStore (failed g) (after ≡ before) (IsFaultOf before after)) (sym is) counts
-refusal-accounted (chains.Source f) given before after is counts moved = subst (λ (g : DeskFault). ByStore (failed g) (after ≡ before) (IsFaultOf before after)) (sym is.2) (inr moved)
-refusal-accounted chains.Memory given before after is counts moved = subst (λ (g : DeskFault). ByStore (failed g) (after ≡ before) (IsFaultOf before after)) (sym is) (inl (refl, counts))
+refusal-accounted : (P : Type 0) (fault : ChainFault StoreFault) (given : DeskFault) (before after : ℕ) → IsOfChains (λ f s. s ≡ f) fault given →
+    after ≡ chain_counted {T = P} (Err fault) before → OnSource fault (λ _. after ≢ before) → ByStore (failed given) (after ≡ before) (IsFaultOf before after)
+refusal-accounted P chains.NoEntity given before after is counts moved = subst (λ (g : DeskFault). ByStore (failed g) (after ≡ before) (IsFaultOf before after)) (sym is) counts
+refusal-accounted P (chains.Source f) given before after is counts moved = subst (λ (g : DeskFault). ByStore (failed g) (after ≡ before) (IsFaultOf before after)) (sym is.2) (inr moved)
+refusal-accounted P chains.Memory given before after is counts moved = subst (λ (g : DeskFault). ByStore (failed g) (after ≡ before) (IsFaultOf before after)) (sym is) (inl (refl, counts))
 
-pub persons-accounted : {P : Type 0} (fault : ChainFault StoreFault) (made : Result P DeskFault) (before after : ℕ) →
-    IsErr made → IsErrAnd made (IsOfChains (λ f s. s ≡ f) fault) → after ≡ chain_counted {T = Vec PersonLine Global} (Err fault) before → OnSource fault (λ _. after ≢ before) → IsAccounted failed made before after
-persons-accounted fault (Ok persons) before after is_err is counts moved = absurd cc
-persons-accounted fault (Err given) before after is_err is counts moved = refusal-accounted fault given before after is counts moved
+pub chains-accounted : {P : Type 0} (fault : ChainFault StoreFault) (made : Result P DeskFault) (before after : ℕ) →
+    IsErr made → IsErrAnd made (IsOfChains (λ f s. s ≡ f) fault) → after ≡ chain_counted {T = P} (Err fault) before → OnSource fault (λ _. after ≢ before) → IsAccounted failed made before after
+chains-accounted fault (Ok found) before after is_err is counts moved = absurd cc
+chains-accounted {P} fault (Err given) before after is_err is counts moved = refusal-accounted P fault given before after is counts moved
 
 -- and one that the keep may tell
-refusal-told : (may_tell : StoreFault → Type 0) (fault : ChainFault StoreFault) (given : DeskFault) (before after : ℕ) → IsOfChains (λ f s. s ≡ f) fault given → OnSource fault may_tell →
-    after ≡ chain_counted {T = Vec PersonLine Global} (Err fault) before → OnSource fault (λ _. after ≢ before) → ByStore (failed given) (Unit {0}) (IsTellable may_tell before after)
-refusal-told may_tell chains.NoEntity given before after is told counts moved = subst (λ (g : DeskFault). ByStore (failed g) (Unit {0}) (IsTellable may_tell before after)) (sym is) tt
-refusal-told may_tell (chains.Source f) given before after is told counts moved =
+refusal-told : (P : Type 0) (may_tell : StoreFault → Type 0) (fault : ChainFault StoreFault) (given : DeskFault) (before after : ℕ) → IsOfChains (λ f s. s ≡ f) fault given → OnSource fault may_tell →
+    after ≡ chain_counted {T = P} (Err fault) before → OnSource fault (λ _. after ≢ before) → ByStore (failed given) (Unit {0}) (IsTellable may_tell before after)
+refusal-told P may_tell chains.NoEntity given before after is told counts moved = subst (λ (g : DeskFault). ByStore (failed g) (Unit {0}) (IsTellable may_tell before after)) (sym is) tt
+refusal-told P may_tell (chains.Source f) given before after is told counts moved =
     subst (λ (g : DeskFault). ByStore (failed g) (Unit {0}) (IsTellable may_tell before after)) (sym is.2) (inr (subst may_tell (sym is.1) told, moved))
-refusal-told may_tell chains.Memory given before after is told counts moved = subst (λ (g : DeskFault). ByStore (failed g) (Unit {0}) (IsTellable may_tell before after)) (sym is) (inl (refl, counts))
+refusal-told P may_tell chains.Memory given before after is told counts moved = subst (λ (g : DeskFault). ByStore (failed g) (Unit {0}) (IsTellable may_tell before after)) (sym is) (inl (refl, counts))
 
-pub persons-told : {P : Type 0} (may_tell : StoreFault → Type 0) (fault : ChainFault StoreFault) (made : Result P DeskFault) (before after : ℕ) → IsErr made → IsErrAnd made (IsOfChains (λ f s. s ≡ f) fault) → OnSource fault may_tell →
-    after ≡ chain_counted {T = Vec PersonLine Global} (Err fault) before → OnSource fault (λ _. after ≢ before) → TellsFaultOf failed may_tell made before after
-persons-told may_tell fault (Ok persons) before after is_err is told counts moved = absurd cc
-persons-told may_tell fault (Err given) before after is_err is told counts moved = refusal-told may_tell fault given before after is told counts moved
+pub chains-told : {P : Type 0} (may_tell : StoreFault → Type 0) (fault : ChainFault StoreFault) (made : Result P DeskFault) (before after : ℕ) → IsErr made → IsErrAnd made (IsOfChains (λ f s. s ≡ f) fault) → OnSource fault may_tell →
+    after ≡ chain_counted {T = P} (Err fault) before → OnSource fault (λ _. after ≢ before) → TellsFaultOf failed may_tell made before after
+chains-told may_tell fault (Ok found) before after is_err is told counts moved = absurd cc
+chains-told {P} may_tell fault (Err given) before after is_err is told counts moved = refusal-told P may_tell fault given before after is told counts moved
 
--- what holds where there is a report or no such entity holds where the answer is no fault of the store
-refusal-answered : {F : Type 0} (into : F → StoreFault → Type 0) (P : Type 0) (fault : ChainFault F) (given : DeskFault) → IsOfChains into fault given → IfToldBy {T = Vec PersonLine Global} (Err fault) P → ByStore (failed given) P (λ f. Unit {0})
-refusal-answered into P chains.NoEntity given is p = subst (λ (g : DeskFault). ByStore (failed g) P (λ f. Unit {0})) (sym is) p
-refusal-answered into P (chains.Source f) given is p = subst (λ (g : DeskFault). ByStore (failed g) P (λ f. Unit {0})) (sym is.2) tt
-refusal-answered into P chains.Memory given is p = subst (λ (g : DeskFault). ByStore (failed g) P (λ f. Unit {0})) (sym is) tt
+-- what holds where something was found or no such entity is there holds where the answer is no fault of the store
+refusal-answered : {F : Type 0} (Q : Type 0) (into : F → StoreFault → Type 0) (P : Type 0) (fault : ChainFault F) (given : DeskFault) → IsOfChains into fault given → IfToldBy {T = Q} (Err fault) P → ByStore (failed given) P (λ f. Unit {0})
+refusal-answered Q into P chains.NoEntity given is p = subst (λ (g : DeskFault). ByStore (failed g) P (λ f. Unit {0})) (sym is) p
+refusal-answered Q into P (chains.Source f) given is p = subst (λ (g : DeskFault). ByStore (failed g) P (λ f. Unit {0})) (sym is.2) tt
+refusal-answered Q into P chains.Memory given is p = subst (λ (g : DeskFault). ByStore (failed g) P (λ f. Unit {0})) (sym is) tt
 
-pub persons-answered : {Q F : Type 0} (into : F → StoreFault → Type 0) (P : Type 0) (fault : ChainFault F) (made : Result Q DeskFault) → IsErr made → IsErrAnd made (IsOfChains into fault) → IfToldBy {T = Vec PersonLine Global} (Err fault) P → UnlessFailed failed made P
-persons-answered into P fault (Ok persons) is_err is p = absurd cc
-persons-answered into P fault (Err given) is_err is p = refusal-answered into P fault given is p
+pub chains-answered : {Q F : Type 0} (into : F → StoreFault → Type 0) (P : Type 0) (fault : ChainFault F) (made : Result Q DeskFault) → IsErr made → IsErrAnd made (IsOfChains into fault) → IfToldBy {T = Q} (Err fault) P → UnlessFailed failed made P
+chains-answered into P fault (Ok found) is_err is p = absurd cc
+chains-answered {Q} into P fault (Err given) is_err is p = refusal-answered Q into P fault given is p
 
 -- ---- a source that borrows a keep
 

@@ -56,6 +56,9 @@ registrar_reads = refl
 registrar_asks_for_chains : answer registrar (ask.Chains (record { agent = codes "alder"; declaration = codes "c1"; rec = codes "e1" }) None) ≡ refused NotAgent
 registrar_asks_for_chains = refl
 
+registrar_asks_for_evidence : answer registrar (ask.Evidence (record { agent = codes "alder"; declaration = codes "c1"; rec = codes "e1" }) None) ≡ refused NotAgent
+registrar_asks_for_evidence = refl
+
 -- what the registrar's own requests are refused for
 day_back : answer registrar (ask.Day (pos 19753)) ≡ refused DayBack
 day_back = refl
@@ -84,6 +87,9 @@ no_file = refl
 
 no_entity : answer alder (ask.Chains (record { agent = codes "birch"; declaration = codes "c1"; rec = codes "e1" }) None) ≡ refused NoEntity
 no_entity = refl
+
+no_entity_of_evidence : answer alder (ask.Evidence (record { agent = codes "birch"; declaration = codes "c1"; rec = codes "e1" }) None) ≡ refused NoEntity
+no_entity_of_evidence = refl
 
 -- an agent and a declaration that aren't there give an empty snapshot, on the register's day where none is asked for
 empty_snapshot : answer alder (ask.Snapshot (codes "birch") (codes "c9") None) ≡ exactly (tell.Snapshot today [])

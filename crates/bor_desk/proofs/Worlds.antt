@@ -18,6 +18,7 @@ use Rattle.bods_read.specs.declared.interest.Directness.TheVariants as directnes
 use Rattle.bods_read.specs.File.{reading}
 use Rattle.bods_read.proofs.Examples.{reader}
 use Rattle.bor_records.specs.declared.row.Entry.{Entry}
+use Rattle.bor_records.specs.declared.row.Row.{Row}
 use Rattle.bor_register.specs.declared.filing.Outward.{Outward}
 use Rattle.bor_register.specs.declared.filing.State.{State}
 use Rattle.bor_register.specs.declared.filing.State.TheVariants.{Draft, Published, Withdrawn}
@@ -34,7 +35,7 @@ use Rattle.bor_desk.specs.declared.request.Request.{Request}
 use Rattle.bor_desk.specs.declared.request.Request.TheVariants as ask
 use Rattle.bor_desk.specs.declared.reply.DeskReply.TheVariants as tell
 use Rattle.bor_desk.specs.declared.refusal.Refusal.TheVariants.{NoAgent}
-use Rattle.bor_desk.specs.Step.{Answer, exactly, report, refused}
+use Rattle.bor_desk.specs.Step.{Answer, exactly, report, evidence, refused}
 use Rattle.bor_desk.specs.Runs.{Asked, Occasion, answers, answers_to, history, register_after, solo}
 
 -- ---- the files
@@ -124,6 +125,7 @@ asked =
     ∷ by_alder (ask.Snapshot (codes "birch") (codes "c9") None)
     ∷ by_alder (ask.Snapshot (codes "birch") (codes "c1") None)
     ∷ by_alder (ask.Chains (record { agent = codes "alder"; declaration = codes "c1"; rec = codes "e1" }) None)
+    ∷ by_alder (ask.Evidence (record { agent = codes "alder"; declaration = codes "c1"; rec = codes "e1" }) None)
     ∷ by_alder (ask.Lodge (codes "g1") march g1)
     ∷ []
 
@@ -222,6 +224,13 @@ seen = record {
   links = upper ∷ lower ∷ [];
 }
 
+-- and as rows, in which no number of a filing is
+abbrev row : List ℕ → ℕ → Statement → Row
+row agent place s = record { agent = agent; filing = 0; place = place; status = New; statement = s }
+
+abbrev rows : List Row
+rows = row (codes "alder") 1 e1 ∷ row (codes "alder") 2 a1 ∷ row (codes "alder") 3 r1 ∷ row (codes "birch") 1 b1 ∷ row (codes "birch") 2 bp ∷ row (codes "birch") 3 br ∷ []
+
 abbrev lodged : ℕ → ℤ → State → Bool → Answer
 lodged number due state fresh = exactly (tell.Lodged (record { number = number; due = due; state = state; fresh = fresh }))
 
@@ -233,6 +242,7 @@ told =
     ∷ exactly (tell.Snapshot today (entry b1 ∷ entry bp ∷ entry br ∷ []))
     ∷ exactly (tell.Snapshot today [])
     ∷ report e1_node today seen
+    ∷ evidence e1_node today rows
     ∷ lodged 1 march Draft false
     ∷ []
 
@@ -320,13 +330,13 @@ abbrev names_of : List OpenNode → List (Option (List ℕ))
 names_of shown = filter_map (λ (n : OpenNode). elim n.info [ nodes.Entity legal ↦ None | nodes.Person name ↦ Some name ]) shown
 
 abbrev names : Answer → List (Option (List ℕ))
-names (exactly reply) = []
 names (report entity day shown) = names_of shown.nodes
+names answer = []
 
 -- which links of a report are majority stakes
 abbrev stakes : Answer → List Bool
-stakes (exactly reply) = []
 stakes (report entity day shown) = map (λ (l : Link). l.stake) shown.links
+stakes answer = []
 
 -- the agents of the outward forms
 abbrev publishers : Answer → List (List ℕ)

@@ -1,6 +1,10 @@
 -- What an exchange tells an agent, and what it leaves.
-use Rattle.std.specs.Prelude.{◌≡◌, ℕ, List, length, Bool, true, false, Option, Some, None}
+use Rattle.std.specs.Prelude.{◌≡◌, ℕ, ℤ, List, length, map, Bool, true, false, Option, Some, None}
 use Rattle.bor_terms.specs.Texts.{is_same}
+use Rattle.bor_records.specs.declared.row.Row.{Row}
+use Rattle.bor_records.specs.declared.links.node.Node.{Node}
+use Rattle.bor_records.specs.Links.Rows.{shown_of}
+use Rattle.bor_chains.specs.Chains.{AreJoined}
 use Rattle.bor_register.specs.declared.caller.Caller.{Caller}
 use Rattle.bor_register.specs.declared.caller.Caller.TheVariants.{Agent}
 use Rattle.bor_register.specs.Register.{Register, caller_of, filings_of}
@@ -11,8 +15,10 @@ use Rattle.bor_desk.specs.declared.request.Request.{Request}
 use Rattle.bor_desk.specs.declared.request.Request.TheVariants as ask
 use Rattle.bor_desk.specs.declared.reply.DeskReply.{DeskReply}
 use Rattle.bor_desk.specs.declared.reply.DeskReply.TheVariants as tell
+use Rattle.bor_desk.specs.declared.evidence.lines.EntityEvidence.{EntityEvidence}
+use Rattle.bor_desk.specs.Evidence.{IsEntityEvidence, without_first}
 use Rattle.bor_desk.specs.Outcomes.{IsTold, IsAnswered}
-use Rattle.bor_desk.specs.Step.{Answer, exactly, step, agent_step, registrar_step}
+use Rattle.bor_desk.specs.Step.{Answer, exactly, chains_answer, evidence_answer, step, agent_step, registrar_step}
 use Rattle.bor_desk.specs.Runs.{Asked, answers, register_after, history, answers_to, solo}
 
 -- whether the caller is this agent
@@ -47,6 +53,7 @@ is_read (ask.File key) = true
 is_read ask.Published = true
 is_read (ask.Snapshot agent declaration date) = true
 is_read (ask.Chains entity date) = true
+is_read (ask.Evidence entity date) = true
 is_read request = false
 
 -- whether the reply is to a request that only reads, a refusal apart: it may be of any length
@@ -56,7 +63,14 @@ is_long (tell.File bytes) = true
 is_long (tell.Published outwards) = true
 is_long (tell.Snapshot date records) = true
 is_long (tell.Chains entity date persons) = true
+is_long (tell.Evidence entity date evidence) = true
 is_long reply = false
+
+-- Evidence names exactly the persons that are joined to the entity, those of the report on it.
+pub record EvidenceNamesTheJoined : Type 0 where
+  pub joined : (seen : List Row) (entity : Node) (day : ℤ) (told : EntityEvidence) → IsEntityEvidence seen entity day told → AreJoined (shown_of day seen) entity (map without_first told.persons)
+  pub reported : (seen : List Row) (entity : Node) (day : ℤ) (told : EntityEvidence) → IsTold (evidence_answer seen entity day) (tell.Evidence entity day told) →
+      IsTold (chains_answer seen entity day) (tell.Chains entity day (map without_first told.persons))
 
 -- A request that only reads leaves the register as it was, whatever it is answered; and so does each request that is told a reply of any length.
 pub record ReadsLeave : Type 0 where

@@ -1,5 +1,9 @@
 pub mod Refusals
 pub mod Texts
+pub mod Evidence
+pub mod Kin
+pub mod Ways
+pub mod Mentioned
 pub mod Step
 pub mod Outcomes
 pub mod Runs

@@ -3,7 +3,11 @@ use Rattle.std.specs.Prelude.{◌≡◌, ℕ, ℤ, List, Option, Some, None, IfS
 use Rattle.bor_records.specs.declared.links.node.Node.{Node}
 use Rattle.bor_chains.specs.declared.line.PersonLine.{PersonLine}
 use Rattle.bor_records.specs.Links.Shown.{Shown}
+use Rattle.bor_records.specs.declared.row.Row.{Row}
+use Rattle.bor_chains.specs.declared.tree.Evidence.{Evidence}
 use Rattle.bor_chains.specs.Chains.{AreJoined}
+use Rattle.bor_chains.specs.Evidence.{AreEvidenced}
+use Rattle.bor_desk.specs.declared.evidence.lines.EntityEvidence.{EntityEvidence}
 use Rattle.bor_register.specs.declared.caller.Caller.{Caller}
 use Rattle.bor_register.specs.declared.caller.Caller.TheVariants.{Agent}
 use Rattle.bor_register.specs.declared.fault.StoreFault.{StoreFault}
@@ -15,12 +19,14 @@ use Rattle.bor_desk.specs.declared.reply.DeskReply.{DeskReply}
 use Rattle.bor_desk.specs.declared.reply.DeskReply.TheVariants as tell
 use Rattle.bor_desk.specs.declared.refusal.DeskFault.{DeskFault}
 use Rattle.bor_desk.specs.declared.refusal.DeskFault.TheVariants.{Refused, Failed}
-use Rattle.bor_desk.specs.Step.{Answer, exactly, report, refused, report_on}
+use Rattle.bor_desk.specs.Step.{Answer, exactly, report, evidence, refused, report_on, evidence_answer}
+use Rattle.bor_desk.specs.Evidence.{IsEntityEvidence}
 
 -- The reply tells the answer: of a report it names exactly the persons that are joined to the entity.
 abbrev pub IsTold : Answer → DeskReply → Type 0
 IsTold (exactly wanted) reply = reply ≡ wanted
 IsTold (report entity day shown) reply = (persons : List PersonLine) × AreJoined shown entity persons × (reply ≡ tell.Chains entity day persons)
+IsTold (evidence entity day seen) reply = (told : EntityEvidence) × IsEntityEvidence seen entity day told × (reply ≡ tell.Evidence entity day told)
 
 -- the reply that a fault makes
 abbrev pub denial : DeskFault → DeskReply
@@ -70,11 +76,25 @@ IsNamed reply named asks = ByStore (fault_of reply) (named ≡ asks) (λ fault. 
 
 -- ---- parts of an answer, for clauses of private functions alone
 
--- the persons that were found, or why there is no report, are those of the answer to who stands behind an entity
+-- what was found is right by what is shown, or why nothing was is the answer to who stands behind an entity
+abbrev pub IsFoundOf : {P : Type 0} → (Shown → P → Type 0) → Result P DeskFault → Shown → Node → ℤ → Type 0
+IsFoundOf right (Ok found) shown entity day = (report_on shown entity day ≡ report entity day shown) × right shown found
+IsFoundOf right (Err (Refused why)) shown entity day = report_on shown entity day ≡ refused why
+IsFoundOf right (Err (Failed fault)) shown entity day = Unit {0}
+
+-- the persons that were found, or why there is no report
 abbrev pub AreFound : {P : Type 0} → (P → List PersonLine) → Result P DeskFault → Shown → Node → ℤ → Type 0
-AreFound items (Ok persons) shown entity day = (report_on shown entity day ≡ report entity day shown) × AreJoined shown entity (items persons)
-AreFound items (Err (Refused why)) shown entity day = report_on shown entity day ≡ refused why
-AreFound items (Err (Failed fault)) shown entity day = Unit {0}
+AreFound items made shown entity day = IsFoundOf (λ s persons. AreJoined s entity (items persons)) made shown entity day
+
+-- the tree that was found, or why there is none
+abbrev pub IsTreeFound : Result Evidence DeskFault → Shown → Node → ℤ → Type 0
+IsTreeFound made shown entity day = IsFoundOf (λ s tree. AreEvidenced s entity tree) made shown entity day
+
+-- the evidence that was found, or why there is none, is that of the answer to why the persons behind an entity are named
+abbrev pub IsEvidenceFound : Result EntityEvidence DeskFault → List Row → Node → ℤ → Type 0
+IsEvidenceFound (Ok told) seen entity day = (evidence_answer seen entity day ≡ evidence entity day seen) × IsEntityEvidence seen entity day told
+IsEvidenceFound (Err (Refused why)) seen entity day = evidence_answer seen entity day ≡ refused why
+IsEvidenceFound (Err (Failed fault)) seen entity day = Unit {0}
 
 -- the reply that was made, or the one that a fault makes
 abbrev pub reply_of : Result DeskReply DeskFault → DeskReply

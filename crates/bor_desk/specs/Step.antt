@@ -25,10 +25,11 @@ use Rattle.bor_desk.specs.declared.refusal.DeskFault.{DeskFault}
 use Rattle.bor_desk.specs.declared.refusal.DeskFault.TheVariants as faults
 use Rattle.bor_desk.specs.Refusals.{of_lodging, of_withdrawal, of_advance, of_enrolment}
 
--- An answer: exactly a reply, or the report on an entity on a day, by the nodes and links that the caller sees.
+-- An answer: exactly a reply, or the report on an entity on a day, by the nodes and links that the caller sees, or its evidence, by the rows that the caller sees.
 pub data Answer : Type 0 where
   exactly : DeskReply → Answer
   report : Node → ℤ → Shown → Answer
+  evidence : Node → ℤ → List Row → Answer
 
 abbrev pub refused : Refusal → Answer
 refused why = exactly (tell.Refused why)
@@ -61,6 +62,10 @@ report_on shown entity day = if is_entity_info (info_of shown entity) then repor
 abbrev pub chains_answer : List Row → Node → ℤ → Answer
 chains_answer seen entity day = report_on (shown_of day seen) entity day
 
+-- the evidence of an entity, by the statements that the caller sees, on a day
+abbrev pub evidence_answer : List Row → Node → ℤ → Answer
+evidence_answer seen entity day = if is_entity_info (info_of (shown_of day seen) entity) then evidence entity day seen else refused NoEntity
+
 -- An absent date is the register's day.
 abbrev pub agent_answer : Sight → Request → Answer
 agent_answer s (ask.Lodge key due file) = told tell.Lodged of_lodging (lodging s key due file)
@@ -70,6 +75,7 @@ agent_answer s (ask.File key) = file_answer (filing_keyed key s.own)
 agent_answer s ask.Published = exactly (tell.Published s.published)
 agent_answer s (ask.Snapshot agent declaration date) = snapshot_answer s.seen agent declaration (unwrap_or date s.day)
 agent_answer s (ask.Chains entity date) = chains_answer s.seen entity (unwrap_or date s.day)
+agent_answer s (ask.Evidence entity date) = evidence_answer s.seen entity (unwrap_or date s.day)
 agent_answer s (ask.Day date) = refused NotRegistrar
 agent_answer s (ask.Enrol name token) = refused NotRegistrar
 

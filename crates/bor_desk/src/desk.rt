@@ -6,10 +6,11 @@ ghost use Rattle.bor_records.specs.Promises.{Kept, Leaves, StaysClean, Promised,
 ghost use Rattle.bor_desk.specs.Operations.Legality.{IsLegal};
 ghost use Rattle.bor_desk.specs.Operations.Sight.{seen_by, sight_of};
 ghost use Rattle.bor_desk.specs.Operations.Outcomes.{IsCounted};
-ghost use Rattle.bor_desk.specs.Step.{step, agent_answer, agent_step, may_change_own, registrar_step, file_answer, chains_answer, snapshot_answer};
+ghost use Rattle.bor_desk.specs.Step.{step, agent_answer, agent_step, may_change_own, registrar_step, file_answer, chains_answer, evidence_answer, snapshot_answer};
 ghost use Rattle.bor_desk.specs.Laws.{IsToldAlone};
 ghost use Rattle.bor_desk.specs.Outcomes.{UnlessReplyFailed, IsAnswered, IsLeft, IsNamed, IsOrderedFor, IsReplyAccounted, TellsFault, agent_of, reply_of, denial};
 
+use crate::evidence::evidence_seen;
 use crate::operations::{Caller, Keep, StoreFault, advance, enrol, lodge, withdraw};
 use crate::refusal::{DeskFault, Refusal};
 use crate::reply::{Answered, DeskReply};
@@ -130,6 +131,35 @@ fn chains_for<K: Keep>(
     })
 }
 
+// Why the persons behind an entity are named on a date, as the viewer sees it.
+fn evidence_for<K: Keep>(
+    alloc: Global,
+    keep: &mut K,
+    viewer: &AgentName,
+    entity: &Node,
+    date: Option<Day>,
+) -> Result<DeskReply, DeskFault>
+    ensures kept { Kept K.shows K.is_clean K.is_sound K.may_leave keep.old keep.new }
+    ensures accounted { IsReplyAccounted (reply_of result) (K.fault_count keep.old)
+        (K.fault_count keep.new) }
+    ensures told { Promised K.shows K.is_clean keep.old keep.new (λ r.
+        TellsFault K.may_tell (reply_of result) (K.fault_count keep.old)
+        (K.fault_count keep.new)) }
+    ensures lasts { UnlessReplyFailed (reply_of result)
+        (StaysClean K.is_clean K.is_sound keep.old keep.new) }
+    ensures answer { Promised K.shows K.is_clean keep.old keep.new (λ r.
+        IsAnswered (reply_of result)
+        (evidence_answer (seen_by viewer.now r) entity.now (unwrap_or date r.day))) }
+{
+    let date = date_or_day(keep, date)?;
+    let evidence = evidence_seen(alloc, keep, viewer, entity, date)?;
+    Ok(DeskReply::Evidence {
+        entity: entity.copy(alloc)?,
+        date,
+        evidence,
+    })
+}
+
 // What an agent is told where its filings stay as they are: what it reads, or that it isn't the
 // registrar.
 fn tell_agent<K: Keep>(
@@ -161,6 +191,7 @@ fn tell_agent<K: Keep>(
             date,
         } => snapshot_for(alloc, keep, name, agent, declaration, *date),
         Request::Chains { entity, date } => chains_for(alloc, keep, name, entity, *date),
+        Request::Evidence { entity, date } => evidence_for(alloc, keep, name, entity, *date),
         Request::Day { .. } | Request::Enrol { .. } => {
             Err(DeskFault::Refused(Refusal::NotRegistrar))
         }
@@ -238,7 +269,8 @@ fn answer_registrar<K: Keep>(
         | Request::File { .. }
         | Request::Published
         | Request::Snapshot { .. }
-        | Request::Chains { .. } => Err(DeskFault::Refused(Refusal::NotAgent)),
+        | Request::Chains { .. }
+        | Request::Evidence { .. } => Err(DeskFault::Refused(Refusal::NotAgent)),
     }
 }
 

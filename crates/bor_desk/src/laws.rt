@@ -1,11 +1,17 @@
 //! Laws of the step. Each function does nothing: its contract is the law.
 
 ghost use Rattle.bor_desk.specs.Outcomes.{AnswerIsDetermined};
-ghost use Rattle.bor_desk.specs.Laws.{EachIsAnswered, OwnFilingsUntouched, ReadsLeave, RefusalChangesNothing, StepStaysLegal, OneExchangeAlone, IsolationOfHistories};
+ghost use Rattle.bor_desk.specs.Laws.{EachIsAnswered, EvidenceNamesTheJoined, OwnFilingsUntouched, ReadsLeave, RefusalChangesNothing, StepStaysLegal, OneExchangeAlone, IsolationOfHistories};
 
 /// Two replies that tell one answer are equal.
 pub fn answer_is_determined()
     ensures { AnswerIsDetermined }
+{}
+
+/// Evidence names exactly the persons from whom a chain leads to the entity in what the caller
+/// sees: those that the report on it names.
+pub fn evidence_names_the_joined()
+    ensures { EvidenceNamesTheJoined }
 {}
 
 /// After an exchange the filings of all agents but the one that asks are as they were. An agent

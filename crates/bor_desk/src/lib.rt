@@ -13,7 +13,7 @@
 //! assert!(rt; matches!(&reply, DeskReply::Published(outwards) if outwards.as_slice().is_empty()));
 //! ```
 //!
-//! [`check_text`] and [`report_text`] give what the program prints. What is done to a register on
+//! [`check_text`], [`report_text`] and [`evidence_text`] give what the program prints. What is done to a register on
 //! the way stands in [`operations`], the register in memory in [`memory`], and a keep with such a
 //! register beside it in [`mirror`].
 //!
@@ -23,6 +23,7 @@
 
 mod check;
 mod desk;
+mod evidence;
 pub mod laws;
 pub mod memory;
 pub mod mirror;
@@ -35,6 +36,7 @@ mod text;
 
 pub use check::{FILE_LIMIT, check_text};
 pub use desk::{answer, answer_naming, date_or_day};
+pub use evidence::{EntityEvidence, LinkEvidence, PersonEvidence, RecordEvidence, evidence_text};
 pub use refusal::Refusal;
 pub use reply::{Answered, DeskReply};
 pub use report::report_text;

@@ -1,5 +1,6 @@
 //! What a caller is answered.
 
+use crate::evidence::EntityEvidence;
 use crate::operations::{FilingLine, Lodged, Outward, StoreFault};
 use crate::refusal::Refusal;
 use bor_chains::{Node, PersonLine};
@@ -30,6 +31,13 @@ pub enum DeskReply {
         entity: Node,
         date: Day,
         persons: Listed<PersonLine>,
+    },
+    /// Why the persons behind the entity are named on the date, and what the records say that this
+    /// stands on.
+    Evidence {
+        entity: Node,
+        date: Day,
+        evidence: EntityEvidence,
     },
     /// The register's day, once it is moved.
     Day(Day),

@@ -11,7 +11,7 @@ ghost use Rattle.bor_desk.specs.Refusals.{failed};
 ghost use Rattle.bor_desk.specs.Step.{chains_answer};
 ghost use Rattle.bor_desk.specs.Outcomes.{AreFound};
 ghost use Rattle.bor_desk.specs.Texts.{answering};
-ghost use Rattle.bor_desk.specs.ChainReport.{name_data, person_line, person_lines, report_lines, IsTextOf};
+ghost use Rattle.bor_desk.specs.ChainReport.{name_data, count_line, entity_line, person_part, person_line, person_lines, report_lines, IsTextOf};
 
 use crate::operations::{Keep, KeepSource, StoreFault};
 use crate::refusal::DeskFault;
@@ -56,20 +56,34 @@ fn name_text(alloc: Global, name: &Option<FreeText>) -> Result<String, AllocErro
     value.to_string(alloc)
 }
 
+/// Adds what stands in the line of a person, up to the name.
+pub(crate) fn person_text(
+    alloc: Global,
+    text: &mut String,
+    node: &Node,
+    links: u64,
+    name: &Option<FreeText>,
+) -> Result<(), AllocError>
+    ensures { OnOk result (string_bytes text.new
+        ≡ string_bytes text.old ++ person_part node.now links name.now) }
+{
+    let agent = node.agent.as_str();
+    let declaration = node.declaration.as_str();
+    let rec = node.rec.as_str();
+    let name = name_text(alloc, name)?;
+    write!(
+        text,
+        "person\t{agent}\t{declaration}\t{rec}\t{links}\t{name}"
+    )
+}
+
 // Adds the line of a person.
 fn add_person(alloc: Global, text: &mut String, person: &PersonLine) -> Result<(), AllocError>
     ensures { OnOk result
         (string_bytes text.new ≡ string_bytes text.old ++ person_line person.now) }
 {
-    let agent = person.node.agent.as_str();
-    let declaration = person.node.declaration.as_str();
-    let rec = person.node.rec.as_str();
-    let links = person.links;
-    let name = name_text(alloc, &person.name)?;
-    writeln!(
-        text,
-        "person\t{agent}\t{declaration}\t{rec}\t{links}\t{name}"
-    )
+    person_text(alloc, text, &person.node, person.links, &person.name)?;
+    writeln!(text)
 }
 
 fn add_persons(alloc: Global, text: &mut String, persons: &[PersonLine]) -> Result<(), AllocError>
@@ -89,6 +103,29 @@ fn day_text(alloc: Global, day: Day) -> Result<String, AllocError>
     String::from_utf8_lossy(alloc, day.text().as_slice())
 }
 
+/// The first line of a text: the entity and the day.
+pub(crate) fn begin_text(alloc: Global, entity: &Node, day: Day) -> Result<String, AllocError>
+    ensures { IfOk result (λ text. (date : List ℕ) × IsSpelling day date
+        × (string_bytes text ≡ entity_line entity.now date)) }
+{
+    let mut text = String::new(alloc);
+    let agent = entity.agent.as_str();
+    let declaration = entity.declaration.as_str();
+    let rec = entity.rec.as_str();
+    let date = day_text(alloc, day)?;
+    writeln!(text, "entity\t{agent}\t{declaration}\t{rec}\t{date}")?;
+    Ok(text)
+}
+
+/// The text that ends with how many persons there are.
+pub(crate) fn end_text(text: String, count: usize) -> Result<Text, AllocError>
+    ensures { IfOk result (λ told. told ≡ answering (string_bytes text ++ count_line count)) }
+{
+    let mut out = text;
+    writeln!(out, "persons {count}")?;
+    Ok(answering(out))
+}
+
 // The text of a report: the entity and the day, the persons, and how many they are.
 fn persons_text(
     alloc: Global,
@@ -99,16 +136,9 @@ fn persons_text(
     ensures { IfOk result (λ text. (date : List ℕ) × IsSpelling day date
         × (text ≡ answering (report_lines entity.now date persons.now))) }
 {
-    let mut text = String::new(alloc);
-    let agent = entity.agent.as_str();
-    let declaration = entity.declaration.as_str();
-    let rec = entity.rec.as_str();
-    let date = day_text(alloc, day)?;
-    writeln!(text, "entity\t{agent}\t{declaration}\t{rec}\t{date}")?;
+    let mut text = begin_text(alloc, entity, day)?;
     add_persons(alloc, &mut text, persons)?;
-    let count = persons.len();
-    writeln!(text, "persons {count}")?;
-    Ok(answering(text))
+    end_text(text, persons.len())
 }
 
 /// The text of a report: who stands behind an entity on a day, by the filings that the viewer sees,

@@ -35,6 +35,11 @@ pub enum Request {
         entity: Node,
         date: Option<Day>,
     },
+    /// Tells why the persons behind an entity are named on a day; without one, on the register's.
+    Evidence {
+        entity: Node,
+        date: Option<Day>,
+    },
     /// Moves the register's day.
     Day {
         date: Day,

@@ -21,7 +21,7 @@ later_seen : (day : ℤ) (n : Node) (rows : List Row) → list_any (λ x. is_of 
 later_seen day n [] = refl
 later_seen day n (r ∷ rows) = ap (λ (b : Bool). (is_of n r && is_dated day r) || b) (later_seen day n rows)
 
-open_seen : (day : ℤ) (rows : List Row) → open_rows day (map unnumbered rows) ≡ map unnumbered (open_rows day rows)
+pub open_seen : (day : ℤ) (rows : List Row) → open_rows day (map unnumbered rows) ≡ map unnumbered (open_rows day rows)
 open_seen day [] = refl
 open_seen day (r ∷ rows) =
     ap (λ (b : Bool). cond (is_dated day r && not (is_closed r.status) && not b) (unnumbered r ∷ open_rows day (map unnumbered rows)) (open_rows day (map unnumbered rows))) (later_seen day (series_of r) rows)

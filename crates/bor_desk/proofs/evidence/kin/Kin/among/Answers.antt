@@ -1,0 +1,30 @@
+use Rattle.std.proofs.Common.{◌<◌, ◌++◌, ◌∷◌, ◌∙◌, [], List, ap, arith, length, subst, sym, take}
+use Rattle.std.proofs.lemmas.List.{take_all, take_more}
+use Rattle.bor_records.specs.declared.links.node.Node.{Node}
+use Rattle.bor_records.proofs.KeptLaws.{kept_then, lasts_then}
+use Rattle.bor_register.specs.Seen.{seen_at}
+use Rattle.bor_desk.specs.Kin.{AreKin, NoneFound}
+use Rattle.bor_desk.proofs.evidence.kin.Kin.among.Goals as goal
+
+pub loop-node-preserved : goal.loop-node-preserved
+loop-node-preserved g c =
+    let keep = g.K.Keep in
+    let inv = c.loop-node.invariant in
+    let asked = c.in_ok-add_open.ensures in
+    let nodes = c.args.nodes.now in
+    let at = c.loop-node.node-index in
+    let node = c.node-item.result in
+    let lt : at < length nodes = omega arith in
+    record {
+      kept = kept_then keep.shows keep.is_clean keep.is_sound keep.may_leave _ _ _ inv.kept asked.kept;
+      lasts = lasts_then keep.is_clean keep.is_sound _ _ _ inv.lasts asked.lasts;
+      counts = asked.accounted ∙ inv.counts;
+      kin = λ r is clean.
+          let began = asked.kept.began clean in
+          subst (λ (ns : List Node). AreKin (seen_at c.args.viewer.now c.args.day r) ns NoneFound c.add_open.new.self) (ap (λ (n : Node). take at nodes ++ n ∷ []) c.node-item.is ∙ sym (take_more nodes at node lt))
+          (asked.answer r ((inv.kept.same began r).0 is) clean (take at nodes) (inv.kin r is began));
+    }
+
+pub returns-clause-answer : goal.returns-clause-answer
+returns-clause-answer g c = λ r is clean.
+    subst (λ (ns : List Node). AreKin (seen_at c.args.viewer.now c.args.day r) ns NoneFound c.loop-node.kin) (take_all c.loop-node.node-index c.args.nodes.now (omega arith)) (c.loop-node.invariant.kin r is clean)

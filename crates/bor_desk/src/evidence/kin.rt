@@ -1,0 +1,189 @@
+//! The entities of a class by their signs.
+
+ghost use Rattle.std.specs.Prelude.{◌≡◌, ◌++◌, ◌∷◌, [], IfOk, OnOk, IsTrue, List, Some};
+ghost use Rattle.bor_records.specs.declared.links.node.Node.{Node};
+ghost use Rattle.bor_records.specs.Links.Shown.{Shown, is_entity, listed_at};
+ghost use Rattle.bor_records.specs.Links.Signs.{sign_cmp, signs};
+ghost use Rattle.bor_records.specs.Promises.{Kept, StaysClean, Promised};
+ghost use Rattle.bor_register.specs.Seen.{seen_at};
+ghost use Rattle.bor_desk.specs.Kin.{AreKin, AreTaken, IsKinOf, NoneFound, signed_in, signs_in};
+ghost use Rattle.bor_desk.specs.Memory.Indexed.{under};
+ghost use Rattle.bor_desk.specs.Operations.Outcomes.{UnlessFailed, IsAccounted, TellsFaultOf};
+
+use crate::memory::{note, push_signs};
+use crate::operations::{Keep, StoreFault};
+use bor_chains::Node;
+use bor_records::links::{OpenNode, Sign, node_of};
+use bor_terms::{AgentName, Day};
+use std::alloc::{AllocError, Global};
+use std::collections::BTreeMap;
+
+// The signs of an entity.
+fn signs_of(alloc: Global, one: &OpenNode) -> Result<Vec<Sign>, AllocError>
+    ensures { IfOk result (λ found. found.items ≡ signs one.now) }
+{
+    let mut signs = Vec::new(alloc);
+    signs.push(Sign::of_node(alloc, &one.node)?)?;
+    push_signs(alloc, &mut signs, one.identifiers.as_slice())?;
+    Ok(signs)
+}
+
+// Takes the entities that have a sign out of the map, to those that were taken before.
+fn take_signed(
+    signed: &mut BTreeMap<Sign, Vec<Node>>,
+    sign: &Sign,
+    taken: &mut Vec<Node>,
+) -> Result<(), AllocError>
+    ensures { OnOk result (AreTaken (sign.now ∷ []) (under sign_cmp signed.old)
+        (under sign_cmp signed.new) taken.old.items taken.new.items) }
+{
+    let Some(mut nodes) = signed.remove(sign) else {
+        return Ok(());
+    };
+    taken.append(&mut nodes)?;
+    Ok(())
+}
+
+// Takes the entities that have one of some signs out of the map.
+fn take_all(
+    alloc: Global,
+    signed: &mut BTreeMap<Sign, Vec<Node>>,
+    signs: &[Sign],
+) -> Result<Vec<Node>, AllocError>
+    ensures { IfOk result (λ taken. AreTaken signs.now (under sign_cmp signed.old)
+        (under sign_cmp signed.new) [] taken.items) }
+{
+    let mut taken = Vec::new(alloc);
+    for sign in signs {
+        take_signed(signed, sign, &mut taken)?;
+    }
+    Ok(taken)
+}
+
+/// The entities of a class by their signs, so that the aliases of one are found in memory.
+#[derive(Drop)]
+pub(crate) struct Kin {
+    // The signs of each entity.
+    signs: BTreeMap<Node, Vec<Sign>>,
+    // The entities that have a sign, until they are taken by it.
+    signed: BTreeMap<Sign, Vec<Node>>,
+}
+
+impl Kin {
+    // No entity.
+    fn new(alloc: Global) -> Kin
+        ensures { (s : Shown) → AreKin s [] NoneFound result }
+    {
+        Kin {
+            signs: BTreeMap::new(alloc),
+            signed: BTreeMap::new(alloc),
+        }
+    }
+
+    // Adds an open entity.
+    fn add(&mut self, alloc: Global, one: &OpenNode) -> Result<(), AllocError>
+        ensures { OnOk result ((s : Shown) (nodes : List Node) → AreKin s nodes NoneFound self.old
+            → listed_at s.nodes one.now.node ≡ Some one.now → IsTrue (is_entity one.now.info)
+            → AreKin s (nodes ++ one.now.node ∷ []) NoneFound self.new) }
+    {
+        let keys = signs_of(alloc, one)?;
+        note(alloc, &mut self.signed, keys, &one.node)?;
+        let signs = signs_of(alloc, one)?;
+        self.signs.insert(one.node.copy(alloc)?, signs)?;
+        Ok(())
+    }
+
+    // Adds a record, where it is an open entity.
+    fn add_open<K: Keep>(
+        &mut self,
+        alloc: Global,
+        keep: &mut K,
+        viewer: &AgentName,
+        day: Day,
+        node: &Node,
+    ) -> Result<(), StoreFault>
+        ensures kept { Kept K.shows K.is_clean K.is_sound K.may_leave keep.old keep.new }
+        ensures accounted { IsAccounted Some result (K.fault_count keep.old)
+            (K.fault_count keep.new) }
+        ensures told { Promised K.shows K.is_clean keep.old keep.new (λ r.
+            TellsFaultOf Some K.may_tell result (K.fault_count keep.old) (K.fault_count keep.new)) }
+        ensures lasts { UnlessFailed Some result
+            (StaysClean K.is_clean K.is_sound keep.old keep.new) }
+        ensures answer { Promised K.shows K.is_clean keep.old keep.new (λ r. OnOk result
+            ((nodes : List Node) → AreKin (seen_at viewer.now day r) nodes NoneFound self.old
+            → AreKin (seen_at viewer.now day r) (nodes ++ node.now ∷ []) NoneFound self.new)) }
+    {
+        let Some(row) = keep.open_row(viewer, day, node)? else {
+            return Ok(());
+        };
+        let Some(one) = node_of(alloc, &row)? else {
+            return Ok(());
+        };
+        if !one.info.is_entity() {
+            return Ok(());
+        }
+        self.add(alloc, &one)?;
+        Ok(())
+    }
+
+    // Those of these records that are open entities.
+    fn among<K: Keep>(
+        alloc: Global,
+        keep: &mut K,
+        viewer: &AgentName,
+        day: Day,
+        nodes: &[Node],
+    ) -> Result<Kin, StoreFault>
+        ensures kept { Kept K.shows K.is_clean K.is_sound K.may_leave keep.old keep.new }
+        ensures accounted { IsAccounted Some result (K.fault_count keep.old)
+            (K.fault_count keep.new) }
+        ensures told { Promised K.shows K.is_clean keep.old keep.new (λ r.
+            TellsFaultOf Some K.may_tell result (K.fault_count keep.old) (K.fault_count keep.new)) }
+        ensures lasts { UnlessFailed Some result
+            (StaysClean K.is_clean K.is_sound keep.old keep.new) }
+        ensures answer { Promised K.shows K.is_clean keep.old keep.new (λ r. IfOk result (λ kin.
+            AreKin (seen_at viewer.now day r) nodes.now NoneFound kin)) }
+    {
+        let mut kin = Kin::new(alloc);
+        for node in nodes {
+            kin.add_open(alloc, keep, viewer, day, node)?;
+        }
+        Ok(kin)
+    }
+
+    /// The entities that are one with a goal. The keep is asked for the class, and for each record
+    /// of it once.
+    pub(crate) fn of<K: Keep>(
+        alloc: Global,
+        keep: &mut K,
+        viewer: &AgentName,
+        day: Day,
+        goal: &Node,
+    ) -> Result<Kin, StoreFault>
+        ensures kept { Kept K.shows K.is_clean K.is_sound K.may_leave keep.old keep.new }
+        ensures accounted { IsAccounted Some result (K.fault_count keep.old)
+            (K.fault_count keep.new) }
+        ensures told { Promised K.shows K.is_clean keep.old keep.new (λ r.
+            TellsFaultOf Some K.may_tell result (K.fault_count keep.old) (K.fault_count keep.new)) }
+        ensures lasts { UnlessFailed Some result
+            (StaysClean K.is_clean K.is_sound keep.old keep.new) }
+        ensures answer { Promised K.shows K.is_clean keep.old keep.new (λ r. IfOk result (λ kin.
+            IsKinOf (seen_at viewer.now day r) goal.now NoneFound kin)) }
+    {
+        let class = keep.same(viewer, day, goal)?;
+        Kin::among(alloc, keep, viewer, day, &class)
+    }
+
+    /// Takes the entities that share a sign with this one, itself among them. A sign leads to its
+    /// entities once: by one that was asked for before, none are taken.
+    pub(crate) fn take_near(&mut self, alloc: Global, node: &Node) -> Result<Vec<Node>, AllocError>
+        ensures same { self.new.signs ≡ self.old.signs }
+        ensures taken { IfOk result (λ near. AreTaken (signs_in self.old node.now)
+            (signed_in self.old) (signed_in self.new) [] near.items) }
+    {
+        match self.signs.get(node) {
+            Some(signs) => take_all(alloc, &mut self.signed, signs),
+            None => Ok(Vec::new(alloc)),
+        }
+    }
+}

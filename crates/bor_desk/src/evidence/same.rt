@@ -1,0 +1,90 @@
+//! By which records two entities are one.
+
+ghost use Rattle.std.specs.Prelude.{IfOk, OnOk, Some};
+ghost use Rattle.bor_records.specs.Links.Shown.{Shown};
+ghost use Rattle.bor_records.specs.Links.Aliases.{Same};
+ghost use Rattle.bor_records.specs.Promises.{Kept, StaysClean, Promised};
+ghost use Rattle.bor_register.specs.Seen.{seen_at};
+ghost use Rattle.bor_desk.specs.Operations.Outcomes.{UnlessFailed, IsAccounted, TellsFaultOf};
+ghost use Rattle.bor_desk.specs.Evidence.{IsBridge};
+ghost use Rattle.bor_desk.specs.Ways.{AreGoals, AreWaysTo};
+
+use crate::evidence::ways::Ways;
+use crate::operations::{Keep, StoreFault};
+use bor_chains::Node;
+use bor_terms::{AgentName, Day};
+use std::alloc::{AllocError, Global};
+use std::collections::BTreeMap;
+
+/// The ways that were looked for, by their goals, so that links with one goal share a search.
+#[derive(Drop)]
+pub(crate) struct Goals {
+    ways: BTreeMap<Node, Ways>,
+}
+
+impl Goals {
+    /// No goal.
+    pub(crate) fn new(alloc: Global) -> Goals
+        ensures { (s : Shown) → AreGoals s result }
+    {
+        Goals {
+            ways: BTreeMap::new(alloc),
+        }
+    }
+
+    // The ways to a goal, as far as they were looked for. They are taken out.
+    fn take(&mut self, alloc: Global, goal: &Node) -> Result<Ways, AllocError>
+        ensures { IfOk result (λ ways. (s : Shown) → AreGoals s self.old
+            → AreGoals s self.new × AreWaysTo s goal.now ways) }
+    {
+        match self.ways.remove(goal) {
+            Some(ways) => Ok(ways),
+            None => Ways::to(alloc, goal),
+        }
+    }
+
+    // Puts the ways to a goal back.
+    fn put(&mut self, alloc: Global, goal: &Node, ways: Ways) -> Result<(), AllocError>
+        ensures { OnOk result ((s : Shown) → AreGoals s self.old → AreWaysTo s goal.now ways
+            → AreGoals s self.new) }
+    {
+        self.ways.insert(goal.copy(alloc)?, ways)?;
+        Ok(())
+    }
+
+    /// The records by which an entity is one with another: none where it is that record itself,
+    /// else the least of the shortest lists in which neighbours are aliases, both included. For each
+    /// goal the keep is asked once for its aliases; and, where an entity is further away than these,
+    /// once for its class, and once for each record of that.
+    pub(crate) fn same<K: Keep>(
+        &mut self,
+        alloc: Global,
+        keep: &mut K,
+        viewer: &AgentName,
+        day: Day,
+        node: &Node,
+        goal: &Node,
+    ) -> Result<Vec<Node>, StoreFault>
+        ensures kept { Kept K.shows K.is_clean K.is_sound K.may_leave keep.old keep.new }
+        ensures accounted { IsAccounted Some result (K.fault_count keep.old)
+            (K.fault_count keep.new) }
+        ensures told { Promised K.shows K.is_clean keep.old keep.new (λ r.
+            TellsFaultOf Some K.may_tell result (K.fault_count keep.old) (K.fault_count keep.new)) }
+        ensures lasts { UnlessFailed Some result
+            (StaysClean K.is_clean K.is_sound keep.old keep.new) }
+        ensures answer { Promised K.shows K.is_clean keep.old keep.new (λ r. IfOk result (λ same.
+            AreGoals (seen_at viewer.now day r) self.old
+            → Same (seen_at viewer.now day r) node.now goal.now
+            → AreGoals (seen_at viewer.now day r) self.new
+            × IsBridge (seen_at viewer.now day r) node.now goal.now same.items)) }
+    {
+        if node == goal {
+            return Ok(Vec::new(alloc));
+        }
+        let mut ways = self.take(alloc, goal)?;
+        ways.look_for(alloc, keep, viewer, day, node, goal)?;
+        let way = ways.way_from(alloc, node)?;
+        self.put(alloc, goal, ways)?;
+        Ok(way)
+    }
+}

@@ -1,0 +1,192 @@
+//! The evidence that a viewer sees.
+
+ghost use Rattle.std.specs.Prelude.{◌≡◌, Some, IfOk};
+ghost use Rattle.bor_records.specs.Links.Rows.{shown_of};
+ghost use Rattle.bor_records.specs.Links.Aliases.{Same};
+ghost use Rattle.bor_records.specs.Promises.{Kept, StaysClean, Promised};
+ghost use Rattle.bor_register.specs.Seen.{seen_at};
+ghost use Rattle.bor_desk.specs.Operations.Sight.{seen_by};
+ghost use Rattle.bor_desk.specs.Operations.Outcomes.{UnlessFailed, IsAccounted, TellsFaultOf};
+ghost use Rattle.bor_desk.specs.Refusals.{failed};
+ghost use Rattle.bor_desk.specs.Evidence.{AreLinkEvidence, IsLinkEvidence, goal_of, record_evidence};
+ghost use Rattle.bor_desk.specs.Mentioned.{records_at};
+ghost use Rattle.bor_desk.specs.Outcomes.{IsEvidenceFound, IsTreeFound};
+ghost use Rattle.bor_desk.specs.Ways.{AreGoals, AreLinked};
+
+use crate::evidence::keys::records_in;
+use crate::evidence::lines::{
+    EntityEvidence, LinkEvidence, RecordEvidence, person_lines, record_of, record_of_next,
+};
+use crate::evidence::same::Goals;
+use crate::operations::{Keep, KeepSource, StoreFault};
+use crate::refusal::DeskFault;
+use bor_chains::{Evidence, EvidenceLink, Node, evidence_of};
+use bor_records::{Entry, Row};
+use bor_terms::{AgentName, Day, Listed};
+use std::alloc::Global;
+
+/// Why the persons behind an entity are named on a day, as the viewer sees it.
+pub(crate) fn tree_seen<K: Keep>(
+    alloc: Global,
+    keep: &mut K,
+    viewer: &AgentName,
+    entity: &Node,
+    day: Day,
+) -> Result<Evidence, DeskFault>
+    ensures kept { Kept K.shows K.is_clean K.is_sound K.may_leave keep.old keep.new }
+    ensures answer { Promised K.shows K.is_clean keep.old keep.new (λ r.
+        IsTreeFound result (shown_of day (seen_by viewer.now r)) entity.now day) }
+    ensures accounted { IsAccounted failed result (K.fault_count keep.old)
+        (K.fault_count keep.new) }
+    ensures told { Promised K.shows K.is_clean keep.old keep.new (λ r.
+        TellsFaultOf failed K.may_tell result (K.fault_count keep.old) (K.fault_count keep.new)) }
+    ensures lasts { UnlessFailed failed result
+        (StaysClean K.is_clean K.is_sound keep.old keep.new) }
+{
+    let mut source = KeepSource::new(keep, viewer, day);
+    Ok(evidence_of(alloc, &mut source, entity)?)
+}
+
+// Where a link leads: the party of the one that follows it, or the entity that was asked for.
+fn goal_of<'a>(line: &'a EvidenceLink, entity: &'a Node) -> &'a Node
+    ensures { result.now ≡ goal_of entity.now line.now }
+{
+    match &line.next {
+        Some(next) => &next.party,
+        None => entity,
+    }
+}
+
+// A link as evidence tells it.
+fn link_line<K: Keep>(
+    alloc: Global,
+    keep: &mut K,
+    viewer: &AgentName,
+    day: Day,
+    goals: &mut Goals,
+    line: &EvidenceLink,
+    entity: &Node,
+) -> Result<LinkEvidence, StoreFault>
+    ensures kept { Kept K.shows K.is_clean K.is_sound K.may_leave keep.old keep.new }
+    ensures answer { Promised K.shows K.is_clean keep.old keep.new (λ r. IfOk result (λ told.
+        AreGoals (seen_at viewer.now day r) goals.old
+        → Same (seen_at viewer.now day r) line.now.link.subject (goal_of entity.now line.now)
+        → AreGoals (seen_at viewer.now day r) goals.new
+        × IsLinkEvidence (seen_at viewer.now day r) entity.now line.now told)) }
+    ensures accounted { IsAccounted Some result (K.fault_count keep.old)
+        (K.fault_count keep.new) }
+    ensures told { Promised K.shows K.is_clean keep.old keep.new (λ r.
+        TellsFaultOf Some K.may_tell result (K.fault_count keep.old) (K.fault_count keep.new)) }
+    ensures lasts { UnlessFailed Some result
+        (StaysClean K.is_clean K.is_sound keep.old keep.new) }
+{
+    let goal = goal_of(line, entity);
+    let same = goals.same(alloc, keep, viewer, day, &line.link.subject, goal)?;
+    Ok(LinkEvidence {
+        node: record_of(alloc, &line.link)?,
+        next: record_of_next(alloc, &line.next)?,
+        same: Listed::new(same),
+    })
+}
+
+// The links as evidence tells them, in their order.
+fn link_lines<K: Keep>(
+    alloc: Global,
+    keep: &mut K,
+    viewer: &AgentName,
+    day: Day,
+    links: &[EvidenceLink],
+    entity: &Node,
+) -> Result<Vec<LinkEvidence>, StoreFault>
+    ensures kept { Kept K.shows K.is_clean K.is_sound K.may_leave keep.old keep.new }
+    ensures answer { Promised K.shows K.is_clean keep.old keep.new (λ r. IfOk result (λ lines.
+        AreLinked (seen_at viewer.now day r) entity.now links.now
+        → AreLinkEvidence (seen_at viewer.now day r) entity.now links.now lines.items)) }
+    ensures accounted { IsAccounted Some result (K.fault_count keep.old)
+        (K.fault_count keep.new) }
+    ensures told { Promised K.shows K.is_clean keep.old keep.new (λ r.
+        TellsFaultOf Some K.may_tell result (K.fault_count keep.old) (K.fault_count keep.new)) }
+    ensures lasts { UnlessFailed Some result
+        (StaysClean K.is_clean K.is_sound keep.old keep.new) }
+{
+    let mut goals = Goals::new(alloc);
+    let mut lines = Vec::with_capacity(alloc, links.len())?;
+    for line in links {
+        let told = link_line(alloc, keep, viewer, day, &mut goals, line, entity)?;
+        lines.push_reserved(told);
+    }
+    Ok(lines)
+}
+
+// What a row says, as evidence tells it.
+fn record_line(row: Row) -> RecordEvidence
+    ensures { result ≡ record_evidence row }
+{
+    RecordEvidence {
+        agent: row.agent,
+        entry: Entry {
+            status: row.status,
+            statement: row.statement,
+        },
+    }
+}
+
+// What the records say on a day, as the viewer sees it. One that isn't open is left out.
+fn records_seen<K: Keep>(
+    alloc: Global,
+    keep: &mut K,
+    viewer: &AgentName,
+    day: Day,
+    nodes: &[Node],
+) -> Result<Vec<RecordEvidence>, StoreFault>
+    ensures kept { Kept K.shows K.is_clean K.is_sound K.may_leave keep.old keep.new }
+    ensures answer { Promised K.shows K.is_clean keep.old keep.new (λ r. IfOk result (λ records.
+        records.items ≡ records_at day (seen_by viewer.now r) nodes.now)) }
+    ensures accounted { IsAccounted Some result (K.fault_count keep.old)
+        (K.fault_count keep.new) }
+    ensures told { Promised K.shows K.is_clean keep.old keep.new (λ r.
+        TellsFaultOf Some K.may_tell result (K.fault_count keep.old) (K.fault_count keep.new)) }
+    ensures lasts { UnlessFailed Some result
+        (StaysClean K.is_clean K.is_sound keep.old keep.new) }
+{
+    let mut records = Vec::with_capacity(alloc, nodes.len())?;
+    for node in nodes {
+        if let Some(row) = keep.open_row(viewer, day, node)? {
+            records.push_reserved(record_line(row));
+        }
+    }
+    Ok(records)
+}
+
+/// The evidence of an entity on a day, as the viewer sees it: why each person behind it is named,
+/// and what the records say that this stands on. For the tree the keep is asked for a class of
+/// entities and for the links into one at most twice, for the records by which entities are one as
+/// [`Goals::same`] says, and for what each record says once.
+pub(crate) fn evidence_seen<K: Keep>(
+    alloc: Global,
+    keep: &mut K,
+    viewer: &AgentName,
+    entity: &Node,
+    day: Day,
+) -> Result<EntityEvidence, DeskFault>
+    ensures kept { Kept K.shows K.is_clean K.is_sound K.may_leave keep.old keep.new }
+    ensures answer { Promised K.shows K.is_clean keep.old keep.new (λ r.
+        IsEvidenceFound result (seen_by viewer.now r) entity.now day) }
+    ensures accounted { IsAccounted failed result (K.fault_count keep.old)
+        (K.fault_count keep.new) }
+    ensures told { Promised K.shows K.is_clean keep.old keep.new (λ r.
+        TellsFaultOf failed K.may_tell result (K.fault_count keep.old) (K.fault_count keep.new)) }
+    ensures lasts { UnlessFailed failed result
+        (StaysClean K.is_clean K.is_sound keep.old keep.new) }
+{
+    let tree = tree_seen(alloc, keep, viewer, entity, day)?;
+    let links = link_lines(alloc, keep, viewer, day, tree.links.as_slice(), entity)?;
+    let nodes = records_in(alloc, entity, &tree, &links)?;
+    let records = records_seen(alloc, keep, viewer, day, &nodes)?;
+    let persons = person_lines(alloc, tree.persons.into_vec())?;
+    Ok(EntityEvidence {
+        persons: Listed::new(persons),
+        links: Listed::new(links),
+        records: Listed::new(records),
+    })
+}
