@@ -9,6 +9,7 @@ use Rattle.bods_read.specs.declared.fault.FileFault.{FileFault}
 use Rattle.bods_read.specs.declared.statement.Statement.{Statement}
 use Rattle.bods_read.specs.File.{statements, reading, reading_of, reading_in, value_of}
 use Rattle.bor_terms.specs.Tables.{outcome}
+use Rattle.bor_records.specs.declared.row.Row.{Row}
 use Rattle.bor_records.specs.Admission.{line}
 use Rattle.bor_records.specs.Links.Rows.{is_entity_info, shown_of}
 use Rattle.bor_records.specs.Links.Shown.{Shown, info_of}
@@ -36,7 +37,7 @@ use Rattle.bor_desk.specs.Operations.Withdrawing.{withdrawal_at}
 use Rattle.bor_desk.specs.Outcomes.{IsTold}
 use Rattle.bor_desk.specs.Refusals.{of_lodging, of_withdrawal}
 use Rattle.bor_desk.specs.Runs.{Asked}
-use Rattle.bor_desk.specs.Step.{Answer, exactly, report, told, file_answer, agent_answer, registrar_step, step}
+use Rattle.bor_desk.specs.Step.{Answer, exactly, report, evidence, told, file_answer, agent_answer, registrar_step, step}
 use Rattle.bor_http.specs.declared.incoming.fault.Refusal as wire
 use Rattle.bor_http.specs.Incoming.Head.{head_end}
 use Rattle.bor_wire.specs.Spelling.Refusals.{refusals}
@@ -126,6 +127,10 @@ chains_fit : (shown : Shown) (entity : Node) (day : ℤ) (is_entity : Bool) → 
 chains_fit shown entity day true = λ reply told. subst (λ x. desk_status x < 400) (sym told.2) (omega arith)
 chains_fit shown entity day false = refl
 
+evidence_fits : (seen : List Row) (entity : Node) (day : ℤ) (is_entity : Bool) → Fits (line (not is_entity) refuse.NoEntity) (if is_entity then evidence entity day seen else exactly (tell.Refused refuse.NoEntity))
+evidence_fits seen entity day true = λ reply told. subst (λ x. desk_status x < 400) (sym told.2) (omega arith)
+evidence_fits seen entity day false = refl
+
 agent_fits : (s : Sight) (request : Request) → Fits (line (is_registrars request) refuse.NotRegistrar ++ lines_of_agent s request) (agent_answer s request)
 agent_fits s (ask.Lodge key due file) = lodging_fits s key due file (filing_keyed key s.own)
 agent_fits s (ask.Withdraw key) = withdrawal_fits s (filing_keyed key s.own)
@@ -137,6 +142,9 @@ agent_fits s (ask.Chains entity date) =
     let day : ℤ = unwrap_or date s.day in
     let shown : Shown = shown_of day s.seen in
     chains_fit shown entity day (is_entity_info (info_of shown entity))
+agent_fits s (ask.Evidence entity date) =
+    let day : ℤ = unwrap_or date s.day in
+    evidence_fits s.seen entity day (is_entity_info (info_of (shown_of day s.seen) entity))
 agent_fits s (ask.Day date) = refl
 agent_fits s (ask.Enrol name token) = refl
 
@@ -162,6 +170,7 @@ registrar_fits r (ask.File key) = refl
 registrar_fits r ask.Published = refl
 registrar_fits r (ask.Snapshot agent declaration date) = refl
 registrar_fits r (ask.Chains entity date) = refl
+registrar_fits r (ask.Evidence entity date) = refl
 
 caller_fits : (r : Register) (caller : Option Caller) (request : Request) → Fits (register_refusals r caller request) (step r caller request).answer
 caller_fits r None request = refl

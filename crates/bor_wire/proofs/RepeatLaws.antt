@@ -111,6 +111,7 @@ keyed-after s (ask.File other) number due key file k = k
 keyed-after s ask.Published number due key file k = k
 keyed-after s (ask.Snapshot agent declaration date) number due key file k = k
 keyed-after s (ask.Chains entity date) number due key file k = k
+keyed-after s (ask.Evidence entity date) number due key file k = k
 keyed-after s (ask.Day date) number due key file k = k
 keyed-after s (ask.Enrol name token) number due key file k = k
 
@@ -159,6 +160,7 @@ caller-registrar q token caller (ask.File key) is = is
 caller-registrar q token caller ask.Published is = is
 caller-registrar q token caller (ask.Snapshot agent declaration date) is = is
 caller-registrar q token caller (ask.Chains entity date) is = is
+caller-registrar q token caller (ask.Evidence entity date) is = is
 
 -- ---- the filing stands
 

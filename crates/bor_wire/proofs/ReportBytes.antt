@@ -19,7 +19,7 @@ use Rattle.bor_wire.proofs.OnRendering.ReadBack.{same_text}
 
 -- ---- a person
 
-name_once : (a b : Option (List ℕ)) → outline (maybe_data string a) ≡ outline (maybe_data string b) → a ≡ b
+pub name_once : (a b : Option (List ℕ)) → outline (maybe_data string a) ≡ outline (maybe_data string b) → a ≡ b
 name_once None None h = refl
 name_once None (Some y) h = absurd cc
 name_once (Some x) None h = absurd cc
@@ -38,7 +38,7 @@ person_once p q few small h =
     ∙ ap (λ n. record q { name = n; links = p.links }) (name_once p.name q.name names)
     ∙ ap (λ l. record q { links = l }) (decimal_injective p.links q.links few small digits)
 
-name_numbers : (name : Option (List ℕ)) → HasNumbers (outline (maybe_data string name))
+pub name_numbers : (name : Option (List ℕ)) → HasNumbers (outline (maybe_data string name))
 name_numbers None = tt
 name_numbers (Some x) = tt
 

@@ -93,6 +93,7 @@ lines_of_agent s (ask.Lodge key due file) = lines_of_lodging s due file (filing_
 lines_of_agent s (ask.Withdraw key) = lines_of_withdrawal s (filing_keyed key s.own)
 lines_of_agent s (ask.File key) = line (is_none (filing_keyed key s.own)) refuse.NoSuchFiling
 lines_of_agent s (ask.Chains entity date) = line (not (is_entity_info (info_of (shown_of (unwrap_or date s.day) s.seen) entity))) refuse.NoEntity
+lines_of_agent s (ask.Evidence entity date) = line (not (is_entity_info (info_of (shown_of (unwrap_or date s.day) s.seen) entity))) refuse.NoEntity
 lines_of_agent s request = []
 
 abbrev pub lines_of_registrar : Register → Request → List Refusal

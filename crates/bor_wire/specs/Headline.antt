@@ -56,7 +56,7 @@ DraftsStayInvisible = (name : List ℕ) (registrar another : List ℕ) (day date
     let one = own_exchanges name r spelled replies in let other = own_exchanges name q worded told in
     AreAnswered r inputs spelled replies → AreAnswered q others worded told → without_replies one ≡ without_replies other → replies_in one ≡ replies_in other
 
--- A chain report omits nobody and invents nobody. Requests are answered from a new register: each reply with status 200 to a request for chains names exactly the persons that are joined to the entity, in what the caller sees.
+-- A chain report omits nobody and invents nobody. Requests are answered from a new register: each reply with status 200 to a request for chains names exactly the persons that are joined to the entity, in what the caller sees, and each to a request for evidence names them with their chains.
 abbrev pub ReportsNameTheJoined : Type 0
 ReportsNameTheJoined = (registrar : List ℕ) (day : ℤ) (inputs : List (List ℕ)) (spelled : List Spelled) (replies : List (List ℕ)) →
     AreAnswered (empty_register registrar day) inputs spelled replies → AreReports (empty_register registrar day) spelled replies

@@ -1,9 +1,14 @@
--- What the bytes of a report on chains tell.
-use Rattle.std.specs.Prelude.{◌≡◌, ℕ, ℤ, ◌<◌, ◌^◌, List, All}
+-- What the bytes of a report on chains and of evidence tell.
+use Rattle.std.specs.Prelude.{◌≡◌, ℕ, ℤ, ◌<◌, ◌^◌, List, Option, None, Some, All}
 use Rattle.bor_terms.specs.Day.{day_text}
+use Rattle.bor_terms.specs.Span.{Range}
+use Rattle.bods_read.specs.declared.details.Details.{Details}
+use Rattle.bods_read.specs.declared.details.Details.TheVariants.{Relationship}
+use Rattle.bods_read.specs.declared.interest.Interest.{Interest}
 use Rattle.bor_records.specs.declared.links.node.Node.{Node}
 use Rattle.bor_chains.specs.declared.line.PersonLine.{PersonLine}
-use Rattle.bor_desk.specs.declared.reply.DeskReply.TheVariants.{Chains}
+use Rattle.bor_desk.specs.declared.evidence.lines.EntityEvidence.{EntityEvidence}
+use Rattle.bor_desk.specs.declared.reply.DeskReply.TheVariants.{Chains, Evidence}
 use Rattle.bor_wire.specs.Rendering.Replies.{answered, bytes_of}
 
 -- each number of links is below 2^64, as each is that is counted
@@ -23,3 +28,33 @@ pub record IsSameReport (entity other : Node) (day date : ℤ) (persons lines : 
 abbrev pub BytesGivePersons : Type 0
 BytesGivePersons = (entity other : Node) (day date : ℤ) (persons lines : List PersonLine) → AreCounted persons → AreCounted lines →
     report_bytes entity day persons ≡ report_bytes other date lines → IsSameReport entity other day date persons lines
+
+-- ---- evidence
+
+abbrev pub IsShareCounted : Option Range → Type 0
+IsShareCounted None = Unit {0}
+IsShareCounted (Some share) = (share.high < 2 ^ 64) × (share.low < 2 ^ 64)
+
+abbrev pub AreSharesCounted : Details → Type 0
+AreSharesCounted (Relationship subject party interests) = All (λ (i : Interest). IsShareCounted i.share) interests
+AreSharesCounted details = Unit {0}
+
+-- each number of links is below 2^64, and each end of a share, as each is that is counted or read
+pub record IsCounted (told : EntityEvidence) : Type 0 where
+  pub persons : All (λ p. p.links < 2 ^ 64) told.persons
+  pub shares : All (λ x. AreSharesCounted x.entry.statement.details) told.records
+
+abbrev pub evidence_bytes : Node → ℤ → EntityEvidence → List ℕ
+evidence_bytes entity day told = bytes_of (answered (Evidence entity day told))
+
+-- Evidence of the same bytes is of one entity and one day, as it is written, and tells the same persons with the same first links, and the same links with those that follow them and the same records between.
+pub record IsSameEvidence (entity other : Node) (day date : ℤ) (told said : EntityEvidence) : Type 0 where
+  pub entity_is : entity ≡ other
+  pub day_is : day_text day ≡ day_text date
+  pub persons_are : told.persons ≡ said.persons
+  pub links_are : told.links ≡ said.links
+
+-- The bytes of evidence determine its persons and its links.
+abbrev pub BytesGiveEvidence : Type 0
+BytesGiveEvidence = (entity other : Node) (day date : ℤ) (told said : EntityEvidence) → IsCounted told → IsCounted said →
+    evidence_bytes entity day told ≡ evidence_bytes other date said → IsSameEvidence entity other day date told said

@@ -1,5 +1,5 @@
--- Whom a report on chains names.
-use Rattle.std.specs.Prelude.{◌≡◌, ℕ, ℤ, List, [], ◌∷◌, Option, Some, Ok, Err, unwrap_or}
+-- Whom a report on chains names, and what evidence tells.
+use Rattle.std.specs.Prelude.{◌≡◌, ℕ, ℤ, List, [], ◌∷◌, map, Option, Some, Ok, Err, unwrap_or}
 use Rattle.bor_records.specs.declared.links.node.Node.{Node}
 use Rattle.bor_records.specs.Links.Rows.{shown_of}
 use Rattle.bor_chains.specs.declared.line.PersonLine.{PersonLine}
@@ -7,6 +7,9 @@ use Rattle.bor_chains.specs.Chains.{AreJoined}
 use Rattle.bor_register.specs.declared.caller.Caller.TheVariants.{Agent}
 use Rattle.bor_register.specs.Register.{Register, caller_of}
 use Rattle.bor_desk.specs.Operations.Sight.{seen_by}
+use Rattle.bor_desk.specs.declared.evidence.lines.EntityEvidence.{EntityEvidence}
+use Rattle.bor_desk.specs.Evidence.{IsEntityEvidence, without_first}
+use Rattle.bor_desk.specs.Runs.{Asked}
 use Rattle.bor_desk.specs.declared.request.Request.TheVariants as ask
 use Rattle.bor_desk.specs.declared.reply.DeskReply.TheVariants as tell
 use Rattle.bor_wire.specs.Spelling.Spell.{Spelled}
@@ -21,10 +24,23 @@ pub record NamesTheJoined (r : Register) (token : List ℕ) (entity : Node) (dat
   pub joined : AreJoined (shown_of (unwrap_or date r.day) (seen_by name r)) entity persons
   pub told : said ≡ answered (tell.Chains entity (unwrap_or date r.day) persons)
 
--- what is said with status 200 to a request for a report on chains
+-- The reply tells the evidence of the entity, by what the caller, an agent, sees on the day. It names exactly the persons that are joined to the entity, each with a chain of links that the caller sees.
+pub record TellsTheEvidence (r : Register) (token : List ℕ) (entity : Node) (date : Option ℤ) (said : Said) : Type 0 where
+  pub name : List ℕ
+  pub caller : caller_of token r ≡ Some (Agent name)
+  pub evidence : EntityEvidence
+  pub is_evidence : IsEntityEvidence (seen_by name r) entity (unwrap_or date r.day) evidence
+  pub joined : AreJoined (shown_of (unwrap_or date r.day) (seen_by name r)) entity (map without_first evidence.persons)
+  pub told : said ≡ answered (tell.Evidence entity (unwrap_or date r.day) evidence)
+
+-- what is said with status 200 to a request for a report on chains, or for the evidence of one
+pub record IsExactTo (r : Register) (asked : Asked) (said : Said) : Type 0 where
+  pub report : (entity : Node) (date : Option ℤ) → asked.request ≡ ask.Chains entity date → status_of said ≡ 200 → NamesTheJoined r asked.token entity date said
+  pub evidence : (entity : Node) (date : Option ℤ) → asked.request ≡ ask.Evidence entity date → status_of said ≡ 200 → TellsTheEvidence r asked.token entity date said
+
 abbrev pub IsExact : Register → Spelled → Said → Type 0
 IsExact r (Err why) said = Unit {0}
-IsExact r (Ok asked) said = (entity : Node) (date : Option ℤ) → asked.request ≡ ask.Chains entity date → status_of said ≡ 200 → NamesTheJoined r asked.token entity date said
+IsExact r (Ok asked) said = IsExactTo r asked said
 
 -- the bytes of what is said to the input, which is of that kind
 abbrev pub IsReport : Register → Spelled → List ℕ → Type 0

@@ -5,7 +5,7 @@ ghost use Rattle.bor_wire.specs.Headline.{DraftsStayInvisible, ExchangesKeepDraf
 ghost use Rattle.bor_wire.specs.Histories.{EachIsReceived, SameHistorySameBytes};
 ghost use Rattle.bor_wire.specs.Nobody.{NobodysInputs};
 ghost use Rattle.bor_wire.specs.Repeats.{RepeatsActOnce};
-ghost use Rattle.bor_wire.specs.ReportBytes.{BytesGivePersons};
+ghost use Rattle.bor_wire.specs.ReportBytes.{BytesGiveEvidence, BytesGivePersons};
 ghost use Rattle.bor_wire.specs.Sequences.{ExchangesAreARun};
 ghost use Rattle.bor_wire.specs.Stops.{AnswersLast, StopsLeaveRuns};
 ghost use Rattle.bor_wire.specs.Turns.{AnswersAreRuns, FrontsAreRuns};
@@ -51,6 +51,12 @@ pub fn the_first_refusal_is_said()
 /// The bytes of a report on chains determine its persons, with their names and numbers of links.
 pub fn report_bytes_give_persons()
     ensures { BytesGivePersons }
+{}
+
+/// The bytes of evidence determine its persons with their first links, and its links with those
+/// that follow them and the records between.
+pub fn evidence_bytes_give_links()
+    ensures { BytesGiveEvidence }
 {}
 
 /// Two runs, from any two legal registers, in which an agent has the same filings at the start and

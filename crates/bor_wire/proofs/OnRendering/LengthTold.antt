@@ -118,6 +118,7 @@ allowed paths.File body = refl
 allowed paths.Published body = refl
 allowed paths.Snapshot body = refl
 allowed paths.Chains body = refl
+allowed paths.Evidence body = refl
 allowed paths.Day body = refl
 allowed paths.Agents body = refl
 

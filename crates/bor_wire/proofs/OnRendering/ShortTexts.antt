@@ -156,5 +156,6 @@ allow_short paths.File = omega arith
 allow_short paths.Published = omega arith
 allow_short paths.Snapshot = omega arith
 allow_short paths.Chains = omega arith
+allow_short paths.Evidence = omega arith
 allow_short paths.Day = omega arith
 allow_short paths.Agents = omega arith

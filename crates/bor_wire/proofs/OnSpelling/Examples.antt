@@ -251,6 +251,19 @@ chains_found : found chains ≡ expected chains
 unfolding speller
 chains_found = refl
 
+abbrev evidence : Cases
+evidence =
+    (get (codes "/evidence?agent=alder&declaration=c1&record=e1"), [])
+    ∷ (get (codes "/evidence?agent=alder&declaration=c1&record=e1&date=2024-01-11"), [])
+    ∷ (get (codes "/evidence?agent=alder&declaration=c1"), BadQuery names.Record ∷ [])
+    -- together
+    ∷ (get (codes "/evidence?record=e1&date=1"), BadQuery names.Agent ∷ BadQuery names.Declaration ∷ BadQuery names.Date ∷ [])
+    ∷ []
+
+evidence_found : found evidence ≡ expected evidence
+unfolding speller
+evidence_found = refl
+
 -- a request with a body of so many digits' length
 abbrev post : List ℕ → List ℕ → List ℕ → List ℕ × Option Parts
 post target length body = request (codes "POST") target (by_alder ∷ length_is length ∷ []) body
@@ -300,6 +313,7 @@ of_each_route =
     ∷ (get (codes "/snapshot?agent=alder&declaration=c+1&date=2024-01-11"), ask.Snapshot (codes "alder") (codes "c 1") (Some (day (codes "2024-01-11"))))
     ∷ (get (codes "/snapshot?declaration=c1&agent=alder"), ask.Snapshot (codes "alder") (codes "c1") None)
     ∷ (get (codes "/chains?agent=alder&declaration=c1&record=e%31"), ask.Chains (record { agent = codes "alder"; declaration = codes "c1"; rec = codes "e1" }) None)
+    ∷ (get (codes "/evidence?agent=alder&declaration=c1&record=e1&date=2024-01-11"), ask.Evidence (record { agent = codes "alder"; declaration = codes "c1"; rec = codes "e1" }) (Some (day (codes "2024-01-11"))))
     ∷ (post (codes "/day?date=2024-03-01") (codes "0") [], ask.Day (day (codes "2024-03-01")))
     ∷ (post (codes "/agents?name=cedar&token=x") (codes "18") (codes "cedar-token-000001, and more"), ask.Enrol (codes "cedar") (codes "cedar-token-000001"))
     ∷ []

@@ -75,6 +75,9 @@ request_stepwise routes.Snapshot m =
 request_stepwise routes.Chains m =
     four_names names.Agent names.Declaration names.Record names.Date (part.agent m) (part.declaration m) (part.rec m) (part.date_or_none m) [] [] [] None
     node (λ node date. ask.Chains node date)
+request_stepwise routes.Evidence m =
+    four_names names.Agent names.Declaration names.Record names.Date (part.agent m) (part.declaration m) (part.rec m) (part.date_or_none m) [] [] [] None
+    node (λ node date. ask.Evidence node date)
 request_stepwise routes.Day m = one_name names.Date (part.date m) (pos 0) (λ date. ask.Day date)
 request_stepwise routes.Enrol m =
     two_names names.Name names.Token (part.new_name m) (part.new_token m) [] [] (λ name token. ask.Enrol name token)

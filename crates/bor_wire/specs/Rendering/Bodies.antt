@@ -10,12 +10,13 @@ use Rattle.bor_register.specs.declared.filing.FilingLine.{FilingLine}
 use Rattle.bor_register.specs.declared.filing.Outward.{Outward}
 use Rattle.bor_register.specs.declared.filing.State.{State}
 use Rattle.bor_desk.specs.declared.refusal.Refusal as desk
+use Rattle.bor_desk.specs.declared.evidence.lines.EntityEvidence.{EntityEvidence}
 use Rattle.bor_desk.specs.declared.reply.DeskReply.{DeskReply}
 use Rattle.bor_desk.specs.declared.reply.DeskReply.TheVariants as tell
 use Rattle.bor_desk.specs.Refusals.{refusal_name, refusal_place, refusal_field}
 use Rattle.bor_http.specs.declared.incoming.fault.Refusal.{Refusal}
 use Rattle.bor_http.specs.Incoming.Words as wire
-use Rattle.bor_wire.specs.Rendering.Values.{list_data, filing_data, line_data, outward_data, snapshot_data, chains_data, moved_data, enrolled_data, refusal_data}
+use Rattle.bor_wire.specs.Rendering.Values.{list_data, filing_data, line_data, outward_data, snapshot_data, chains_data, evidence_data, moved_data, enrolled_data, refusal_data}
 
 -- ---- texts
 
@@ -33,6 +34,9 @@ snapshot_text date records = compact_text (snapshot_data date records)
 
 unfoldable pub chains_text : Node → ℤ → List PersonLine → List ℕ
 chains_text entity date persons = compact_text (chains_data entity date persons)
+
+unfoldable pub evidence_text : Node → ℤ → EntityEvidence → List ℕ
+evidence_text entity date evidence = compact_text (evidence_data entity date evidence)
 
 unfoldable pub moved_text : ℤ → List ℕ
 moved_text day = compact_text (moved_data day)
@@ -57,6 +61,7 @@ desk_body (tell.File bytes) = bytes
 desk_body (tell.Published outwards) = published_text outwards
 desk_body (tell.Snapshot date records) = snapshot_text date records
 desk_body (tell.Chains entity date persons) = chains_text entity date persons
+desk_body (tell.Evidence entity date evidence) = evidence_text entity date evidence
 desk_body (tell.Day day) = moved_text day
 desk_body (tell.Enrolled name) = enrolled_text name
 desk_body (tell.Refused why) = desk_refusal_text why

@@ -13,6 +13,10 @@ use Rattle.bods_read.specs.Words.{type_word, type_of, status_word, entity_word, 
 use Rattle.bor_records.specs.declared.row.Entry.{Entry}
 use Rattle.bor_records.specs.declared.links.node.Node.{Node}
 use Rattle.bor_chains.specs.declared.line.PersonLine.{PersonLine}
+use Rattle.bor_desk.specs.declared.evidence.lines.EntityEvidence.{EntityEvidence}
+use Rattle.bor_desk.specs.declared.evidence.lines.LinkEvidence.{LinkEvidence}
+use Rattle.bor_desk.specs.declared.evidence.lines.PersonEvidence.{PersonEvidence}
+use Rattle.bor_desk.specs.declared.evidence.lines.RecordEvidence.{RecordEvidence}
 use Rattle.bor_register.specs.declared.filing.FilingLine.{FilingLine}
 use Rattle.bor_register.specs.declared.filing.Outward.{Outward}
 use Rattle.bor_register.specs.declared.filing.State.{State}
@@ -157,6 +161,61 @@ chains_data entity date persons =
     (member (codes "declaration") (string entity.declaration)
     (member (codes "persons") (list_data person_data persons)
     (member (codes "record") (string entity.rec) no_members)))))
+
+-- ---- why they are named
+
+-- a record, by its key
+abbrev pub key_data : Node → Data
+key_data n =
+    object
+    (member (codes "agent") (string n.agent)
+    (member (codes "declaration") (string n.declaration)
+    (member (codes "record") (string n.rec) no_members)))
+
+abbrev pub person_evidence_data : PersonEvidence → Data
+person_evidence_data p =
+    object
+    (member (codes "agent") (string p.node.agent)
+    (member (codes "declaration") (string p.node.declaration)
+    (member (codes "first") (key_data p.first)
+    (member (codes "links") (count_data p.links)
+    (member (codes "name") (maybe_data string p.name)
+    (member (codes "record") (string p.node.rec) no_members))))))
+
+abbrev pub link_evidence_data : LinkEvidence → Data
+link_evidence_data l =
+    object
+    (member (codes "agent") (string l.node.agent)
+    (member (codes "declaration") (string l.node.declaration)
+    (member (codes "next") (maybe_data key_data l.next)
+    (member (codes "record") (string l.node.rec)
+    (member (codes "same") (list_data key_data l.same) no_members)))))
+
+-- an open record by its latest statement, as a snapshot shows it, with its agent and its declaration
+abbrev pub record_evidence_data : RecordEvidence → Data
+record_evidence_data x =
+    let s = x.entry.statement in
+    object
+    (member (codes "agent") (string x.agent)
+    (member (codes "date") (day_data s.day)
+    (member (codes "declaration") (string s.declaration)
+    (member (codes "details") (details_data s.details)
+    (member (codes "id") (string s.id)
+    (member (codes "record") (string s.rec)
+    (member (codes "status") (string (status_word x.entry.status))
+    (member (codes "type") (string (type_word (type_of s.details))) no_members))))))))
+
+-- the entity, the date, the links, the persons and the records
+abbrev pub evidence_data : Node → ℤ → EntityEvidence → Data
+evidence_data entity date evidence =
+    object
+    (member (codes "agent") (string entity.agent)
+    (member (codes "date") (day_data date)
+    (member (codes "declaration") (string entity.declaration)
+    (member (codes "links") (list_data link_evidence_data evidence.links)
+    (member (codes "persons") (list_data person_evidence_data evidence.persons)
+    (member (codes "record") (string entity.rec)
+    (member (codes "records") (list_data record_evidence_data evidence.records) no_members)))))))
 
 -- ---- the registrar's
 

@@ -41,6 +41,12 @@ request_of (Some routes.Chains) m =
       declaration = text_or_any (part.declaration m);
       rec = text_or_any (part.rec m);
     }) (unwrap_or (part.date_or_none m) None)
+request_of (Some routes.Evidence) m =
+    ask.Evidence (record {
+      agent = text_or_any (part.agent m);
+      declaration = text_or_any (part.declaration m);
+      rec = text_or_any (part.rec m);
+    }) (unwrap_or (part.date_or_none m) None)
 request_of (Some routes.Day) m = ask.Day (day_or_any (part.date m))
 request_of (Some routes.Enrol) m = ask.Enrol (text_or_any (part.new_name m)) (text_or_any (part.new_token m))
 

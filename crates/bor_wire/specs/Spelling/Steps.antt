@@ -69,6 +69,10 @@ request_by_steps routes.Chains m = do
   node ← node_by_steps (part.query m)
   date ← named names.Date (part.date_or_none m)
   Ok (ask.Chains node date)
+request_by_steps routes.Evidence m = do
+  node ← node_by_steps (part.query m)
+  date ← named names.Date (part.date_or_none m)
+  Ok (ask.Evidence node date)
 request_by_steps routes.Day m = do
   date ← named names.Date (part.date m)
   Ok (ask.Day date)

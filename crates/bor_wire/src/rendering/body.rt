@@ -2,8 +2,8 @@
 
 ghost use Rattle.std.specs.Prelude.{◌≡◌, IfOk, OnOk};
 ghost use Rattle.serde_json.specs.Written.{compact_text};
-ghost use Rattle.bor_wire.specs.Rendering.Values.{list_data, snapshot_data, chains_data};
-ghost use Rattle.bor_wire.specs.Rendering.Bodies.{snapshot_text, chains_text, desk_body};
+ghost use Rattle.bor_wire.specs.Rendering.Values.{list_data, snapshot_data, chains_data, evidence_data};
+ghost use Rattle.bor_wire.specs.Rendering.Bodies.{snapshot_text, chains_text, evidence_text, desk_body};
 ghost use Rattle.bor_wire.specs.Rendering.Parts.{Adds, data_tokens};
 
 use crate::rendering::head::HEAD_ROOM;
@@ -11,7 +11,7 @@ use crate::rendering::reply::RESERVED;
 use crate::rendering::short::put_body;
 use crate::rendering::shown::{Shown, write_array, write_day, write_text};
 use bor_chains::{Node, PersonLine};
-use bor_desk::DeskReply;
+use bor_desk::{DeskReply, EntityEvidence};
 use bor_records::Entry;
 use bor_terms::Day;
 use json::Writer;
@@ -79,6 +79,44 @@ fn chains_body(
     Ok(out.into_inner())
 }
 
+fn write_evidence(
+    out: &mut Writer,
+    entity: &Node,
+    date: Day,
+    evidence: &EntityEvidence,
+) -> Result<(), AllocError>
+    ensures { Adds result out.old out.new
+        (data_tokens (evidence_data entity.now date evidence.now)) }
+{
+    out.begin_object()?;
+    write_text(out, "agent", entity.agent.as_str())?;
+    out.key("date")?;
+    write_day(out, date)?;
+    write_text(out, "declaration", entity.declaration.as_str())?;
+    out.key("links")?;
+    write_array(out, evidence.links.as_slice())?;
+    out.key("persons")?;
+    write_array(out, evidence.persons.as_slice())?;
+    write_text(out, "record", entity.rec.as_str())?;
+    out.key("records")?;
+    write_array(out, evidence.records.as_slice())?;
+    out.end_object()
+}
+
+// Why the persons behind an entity are named on a date.
+fn evidence_body(
+    alloc: Global,
+    entity: &Node,
+    date: Day,
+    evidence: &EntityEvidence,
+) -> Result<Vec<u8>, AllocError>
+    ensures { IfOk result (λ body. body.items ≡ evidence_text entity.now date evidence.now) }
+{
+    let mut out = Writer::new(Vec::new(alloc));
+    write_evidence(&mut out, entity, date, evidence)?;
+    Ok(out.into_inner())
+}
+
 // The file as it was lodged, with room for the head of the reply.
 fn file_body(alloc: Global, file: &[u8]) -> Result<Vec<u8>, AllocError>
     ensures { IfOk result (λ body. body.items ≡ file.now) }
@@ -103,6 +141,11 @@ pub(crate) fn body_of(alloc: Global, reply: &DeskReply) -> Result<Vec<u8>, Alloc
             date,
             persons,
         } => chains_body(alloc, entity, *date, persons.as_slice()),
+        DeskReply::Evidence {
+            entity,
+            date,
+            evidence,
+        } => evidence_body(alloc, entity, *date, evidence),
         short => {
             let mut body = Vec::with_capacity(alloc, RESERVED)?;
             put_body(&mut body, short);

@@ -17,6 +17,7 @@
 //! Nothing is read, asked or sent here.
 
 mod body;
+mod evidence;
 mod filings;
 mod head;
 pub mod laws;

@@ -112,7 +112,8 @@ fn write_relationship(
     out.end_object()
 }
 
-fn write_details(out: &mut Writer, details: &Details) -> Result<(), AllocError>
+/// Writes what a statement says of its record.
+pub(crate) fn write_details(out: &mut Writer, details: &Details) -> Result<(), AllocError>
     ensures { Adds result out.old out.new (data_tokens (details_data details.now)) }
 {
     match details {

@@ -32,6 +32,7 @@ pub fn is_long(reply: &DeskReply) -> bool
             | DeskReply::Published(_)
             | DeskReply::Snapshot { .. }
             | DeskReply::Chains { .. }
+            | DeskReply::Evidence { .. }
     )
 }
 

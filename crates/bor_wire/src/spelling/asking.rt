@@ -65,6 +65,10 @@ fn request_for(alloc: Global, route: Route, raw: &RawRequest) -> Result<Request,
             entity: node_named(alloc, &pairs)?,
             date: day_if_named(&pairs, Name::Date)?,
         }),
+        Route::Evidence => Ok(Request::Evidence {
+            entity: node_named(alloc, &pairs)?,
+            date: day_if_named(&pairs, Name::Date)?,
+        }),
         Route::Day => Ok(Request::Day {
             date: day_named(&pairs, Name::Date)?,
         }),

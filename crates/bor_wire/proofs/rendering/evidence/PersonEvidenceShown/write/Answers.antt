@@ -1,0 +1,21 @@
+use Rattle.bor_wire.proofs.OnRendering.Writing.{added, ended, wrote}
+use Rattle.bor_wire.proofs.rendering.evidence.PersonEvidenceShown.write.Goals as goal
+
+pub returns : goal.returns
+returns c =
+    rw (
+      c.as_str.ensures.value,
+      c.as_str-2.ensures.value,
+      c.as_str-3.ensures.value,
+    ) at (
+    wrote c.in_ok-begin_object.ensures (
+    added c.in_ok-write_text.ensures (
+    added c.in_ok-write_text-2.ensures (
+    wrote c.in_ok-key.ensures (
+    added c.in_ok-write.ensures (
+    wrote c.in_ok-key-2.ensures (
+    wrote c.in_ok-u64.ensures (
+    wrote c.in_ok-key-3.ensures (
+    added c.in_ok-write_maybe.ensures (
+    added c.in_ok-write_text-3.ensures (
+    ended c.end_object.ensures)))))))))))
