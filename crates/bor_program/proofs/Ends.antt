@@ -1,5 +1,5 @@
 -- How the end of a check is told of a run.
-use Rattle.std.proofs.Common.{◌≡◌, ◌≢◌, ◌∙◌, ℕ, List, [], ◌∷◌, ◌++◌, Option, Some, None, IfSome, Result, Ok, Err, refl, sym, subst, inr, append-nil, true}
+use Rattle.std.proofs.Common.{◌≡◌, ◌≢◌, ◌∙◌, ℕ, List, [], Option, Some, None, IfSome, Result, Ok, Err, refl, sym, subst, inr, append-nil, true}
 use Rattle.std.specs.Io.KnownBytes.{Appends, Keeps}
 use Rattle.std.specs.Result.{is_err}
 use Rattle.bor_desk.specs.CheckReport.{check_report}
@@ -27,20 +27,6 @@ kept_none (Some xs) (Some ys) h = h ∙ sym (append-nil xs)
 -- nothing is a front of whatever was to be written
 pub part_none : (before after : Option (List ℕ)) (bytes : List ℕ) → Keeps before after → AppendsPart before after bytes
 part_none before after bytes h = ([], bytes, refl, kept_none before after h)
-
-nothing_before : (front rest : List ℕ) → [] ≡ front ++ rest → front ≡ []
-nothing_before [] rest e = refl
-nothing_before (x ∷ xs) rest e = cc
-
-appends_nothing : (before after : Option (List ℕ)) → Appends before after [] → Keeps before after
-appends_nothing None after h = tt
-appends_nothing (Some xs) None h = h
-appends_nothing (Some xs) (Some ys) h = h ∙ append-nil xs
-
--- a front of nothing is nothing
-pub kept_whole : (before after : Option (List ℕ)) → AppendsPart before after [] → Keeps before after
-kept_whole before after h =
-    appends_nothing before after (subst (λ (l : List ℕ). Appends before after l) (nothing_before h.0 h.1 h.2) h.3)
 
 pub kept_as : (before after last : Option (List ℕ)) → last ≡ after → Keeps before after → Keeps before last
 kept_as before after last same h = subst (λ (o : Option (List ℕ)). Keeps before o) (sym same) h

@@ -16,6 +16,7 @@ routed asks.File = refl
 routed asks.Published = refl
 routed asks.Snapshot = refl
 routed asks.Chains = refl
+routed asks.Evidence = refl
 routed asks.Day = refl
 routed asks.Enrol = refl
 

@@ -1,5 +1,5 @@
 -- What follows of a run from what the command that it performed left.
-use Rattle.std.proofs.Common.{◌≡◌, ◌≤◌, ◌⊎◌, ℕ, ℤ, List, Bool, Option, Some, None, IsSome, IsTrue, arith, inl, inr, refl, sym, subst, true, false, if◌then◌else◌}
+use Rattle.std.proofs.Common.{◌≡◌, ◌≤◌, ℕ, ℤ, List, Bool, Option, Some, None, IsSome, IsTrue, arith, inl, inr, refl, sym, subst, true, false, if◌then◌else◌}
 use Rattle.std.specs.Borrow.{Bor}
 use Rattle.std.specs.Io.KnownBytes.{Keeps}
 use Rattle.clap.specs.Words.{Text as Words}
@@ -16,7 +16,7 @@ use Rattle.bor_words.specs.declared.serve.Serve.{Serve as Asked}
 use Rattle.bor_words.specs.declared.source.Source.{Source}
 use Rattle.bor_words.specs.Asked.{EntersCheck, IsAsked, IsCommand, name_of}
 use Rattle.bor_words.specs.Words.{Entered, entered_by, file_at}
-use Rattle.bor_program.specs.Performing.{Checks, EndsSettingUp, Exchanges, Inits, InitsOnceTold, Known, Performs, Serves, TellsRefusal, migrated}
+use Rattle.bor_program.specs.Performing.{Checks, EndsSettingUp, Exchanges, Inits, InitsOnceTold, IsDoneOrFailed, Known, Performs, Serves, TellsRefusal, migrated}
 use Rattle.bor_program.specs.declared.host.Origin.{Origin}
 use Rattle.bor_program.specs.declared.host.Origin.TheVariants.{Found, New, Beside}
 use Rattle.bor_program.specs.declared.registrar.Exchanging.{Exchanging}
@@ -87,9 +87,8 @@ unheard_of path Beside errors told status le h = h.1
 inits_unheard : {M K : Type 0} (shows : K → Register → Type 0) (is_clean : K → Type 0) (does : M → Deed K → M → Type 0) (begun ended : M) (path : Bor Words) (registrar : List ℕ) (day : ℤ) (output printed errors told : Known) (status : ℕ) → status ≤ 1
     → Inits shows is_clean does begun ended path registrar day output printed errors told status → Keeps errors told
 inits_unheard shows is_clean does begun ended path registrar day output printed errors told status le p = elim p.done [
-  | inl h ↦ absurd (omega (arith, le, h.1))
-  | inr (inl h) ↦ absurd (omega (arith, le, h.status_is))
-  | inr (inr h) ↦ unheard_of path h.1 errors told status le h.3
+  | inl h ↦ absurd (omega (arith, le, h.status_is))
+  | inr h ↦ unheard_of path h.1 errors told status le h.3
 ]
 
 pub unheard : {M K Left : Type 0} (Reads : Bor Words → List ℕ → Type 0) (Hosts : Asked → K → K → ℕ → Type 0) (shows : K → Register → Type 0) (is_clean is_sound : K → Type 0) (may_leave : K → Left → Type 0) (left_shows : Left → Register → Type 0) (tells : K → StoreFault → K → Type 0) (does : M → Deed K → M → Type 0) (begun ended : M) (asked : Command) (input rest output printed errors told : Known) (status : ℕ) → status ≤ 1
@@ -129,10 +128,6 @@ text_unusual : (text : Text) (output printed : Known) → IsWrittenOrCutOff text
 text_unusual text output printed (inl h) = unusual text.refused h.told
 text_unusual text output printed (inr h) = absurd (omega (arith, h.told))
 
--- 0 or 3
-abbrev IsDoneOrFailed : ℕ → Type 0
-IsDoneOrFailed n = (n ≡ 0) ⊎ (n ≡ 3)
-
 flag_end : (failed : Bool) → IsDoneOrFailed (if failed then 3 else 0)
 flag_end true = inr refl
 flag_end false = inl refl
@@ -146,16 +141,15 @@ serves_end Hosts shows is_clean is_sound may_leave left_shows does begun ended a
 
 end_of : (path : Bor Words) (origin : Origin) (errors told : Known) (status : ℕ) → EndsSettingUp path origin errors told status → IsDoneOrFailed status
 end_of path Found errors told status h = inr h.0
-end_of path New errors told status h = inl h.0
-end_of path Beside errors told status h = inl h.0
+end_of path New errors told status h = h.0
+end_of path Beside errors told status h = h.0
 
 inits_end : {M K : Type 0} (shows : K → Register → Type 0) (is_clean : K → Type 0) (does : M → Deed K → M → Type 0) (begun ended : M) (asked : AskedInit) (output printed errors told : Known) (status : ℕ)
     → InitsOnceTold shows is_clean does begun ended asked output printed errors told status → IsDoneOrFailed status
 inits_end shows is_clean does begun ended asked output printed errors told status (inl h) = inr h.status_is
 inits_end shows is_clean does begun ended asked output printed errors told status (inr h) = elim h.2.done [
-  | inl k ↦ inr k.1
-  | inr (inl k) ↦ inr k.status_is
-  | inr (inr k) ↦ end_of asked.db k.1 errors told status k.3
+  | inl k ↦ inr k.status_is
+  | inr k ↦ end_of asked.db k.1 errors told status k.3
 ]
 
 no_one : (n : ℕ) → IsDoneOrFailed n → n ≡ 1 → ⊥

@@ -43,6 +43,7 @@ route_path asks.File = paths.File
 route_path asks.Published = paths.Published
 route_path asks.Snapshot = paths.Snapshot
 route_path asks.Chains = paths.Chains
+route_path asks.Evidence = paths.Evidence
 route_path asks.Day = paths.Day
 route_path asks.Enrol = paths.Agents
 
@@ -54,6 +55,7 @@ route_method asks.File = codes "GET"
 route_method asks.Published = codes "GET"
 route_method asks.Snapshot = codes "GET"
 route_method asks.Chains = codes "GET"
+route_method asks.Evidence = codes "GET"
 route_method asks.Day = codes "POST"
 route_method asks.Enrol = codes "POST"
 

@@ -82,11 +82,15 @@ pub record LacksToken {M : Type 0} (begun ended : M) (source : RegistrarSource) 
   pub kept : Keeps output printed
   pub line : IsTold (IsUntold source) errors told
 
--- how setting a register up ends where one came to be open like this: it was set up, and nothing is told; or one stands in the file of this name, and that is told
+-- it did what was asked, or failed
+abbrev pub IsDoneOrFailed : ℕ → Type 0
+IsDoneOrFailed status = (status ≡ 0) ⊎ (status ≡ 3)
+
+-- How setting a register up ends where one came to be open like this. It was set up, and nothing is told; it ends as failed where what was printed before can't be handed on. Or one stands in the file of this name, and that is told.
 abbrev pub EndsSettingUp : Bor Words → Origin → (errors told : Known) → (status : ℕ) → Type 0
 EndsSettingUp path Found errors told status = (status ≡ 3) × AppendsPart errors told (failure_line (Registered path))
-EndsSettingUp path New errors told status = (status ≡ 0) × Keeps errors told
-EndsSettingUp path Beside errors told status = (status ≡ 0) × Keeps errors told
+EndsSettingUp path New errors told status = IsDoneOrFailed status × Keeps errors told
+EndsSettingUp path Beside errors told status = IsDoneOrFailed status × Keeps errors told
 
 -- The register that stands in the file of this name, or a new one that was set up there, is closed there as it came to be open.
 abbrev pub SetsUpIn : {M K : Type 0} → (K → Register → Type 0) → (K → Type 0) → (M → Deed K → M → Type 0) → M → M → Bor Words → List ℕ → ℤ → Known → Known → ℕ → Type 0
@@ -94,15 +98,11 @@ SetsUpIn {M} {K} shows is_clean does begun ended path registrar day errors told 
     (opened : K) × (origin : Origin) × Visits does begun ended path (ComesToBe shows is_clean path registrar day opened origin) opened
     × EndsSettingUp path origin errors told status
 
--- nothing is done, and nothing told, since standard output can't be written
-abbrev pub IsKeptFromOutput : {M : Type 0} → M → M → Known → Known → ℕ → Type 0
-IsKeptFromOutput begun ended errors told status = (ended ≡ begun) × (status ≡ 3) × Keeps errors told
-
--- A register of this registrar and day is set up in the file of this name, if it has none. Nothing is printed.
+-- A register of this registrar and day is set up in the file of this name, if it has none; or that can't be done. Nothing is printed.
 pub record Inits {M K : Type 0} (shows : K → Register → Type 0) (is_clean : K → Type 0) (does : M → Deed K → M → Type 0) (begun ended : M) (path : Bor Words) (registrar : List ℕ) (day : ℤ) (output printed errors told : Known) (status : ℕ) : Type 0 where
   pub kept : Keeps output printed
-  pub done : IsKeptFromOutput begun ended errors told status
-      ⊎ (FailsToOpen does begun ended path output printed errors told status ⊎ SetsUpIn shows is_clean does begun ended path registrar day errors told status)
+  pub done : FailsToOpen does begun ended path output printed errors told status
+      ⊎ SetsUpIn shows is_clean does begun ended path registrar day errors told status
 
 -- with the registrar's token, the words ask for this
 pub record IsOnceTold (asked : Exchange) (told : Exchanging) : Type 0 where

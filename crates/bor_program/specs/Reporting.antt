@@ -1,11 +1,11 @@
 -- What `bor report` prints.
-use Rattle.std.specs.Prelude.{◌⊎◌, ℤ, ℕ, List, Option, Some, None, Result, MatchResult}
+use Rattle.std.specs.Prelude.{◌⊎◌, ℤ, ℕ, List, Option, Some, None, Result, MatchResult, if◌then◌else◌}
 use Rattle.std.specs.Io.KnownBytes.{Keeps}
 use Rattle.bor_records.specs.Promises.{Promised}
 use Rattle.bor_records.specs.declared.links.node.Node.{Node}
 use Rattle.bor_register.specs.Register.{Register}
 use Rattle.bor_desk.specs.Operations.Sight.{seen_by}
-use Rattle.bor_desk.specs.Step.{chains_answer}
+use Rattle.bor_desk.specs.Step.{Answer, chains_answer, evidence_answer}
 use Rattle.bor_desk.specs.ChainReport.{IsTextOf}
 use Rattle.bor_desk.specs.declared.text.Text.{Text}
 use Rattle.bor_words.specs.declared.report.Report.{Report}
@@ -22,9 +22,16 @@ day_in None today = today
 abbrev pub entity_of : Report → Node
 entity_of asked = record { agent = asked.agent; declaration = asked.declaration; rec = asked.rec }
 
+-- the report that is asked for, or the evidence
+abbrev pub report_answer : Report → Register → Answer
+report_answer asked r =
+    if asked.evidence
+    then evidence_answer (seen_by asked.viewer r) (entity_of asked) (day_in asked.date r.day)
+    else chains_answer (seen_by asked.viewer r) (entity_of asked) (day_in asked.date r.day)
+
 -- the text tells who stands behind the entity, in what the viewer sees of the register
 abbrev pub IsReportOf : Report → Register → Text → Type 0
-IsReportOf asked r text = IsTextOf (chains_answer (seen_by asked.viewer r) (entity_of asked) (day_in asked.date r.day)) text
+IsReportOf asked r text = IsTextOf (report_answer asked r) text
 
 -- of a register that was opened and what is left of it: the text tells it of each register that was shown
 abbrev pub IsToldOf : {K : Type 0} → (K → Register → Type 0) → (K → Type 0) → K → K → Report → Text → Type 0

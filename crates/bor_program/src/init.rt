@@ -1,7 +1,8 @@
 //! `bor init`.
 
 ghost use Rattle.std.specs.Prelude.{◌≡◌, ◌≤◌};
-ghost use Rattle.bor_program.specs.Performing.{EndsSettingUp, Inits, InitsOnceTold};
+ghost use Rattle.std.specs.Io.KnownBytes.{Keeps};
+ghost use Rattle.bor_program.specs.Performing.{EndsSettingUp, Inits, InitsOnceTold, IsDoneOrFailed};
 ghost use Rattle.bor_program.specs.Program.{exit_code};
 
 use crate::failure::Failure;
@@ -36,7 +37,8 @@ pub fn init<R: NamedFiles + AllocGlobal, H: Registers, O: Output, E: Write>(
 }
 
 // Sets up a register of this day and registrar in the file of this name, where it has none, and
-// closes it. What is still to be printed is handed on first, so that what is done ends as done.
+// closes it. What is still to be printed is handed on last, so that it doesn't keep a register from
+// being set up.
 fn init_told<H: Registers, O: Output, E: Write>(
     host: &mut H,
     path: &str,
@@ -50,26 +52,38 @@ fn init_told<H: Registers, O: Output, E: Write>(
         (E.contents errors.new) (exit_code result) }
     ensures flushed { exit_code result ≤ 1 → O.is_flushed output.new }
 {
-    if let Err(_) = output.hand_on() {
-        return Failure::Unwritable.tell(errors);
-    }
     host.reach(Stage::Opening(path));
     match host.open_or_set_up(path, registrar, day) {
         Ok(Opened { register, origin }) => {
             host.close(path, register);
-            tell_of(path, origin, errors)
+            end_of(path, origin, output, errors)
         }
         Err(failure) => failure.tell(errors),
     }
 }
 
-// How it ends where a register came to be open like this; tells of one that was there.
-fn tell_of<E: Write>(path: &str, origin: Origin, errors: &mut E) -> Status
-    ensures { EndsSettingUp path.entry origin (E.contents errors.old) (E.contents errors.new)
+// How it ends where a register came to be open like this: what is still to be printed is handed on
+// where it was set up, and one that was there is told.
+fn end_of<O: Output, E: Write>(path: &str, origin: Origin, output: &mut O, errors: &mut E) -> Status
+    ensures ended { EndsSettingUp path.entry origin (E.contents errors.old) (E.contents errors.new)
         (exit_code result) }
+    ensures kept { Keeps (O.contents output.old) (O.contents output.new) }
+    ensures flushed { exit_code result ≤ 1 → O.is_flushed output.new }
 {
     match origin {
         Origin::Found => Failure::Registered(path).tell(errors),
-        Origin::New | Origin::Beside => Status::Done,
+        Origin::New | Origin::Beside => hand_on(output),
+    }
+}
+
+// Hands on what is still to be printed.
+fn hand_on<O: Output>(output: &mut O) -> Status
+    ensures ended { IsDoneOrFailed (exit_code result) }
+    ensures kept { Keeps (O.contents output.old) (O.contents output.new) }
+    ensures flushed { exit_code result ≤ 1 → O.is_flushed output.new }
+{
+    match output.hand_on() {
+        Ok(()) => Status::Done,
+        Err(_) => Status::Failed,
     }
 }

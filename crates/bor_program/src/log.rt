@@ -191,6 +191,7 @@ fn line_of(route: Route) -> (Path, &'static str)
         Route::Published => (Path::Published, "GET"),
         Route::Snapshot => (Path::Snapshot, "GET"),
         Route::Chains => (Path::Chains, "GET"),
+        Route::Evidence => (Path::Evidence, "GET"),
         Route::Day => (Path::Day, "POST"),
         Route::Enrol => (Path::Agents, "POST"),
     }
@@ -207,6 +208,7 @@ fn path_text(path: Path) -> &'static str
         Path::Published => "/published",
         Path::Snapshot => "/snapshot",
         Path::Chains => "/chains",
+        Path::Evidence => "/evidence",
         Path::Day => "/day",
         Path::Agents => "/agents",
     }

@@ -14,7 +14,7 @@ use crate::host::{OpenRegister, Registers, Stage};
 use crate::output::{Output, write_text};
 use crate::status::Status;
 use bor_desk::operations::{Keep, StoreFault};
-use bor_desk::{Text, date_or_day, report_text};
+use bor_desk::{Text, date_or_day, evidence_text, report_text};
 use bor_records::links::Node;
 use bor_words::Report;
 use std::alloc::{AllocError, Global};
@@ -92,7 +92,11 @@ pub fn report_in<K: Keep>(
 {
     let entity = entity_of(alloc, asked)?;
     let day = date_or_day(keep, asked.date)?;
-    report_text(alloc, keep, &asked.viewer, &entity, day)
+    if asked.evidence {
+        evidence_text(alloc, keep, &asked.viewer, &entity, day)
+    } else {
+        report_text(alloc, keep, &asked.viewer, &entity, day)
+    }
 }
 
 // The entity that is asked for.

@@ -29,3 +29,6 @@ returns-in-Day-clause-route c = routed asks.Day ∙ ap Some (sym c.in-Day.is)
 
 pub returns-in-Enrol-clause-route : goal.returns-in-Enrol-clause-route
 returns-in-Enrol-clause-route c = routed asks.Enrol ∙ ap Some (sym c.in-Enrol.is)
+
+pub returns-in-Evidence-clause-route : goal.returns-in-Evidence-clause-route
+returns-in-Evidence-clause-route c = routed asks.Evidence ∙ ap Some (sym c.in-Evidence.is)
