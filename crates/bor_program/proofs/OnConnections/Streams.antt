@@ -2,9 +2,12 @@
 use Rattle.std.proofs.Common.{◌≡◌, ◌≤◌, ◌<◌, ◌↔◌, Bool, true, false, inl, inr, arith, ℕ, List, [], ◌++◌, Option, Some, None, length, take, refl, sym, ap, subst, ◌∙◌, append_assoc, append-nil, length-append}
 use Rattle.std.proofs.lemmas.Bool.{cases_lt, iff_false}
 use Rattle.std.specs.Io.KnownBytes.{Appends, Consumes, Keeps}
+use Rattle.bor_http.specs.Incoming.Head.{head_len}
+use Rattle.bor_http.specs.Incoming.Progress.{IsWhole}
+use Rattle.bor_http.proofs.OnIncoming.ProgressLemmas.{missing}
 use Rattle.bor_program.specs.Connections.Limits.{rest_limit}
 use Rattle.bor_program.specs.Connections.Serving.{Answer}
-use Rattle.bor_program.specs.Connections.Streams.{Came, Drops, IsDraining, IsTold, IsWriting}
+use Rattle.bor_program.specs.Connections.Streams.{Came, Drops, IsDraining, IsTold, IsUnanswered, IsWriting}
 
 consumes_nothing : (known : Option (List ℕ)) → Consumes known known []
 consumes_nothing None = tt
@@ -12,6 +15,15 @@ consumes_nothing (Some xs) = refl
 
 pub came_new : {S : Type 0} (remaining : S → Option (List ℕ)) (stream : S) → Came remaining stream []
 came_new remaining stream = (stream, consumes_nothing (remaining stream))
+
+-- no bytes are no request
+pub nothing_is_partial : IsWhole [] → ⊥
+unfolding head_len
+nothing_is_partial whole = missing [] (omega arith) refl whole
+
+-- of this client nothing was read
+pub unanswered_new : {S : Type 0} (remaining : S → Option (List ℕ)) (stream : S) → IsUnanswered remaining []
+unanswered_new remaining stream = record { stream = stream; came = came_new remaining stream; partial = nothing_is_partial; fits = omega arith }
 
 consumes_more : (a b c : Option (List ℕ)) (bs cs : List ℕ) → Consumes a b bs → Consumes b c cs → Consumes a c (bs ++ cs)
 consumes_more None b c bs cs p q = tt

@@ -11,11 +11,12 @@ use Rattle.bor_program.specs.Connections.Serving.{Answer, Ended, Absent, Unanswe
 abbrev pub Came : {S : Type 0} → (S → Option (List ℕ)) → S → List ℕ → Type 0
 Came {S} remaining stream bytes = (came : S) × Consumes (remaining came) (remaining stream) bytes
 
--- What is known of a client whose request is read: where its bytes come from, how far they are known, and that they are no more than a head and a body may have.
+-- What is known of a client whose request is read: where its bytes come from, how far they are known, and that they are no whole request yet, and no more than a head and a body may have.
 pub record IsReading {S : Type 0} (remaining : S → Option (List ℕ)) (stream : S) (received : List ℕ) (progress : Progress) : Type 0 where
   pub came : Came remaining stream received
   pub known : IsProgress received progress
   pub missing : length received < needs progress
+  pub partial : IsWhole received → ⊥
   pub fits : length received ≤ request_limit
 
 -- One read of a request took n bytes of the stream, at most as many as there was room for, and put them behind those that had come; none only at the end.
@@ -59,8 +60,15 @@ pub record IsTold {S : Type 0} (remaining contents : S → Option (List ℕ)) (a
   pub behind : Consumes (remaining written) (remaining let_go) dropped
   pub bound : length dropped ≤ rest_limit
 
+-- The client is given up whose bytes these are, all that was read of its stream: they are no whole request, for one that is whole is answered.
+pub record IsUnanswered {S : Type 0} (remaining : S → Option (List ℕ)) (request : List ℕ) : Type 0 where
+  pub stream : S
+  pub came : Came remaining stream request
+  pub partial : IsWhole request → ⊥
+  pub fits : length request ≤ request_limit
+
 -- a connection ended so, on a stream of these
 abbrev pub IsOf : {S : Type 0} → (S → Option (List ℕ)) → (S → Option (List ℕ)) → Ended → Type 0
 IsOf remaining contents Absent = ⊤
-IsOf {S} remaining contents (Unanswered request) = (stream : S) × Came remaining stream request × (length request ≤ request_limit)
+IsOf remaining contents (Unanswered request) = IsUnanswered remaining request
 IsOf remaining contents (Told answer sent) = IsTold remaining contents answer sent

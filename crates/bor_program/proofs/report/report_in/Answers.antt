@@ -25,5 +25,5 @@ returns-clause-text g c = λ r shown clean.
     let entity : c.in_ok-entity.entity ≡ entity_of c.args.asked.now = c.in_ok-entity.ensures in
     let told = subst (λ n. IfOk c.report_text.result (λ text. IsTextOf (chains_answer (seen_by c.args.asked.now.viewer r) n c.in_ok-day.day) text)) entity (c.report_text.ensures.text r ((c.date_or_day.ensures.kept.same between r).0 shown) clean) in
     let report = subst (λ day. IfOk c.report_text.result (λ text. IsTextOf (chains_answer (seen_by c.args.asked.now.viewer r) (entity_of c.args.asked.now) day) text))
-        (c.in_ok-day.ensures.answer r shown between ∙ day_is c.args.asked.now.date r.day) told in
+    (c.in_ok-day.ensures.answer r shown between ∙ day_is c.args.asked.now.date r.day) told in
     subst (λ (why : Bool). IfOk c.report_text.result (λ text. IsTextOf (asked_answer why c.args.asked.now r) text)) (sym c.if-asked.false) report

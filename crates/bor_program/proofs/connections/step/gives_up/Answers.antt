@@ -8,7 +8,7 @@ pub returns-in-Reading : goal.returns-in-Reading
 returns-in-Reading g c =
     let r = c.in-Reading.field-0 in
     let held = rw c.in-Reading.is at c.requires in
-    (Unanswered r.received.items, (r.stream, held.came, held.fits), rw c.in-Reading.is refl, refl, refl)
+    (Unanswered r.received.items, record { stream = r.stream; came = held.came; partial = held.partial; fits = held.fits }, rw c.in-Reading.is refl, refl, refl)
 
 pub returns-in-Writing : goal.returns-in-Writing
 returns-in-Writing g c =

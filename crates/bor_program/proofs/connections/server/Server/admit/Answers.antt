@@ -1,8 +1,8 @@
-use Rattle.std.proofs.Common.{◌+◌, [], true, arith, refl}
+use Rattle.std.proofs.Common.{◌+◌, [], true, refl}
 use Rattle.bor_program.specs.Connections.Serving.{Unanswered}
 use Rattle.bor_program.specs.Connections.Servers.{telling_in, pending_in}
 use Rattle.bor_program.proofs.OnConnections.Servers.{lets_as, lets_one, lets_then_more}
-use Rattle.bor_program.proofs.OnConnections.Streams.{came_new}
+use Rattle.bor_program.proofs.OnConnections.Streams.{unanswered_new}
 use Rattle.bor_program.proofs.connections.server.Server.admit.Goals as goal
 
 pub returns-in-Some-clause-lets : goal.returns-in-Some-clause-lets
@@ -18,4 +18,4 @@ returns-in-None-clause-lets g c =
     let seated = lets_as g.S.Read.remaining g.S.Write.contents (telling_in old) (pending_in old) 0 old.status c.make_way.new.self mid c.make_way.ensures.lets c.seat.ensures.becomes in
     lets_then_more g.S.Read.remaining g.S.Write.contents (telling_in old) (pending_in old) 1 0 0 old.status mid _ seated
     (lets_one g.S.Read.remaining g.S.Write.contents [] (telling_in mid) (pending_in mid + 1) mid.status true _ seated.held
-    (Unanswered [], (c.args.stream, came_new g.S.Read.remaining c.args.stream, omega arith), refl, refl, refl) refl refl refl)
+    (Unanswered [], unanswered_new g.S.Read.remaining c.args.stream, refl, refl, refl) refl refl refl)
