@@ -4,6 +4,7 @@ use Rattle.std.specs.Borrow.{Bor}
 use Rattle.std.specs.Io.KnownBytes.{Keeps}
 use Rattle.clap.specs.Words.{Text as Words}
 use Rattle.std.specs.List.{list_any}
+use Rattle.bor_http.specs.Incoming.Message.{request_limit}
 use Rattle.bor_register.specs.Register.{Register}
 use Rattle.bor_register.specs.declared.fault.StoreFault.{StoreFault}
 use Rattle.bor_program.specs.Deeds.{Deed}
@@ -27,7 +28,7 @@ use Rattle.bor_program.proofs.KnownBytes.{took_none}
 use Rattle.bor_program.proofs.Replies.{no_usage, replies_end}
 
 -- the same, of files, streams and a status that are named otherwise
-pub performs_as : {M K Left : Type 0} (Reads : Bor Words → List ℕ → Type 0) (Hosts : Asked → K → K → ℕ → Type 0) (shows : K → Register → Type 0) (is_clean is_sound : K → Type 0) (may_leave : K → Left → Type 0) (left_shows : Left → Register → Type 0) (tells : K → StoreFault → K → Type 0) (does : M → Deed K → M → Type 0) (begun ended last_files : M) (asked : Command) (input rest last output printed written errors told heard : Known) (status code : ℕ) → last_files ≡ ended → last ≡ rest → written ≡ printed
+pub performs_as : {M K Left : Type 0} (Reads : ℕ → Bor Words → List ℕ → Type 0) (Hosts : Asked → K → K → ℕ → Type 0) (shows : K → Register → Type 0) (is_clean is_sound : K → Type 0) (may_leave : K → Left → Type 0) (left_shows : Left → Register → Type 0) (tells : K → StoreFault → K → Type 0) (does : M → Deed K → M → Type 0) (begun ended last_files : M) (asked : Command) (input rest last output printed written errors told heard : Known) (status code : ℕ) → last_files ≡ ended → last ≡ rest → written ≡ printed
     → heard ≡ told → code ≡ status → Performs Reads Hosts shows is_clean is_sound may_leave left_shows tells does begun ended asked input rest output printed errors told status → Performs Reads Hosts shows is_clean is_sound may_leave left_shows tells does begun last_files asked input last output written errors heard code
 performs_as {M} Reads Hosts shows is_clean is_sound may_leave left_shows tells does begun ended last_files asked input rest last output printed written errors told heard status code f a b c d h =
     let none = subst (λ (x : M). Performs Reads Hosts shows is_clean is_sound may_leave left_shows tells does begun x asked input rest output printed errors told status) (sym f) h in
@@ -40,7 +41,7 @@ no_rows : {A : Type 0} (o : Option A) (x : A) → o ≡ None → o ≡ Some x �
 no_rows o x e f = cc
 
 -- where no other command is entered, a check was performed
-pub checked : {M K Left : Type 0} (Reads : Bor Words → List ℕ → Type 0) (Hosts : Asked → K → K → ℕ → Type 0) (shows : K → Register → Type 0) (is_clean is_sound : K → Type 0) (may_leave : K → Left → Type 0) (left_shows : Left → Register → Type 0) (tells : K → StoreFault → K → Type 0) (does : M → Deed K → M → Type 0) (begun ended : M) (asked : Command) (entered : Entered) (input rest output printed errors told : Known) (status : ℕ) → IsAsked entered asked → EntersCheck entered
+pub checked : {M K Left : Type 0} (Reads : ℕ → Bor Words → List ℕ → Type 0) (Hosts : Asked → K → K → ℕ → Type 0) (shows : K → Register → Type 0) (is_clean is_sound : K → Type 0) (may_leave : K → Left → Type 0) (left_shows : Left → Register → Type 0) (tells : K → StoreFault → K → Type 0) (does : M → Deed K → M → Type 0) (begun ended : M) (asked : Command) (entered : Entered) (input rest output printed errors told : Known) (status : ℕ) → IsAsked entered asked → EntersCheck entered
     → Performs Reads Hosts shows is_clean is_sound may_leave left_shows tells does begun ended asked input rest output printed errors told status
     → (source : Source) × (name_of source ≡ file_at entered) × Checks source input rest output printed errors told status
 checked Reads Hosts shows is_clean is_sound may_leave left_shows tells does begun ended (Check source) entered input rest output printed errors told status h e p = (source, h.1, p.1)
@@ -51,7 +52,7 @@ checked Reads Hosts shows is_clean is_sound may_leave left_shows tells does begu
 checked Reads Hosts shows is_clean is_sound may_leave left_shows tells does begun ended (Migrate asked) entered input rest output printed errors told status h e p = absurd (no_rows _ h.0 e.3 h.1)
 
 -- where a file is named, standard input is left alone
-pub unread : {M K Left : Type 0} (Reads : Bor Words → List ℕ → Type 0) (Hosts : Asked → K → K → ℕ → Type 0) (shows : K → Register → Type 0) (is_clean is_sound : K → Type 0) (may_leave : K → Left → Type 0) (left_shows : Left → Register → Type 0) (tells : K → StoreFault → K → Type 0) (does : M → Deed K → M → Type 0) (begun ended : M) (asked : Command) (entered : Entered) (input rest output printed errors told : Known) (status : ℕ) → IsAsked entered asked → IsSome (file_at entered)
+pub unread : {M K Left : Type 0} (Reads : ℕ → Bor Words → List ℕ → Type 0) (Hosts : Asked → K → K → ℕ → Type 0) (shows : K → Register → Type 0) (is_clean is_sound : K → Type 0) (may_leave : K → Left → Type 0) (left_shows : Left → Register → Type 0) (tells : K → StoreFault → K → Type 0) (does : M → Deed K → M → Type 0) (begun ended : M) (asked : Command) (entered : Entered) (input rest output printed errors told : Known) (status : ℕ) → IsAsked entered asked → IsSome (file_at entered)
     → Performs Reads Hosts shows is_clean is_sound may_leave left_shows tells does begun ended asked input rest output printed errors told status → Keeps input rest
 unread Reads Hosts shows is_clean is_sound may_leave left_shows tells does begun ended (Check source) entered input rest output printed errors told status h named p = p.1.unread (subst IsSome (sym h.1) named)
 unread Reads Hosts shows is_clean is_sound may_leave left_shows tells does begun ended (Init asked) entered input rest output printed errors told status h named p = p.0
@@ -60,7 +61,7 @@ unread Reads Hosts shows is_clean is_sound may_leave left_shows tells does begun
 unread Reads Hosts shows is_clean is_sound may_leave left_shows tells does begun ended (Report asked) entered input rest output printed errors told status h named p = p.0
 unread Reads Hosts shows is_clean is_sound may_leave left_shows tells does begun ended (Migrate asked) entered input rest output printed errors told status h named p = p.0
 
-pub took : {M K Left : Type 0} (Reads : Bor Words → List ℕ → Type 0) (Hosts : Asked → K → K → ℕ → Type 0) (shows : K → Register → Type 0) (is_clean is_sound : K → Type 0) (may_leave : K → Left → Type 0) (left_shows : Left → Register → Type 0) (tells : K → StoreFault → K → Type 0) (does : M → Deed K → M → Type 0) (begun ended : M) (asked : Command) (input rest output printed errors told : Known) (status : ℕ)
+pub took : {M K Left : Type 0} (Reads : ℕ → Bor Words → List ℕ → Type 0) (Hosts : Asked → K → K → ℕ → Type 0) (shows : K → Register → Type 0) (is_clean is_sound : K → Type 0) (may_leave : K → Left → Type 0) (left_shows : Left → Register → Type 0) (tells : K → StoreFault → K → Type 0) (does : M → Deed K → M → Type 0) (begun ended : M) (asked : Command) (input rest output printed errors told : Known) (status : ℕ)
     → Performs Reads Hosts shows is_clean is_sound may_leave left_shows tells does begun ended asked input rest output printed errors told status → TakesAtMostPart input rest
 took Reads Hosts shows is_clean is_sound may_leave left_shows tells does begun ended (Check source) input rest output printed errors told status p = p.1.at_most
 took Reads Hosts shows is_clean is_sound may_leave left_shows tells does begun ended (Init asked) input rest output printed errors told status p = took_none input rest p.0
@@ -70,7 +71,7 @@ took Reads Hosts shows is_clean is_sound may_leave left_shows tells does begun e
 took Reads Hosts shows is_clean is_sound may_leave left_shows tells does begun ended (Migrate asked) input rest output printed errors told status p = took_none input rest p.0
 
 -- where no check is asked for, standard input is left alone
-pub untaken : {M K Left : Type 0} (Reads : Bor Words → List ℕ → Type 0) (Hosts : Asked → K → K → ℕ → Type 0) (shows : K → Register → Type 0) (is_clean is_sound : K → Type 0) (may_leave : K → Left → Type 0) (left_shows : Left → Register → Type 0) (tells : K → StoreFault → K → Type 0) (does : M → Deed K → M → Type 0) (begun ended : M) (asked : Command) (words : List (List ℕ)) (input rest output printed errors told : Known) (status : ℕ) → IsCommand words
+pub untaken : {M K Left : Type 0} (Reads : ℕ → Bor Words → List ℕ → Type 0) (Hosts : Asked → K → K → ℕ → Type 0) (shows : K → Register → Type 0) (is_clean is_sound : K → Type 0) (may_leave : K → Left → Type 0) (left_shows : Left → Register → Type 0) (tells : K → StoreFault → K → Type 0) (does : M → Deed K → M → Type 0) (begun ended : M) (asked : Command) (words : List (List ℕ)) (input rest output printed errors told : Known) (status : ℕ) → IsCommand words
     → IsAsked (entered_by words) asked → ¬ AsksForCheck words → Performs Reads Hosts shows is_clean is_sound may_leave left_shows tells does begun ended asked input rest output printed errors told status → Keeps input rest
 untaken Reads Hosts shows is_clean is_sound may_leave left_shows tells does begun ended (Check source) words input rest output printed errors told status ok h unasked p = absurd (unasked (ok, h.0))
 untaken Reads Hosts shows is_clean is_sound may_leave left_shows tells does begun ended (Init asked) words input rest output printed errors told status ok h unasked p = p.0
@@ -91,7 +92,7 @@ inits_unheard shows is_clean does begun ended path registrar day output printed 
   | inr h ↦ unheard_of path h.1 errors told status le h.3
 ]
 
-pub unheard : {M K Left : Type 0} (Reads : Bor Words → List ℕ → Type 0) (Hosts : Asked → K → K → ℕ → Type 0) (shows : K → Register → Type 0) (is_clean is_sound : K → Type 0) (may_leave : K → Left → Type 0) (left_shows : Left → Register → Type 0) (tells : K → StoreFault → K → Type 0) (does : M → Deed K → M → Type 0) (begun ended : M) (asked : Command) (input rest output printed errors told : Known) (status : ℕ) → status ≤ 1
+pub unheard : {M K Left : Type 0} (Reads : ℕ → Bor Words → List ℕ → Type 0) (Hosts : Asked → K → K → ℕ → Type 0) (shows : K → Register → Type 0) (is_clean is_sound : K → Type 0) (may_leave : K → Left → Type 0) (left_shows : Left → Register → Type 0) (tells : K → StoreFault → K → Type 0) (does : M → Deed K → M → Type 0) (begun ended : M) (asked : Command) (input rest output printed errors told : Known) (status : ℕ) → status ≤ 1
     → Performs Reads Hosts shows is_clean is_sound may_leave left_shows tells does begun ended asked input rest output printed errors told status → Keeps errors told
 unheard Reads Hosts shows is_clean is_sound may_leave left_shows tells does begun ended (Check source) input rest output printed errors told status le p = p.1.silent le
 unheard Reads Hosts shows is_clean is_sound may_leave left_shows tells does begun ended (Init asked) input rest output printed errors told status le p = elim p.1 [
@@ -144,10 +145,10 @@ end_of path Found errors told status h = inr h.0
 end_of path New errors told status h = h.0
 end_of path Beside errors told status h = h.0
 
-inits_end : {M K : Type 0} (shows : K → Register → Type 0) (is_clean : K → Type 0) (does : M → Deed K → M → Type 0) (begun ended : M) (asked : AskedInit) (output printed errors told : Known) (status : ℕ)
-    → InitsOnceTold shows is_clean does begun ended asked output printed errors told status → IsDoneOrFailed status
-inits_end shows is_clean does begun ended asked output printed errors told status (inl h) = inr h.status_is
-inits_end shows is_clean does begun ended asked output printed errors told status (inr h) = elim h.2.done [
+inits_end : {M K : Type 0} (Reads : ℕ → Bor Words → List ℕ → Type 0) (shows : K → Register → Type 0) (is_clean : K → Type 0) (does : M → Deed K → M → Type 0) (begun ended : M) (asked : AskedInit) (output printed errors told : Known) (status : ℕ)
+    → InitsOnceTold Reads shows is_clean does begun ended asked output printed errors told status → IsDoneOrFailed status
+inits_end Reads shows is_clean does begun ended asked output printed errors told status (inl h) = inr h.status_is
+inits_end Reads shows is_clean does begun ended asked output printed errors told status (inr h) = elim h.2.done [
   | inl k ↦ inr k.status_is
   | inr k ↦ end_of asked.db k.1 errors told status k.3
 ]
@@ -174,38 +175,38 @@ sent_unusual Reads shows is_clean is_sound may_leave left_shows does begun ended
   | inr h ↦ absurd (omega (arith, h.1))
 ]
 
-one_refusal : {M K Left : Type 0} (Reads : Bor Words → List ℕ → Type 0) (Hosts : Asked → K → K → ℕ → Type 0) (shows : K → Register → Type 0) (is_clean is_sound : K → Type 0) (may_leave : K → Left → Type 0) (left_shows : Left → Register → Type 0) (tells : K → StoreFault → K → Type 0) (does : M → Deed K → M → Type 0) (begun ended : M) (asked : Command) (input rest output printed errors told : Known)
+one_refusal : {M K Left : Type 0} (Reads : ℕ → Bor Words → List ℕ → Type 0) (Hosts : Asked → K → K → ℕ → Type 0) (shows : K → Register → Type 0) (is_clean is_sound : K → Type 0) (may_leave : K → Left → Type 0) (left_shows : Left → Register → Type 0) (tells : K → StoreFault → K → Type 0) (does : M → Deed K → M → Type 0) (begun ended : M) (asked : Command) (input rest output printed errors told : Known)
     → Performs Reads Hosts shows is_clean is_sound may_leave left_shows tells does begun ended asked input rest output printed errors told 1 → TellsRefusal output printed
 one_refusal Reads Hosts shows is_clean is_sound may_leave left_shows tells does begun ended (Check source) input rest output printed errors told p = text_refuses _ output printed p.1.report.1
-one_refusal Reads Hosts shows is_clean is_sound may_leave left_shows tells does begun ended (Init asked) input rest output printed errors told p = absurd (no_one 1 (inits_end _ _ _ _ _ asked _ _ _ _ _ p.1) refl)
+one_refusal Reads Hosts shows is_clean is_sound may_leave left_shows tells does begun ended (Init asked) input rest output printed errors told p = absurd (no_one 1 (inits_end Reads _ _ _ _ _ asked _ _ _ _ _ p.1) refl)
 one_refusal Reads Hosts shows is_clean is_sound may_leave left_shows tells does begun ended (Exchange asked) input rest output printed errors told p = elim p.1 [
   | inl h ↦ absurd (omega (arith, h.status_is))
-  | inr h ↦ sent_refusal Reads shows is_clean is_sound may_leave left_shows does begun ended h.0 output printed errors told h.2
+  | inr h ↦ sent_refusal (Reads request_limit) shows is_clean is_sound may_leave left_shows does begun ended h.0 output printed errors told h.2
 ]
 one_refusal Reads Hosts shows is_clean is_sound may_leave left_shows tells does begun ended (Serve asked) input rest output printed errors told p = absurd (no_one 1 (serves_end _ _ _ _ _ _ _ _ _ asked _ _ _ _ _ p.1) refl)
 one_refusal Reads Hosts shows is_clean is_sound may_leave left_shows tells does begun ended (Report asked) input rest output printed errors told p = text_refuses p.1.text.0 output printed p.1.text.1
 one_refusal Reads Hosts shows is_clean is_sound may_leave left_shows tells does begun ended (Migrate asked) input rest output printed errors told p = text_refuses migrated output printed p.1.text
 
-two_fault : {M K Left : Type 0} (Reads : Bor Words → List ℕ → Type 0) (Hosts : Asked → K → K → ℕ → Type 0) (shows : K → Register → Type 0) (is_clean is_sound : K → Type 0) (may_leave : K → Left → Type 0) (left_shows : Left → Register → Type 0) (tells : K → StoreFault → K → Type 0) (does : M → Deed K → M → Type 0) (begun ended : M) (asked : Command) (input rest output printed errors told : Known)
+two_fault : {M K Left : Type 0} (Reads : ℕ → Bor Words → List ℕ → Type 0) (Hosts : Asked → K → K → ℕ → Type 0) (shows : K → Register → Type 0) (is_clean is_sound : K → Type 0) (may_leave : K → Left → Type 0) (left_shows : Left → Register → Type 0) (tells : K → StoreFault → K → Type 0) (does : M → Deed K → M → Type 0) (begun ended : M) (asked : Command) (input rest output printed errors told : Known)
     → Performs Reads Hosts shows is_clean is_sound may_leave left_shows tells does begun ended asked input rest output printed errors told 2 → ⊥
 two_fault Reads Hosts shows is_clean is_sound may_leave left_shows tells does begun ended (Check source) input rest output printed errors told p = text_unusual _ output printed p.1.report.1
-two_fault Reads Hosts shows is_clean is_sound may_leave left_shows tells does begun ended (Init asked) input rest output printed errors told p = no_two 2 (inits_end _ _ _ _ _ asked _ _ _ _ _ p.1) refl
+two_fault Reads Hosts shows is_clean is_sound may_leave left_shows tells does begun ended (Init asked) input rest output printed errors told p = no_two 2 (inits_end Reads _ _ _ _ _ asked _ _ _ _ _ p.1) refl
 two_fault Reads Hosts shows is_clean is_sound may_leave left_shows tells does begun ended (Exchange asked) input rest output printed errors told p = elim p.1 [
   | inl h ↦ absurd (omega (arith, h.status_is))
-  | inr h ↦ sent_unusual Reads shows is_clean is_sound may_leave left_shows does begun ended h.0 output printed errors told h.2
+  | inr h ↦ sent_unusual (Reads request_limit) shows is_clean is_sound may_leave left_shows does begun ended h.0 output printed errors told h.2
 ]
 two_fault Reads Hosts shows is_clean is_sound may_leave left_shows tells does begun ended (Serve asked) input rest output printed errors told p = no_two 2 (serves_end _ _ _ _ _ _ _ _ _ asked _ _ _ _ _ p.1) refl
 two_fault Reads Hosts shows is_clean is_sound may_leave left_shows tells does begun ended (Report asked) input rest output printed errors told p = text_unusual p.1.text.0 output printed p.1.text.1
 two_fault Reads Hosts shows is_clean is_sound may_leave left_shows tells does begun ended (Migrate asked) input rest output printed errors told p = text_unusual migrated output printed p.1.text
 
 -- status 1 stands for a refusal
-pub refusal : {M K Left : Type 0} (Reads : Bor Words → List ℕ → Type 0) (Hosts : Asked → K → K → ℕ → Type 0) (shows : K → Register → Type 0) (is_clean is_sound : K → Type 0) (may_leave : K → Left → Type 0) (left_shows : Left → Register → Type 0) (tells : K → StoreFault → K → Type 0) (does : M → Deed K → M → Type 0) (begun ended : M) (asked : Command) (input rest output printed errors told : Known) (status : ℕ) → status ≡ 1
+pub refusal : {M K Left : Type 0} (Reads : ℕ → Bor Words → List ℕ → Type 0) (Hosts : Asked → K → K → ℕ → Type 0) (shows : K → Register → Type 0) (is_clean is_sound : K → Type 0) (may_leave : K → Left → Type 0) (left_shows : Left → Register → Type 0) (tells : K → StoreFault → K → Type 0) (does : M → Deed K → M → Type 0) (begun ended : M) (asked : Command) (input rest output printed errors told : Known) (status : ℕ) → status ≡ 1
     → Performs Reads Hosts shows is_clean is_sound may_leave left_shows tells does begun ended asked input rest output printed errors told status → TellsRefusal output printed
 refusal Reads Hosts shows is_clean is_sound may_leave left_shows tells does begun ended asked input rest output printed errors told status e p =
     one_refusal Reads Hosts shows is_clean is_sound may_leave left_shows tells does begun ended asked input rest output printed errors told (subst (λ (n : ℕ). Performs Reads Hosts shows is_clean is_sound may_leave left_shows tells does begun ended asked input rest output printed errors told n) e p)
 
 -- no command ends with 2
-pub no_fault : {M K Left : Type 0} (Reads : Bor Words → List ℕ → Type 0) (Hosts : Asked → K → K → ℕ → Type 0) (shows : K → Register → Type 0) (is_clean is_sound : K → Type 0) (may_leave : K → Left → Type 0) (left_shows : Left → Register → Type 0) (tells : K → StoreFault → K → Type 0) (does : M → Deed K → M → Type 0) (begun ended : M) (asked : Command) (input rest output printed errors told : Known) (status : ℕ) → status ≡ 2
+pub no_fault : {M K Left : Type 0} (Reads : ℕ → Bor Words → List ℕ → Type 0) (Hosts : Asked → K → K → ℕ → Type 0) (shows : K → Register → Type 0) (is_clean is_sound : K → Type 0) (may_leave : K → Left → Type 0) (left_shows : Left → Register → Type 0) (tells : K → StoreFault → K → Type 0) (does : M → Deed K → M → Type 0) (begun ended : M) (asked : Command) (input rest output printed errors told : Known) (status : ℕ) → status ≡ 2
     → Performs Reads Hosts shows is_clean is_sound may_leave left_shows tells does begun ended asked input rest output printed errors told status → ⊥
 no_fault Reads Hosts shows is_clean is_sound may_leave left_shows tells does begun ended asked input rest output printed errors told status e p =
     two_fault Reads Hosts shows is_clean is_sound may_leave left_shows tells does begun ended asked input rest output printed errors told (subst (λ (n : ℕ). Performs Reads Hosts shows is_clean is_sound may_leave left_shows tells does begun ended asked input rest output printed errors told n) e p)

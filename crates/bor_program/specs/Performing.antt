@@ -2,6 +2,7 @@
 use Rattle.std.specs.Prelude.{◌≡◌, ◌≤◌, ◌⊎◌, ◌++◌, ◌∷◌, ℕ, ℤ, List, [], Option, None, IfSome, IsSome, IsTrue, codes, decimal}
 use Rattle.std.specs.Io.KnownBytes.{Appends, Keeps}
 use Rattle.std.specs.Borrow.{Bor}
+use Rattle.bor_http.specs.Incoming.Message.{request_limit}
 use Rattle.bor_records.specs.Promises.{Kept}
 use Rattle.bor_register.specs.Register.{Register, empty_register}
 use Rattle.bor_register.specs.declared.fault.StoreFault.{StoreFault}
@@ -76,11 +77,11 @@ pub record Exchanges {M K Left : Type 0} (Reads : Bor Words → List ℕ → Typ
   pub silent : status ≤ 1 → Keeps errors told
 
 -- the registrar's token isn't told: nothing is answered, no register is opened, and the line of that is told
-pub record LacksToken {M : Type 0} (begun ended : M) (source : RegistrarSource) (output printed errors told : Known) (status : ℕ) : Type 0 where
+pub record LacksToken {M : Type 0} (Reads : ℕ → Bor Words → List ℕ → Type 0) (begun ended : M) (source : RegistrarSource) (output printed errors told : Known) (status : ℕ) : Type 0 where
   pub status_is : status ≡ 3
   pub untouched : ended ≡ begun
   pub kept : Keeps output printed
-  pub line : IsTold (IsUntold source) errors told
+  pub line : IsTold (IsUntold Reads source) errors told
 
 -- it did what was asked, or failed
 abbrev pub IsDoneOrFailed : ℕ → Type 0
@@ -105,23 +106,23 @@ pub record Inits {M K : Type 0} (shows : K → Register → Type 0) (is_clean : 
       ⊎ SetsUpIn shows is_clean does begun ended path registrar day errors told status
 
 -- with the registrar's token, the words ask for this
-pub record IsOnceTold (asked : Exchange) (told : Exchanging) : Type 0 where
+pub record IsOnceTold (Reads : ℕ → Bor Words → List ℕ → Type 0) (asked : Exchange) (told : Exchanging) : Type 0 where
   pub db : told.db ≡ asked.db
-  pub registrar : IsToldBy asked.registrar told.registrar
+  pub registrar : IsToldBy Reads asked.registrar told.registrar
   pub day : told.day ≡ asked.day
   pub files : told.files ≡ asked.files
 
 -- the registrar's token isn't told, or with it the requests are answered
-abbrev pub ExchangesOnceTold : {M K Left : Type 0} → (Bor Words → List ℕ → Type 0) → (K → Register → Type 0) → (K → Type 0) → (K → Type 0) → (K → Left → Type 0) → (Left → Register → Type 0) → (M → Deed K → M → Type 0) → M → M → Exchange → Known → Known → Known → Known → ℕ → Type 0
+abbrev pub ExchangesOnceTold : {M K Left : Type 0} → (ℕ → Bor Words → List ℕ → Type 0) → (K → Register → Type 0) → (K → Type 0) → (K → Type 0) → (K → Left → Type 0) → (Left → Register → Type 0) → (M → Deed K → M → Type 0) → M → M → Exchange → Known → Known → Known → Known → ℕ → Type 0
 ExchangesOnceTold Reads shows is_clean is_sound may_leave left_shows does begun ended asked output printed errors told status =
-    LacksToken begun ended asked.registrar output printed errors told status
-    ⊎ ((once_told : Exchanging) × IsOnceTold asked once_told × Exchanges Reads shows is_clean is_sound may_leave left_shows does begun ended once_told output printed errors told status)
+    LacksToken Reads begun ended asked.registrar output printed errors told status
+    ⊎ ((once_told : Exchanging) × IsOnceTold Reads asked once_told × Exchanges (Reads request_limit) shows is_clean is_sound may_leave left_shows does begun ended once_told output printed errors told status)
 
 -- the registrar's token isn't told, or with it a register is set up
-abbrev pub InitsOnceTold : {M K : Type 0} → (K → Register → Type 0) → (K → Type 0) → (M → Deed K → M → Type 0) → M → M → Init → Known → Known → Known → Known → ℕ → Type 0
-InitsOnceTold shows is_clean does begun ended asked output printed errors told status =
-    LacksToken begun ended asked.registrar output printed errors told status
-    ⊎ ((registrar : List ℕ) × IsToldBy asked.registrar registrar × Inits shows is_clean does begun ended asked.db registrar asked.day output printed errors told status)
+abbrev pub InitsOnceTold : {M K : Type 0} → (ℕ → Bor Words → List ℕ → Type 0) → (K → Register → Type 0) → (K → Type 0) → (M → Deed K → M → Type 0) → M → M → Init → Known → Known → Known → Known → ℕ → Type 0
+InitsOnceTold Reads shows is_clean does begun ended asked output printed errors told status =
+    LacksToken Reads begun ended asked.registrar output printed errors told status
+    ⊎ ((registrar : List ℕ) × IsToldBy Reads asked.registrar registrar × Inits shows is_clean does begun ended asked.db registrar asked.day output printed errors told status)
 
 -- the line that tells that the server listens
 abbrev pub listening : ℕ → List ℕ
@@ -176,11 +177,11 @@ pub record Migrates {M K : Type 0} (does : M → Deed K → M → Type 0) (begun
   pub line : status ≡ 3 → IsTold (IsMetIn asked.db output printed) errors told
 
 -- What the command does, over whatever registers are opened and files are read, and what is done to files; but for a check it leaves standard input alone, and a check leaves the registers in files alone.
-abbrev pub Performs : {M K Left : Type 0} → (Bor Words → List ℕ → Type 0) → (Serve → K → K → ℕ → Type 0) → (K → Register → Type 0) → (K → Type 0) → (K → Type 0) → (K → Left → Type 0) → (Left → Register → Type 0) → (K → StoreFault → K → Type 0) → (M → Deed K → M → Type 0) → M → M → Command → Known → Known → Known → Known → Known → Known → ℕ → Type 0
+abbrev pub Performs : {M K Left : Type 0} → (ℕ → Bor Words → List ℕ → Type 0) → (Serve → K → K → ℕ → Type 0) → (K → Register → Type 0) → (K → Type 0) → (K → Type 0) → (K → Left → Type 0) → (Left → Register → Type 0) → (K → StoreFault → K → Type 0) → (M → Deed K → M → Type 0) → M → M → Command → Known → Known → Known → Known → Known → Known → ℕ → Type 0
 Performs Reads Hosts shows is_clean is_sound may_leave left_shows tells does begun ended (command.Check source) input rest output printed errors told status =
     (ended ≡ begun) × Checks source input rest output printed errors told status
 Performs Reads Hosts shows is_clean is_sound may_leave left_shows tells does begun ended (command.Init asked) input rest output printed errors told status =
-    Keeps input rest × InitsOnceTold shows is_clean does begun ended asked output printed errors told status
+    Keeps input rest × InitsOnceTold Reads shows is_clean does begun ended asked output printed errors told status
 Performs Reads Hosts shows is_clean is_sound may_leave left_shows tells does begun ended (command.Exchange asked) input rest output printed errors told status =
     Keeps input rest × ExchangesOnceTold Reads shows is_clean is_sound may_leave left_shows does begun ended asked output printed errors told status
 Performs Reads Hosts shows is_clean is_sound may_leave left_shows tells does begun ended (command.Serve asked) input rest output printed errors told status =

@@ -1,5 +1,9 @@
 -- Where the registrar's token is told.
-use Rattle.std.specs.Prelude.{◌≡◌, ⊤, ℕ, List}
+use Rattle.std.specs.Prelude.{◌≡◌, ⊤, ℕ, List, Some, None}
+use Rattle.std.specs.Borrow.{Bor}
+use Rattle.clap.specs.Words.{Text}
+use Rattle.bor_terms.specs.Texts.{is_token}
+use Rattle.bor_wire.specs.Spelling.Parts.{text_in}
 use Rattle.bor_words.specs.declared.registrar.RegistrarSource.{RegistrarSource}
 use Rattle.bor_words.specs.declared.registrar.RegistrarSource.TheVariants as source
 use Rattle.bor_words.specs.declared.source.Source.TheVariants.{File}
@@ -11,15 +15,19 @@ use Rattle.bor_program.specs.Splitting.{before}
 abbrev pub first_line : List ℕ → List ℕ
 first_line bytes = before 13 (before 10 bytes)
 
--- the words tell this token: it is the one that they have, or some token that stood in their file
-abbrev pub IsToldBy : RegistrarSource → List ℕ → Type 0
-IsToldBy (source.Token token) told = told ≡ token
-IsToldBy (source.File name) told = ⊤
+-- as many bytes are read of the file that has it: more than the longest token and the end of its line
+abbrev pub front_limit : ℕ
+front_limit = 128
 
--- the file that they name can't be read or has no token, or memory was wanting for it
-abbrev pub IsUntold : RegistrarSource → Failure → Type 0
-IsUntold (source.Token token) failure = ⊥
-IsUntold (source.File name) (Unreadable unread) = unread ≡ File name
-IsUntold (source.File name) (NoToken file) = file ≡ name
-IsUntold (source.File name) Memory = ⊤
-IsUntold (source.File name) failure = ⊥
+-- the words tell this token: it is the one that they have, or the first line of the file that they name
+abbrev pub IsToldBy : (ℕ → Bor Text → List ℕ → Type 0) → RegistrarSource → List ℕ → Type 0
+IsToldBy Reads (source.Token token) told = told ≡ token
+IsToldBy Reads (source.File name) told = (bytes : List ℕ) × Reads front_limit name bytes × (text_in is_token (first_line bytes) ≡ Some told)
+
+-- the file that they name can't be read, or its first line is no token, or memory was wanting for it
+abbrev pub IsUntold : (ℕ → Bor Text → List ℕ → Type 0) → RegistrarSource → Failure → Type 0
+IsUntold Reads (source.Token token) failure = ⊥
+IsUntold Reads (source.File name) (Unreadable unread) = unread ≡ File name
+IsUntold Reads (source.File name) (NoToken file) = (file ≡ name) × ((bytes : List ℕ) × Reads front_limit name bytes × (text_in is_token (first_line bytes) ≡ None))
+IsUntold Reads (source.File name) Memory = ⊤
+IsUntold Reads (source.File name) failure = ⊥

@@ -2,6 +2,7 @@
 
 ghost use Rattle.std.specs.Prelude.{◌≡◌, ◌≤◌, IfErr, OnOk, map};
 ghost use Rattle.std.specs.Io.KnownBytes.{Appends, Keeps};
+ghost use Rattle.bor_http.specs.Incoming.Message.{request_limit};
 ghost use Rattle.bor_program.specs.Failures.{IsMetPrinting, TellsFiles};
 ghost use Rattle.bor_program.specs.Inputs.{IsReadOf};
 ghost use Rattle.bor_program.specs.Performing.{Exchanges, ExchangesOnceTold};
@@ -67,7 +68,7 @@ fn exchange_told<R: NamedFiles + AllocGlobal, H: Registers, O: Output, E: Write>
     output: &mut O,
     errors: &mut E,
 ) -> Status
-    ensures done { Exchanges (IsReadOf (R.opens rt.now) R.File.remaining)
+    ensures done { Exchanges (IsReadOf (R.opens rt.now) R.File.remaining request_limit)
         H.Register.shows H.Register.is_clean H.Register.is_sound H.Register.may_leave
         H.Register.left_shows H.does host.old host.new
         asked.entry (O.contents output.old) (O.contents output.new) (E.contents errors.old)
@@ -122,8 +123,8 @@ fn exchange_files<R: NamedFiles + AllocGlobal, H: Registers, K: OpenRegister, O:
 ) -> Status
     ensures ends { EndsFiles
         (AreAnswers K.shows K.is_clean K.is_sound K.may_leave K.left_shows register.old
-        register.new) (IsReadOf (R.opens rt.now) R.File.remaining) files.now (O.contents output.old)
-        (O.contents output.new) (exit_code result) }
+        register.new) (IsReadOf (R.opens rt.now) R.File.remaining request_limit) files.now
+        (O.contents output.old) (O.contents output.new) (exit_code result) }
     ensures flushed { exit_code result ≤ 1 → O.is_flushed output.new }
     ensures silent { exit_code result ≤ 1 → Keeps (E.contents errors.old) (E.contents errors.new) }
     ensures told { TellsFiles files.now (O.contents output.old) (O.contents output.new)

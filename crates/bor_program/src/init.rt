@@ -2,6 +2,7 @@
 
 ghost use Rattle.std.specs.Prelude.{◌≡◌, ◌≤◌};
 ghost use Rattle.std.specs.Io.KnownBytes.{Keeps};
+ghost use Rattle.bor_program.specs.Inputs.{IsReadOf};
 ghost use Rattle.bor_program.specs.Performing.{EndsSettingUp, Inits, InitsOnceTold, IsDoneOrFailed};
 ghost use Rattle.bor_program.specs.Program.{exit_code};
 
@@ -24,7 +25,8 @@ pub fn init<R: NamedFiles + AllocGlobal, H: Registers, O: Output, E: Write>(
     output: &mut O,
     errors: &mut E,
 ) -> Status
-    ensures done { InitsOnceTold H.Register.shows H.Register.is_clean H.does host.old host.new
+    ensures done { InitsOnceTold (IsReadOf (R.opens rt.now) R.File.remaining)
+        H.Register.shows H.Register.is_clean H.does host.old host.new
         asked.entry (O.contents output.old) (O.contents output.new) (E.contents errors.old)
         (E.contents errors.new) (exit_code result) }
     ensures flushed { exit_code result ≤ 1 → O.is_flushed output.new }

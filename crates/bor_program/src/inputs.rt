@@ -37,7 +37,7 @@ pub fn read_inputs<R: NamedFiles + AllocGlobal, H: Registers, E: Write>(
     errors: &mut E,
 ) -> Result<Inputs, Failure<'static>>
     ensures read { IfOk result (λ inputs.
-        AreReadOf (IsReadOf (R.opens rt.now) R.File.remaining) files.now
+        AreReadOf (IsReadOf (R.opens rt.now) R.File.remaining request_limit) files.now
         (map (λ v. v.items) inputs.requests.items)) }
     ensures status { IfOk result (λ inputs.
         (inputs.status ≡ Status.Done) ⊎ (inputs.status ≡ Status.Failed)) }
@@ -75,7 +75,7 @@ fn add(requests: &mut Vec<Vec<u8>>, bytes: Vec<u8>) -> Result<(), AllocError>
 // The request in the file of this name.
 fn read_input<R: NamedFiles + AllocGlobal>(rt: &R, name: &str) -> io::Result<Vec<u8>>
     ensures { IfOk result (λ read.
-        IsReadOf (R.opens rt.now) R.File.remaining name.entry read.items) }
+        IsReadOf (R.opens rt.now) R.File.remaining request_limit name.entry read.items) }
 {
     let file = rt.open_named(name)?;
     read_request(rt.alloc(), file)

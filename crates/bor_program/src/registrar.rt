@@ -3,7 +3,8 @@
 ghost use Rattle.std.specs.Prelude.{◌≡◌, IfErr, IfOk};
 ghost use Rattle.bor_terms.specs.Texts.{is_token};
 ghost use Rattle.bor_wire.specs.Spelling.Parts.{text_in};
-ghost use Rattle.bor_program.specs.Registrars.{IsToldBy, IsUntold, first_line};
+ghost use Rattle.bor_program.specs.Inputs.{IsReadOf};
+ghost use Rattle.bor_program.specs.Registrars.{IsToldBy, IsUntold, first_line, front_limit};
 
 use crate::failure::Failure;
 use crate::host::NamedFiles;
@@ -38,8 +39,10 @@ pub fn token_told<'a, R: NamedFiles + AllocGlobal>(
     rt: &R,
     source: RegistrarSource<'a>,
 ) -> Result<Token, Failure<'a>>
-    ensures ok { IfOk result (IsToldBy source.entry) }
-    ensures err { IfErr result (IsUntold source.entry) }
+    ensures ok { IfOk result
+        (IsToldBy (IsReadOf (R.opens rt.now) R.File.remaining) source.entry) }
+    ensures err { IfErr result
+        (IsUntold (IsReadOf (R.opens rt.now) R.File.remaining) source.entry) }
 {
     match source {
         RegistrarSource::Token(token) => Ok(token),
@@ -52,7 +55,10 @@ fn token_in_file<'a, R: NamedFiles + AllocGlobal>(
     rt: &R,
     name: &'a str,
 ) -> Result<Token, Failure<'a>>
-    ensures { IfErr result (IsUntold (RegistrarSource.File name.entry)) }
+    ensures ok { IfOk result (IsToldBy (IsReadOf (R.opens rt.now) R.File.remaining)
+        (RegistrarSource.File name.entry)) }
+    ensures err { IfErr result (IsUntold (IsReadOf (R.opens rt.now) R.File.remaining)
+        (RegistrarSource.File name.entry)) }
 {
     match read_front(rt, name) {
         Ok(bytes) => match token_of(rt.alloc(), first_line(bytes.as_slice()))? {
@@ -64,9 +70,13 @@ fn token_in_file<'a, R: NamedFiles + AllocGlobal>(
 }
 
 // The front of the file of this name, which has its first line where that may be a token.
-fn read_front<R: NamedFiles + AllocGlobal>(rt: &R, name: &str) -> io::Result<Vec<u8>> {
+fn read_front<R: NamedFiles + AllocGlobal>(rt: &R, name: &str) -> io::Result<Vec<u8>>
+    ensures { IfOk result (λ read.
+        IsReadOf (R.opens rt.now) R.File.remaining front_limit name.entry read.items) }
+{
     let mut bytes = Vec::new(rt.alloc());
-    rt.open_named(name)?.take(FRONT).read_to_end(&mut bytes)?;
+    let file = rt.open_named(name)?;
+    file.take(FRONT).read_to_end(&mut bytes)?;
     Ok(bytes)
 }
 

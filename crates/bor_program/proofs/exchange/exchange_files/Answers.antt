@@ -1,5 +1,6 @@
 use Rattle.std.proofs.Common.{◌≡◌, ◌∙◌, [], ap, inr, length, map, refl, subst, sym}
 use Rattle.std.proofs.lemmas.List.{length-map}
+use Rattle.bor_http.specs.Incoming.Message.{request_limit}
 use Rattle.bor_program.specs.Inputs.{AreReadOf, IsReadOf}
 use Rattle.bor_program.specs.Program.{exit_code}
 use Rattle.bor_program.proofs.Ends.{keeps_same}
@@ -11,7 +12,7 @@ use Rattle.bor_program.proofs.exchange.exchange_files.Goals as goal
 pub returns-in-Ok-exchange_on-clause-ends : goal.returns-in-Ok-exchange_on-clause-ends
 returns-in-Ok-exchange_on-clause-ends g c =
     let inputs = c.as_slice.result.now in
-    let Reads = IsReadOf (g.R.NamedFiles.opens c.args.rt.now) g.R.File.Read.remaining in
+    let Reads = IsReadOf (g.R.NamedFiles.opens c.args.rt.now) g.R.File.Read.remaining request_limit in
     let are = subst (λ vs. AreReadOf Reads c.args.files.now (map (λ v. v.items) vs)) (sym c.as_slice.ensures.value) c.in-Ok.ensures.read in
     ends_read _ Reads (map (λ v. v.items) inputs) _ _ _ c.in-Ok-exchange_on.status c.in-Ok.inputs.status _ c.worse.ensures c.in-Ok.ensures.status are
     (λ low. length-map inputs (λ v. v.items) ∙ ap length c.as_slice.ensures.value
@@ -21,7 +22,7 @@ returns-in-Ok-exchange_on-clause-ends g c =
 pub returns-in-Ok-clause-ends : goal.returns-in-Ok-clause-ends
 returns-in-Ok-clause-ends g c =
     let three : exit_code c.tell.result ≡ 3 = ap exit_code c.tell.ensures.status in
-    let Reads = IsReadOf (g.R.NamedFiles.opens c.args.rt.now) g.R.File.Read.remaining in
+    let Reads = IsReadOf (g.R.NamedFiles.opens c.args.rt.now) g.R.File.Read.remaining request_limit in
     let are = subst (λ vs. AreReadOf Reads c.args.files.now (map (λ v. v.items) vs)) (sym c.as_slice.ensures.value) c.in-Ok.ensures.read in
     ends_failed _ Reads (map (λ v. v.items) c.as_slice.result.now) _ _ _ _ three are c.in-Err-exchange_on.ensures.sent
 

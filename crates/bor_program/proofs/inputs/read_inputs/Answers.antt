@@ -1,5 +1,6 @@
 use Rattle.std.proofs.Common.{◌+◌, ◌<◌, rules, drop, length, map, subst, sym, take, take-add, take-append-drop}
 use Rattle.std.proofs.lemmas.List.{take_more}
+use Rattle.bor_http.specs.Incoming.Message.{request_limit}
 use Rattle.bor_program.specs.Failures.{TellsUnread}
 use Rattle.bor_program.specs.Inputs.{AreReadOf, IsReadOf}
 use Rattle.bor_program.proofs.FilesRead.{read_next, read_no_more}
@@ -25,7 +26,7 @@ loop-name-preserved g c =
     let files = c.args.files.now in
     let before = g.E.Write.contents c.args.errors.now in
     let lt : i < length files = search rules in
-    let Reads = IsReadOf (g.R.NamedFiles.opens c.args.rt.now) g.R.File.Read.remaining in
+    let Reads = IsReadOf (g.R.NamedFiles.opens c.args.rt.now) g.R.File.Read.remaining request_limit in
     record {
       read = elim c.match-read_input.branch [
         | in-Ok+in_ok-add-in-Ok w ↦
