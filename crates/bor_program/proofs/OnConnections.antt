@@ -4,5 +4,6 @@ pub mod Phases
 pub mod Servers
 pub mod Running
 pub mod Streams
+pub mod Places
 pub mod Times
 pub mod Bounds

@@ -1,5 +1,6 @@
 -- Many clients, served at once.
 pub mod Limits
+pub mod Places
 pub mod Times
 pub mod Serving
 pub mod Watching

@@ -1,10 +1,11 @@
 //! A server: its clients, and how many are still to come.
 
-ghost use Rattle.std.specs.Prelude.{◌≡◌, ◌+◌, ◌-◌, ◌<◌, ◌≤◌, ◌++◌, [], length, if◌then◌else◌, is_err, IsTrue};
+ghost use Rattle.std.specs.Prelude.{◌≡◌, ◌⊎◌, ◌+◌, ◌-◌, ◌<◌, ◌≤◌, ◌++◌, ℕ, [], false, true, length, if◌then◌else◌, is_err, IsTrue, MatchOption};
 ghost use Rattle.std.specs.Duration.{as_nanos};
 ghost use Rattle.bor_program.specs.Connections.Phases.{IsHeld, telling};
 ghost use Rattle.bor_program.specs.Connections.Servers.{Advances, AreHeld, Becomes, GivesWay, IsLongestIdle, IsTimed, IsTimely, Lets, LetsIn, Serves, Stays, pending_in, telling_in};
-ghost use Rattle.bor_program.specs.Connections.Watching.{Does, Waits};
+ghost use Rattle.bor_program.specs.Connections.Places.{Leaves, Takes, is_ready, place_count, taken_in};
+ghost use Rattle.bor_program.specs.Connections.Watching.{Does, Waits, Watches};
 
 use crate::connections::limits::Limits;
 use crate::connections::phase::{Phase, Step};
@@ -96,6 +97,8 @@ impl<S: Read + Write + OpenStream + Drop> Server<S> {
         ensures becomes { Becomes self.old self.new }
         ensures does { (told : W) × Does W.does watch.old told 0
             × W.does told (Waits (is_err result)) watch.new }
+        ensures lost { is_err result ≡ true → (place : ℕ) → place < place_count
+            → is_ready self.new.places place ≡ true }
     {
         self.tell(watch);
         let waited = watch.wait(self.wait, &mut self.places);
@@ -201,6 +204,12 @@ impl<S: Read + Write + OpenStream + Drop> Server<S> {
     ) -> Option<usize>
         ensures becomes { Becomes self.old self.new }
         ensures does { Does W.does watch.old watch.new 0 }
+        ensures seats { MatchOption result
+            ((self.new.places.taken ≡ self.old.places.taken)
+            × ((taken_in self.old.places ≡ place_count)
+            ⊎ W.does watch.old (Watches true) watch.new))
+            (λ place. Takes self.old.places place self.new.places
+            × W.does watch.old (Watches false) watch.new) }
     {
         let place = self.places.take()?;
         if watch.watch(stream, place).is_ok() {
@@ -346,6 +355,7 @@ impl<S: Read + Write + OpenStream + Drop> Server<S> {
         ensures left { self.new.left ≡ self.old.left }
         ensures lets { Lets S.remaining S.contents (telling client.phase ++ telling_in self.old)
             (pending_in self.old + 1) 0 self.old.status self.new }
+        ensures leaves { Leaves self.old.places client.place self.new.places }
     {
         let failed = gives_up(client.phase);
         self.end(client.place, failed);
@@ -356,6 +366,7 @@ impl<S: Read + Write + OpenStream + Drop> Server<S> {
         ensures queue { self.new.queue ≡ self.old.queue }
         ensures left { self.new.left ≡ self.old.left }
         ensures status { self.new.status ≡ (if failed then 3 else self.old.status) }
+        ensures leaves { Leaves self.old.places place self.new.places }
     {
         self.places.leave(place);
         if failed {

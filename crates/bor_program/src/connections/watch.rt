@@ -1,6 +1,8 @@
 //! Which clients may be read or written on, and waiting until one may.
 
+ghost use Rattle.std.specs.Prelude.{◌≡◌, ◌<◌, ℕ, false, true, MatchOption, set};
 ghost use Rattle.std.specs.Result.{is_err};
+ghost use Rattle.bor_program.specs.Connections.Places.{Leaves, Takes, is_ready, place_count, taken_in};
 ghost use Rattle.bor_program.specs.Connections.Watching.{Act, Accepts, Listens, Notes, Waits, Watches};
 
 use crate::connections::reading::is_blocked;
@@ -22,7 +24,10 @@ pub struct Places {
 
 impl Places {
     /// Free places, and a client that may be waiting to come in.
-    pub fn new() -> Places {
+    pub fn new() -> Places
+        ensures taken { taken_in result ≡ 0 }
+        ensures called { result.is_called ≡ true }
+    {
         Places {
             taken: [false; PLACES],
             ready: [false; PLACES],
@@ -31,35 +36,59 @@ impl Places {
     }
 
     /// Something may be read or written at this place.
-    pub fn wake(&mut self, place: usize) {
+    pub fn wake(&mut self, place: usize)
+        ensures taken { self.new.taken ≡ self.old.taken }
+        ensures ready { self.new.ready ≡ set self.old.ready place true }
+        ensures called { self.new.is_called ≡ self.old.is_called }
+    {
         if place < PLACES {
             self.ready[place] = true;
         }
     }
 
     /// A client may be waiting to come in.
-    pub fn call(&mut self) {
+    pub fn call(&mut self)
+        ensures taken { self.new.taken ≡ self.old.taken }
+        ensures ready { self.new.ready ≡ self.old.ready }
+        ensures called { self.new.is_called ≡ true }
+    {
         self.is_called = true;
     }
 
     /// Something may be read or written anywhere.
-    pub(crate) fn wake_all(&mut self) {
-        self.ready = [true; PLACES];
-        self.is_called = true;
+    pub(crate) fn wake_all(&mut self)
+        ensures taken { self.new.taken ≡ self.old.taken }
+        ensures ready { (place : ℕ) → place < place_count → is_ready self.new place ≡ true }
+        ensures called { self.new.is_called ≡ true }
+    {
+        *self = Places {
+            taken: self.taken,
+            ready: [true; PLACES],
+            is_called: true,
+        };
     }
 
     /// Whether a client may be waiting to come in.
-    pub(crate) fn is_called(&self) -> bool {
+    pub(crate) fn is_called(&self) -> bool
+        ensures { result ≡ self.now.is_called }
+    {
         self.is_called
     }
 
     /// No client is waiting to come in.
-    pub(crate) fn answer_call(&mut self) {
+    pub(crate) fn answer_call(&mut self)
+        ensures taken { self.new.taken ≡ self.old.taken }
+        ensures ready { self.new.ready ≡ self.old.ready }
+        ensures called { self.new.is_called ≡ false }
+    {
         self.is_called = false;
     }
 
     /// Takes a place that is free, if there is one.
-    pub(crate) fn take(&mut self) -> Option<usize> {
+    pub(crate) fn take(&mut self) -> Option<usize>
+        ensures { MatchOption result ((taken_in self.old ≡ place_count) × (self.new ≡ self.old))
+            (λ place. Takes self.old place self.new) }
+    {
         for place in 0..PLACES {
             if !self.taken[place] {
                 self.taken[place] = true;
@@ -71,14 +100,21 @@ impl Places {
     }
 
     /// Leaves a place.
-    pub(crate) fn leave(&mut self, place: usize) {
+    pub(crate) fn leave(&mut self, place: usize)
+        ensures { Leaves self.old place self.new }
+    {
         if place < PLACES {
             self.taken[place] = false;
         }
     }
 
     /// Whether something may be read or written at this place. The mark is taken away.
-    pub(crate) fn is_woken(&mut self, place: usize) -> bool {
+    pub(crate) fn is_woken(&mut self, place: usize) -> bool
+        ensures woken { result ≡ is_ready self.old place }
+        ensures taken { self.new.taken ≡ self.old.taken }
+        ensures ready { self.new.ready ≡ set self.old.ready place false }
+        ensures called { self.new.is_called ≡ self.old.is_called }
+    {
         if place < PLACES && self.ready[place] {
             self.ready[place] = false;
             return true;
