@@ -1,13 +1,17 @@
 -- How the end of a check is told of a run.
-use Rattle.std.proofs.Common.{◌≡◌, ◌≢◌, ◌∙◌, ℕ, List, [], Option, Some, None, IfSome, Result, Ok, Err, refl, sym, subst, inr, append-nil, true}
+use Rattle.std.proofs.Common.{◌≡◌, ◌≢◌, ◌∙◌, ℕ, List, [], Option, Some, None, IfSome, Result, Ok, Err, refl, sym, subst, inl, inr, append-nil, true}
 use Rattle.std.specs.Io.KnownBytes.{Appends, Keeps}
 use Rattle.std.specs.Result.{is_err}
 use Rattle.bor_desk.specs.CheckReport.{check_report}
 use Rattle.bor_desk.specs.declared.text.Text.{Text}
+use Rattle.std.specs.Borrow.{Bor}
+use Rattle.clap.specs.Words.{Text as Words}
 use Rattle.clap.specs.declared.error.kind.ErrorKind.{ErrorKind}
 use Rattle.clap.specs.declared.error.kind.ErrorKind.TheVariants.{DisplayHelp, OutOfMemory}
 use Rattle.bor_program.specs.declared.status.Status.{Status}
-use Rattle.bor_program.specs.Program.{EndsReport, EndsText, IsReportedOrCutOff}
+use Rattle.bor_words.specs.declared.source.Source.{Source}
+use Rattle.bor_words.specs.declared.source.Source.TheVariants.{StandardInput, File}
+use Rattle.bor_program.specs.Program.{EndsReport, EndsReportOf, EndsText, IfFile, IsReportedOf, IsReportedOrCutOff, exit_code}
 use Rattle.bor_program.specs.Streams.{AppendsPart, TakesAtMostPart, part_read}
 
 -- what holds of every value holds of the one that is there
@@ -84,3 +88,29 @@ took_as before after last same h = subst (λ (o : Option (List ℕ)). TakesAtMos
 
 pub memory_is_no_help : (kind : ErrorKind) → kind ≡ OutOfMemory → kind ≢ DisplayHelp
 memory_is_no_help kind e help = let none : DisplayHelp ≡ OutOfMemory = sym help ∙ e in cc
+
+-- ---- of a file
+
+-- of a file that was opened, whether it tells its bytes or not
+pub of_opened : {F : Type 0} (known before after : Option (List ℕ)) (end : Result Status F) → IfSome known (λ all. EndsReport (part_read all) before after end)
+    → ((bytes : List ℕ) × EndsReport bytes before after end) → (bytes : List ℕ) × IfSome known (λ all. bytes ≡ part_read all) × EndsReport bytes before after end
+of_opened None before after end h some = (some.0, tt, some.1)
+of_opened (Some all) before after end h some = (part_read all, refl, h)
+
+-- the end is told by this status
+pub of_file_done : {F : Type 0} (Reads : Bor Words → List ℕ → Type 0) (source : Source) (before after : Option (List ℕ)) (end : Result Status F) (status : Status) → end ≡ Ok status
+    → IfFile (λ name. EndsReportOf (Reads name) before after end) source → IfFile (λ name. IsReportedOf (Reads name) before after (exit_code status)) source
+of_file_done Reads StandardInput before after end status is h = tt
+of_file_done Reads (File name) before after (Ok s) status is (inl h) =
+    let same : s ≡ status = cc in
+    inl (h.0, h.1, inl (subst (λ (t : Status). EndsReport {F = Status} h.0 before after (Ok t)) same h.2))
+of_file_done Reads (File name) before after (Ok s) status is (inr h) = cc
+of_file_done Reads (File name) before after (Err f) status is h = cc
+
+-- the same, of a check that failed
+pub of_file_failed : {F : Type 0} (Reads : Bor Words → List ℕ → Type 0) (source : Source) (before after : Option (List ℕ)) (end : Result Status F) (failure : F) (code : ℕ) → end ≡ Err failure → code ≡ 3
+    → IfFile (λ name. EndsReportOf (Reads name) before after end) source → IfFile (λ name. IsReportedOf (Reads name) before after code) source
+of_file_failed Reads StandardInput before after end failure code is three h = tt
+of_file_failed Reads (File name) before after (Err f) failure code is three (inl h) = inl (h.0, h.1, inr (record { text = h.2; told = three }))
+of_file_failed Reads (File name) before after (Err f) failure code is three (inr h) = inr (h.0, three)
+of_file_failed Reads (File name) before after (Ok s) failure code is three h = cc

@@ -43,7 +43,7 @@ no_rows o x e f = cc
 -- where no other command is entered, a check was performed
 pub checked : {M K Left : Type 0} (Reads : ℕ → Bor Words → List ℕ → Type 0) (Hosts : Asked → K → K → ℕ → Type 0) (shows : K → Register → Type 0) (is_clean is_sound : K → Type 0) (may_leave : K → Left → Type 0) (left_shows : Left → Register → Type 0) (tells : K → StoreFault → K → Type 0) (does : M → Deed K → M → Type 0) (begun ended : M) (asked : Command) (entered : Entered) (input rest output printed errors told : Known) (status : ℕ) → IsAsked entered asked → EntersCheck entered
     → Performs Reads Hosts shows is_clean is_sound may_leave left_shows tells does begun ended asked input rest output printed errors told status
-    → (source : Source) × (name_of source ≡ file_at entered) × Checks source input rest output printed errors told status
+    → (source : Source) × (name_of source ≡ file_at entered) × Checks Reads source input rest output printed errors told status
 checked Reads Hosts shows is_clean is_sound may_leave left_shows tells does begun ended (Check source) entered input rest output printed errors told status h e p = (source, h.1, p.1)
 checked Reads Hosts shows is_clean is_sound may_leave left_shows tells does begun ended (Init asked) entered input rest output printed errors told status h e p = absurd (no_rows _ h.0 e.4 h.1)
 checked Reads Hosts shows is_clean is_sound may_leave left_shows tells does begun ended (Exchange asked) entered input rest output printed errors told status h e p = absurd (no_rows _ h.0 e.0 h.1)

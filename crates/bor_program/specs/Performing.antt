@@ -29,19 +29,20 @@ use Rattle.bor_program.specs.Deeds.{ComesToBe, Deed, Fails, Moves, Opens, Visits
 use Rattle.bor_program.specs.Failures.{IsMetIn, IsMetListening, IsMetOn, IsMetOnKeep, IsOpeningOf, IsTold, TellsFiles, failure_line}
 use Rattle.bor_program.specs.declared.registrar.Exchanging.{Exchanging}
 use Rattle.bor_program.specs.Registrars.{IsToldBy, IsUntold}
-use Rattle.bor_program.specs.Program.{IsReportedOrCutOff, IsWrittenOrCutOff}
+use Rattle.bor_program.specs.Program.{IfFile, IsReportedOf, IsReportedOrCutOff, IsWrittenOrCutOff}
 use Rattle.bor_program.specs.Replying.{AreAnswers, AreRepliesTo, EndsFiles, IsSentOrCutOff, replies_status, sent}
 use Rattle.bor_program.specs.Reporting.{IsToldOf}
-use Rattle.bor_program.specs.Streams.{AppendsPart, TakesAtMostPart, TakesPart, part_read}
+use Rattle.bor_program.specs.Streams.{AppendsPart, TakesAtMostPart, TakesPart, part_limit, part_read}
 
 -- what is known of a stream's bytes
 abbrev pub Known : Type 0
 Known = Option (List ℕ)
 
--- the report on some bytes is printed; on those of standard input, where they are known and it is the source
-pub record Checks (source : Source) (input rest output printed errors told : Known) (status : ℕ) : Type 0 where
+-- the report on some bytes is printed; on those of standard input, where they are known and it is the source, and on what is read of the file that is named
+pub record Checks (Reads : ℕ → Bor Words → List ℕ → Type 0) (source : Source) (input rest output printed errors told : Known) (status : ℕ) : Type 0 where
   pub report : (bytes : List ℕ) × IsReportedOrCutOff bytes output printed status
   pub known : name_of source ≡ None → IfSome input (λ bytes. IsReportedOrCutOff (part_read bytes) output printed status)
+  pub of_file : IfFile (λ name. IsReportedOf (Reads part_limit name) output printed status) source
   pub taken : name_of source ≡ None → status ≤ 1 → TakesPart input rest
   pub at_most : TakesAtMostPart input rest
   pub unread : IsSome (name_of source) → Keeps input rest
@@ -179,7 +180,7 @@ pub record Migrates {M K : Type 0} (does : M → Deed K → M → Type 0) (begun
 -- What the command does, over whatever registers are opened and files are read, and what is done to files; but for a check it leaves standard input alone, and a check leaves the registers in files alone.
 abbrev pub Performs : {M K Left : Type 0} → (ℕ → Bor Words → List ℕ → Type 0) → (Serve → K → K → ℕ → Type 0) → (K → Register → Type 0) → (K → Type 0) → (K → Type 0) → (K → Left → Type 0) → (Left → Register → Type 0) → (K → StoreFault → K → Type 0) → (M → Deed K → M → Type 0) → M → M → Command → Known → Known → Known → Known → Known → Known → ℕ → Type 0
 Performs Reads Hosts shows is_clean is_sound may_leave left_shows tells does begun ended (command.Check source) input rest output printed errors told status =
-    (ended ≡ begun) × Checks source input rest output printed errors told status
+    (ended ≡ begun) × Checks Reads source input rest output printed errors told status
 Performs Reads Hosts shows is_clean is_sound may_leave left_shows tells does begun ended (command.Init asked) input rest output printed errors told status =
     Keeps input rest × InitsOnceTold Reads shows is_clean does begun ended asked output printed errors told status
 Performs Reads Hosts shows is_clean is_sound may_leave left_shows tells does begun ended (command.Exchange asked) input rest output printed errors told status =

@@ -1,8 +1,12 @@
 -- What the program writes, and how it ends.
-use Rattle.std.specs.Prelude.{◌≡◌, ℕ, List, Bool, Option, Result, MatchResult, ◌⊎◌, if◌then◌else◌}
-use Rattle.std.specs.Io.KnownBytes.{Appends}
+use Rattle.std.specs.Prelude.{◌≡◌, ℕ, List, Bool, true, Option, Result, MatchResult, ◌⊎◌, if◌then◌else◌, is_err, ⊤}
+use Rattle.std.specs.Borrow.{Bor}
+use Rattle.std.specs.Io.KnownBytes.{Appends, Keeps}
+use Rattle.clap.specs.Words.{Text as Words}
 use Rattle.bor_desk.specs.CheckReport.{check_report}
 use Rattle.bor_desk.specs.declared.text.Text.{Text}
+use Rattle.bor_words.specs.declared.source.Source.{Source}
+use Rattle.bor_words.specs.declared.source.Source.TheVariants.{StandardInput, File}
 use Rattle.bor_program.specs.Streams.{AppendsPart}
 use Rattle.bor_program.specs.declared.status.Status.{Status}
 use Rattle.bor_program.specs.declared.status.Status.TheVariants.{Done, Refused, Usage, Failed}
@@ -46,3 +50,22 @@ IsReportedOrCutOff bytes before after status = IsWrittenOrCutOff (check_report b
 -- the same of an end that has not been told yet
 abbrev pub EndsReport : {F : Type 0} → List ℕ → Option (List ℕ) → Option (List ℕ) → Result Status F → Type 0
 EndsReport bytes before after end = EndsText (check_report bytes) before after end
+
+-- ---- which file it is of
+
+-- this holds of the file's name, where it is a file
+abbrev pub IfFile : (Bor Words → Type 0) → Source → Type 0
+IfFile P StandardInput = ⊤
+IfFile P (File name) = P name
+
+-- the report on bytes that were read so was written, or the run failed on the way; or it failed before anything was written
+abbrev pub IsReportedOf : (List ℕ → Type 0) → Option (List ℕ) → Option (List ℕ) → ℕ → Type 0
+IsReportedOf Reads before after status =
+    ((bytes : List ℕ) × Reads bytes × IsReportedOrCutOff bytes before after status)
+    ⊎ (Keeps before after × (status ≡ 3))
+
+-- the same of an end that has not been told yet
+abbrev pub EndsReportOf : {F : Type 0} → (List ℕ → Type 0) → Option (List ℕ) → Option (List ℕ) → Result Status F → Type 0
+EndsReportOf Reads before after end =
+    ((bytes : List ℕ) × Reads bytes × EndsReport bytes before after end)
+    ⊎ (Keeps before after × (is_err end ≡ true))

@@ -3,9 +3,13 @@ use Rattle.std.specs.Prelude.{◌≡◌, ◌≤◌, ◌+◌, ℕ, List, Option, 
 use Rattle.std.specs.Io.KnownBytes.{Appends, Consumes}
 use Rattle.bor_desk.specs.Limits.{file_limit}
 
--- as much of a file as is read: one byte more than the greatest that is taken
+-- so many bytes of a file are read at most: one more than the greatest has that is taken
+abbrev pub part_limit : ℕ
+part_limit = file_limit + 1
+
+-- as much of a file as is read
 abbrev pub part_read : List ℕ → List ℕ
-part_read bytes = take (file_limit + 1) bytes
+part_read bytes = take part_limit bytes
 
 -- of known bytes that part was read, and no more
 abbrev pub TakesPart : Option (List ℕ) → Option (List ℕ) → Type 0
@@ -13,7 +17,7 @@ TakesPart before after = IfSome before (λ bytes. Consumes before after (part_re
 
 -- of known bytes no more was read than that part
 abbrev pub TakesAtMostPart : Option (List ℕ) → Option (List ℕ) → Type 0
-TakesAtMostPart before after = (front : List ℕ) × (length front ≤ file_limit + 1) × Consumes before after front
+TakesAtMostPart before after = (front : List ℕ) × (length front ≤ part_limit) × Consumes before after front
 
 -- the front of these bytes was written: all, some or none of them
 abbrev pub AppendsPart : Option (List ℕ) → Option (List ℕ) → List ℕ → Type 0

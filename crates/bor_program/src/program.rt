@@ -12,8 +12,8 @@ ghost use Rattle.bor_program.specs.Failures.{IsMetBy, IsMetOn, IsMetPrinting, Is
 ghost use Rattle.bor_program.specs.Hosting.{IsHosted};
 ghost use Rattle.bor_program.specs.Inputs.{IsReadOf};
 ghost use Rattle.bor_program.specs.Performing.{Checks, Performs, TellsRefusal};
-ghost use Rattle.bor_program.specs.Program.{EndsReport, IsReportedOrCutOff, exit_code};
-ghost use Rattle.bor_program.specs.Streams.{AppendsPart, TakesAtMostPart, TakesPart, part_read};
+ghost use Rattle.bor_program.specs.Program.{EndsReport, EndsReportOf, IfFile, IsReportedOf, IsReportedOrCutOff, exit_code};
+ghost use Rattle.bor_program.specs.Streams.{AppendsPart, TakesAtMostPart, TakesPart, part_limit, part_read};
 ghost use Rattle.bor_program.specs.Words.{AsksForCheck, ChecksInput, file_of};
 
 use crate::check::check;
@@ -186,6 +186,9 @@ fn check_told<R: NamedFiles + AllocGlobal, H: Registers, I: Read, O: Output, E: 
     ensures known { name_of source.entry ≡ None → IfSome (I.remaining input.old) (λ bytes.
         IsReportedOrCutOff (part_read bytes) (O.contents output.old) (O.contents output.new)
         (exit_code result)) }
+    ensures of_file { IfFile (λ name.
+        IsReportedOf (IsReadOf (R.opens rt.now) R.File.remaining part_limit name)
+        (O.contents output.old) (O.contents output.new) (exit_code result)) source.entry }
     ensures taken { name_of source.entry ≡ None → exit_code result ≤ 1
         → TakesPart (I.remaining input.old) (I.remaining input.new) }
     ensures at_most { TakesAtMostPart (I.remaining input.old) (I.remaining input.new) }
@@ -216,6 +219,9 @@ fn check_source<'a, R: NamedFiles + AllocGlobal, H: Registers, I: Read, O: Outpu
         × EndsReport bytes (O.contents output.old) (O.contents output.new) result }
     ensures known { name_of source.entry ≡ None → IfSome (I.remaining input.old) (λ bytes.
         EndsReport (part_read bytes) (O.contents output.old) (O.contents output.new) result) }
+    ensures of_file { IfFile (λ name.
+        EndsReportOf (IsReadOf (R.opens rt.now) R.File.remaining part_limit name)
+        (O.contents output.old) (O.contents output.new) result) source.entry }
     ensures taken { name_of source.entry ≡ None
         → OnOk result (TakesPart (I.remaining input.old) (I.remaining input.new)) }
     ensures at_most { TakesAtMostPart (I.remaining input.old) (I.remaining input.new) }
@@ -242,6 +248,9 @@ fn check_file<'a, R: NamedFiles + AllocGlobal, O: Output>(
 ) -> Result<Status, Failure<'a>>
     ensures report { (bytes : List ℕ)
         × EndsReport bytes (O.contents output.old) (O.contents output.new) result }
+    ensures of_file { EndsReportOf
+        (IsReadOf (R.opens rt.now) R.File.remaining part_limit name.entry)
+        (O.contents output.old) (O.contents output.new) result }
     ensures flushed { OnOk result (O.is_flushed output.new) }
     ensures err { IfErr result (IsMetOn (Source.File name.entry)
         (O.contents output.old) (O.contents output.new)) }

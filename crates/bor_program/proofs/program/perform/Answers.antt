@@ -8,6 +8,7 @@ returns-in-Check-clause-done g c = rw c.in-Check.is (
   record {
     report = c.check_told.ensures.report;
     known = c.check_told.ensures.known;
+    of_file = c.check_told.ensures.of_file;
     taken = c.check_told.ensures.taken;
     at_most = c.check_told.ensures.at_most;
     unread = c.check_told.ensures.unread;
