@@ -11,7 +11,9 @@ use Rattle.bor_wire.proofs.Exchanged.{response_unavailable}
 use Rattle.bor_wire.proofs.Outgoings.{asked_all, asked_so}
 use Rattle.bor_program.specs.Connections.Serving.{Answer, IsServing, answer_of}
 use Rattle.bor_program.specs.Connections.Streams.{IsOf}
-use Rattle.bor_program.specs.Connections.Phases.{IsStep}
+use Rattle.bor_program.specs.declared.connections.phase.Phase.{Phase}
+use Rattle.bor_program.specs.declared.connections.phase.Phase.TheVariants.{Reading, Writing, Draining}
+use Rattle.bor_program.specs.Connections.Phases.{IsStep, ReadsOn}
 use Rattle.bor_program.proofs.OnConnections.Served.{answers}
 
 -- nothing was answered
@@ -58,3 +60,27 @@ then_steps shows is_clean is_sound may_leave left_shows remaining contents old k
 -- nothing has to hold of it
 pub unavailable_up : (P : Type 0) (request : List ℕ) (spelled : Spelled) → Spells request spelled → IfAsked spelled (IfFull Unavailable P)
 unavailable_up P request spelled spells = asked_all _ spelled tt
+
+-- ---- nothing that was read is forgotten
+
+pub reads_same : {S : Type 0} (remaining : S → Option (List ℕ)) (p : Phase S) → ReadsOn remaining p p
+reads_same remaining (Reading r) = λ came h. h
+reads_same remaining (Writing w) = tt
+reads_same remaining (Draining d) = tt
+
+pub reads_then : {S : Type 0} (remaining : S → Option (List ℕ)) (p q r : Phase S) → ReadsOn remaining p q → ReadsOn remaining q r → ReadsOn remaining p r
+reads_then remaining (Reading p) (Reading q) (Reading r) h k = λ came is. k came (h came is)
+reads_then remaining (Reading p) (Writing q) (Reading r) h k = absurd k
+reads_then remaining (Reading p) (Draining q) (Reading r) h k = absurd k
+reads_then remaining (Writing p) (Reading q) (Reading r) h k = absurd h
+reads_then remaining (Writing p) (Writing q) (Reading r) h k = absurd k
+reads_then remaining (Writing p) (Draining q) (Reading r) h k = absurd k
+reads_then remaining (Draining p) (Reading q) (Reading r) h k = absurd h
+reads_then remaining (Draining p) (Writing q) (Reading r) h k = absurd k
+reads_then remaining (Draining p) (Draining q) (Reading r) h k = absurd k
+reads_then remaining (Reading p) q (Writing r) h k = tt
+reads_then remaining (Writing p) q (Writing r) h k = tt
+reads_then remaining (Draining p) q (Writing r) h k = tt
+reads_then remaining (Reading p) q (Draining r) h k = tt
+reads_then remaining (Writing p) q (Draining r) h k = tt
+reads_then remaining (Draining p) q (Draining r) h k = tt

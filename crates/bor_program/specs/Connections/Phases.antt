@@ -1,12 +1,12 @@
 -- What one step of a client does, for clauses of private functions alone.
-use Rattle.std.specs.Prelude.{◌≡◌, ℕ, List, [], ◌∷◌, ◌++◌, Bool, false, Option}
+use Rattle.std.specs.Prelude.{◌≡◌, ℕ, List, [], ◌∷◌, ◌++◌, Bool, false, Option, ⊤}
 use Rattle.bor_register.specs.Register.{Register}
 use Rattle.bor_program.specs.declared.connections.phase.Phase.{Phase}
 use Rattle.bor_program.specs.declared.connections.phase.Phase.TheVariants as phase
 use Rattle.bor_program.specs.declared.connections.phase.Step.{Step}
 use Rattle.bor_program.specs.declared.connections.phase.Step.TheVariants as step
 use Rattle.bor_program.specs.Connections.Serving.{Answer, Ended, IsServing, answer_of, has_failed, is_absent, told_on}
-use Rattle.bor_program.specs.Connections.Streams.{IsDraining, IsOf, IsReading, IsWriting}
+use Rattle.bor_program.specs.Connections.Streams.{IsDraining, IsOf, IsReading, IsWriting, KeepsAll}
 
 -- what is being told to a client
 abbrev pub telling : {S : Type 0} → Phase S → List Answer
@@ -19,6 +19,18 @@ abbrev pub IsHeld : {S : Type 0} → (S → Option (List ℕ)) → (S → Option
 IsHeld remaining contents (phase.Reading reading) = IsReading remaining reading.stream reading.received.items reading.progress
 IsHeld remaining contents (phase.Writing writing) = IsWriting remaining contents writing.stream (answer_of writing.request.items writing.reply) writing.sent
 IsHeld remaining contents (phase.Draining draining) = IsDraining remaining contents draining.stream (answer_of draining.request.items draining.reply) draining.left
+
+-- a client whose request is still read has been so from the first, and nothing that was read of it is forgotten
+abbrev pub ReadsOn : {S : Type 0} → (S → Option (List ℕ)) → Phase S → Phase S → Type 0
+ReadsOn remaining (phase.Reading old) (phase.Reading new) = KeepsAll remaining old.stream old.received.items new.stream new.received.items
+ReadsOn remaining (phase.Writing old) (phase.Reading new) = ⊥
+ReadsOn remaining (phase.Draining old) (phase.Reading new) = ⊥
+ReadsOn remaining (phase.Reading old) (phase.Writing new) = ⊤
+ReadsOn remaining (phase.Writing old) (phase.Writing new) = ⊤
+ReadsOn remaining (phase.Draining old) (phase.Writing new) = ⊤
+ReadsOn remaining (phase.Reading old) (phase.Draining new) = ⊤
+ReadsOn remaining (phase.Writing old) (phase.Draining new) = ⊤
+ReadsOn remaining (phase.Draining old) (phase.Draining new) = ⊤
 
 -- the phase that a client has come to, in which it goes on or its connection ends
 abbrev pub phase_of : {S : Type 0} → Step S → Phase S

@@ -10,7 +10,7 @@ use Rattle.bor_program.specs.declared.connections.server.Client.{Client}
 use Rattle.bor_program.specs.declared.connections.server.Server.{Server}
 use Rattle.bor_program.specs.Connections.Serving.{Answer, Ended, IsServing, absent_in, has_failed, told_in}
 use Rattle.bor_program.specs.Connections.Streams.{IsOf}
-use Rattle.bor_program.specs.Connections.Phases.{IsHeld, telling}
+use Rattle.bor_program.specs.Connections.Phases.{IsHeld, ReadsOn, telling}
 use Rattle.bor_program.specs.Connections.Times.{IsTaking, IsUp, looked}
 use Rattle.bor_program.specs.Connections.Watching.{Act, AreDone, Does, IsOver, faults_after, refused_in, waits_in}
 
@@ -60,6 +60,10 @@ pub record IsTimely {S : Type 0} (now : Duration) (client : Client S) (old new :
 -- A client had its turn: where it is put behind the others, this is known of how it takes its reply, and nothing where that was made in this turn, after the clock was read.
 abbrev pub IsTimed : {S : Type 0} → Duration → Client S → Server S → Server S → Type 0
 IsTimed {S} now client old new = (last : Client S) → new.queue.items ≡ old.queue.items ++ last ∷ [] → IsTaking (looked client.phase now) last.phase
+
+-- the same, and of what was read of it nothing is forgotten
+abbrev pub IsReadOn : {S : Type 0} → (S → Option (List ℕ)) → Client S → Server S → Server S → Type 0
+IsReadOn {S} remaining client old new = (last : Client S) → new.queue.items ≡ old.queue.items ++ last ∷ [] → ReadsOn remaining client.phase last.phase
 
 -- ---- what stays the same
 

@@ -11,6 +11,10 @@ use Rattle.bor_program.specs.Connections.Serving.{Answer, Ended, Absent, Unanswe
 abbrev pub Came : {S : Type 0} → (S → Option (List ℕ)) → S → List ℕ → Type 0
 Came {S} remaining stream bytes = (came : S) × Consumes (remaining came) (remaining stream) bytes
 
+-- None of these bytes was forgotten: whatever state of the stream they were read from, the later ones were read from it too.
+abbrev pub KeepsAll : {S : Type 0} → (S → Option (List ℕ)) → (old : S) → (bytes : List ℕ) → (new : S) → (later : List ℕ) → Type 0
+KeepsAll {S} remaining old bytes new later = (came : S) → Consumes (remaining came) (remaining old) bytes → Consumes (remaining came) (remaining new) later
+
 -- What is known of a client whose request is read: where its bytes come from, how far they are known, and that they are no whole request yet, and no more than a head and a body may have.
 pub record IsReading {S : Type 0} (remaining : S → Option (List ℕ)) (stream : S) (received : List ℕ) (progress : Progress) : Type 0 where
   pub came : Came remaining stream received
@@ -60,7 +64,7 @@ pub record IsTold {S : Type 0} (remaining contents : S → Option (List ℕ)) (a
   pub behind : Consumes (remaining written) (remaining let_go) dropped
   pub bound : length dropped ≤ rest_limit
 
--- The client is given up whose bytes these are, all that was read of its stream: they are no whole request, for one that is whole is answered.
+-- These bytes were read of the stream of a client that is given up: they are no whole request, for one that is whole is answered.
 pub record IsUnanswered {S : Type 0} (remaining : S → Option (List ℕ)) (request : List ℕ) : Type 0 where
   pub stream : S
   pub came : Came remaining stream request

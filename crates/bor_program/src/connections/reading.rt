@@ -5,7 +5,7 @@ ghost use Rattle.std.specs.Io.KnownBytes.{IsAtEnd, Keeps};
 ghost use Rattle.bor_http.specs.Incoming.Message.{request_limit};
 ghost use Rattle.bor_http.specs.Incoming.Progress.{IsProgress, IsWhole, needs};
 ghost use Rattle.bor_program.specs.declared.connections.reading.Taken.TheVariants.{Blocked, Failed, More, Whole};
-ghost use Rattle.bor_program.specs.Connections.Streams.{Came, IsReading, Received};
+ghost use Rattle.bor_program.specs.Connections.Streams.{Came, IsReading, KeepsAll, Received};
 
 use bor_http::incoming::Progress;
 use std::alloc::{AllocError, Global};
@@ -57,6 +57,8 @@ impl<S: Read> Reading<S> {
     pub(crate) fn read(&mut self, alloc: Global) -> Taken
         requires { IsReading S.remaining self.old.stream self.old.received.items self.old.progress }
         ensures came { Came S.remaining self.new.stream self.new.received.items }
+        ensures all { KeepsAll S.remaining self.old.stream self.old.received.items
+            self.new.stream self.new.received.items }
         ensures fits { length self.new.received.items ≤ request_limit }
         ensures held { (result ≡ More) ⊎ ((result ≡ Blocked) ⊎ (result ≡ Failed)) →
             IsReading S.remaining self.new.stream self.new.received.items self.new.progress }
@@ -82,6 +84,8 @@ impl<S: Read> Reading<S> {
         requires within { length self.old.received.items ≤ needs self.old.progress }
         requires fits { length self.old.received.items ≤ request_limit }
         ensures came { Came S.remaining self.new.stream self.new.received.items }
+        ensures all { KeepsAll S.remaining self.old.stream self.old.received.items
+            self.new.stream self.new.received.items }
         ensures fits { length self.new.received.items ≤ request_limit }
         ensures held { (result ≡ More) ⊎ ((result ≡ Blocked) ⊎ (result ≡ Failed)) →
             IsReading S.remaining self.new.stream self.new.received.items self.new.progress }

@@ -3,7 +3,7 @@
 ghost use Rattle.std.specs.Prelude.{◌≡◌, ◌⊎◌, ◌+◌, ◌-◌, ◌<◌, ◌≤◌, ◌++◌, ℕ, [], false, true, length, if◌then◌else◌, is_err, IsTrue, MatchOption};
 ghost use Rattle.std.specs.Duration.{as_nanos};
 ghost use Rattle.bor_program.specs.Connections.Phases.{IsHeld, telling};
-ghost use Rattle.bor_program.specs.Connections.Servers.{Advances, AreHeld, Becomes, GivesWay, IsLongestIdle, IsTimed, IsTimely, Lets, LetsIn, Serves, Stays, pending_in, telling_in};
+ghost use Rattle.bor_program.specs.Connections.Servers.{Advances, AreHeld, Becomes, GivesWay, IsLongestIdle, IsTimed, IsTimely, Lets, LetsIn, Serves, Stays, pending_in, telling_in, IsReadOn};
 ghost use Rattle.bor_program.specs.Connections.Places.{Leaves, Takes, is_ready, place_count, taken_in};
 ghost use Rattle.bor_program.specs.Connections.Watching.{Does, Waits, Watches};
 
@@ -272,6 +272,7 @@ impl<S: Read + Write + OpenStream + Drop> Server<S> {
         ensures held { AreHeld S.remaining S.contents self.new.queue.items }
         ensures serves { Serves K.shows K.is_clean K.is_sound K.may_leave K.left_shows S.remaining
             S.contents keep.old keep.new (telling client.phase) self.old self.new }
+        ensures all { IsReadOn S.remaining client self.old self.new }
         ensures time { IsTimed now client self.old self.new }
     {
         let Client {

@@ -4,7 +4,7 @@ ghost use Rattle.std.specs.Prelude.{◌≡◌, ◌∷◌, [], None, Option};
 ghost use Rattle.bor_program.specs.Connections.Serving.{answer_of};
 ghost use Rattle.bor_program.specs.declared.connections.phase.Phase.TheVariants as Phase;
 ghost use Rattle.bor_program.specs.declared.connections.taking.Taking.{Taking};
-ghost use Rattle.bor_program.specs.Connections.Phases.{EndsAs, IsHeld, IsStep, phase_of, telling};
+ghost use Rattle.bor_program.specs.Connections.Phases.{EndsAs, IsHeld, IsStep, ReadsOn, phase_of, telling};
 ghost use Rattle.bor_program.specs.Connections.Times.{IsTaking, looked};
 
 use crate::connections::phase::{Pace, Phase, Step};
@@ -32,6 +32,7 @@ pub(crate) fn step<K: Keep, S: Read + Write + OpenStream + Drop>(
     ensures held { IsHeld S.remaining S.contents (phase_of result) }
     ensures step { IsStep K.shows K.is_clean K.is_sound K.may_leave K.left_shows S.remaining
         S.contents keep.old keep.new (telling phase) (telling (phase_of result)) }
+    ensures all { ReadsOn S.remaining phase (phase_of result) }
     ensures time { (taking : Option Taking) → IsTaking taking phase
         → IsTaking taking (phase_of result) }
 {
@@ -52,6 +53,7 @@ fn read_on<K: Keep, S: Read + Write + OpenStream + Drop>(
     ensures held { IsHeld S.remaining S.contents (phase_of result) }
     ensures step { IsStep K.shows K.is_clean K.is_sound K.may_leave K.left_shows S.remaining
         S.contents keep.old keep.new [] (telling (phase_of result)) }
+    ensures all { ReadsOn S.remaining (Phase.Reading reading) (phase_of result) }
     ensures time { IsTaking None (phase_of result) }
 {
     match reading.read(service.alloc()) {
@@ -74,6 +76,7 @@ fn write_on<S: Read + Write + OpenStream + Drop>(mut writing: Writing<S>) -> Ste
     requires { IsHeld S.remaining S.contents (Phase.Writing writing) }
     ensures held { IsHeld S.remaining S.contents (phase_of result) }
     ensures tells { telling (phase_of result) ≡ answer_of writing.request.items writing.reply ∷ [] }
+    ensures all { ReadsOn S.remaining (Phase.Writing writing) (phase_of result) }
     ensures time { IsTaking writing.taking (phase_of result) }
 {
     match writing.write() {
@@ -90,6 +93,7 @@ fn drain_on<S: Read + Write + Drop>(mut draining: Draining<S>) -> Step<S>
     ensures held { IsHeld S.remaining S.contents (phase_of result) }
     ensures tells { telling (phase_of result)
         ≡ answer_of draining.request.items draining.reply ∷ [] }
+    ensures all { ReadsOn S.remaining (Phase.Draining draining) (phase_of result) }
     ensures time { (taking : Option Taking) → IsTaking taking (phase_of result) }
 {
     match draining.drain() {
@@ -104,6 +108,7 @@ pub(crate) fn look<S: Read + Write + OpenStream + Drop>(phase: Phase<S>, now: Du
     requires { IsHeld S.remaining S.contents phase }
     ensures held { IsHeld S.remaining S.contents result }
     ensures tells { telling result ≡ telling phase }
+    ensures all { ReadsOn S.remaining phase result }
     ensures time { IsTaking (looked phase now) result }
 {
     match phase {
@@ -128,6 +133,7 @@ pub(crate) fn steps<K: Keep, S: Read + Write + OpenStream + Drop>(
     ensures held { IsHeld S.remaining S.contents (phase_of result) }
     ensures step { IsStep K.shows K.is_clean K.is_sound K.may_leave K.left_shows S.remaining
         S.contents keep.old keep.new (telling phase) (telling (phase_of result)) }
+    ensures all { ReadsOn S.remaining phase (phase_of result) }
     ensures time { (taking : Option Taking) → IsTaking taking phase
         → IsTaking taking (phase_of result) }
 {

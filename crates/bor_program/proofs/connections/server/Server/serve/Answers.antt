@@ -1,7 +1,8 @@
 use Rattle.std.proofs.Common.{◌+◌, ◌++◌, subst, sym}
-use Rattle.bor_program.specs.Connections.Phases.{telling}
+use Rattle.bor_program.specs.Connections.Phases.{ReadsOn, telling}
 use Rattle.bor_program.specs.Connections.Servers.{pending_in, telling_in}
 use Rattle.bor_program.specs.Connections.Times.{IsTaking, looked}
+use Rattle.bor_program.proofs.OnConnections.Phases.{reads_then}
 use Rattle.bor_program.proofs.OnConnections.Servers.{lets_go_same}
 use Rattle.bor_program.proofs.connections.server.Server.serve.Goals as goal
 
@@ -21,3 +22,9 @@ pub returns-in-Goes-clause-time : goal.returns-in-Goes-clause-time
 returns-in-Goes-clause-time g c = λ last is.
     let taking = looked c.args.client.phase c.args.now in
     subst (IsTaking taking) (sym (c.go_on.ensures.time.same last is)) (c.in-Goes.ensures.time taking c.look-phase.ensures.time)
+
+pub returns-in-Goes-clause-all : goal.returns-in-Goes-clause-all
+returns-in-Goes-clause-all g c = λ last is.
+    let remaining = g.S.Read.remaining in
+    let old = c.args.client.phase in
+    subst (ReadsOn remaining old) (sym (c.go_on.ensures.time.same last is)) (reads_then remaining old c.look-phase.result c.in-Goes.phase c.look-phase.ensures.all c.in-Goes.ensures.all)
