@@ -1,11 +1,12 @@
 -- Calls of a watch, one after the other.
-use Rattle.std.proofs.Common.{◌≡◌, ◌+◌, inl, inr, ℕ, List, [], ◌∷◌, ◌++◌, Bool, true, false, cond, refl, ap, subst, ◌∙◌, arith}
+use Rattle.std.proofs.Common.{◌≡◌, ◌+◌, inl, inr, ℕ, List, [], ◌∷◌, ◌++◌, Bool, true, false, cond, map, refl, ap, subst, sym, ◌∙◌, arith}
 use Rattle.std.specs.Prelude.{◌||◌}
 use Rattle.std.specs.List.{list_any}
+use Rattle.std.proofs.lemmas.List.{map-append}
 use Rattle.std.proofs.lemmas.List.Folds.{list_any-append}
 use Rattle.std.proofs.lemmas.List.Sums.{sum_by-append}
 use Rattle.bor_program.specs.declared.log.Note.{Note}
-use Rattle.bor_program.specs.Connections.Watching.{Act, Accepts, AreDone, Does, IsOver, Notes, Waits, Watches, WaitsOnce, faults_after, faults_with, is_deaf, is_refusal, is_wait, refused_in, waits_in}
+use Rattle.bor_program.specs.Connections.Watching.{Act, Accepts, AreDone, AreTold, Does, IsOver, Notes, Waits, Watches, WaitsOnce, faults_after, faults_with, is_deaf, is_refusal, is_wait, refused_in, waits_in}
 
 pub refused-append : (xs ys : List Act) → refused_in (xs ++ ys) ≡ refused_in xs + refused_in ys
 refused-append xs ys = sum_by-append (λ act. cond (is_refusal act) 1 0) xs ys
@@ -37,6 +38,19 @@ does_then does old mid new one two h k = record {
 
 pub does_notes : {W : Type 0} (does : W → Act → W → Type 0) (old new : W) (note : Note) → does old (Notes note) new → Does does old new 0
 does_notes does old new note h = record { acts = Notes note ∷ []; done = (new, h, refl); refusals = refl; waits = refl; faults = λ before. refl }
+
+-- notes are told without a wait, and none is of a client that could not be let in
+pub does_tells : {W : Type 0} (does : W → Act → W → Type 0) (old new : W) (notes : List Note) → AreTold does old notes new → Does does old new 0
+does_tells does old new [] h = subst (λ w. Does does old w 0) (sym h) (does_none does old)
+does_tells does old new (note ∷ notes) h =
+    does_then does old h.0 new 0 0 (does_notes does old h.0 note h.1) (does_tells does h.0 new notes h.2)
+
+-- one more is told
+pub told_more : {W : Type 0} (does : W → Act → W → Type 0) (old mid new : W) (notes : List Note) (note : Note) → AreTold does old notes mid → does mid (Notes note) new
+    → AreTold does old (notes ++ note ∷ []) new
+told_more does old mid new notes note h k =
+    subst (λ acts. AreDone does old acts new) (sym (map-append Notes notes (note ∷ [])))
+    (done-append does old mid new (map Notes notes) (Notes note ∷ []) h (new, k, refl))
 
 pub does_watches : {W : Type 0} (does : W → Act → W → Type 0) (old new : W) (failed : Bool) → does old (Watches failed) new → Does does old new 0
 does_watches does old new failed h = record { acts = Watches failed ∷ []; done = (new, h, refl); refusals = refl; waits = refl; faults = λ before. refl }

@@ -1,5 +1,5 @@
 -- What a server asks of its watch, and what comes of it.
-use Rattle.std.specs.Prelude.{◌≡◌, ◌≤◌, ◌<◌, ◌⊎◌, ◌+◌, ℕ, List, [], ◌∷◌, Bool, true, false, count_by}
+use Rattle.std.specs.Prelude.{◌≡◌, ◌≤◌, ◌<◌, ◌⊎◌, ◌+◌, ℕ, List, [], ◌∷◌, Bool, true, false, count_by, map}
 use Rattle.std.specs.List.{list_any}
 use Rattle.bor_program.specs.declared.log.Note.{Note}
 
@@ -20,6 +20,10 @@ pub data Act : Type 0 where
 abbrev pub AreDone : {W : Type 0} → (W → Act → W → Type 0) → W → List Act → W → Type 0
 AreDone does old [] new = new ≡ old
 AreDone {W} does old (act ∷ rest) new = (next : W) × does old act next × AreDone does next rest new
+
+-- these notes, and no other, are told to a watch one after the other
+abbrev pub AreTold : {W : Type 0} → (W → Act → W → Type 0) → W → List Note → W → Type 0
+AreTold does old notes new = AreDone does old (map Notes notes) new
 
 -- ---- what the calls came to
 

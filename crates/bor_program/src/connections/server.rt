@@ -5,7 +5,7 @@ ghost use Rattle.std.specs.Duration.{as_nanos};
 ghost use Rattle.bor_program.specs.Connections.Phases.{IsHeld, telling};
 ghost use Rattle.bor_program.specs.Connections.Servers.{Advances, AreHeld, Becomes, GivesWay, IsLongestIdle, IsTimed, IsTimely, Lets, LetsIn, Serves, Stays, pending_in, telling_in, IsReadOn};
 ghost use Rattle.bor_program.specs.Connections.Places.{Leaves, Takes, is_ready, place_count, taken_in};
-ghost use Rattle.bor_program.specs.Connections.Watching.{Does, Waits, Watches};
+ghost use Rattle.bor_program.specs.Connections.Watching.{AreTold, Does, Waits, Watches};
 
 use crate::connections::limits::Limits;
 use crate::connections::phase::{Phase, Step};
@@ -82,7 +82,8 @@ impl<S: Read + Write + OpenStream + Drop> Server<S> {
     /// Tells of the requests that were answered since this was last done.
     pub(crate) fn tell<L: OpenListener<Stream = S>, W: Watch<L>>(&mut self, watch: &mut W)
         ensures becomes { Becomes self.old self.new }
-        ensures does { Does W.does watch.old watch.new 0 }
+        ensures told { AreTold W.does watch.old self.old.service.notes.items watch.new }
+        ensures none { self.new.service.notes.items ≡ [] }
     {
         for note in self.service.take_notes() {
             watch.note(note);
@@ -95,8 +96,9 @@ impl<S: Read + Write + OpenStream + Drop> Server<S> {
         watch: &mut W,
     ) -> std::io::Result<()>
         ensures becomes { Becomes self.old self.new }
-        ensures does { (told : W) × Does W.does watch.old told 0
+        ensures does { (told : W) × AreTold W.does watch.old self.old.service.notes.items told
             × W.does told (Waits (is_err result)) watch.new }
+        ensures none { self.new.service.notes.items ≡ [] }
         ensures lost { is_err result ≡ true → (place : ℕ) → place < place_count
             → is_ready self.new.places place ≡ true }
     {

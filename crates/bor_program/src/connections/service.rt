@@ -1,6 +1,6 @@
 //! What answers requests: the register's desk, behind the paths that there are.
 
-ghost use Rattle.std.specs.Prelude.{Some};
+ghost use Rattle.std.specs.Prelude.{◌≡◌, [], Some};
 ghost use Rattle.bor_records.specs.Promises.{Leaves, Promised};
 ghost use Rattle.bor_register.specs.Register.{IsOrdered};
 ghost use Rattle.bor_wire.specs.Exchanges.{IfAsked, IfFull, ShowsAfter, IsResponse};
@@ -68,7 +68,10 @@ impl Service {
     }
 
     /// What was noted of the requests that were answered since this was last asked.
-    pub(crate) fn take_notes(&mut self) -> Vec<Note> {
+    pub(crate) fn take_notes(&mut self) -> Vec<Note>
+        ensures all { result.items ≡ self.old.notes.items }
+        ensures none { self.new.notes.items ≡ [] }
+    {
         mem::replace(&mut self.notes, Vec::new(self.alloc))
     }
 }

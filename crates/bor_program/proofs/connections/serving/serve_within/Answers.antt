@@ -4,6 +4,7 @@ use Rattle.bor_program.specs.Connections.Streams.{IsOf}
 use Rattle.bor_program.proofs.OnConnections.Running.{served_over}
 use Rattle.bor_program.proofs.OnConnections.Served.{served_by_any}
 use Rattle.bor_program.proofs.OnConnections.Servers.{begun}
+use Rattle.bor_program.proofs.OnConnections.Watching.{does_tells}
 use Rattle.bor_program.proofs.connections.serving.serve_within.Goals as goal
 
 pub finish-requires : goal.finish-requires
@@ -15,7 +16,7 @@ returns-clause-streams g c =
     let cont = g.L.Stream.Write.contents in
     let first = begun g.K.Keep.shows g.K.Keep.is_clean g.K.Keep.is_sound g.K.Keep.may_leave g.K.Keep.left_shows rem cont c.args.keep.now c.args.connections c.new-server.result c.new-server.ensures.queue c.new-server.ensures.left c.new-server.ensures.status in
     served_over g.K.Keep.shows g.K.Keep.is_clean g.K.Keep.is_sound g.K.Keep.may_leave g.K.Keep.left_shows g.W.Watch.does rem cont c.args.keep.now c.run.new.keep c.args.watch.now c.run.new.watch c.tell.new.watch c.args.connections c.new-server.result c.run.new.server c.tell.new.self c.finish.new.self
-    first c.run.ensures c.tell.ensures.becomes c.tell.ensures.does c.finish.ensures.lets c.finish.ensures.pending
+    first c.run.ensures c.tell.ensures.becomes (does_tells g.W.Watch.does c.run.new.watch c.tell.new.watch _ c.tell.ensures.told) c.finish.ensures.lets c.finish.ensures.pending
 
 pub returns-clause-served : goal.returns-clause-served
 returns-clause-served g c =
