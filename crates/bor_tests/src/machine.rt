@@ -1,6 +1,6 @@
 //! A machine of registers in memory, to whose ports nobody connects.
 
-ghost use Rattle.std.specs.Prelude.{◌≡◌, ⊤, IfErr};
+ghost use Rattle.std.specs.Prelude.{⊤, IfErr};
 ghost use Rattle.bor_program.specs.Failures.{IsOpeningOf};
 
 use crate::clients::{Line, Queue};
@@ -19,6 +19,19 @@ use std::time::Duration;
 pub(crate) struct Machine {
     pub(crate) alloc: Global,
     pub(crate) is_starved: bool,
+    /// Whether a register was closed.
+    pub(crate) has_closed: bool,
+}
+
+impl Machine {
+    /// A machine that has memory for a register, or none.
+    pub(crate) fn new(alloc: Global, is_starved: bool) -> Machine {
+        Machine {
+            alloc,
+            is_starved,
+            has_closed: false,
+        }
+    }
 }
 
 // A register of 2024-02-01 with no agents.
@@ -37,7 +50,7 @@ fn new_register(alloc: Global, path: &str) -> Result<ListKeep, Failure<'_>>
 impl Registers for Machine {
     type Register = ListKeep;
 
-    ghost does = { λ before _ after. after ≡ before };
+    ghost does = { λ _ _ _. ⊤ };
 
     fn reach(&self, _stage: Stage<'_>) {}
 
@@ -70,7 +83,9 @@ impl Registers for Machine {
         Ok(())
     }
 
-    fn close(&mut self, _path: &str, _register: ListKeep) {}
+    fn close(&mut self, _path: &str, _register: ListKeep) {
+        self.has_closed = true;
+    }
 }
 
 impl Ports for Machine {

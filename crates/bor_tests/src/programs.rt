@@ -72,7 +72,7 @@ fn fails<R: Files + Clock + AllocGlobal + Abort>(
     errors: &mut Gate,
 ) {
     let alloc = rt.alloc();
-    let mut machine = Machine { alloc, is_starved };
+    let mut machine = Machine::new(alloc, is_starved);
     let status = run(rt, &mut machine, words, &mut input, output, errors);
     holds_at(rt, "status of words", words.len(), status == 3);
 }
@@ -115,12 +115,26 @@ fn an_output_that_fails_is_not_told(rt: HostRuntime) {
     }
 }
 
-// A register isn't set up where an output hands nothing on.
+// A register is set up where an output hands nothing on. That ends as failed, and isn't told.
 #[test]
-fn an_output_that_hands_nothing_on_is_not_told(rt: HostRuntime) {
-    let mut output = Gate::open(rt.alloc());
+fn a_register_is_set_up_where_an_output_hands_nothing_on(rt: HostRuntime) {
+    let alloc = rt.alloc();
+    let mut machine = Machine::new(alloc, false);
+    let mut input = Drip::new(b"", 1);
+    let mut output = Gate::open(alloc);
     output.flushes = false;
-    fails_untold(&rt, &INIT, output, b"");
+    let mut errors = Gate::open(alloc);
+    let status = run(
+        &rt,
+        &mut machine,
+        &INIT,
+        &mut input,
+        &mut output,
+        &mut errors,
+    );
+    holds(&rt, "status", status == 3);
+    holds(&rt, "set up", machine.has_closed);
+    holds(&rt, "untold", output.has(b"") && errors.has(b""));
 }
 
 // A run on these words ends as failed, prints nothing, and tells this line alone, of which standard error
