@@ -12,7 +12,7 @@ from collections import Counter
 from concurrent.futures import ThreadPoolExecutor
 from os import cpu_count
 
-from lib.check_memory import LISTS, UNAVAILABLE, OnSocket, OverFile, report_made, tables_moved
+from lib.check_memory import LISTS, UNAVAILABLE, OnSocket, OverFile, evidence_made, report_made, tables_moved
 from lib.check_migration import dumped
 from lib.checking import Mismatch, is_so
 from lib.replies import replies_in
@@ -117,6 +117,7 @@ def ways(bor):
         yield f"{name} over a file", lambda folder, asks=asks, one=is_first: OverFile(bor, folder, asks, one)
         yield f"{name} on a socket", lambda folder, asks=asks: OnSocket(bor, folder, asks)
     yield "a report", lambda folder: report_made(bor, folder)
+    yield "a report with its evidence", lambda folder: evidence_made(bor, folder)
     yield "tables moved", lambda folder: tables_moved(bor, folder)
 
 
@@ -132,11 +133,11 @@ def outcome(bor, library, make, variable, step, place):
 
 
 def tried(bor, step, is_tried=lambda name: True):
-    """The name of each way, what was found, and how many runs ended how; nothing where there is no `cc`."""
+    """The name of each way, what was found, and how many runs ended how; that none was run where there is no `cc`."""
     with tempfile.TemporaryDirectory(prefix="bor-standin-") as folder, ThreadPoolExecutor(cpu_count()) as pool:
         library = built(folder)
         if not library:
-            print(f"a disk that fails {NOT_RUN}", flush=True)
+            yield "a disk that fails", NOT_RUN, None
             return
         listed = [
             (f"{name}, {kind}", make, variable)

@@ -68,6 +68,12 @@ def a_client_more_than_there_are_places(bor, folder):
     hostile_clients.one_more_than_places(bor, folder)
 
 
+@check
+def each_has_its_own_time(bor, folder):
+    """of clients that have different times left each is cut off as its own is up, and the server rests meanwhile"""
+    hostile_clients.own_times(bor, folder)
+
+
 def sends_for_ever(kind):
     def asked(bor, folder):
         hostile_clients.sends_for_ever(bor, folder, kind)

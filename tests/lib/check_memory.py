@@ -14,7 +14,7 @@ from os import cpu_count
 from pathlib import Path
 
 from lib.check_migration import DATED, dumped, made
-from lib.checking import DB, REPORT, Mismatch, is_so
+from lib.checking import DB, EVIDENCED, REPORT, Mismatch, is_so
 from lib.notation import ROWS
 from lib.program import REGISTER, Server
 from lib.replies import exit_status, replies_in
@@ -32,7 +32,7 @@ CHUNKED = r"raw GET /filings HTTP/1.1\r\nTransfer-Encoding: chunked\r\n\r\n"
 
 # Asks in words; what no agent asks for stands with its reply.
 LISTS = {
-    "first lodging": [FIRST, "alder chains alder c1 e1", "alder file f1"],
+    "first lodging": [FIRST, "alder chains alder c1 e1", "alder evidence alder c1 e1", "alder file f1"],
     "repeat and reuse": [
         FIRST,
         FIRST,
@@ -50,6 +50,7 @@ LISTS = {
         "alder lodge g1 2024-03-01 E s1 e1; E s2 a1 #GB-COH/00000001; R s3 r1 e1<-a1 S10",
         "alder chains alder c1 e1",
         "birch chains alder c1 e1",
+        "alder evidence alder c1 e1",
         "registrar day 2024-03-01",
         "birch chains alder c1 e1",
     ],
@@ -252,10 +253,14 @@ class Command:
         return "out of memory" if told == OUT_OF_MEMORY else "the same"
 
 
-def report_made(bor, folder):
+def report_made(bor, folder, *more, text=REPORT):
     is_so(bor.exchange(requests_of([*ENROLMENTS, FIRST]), folder, START).status == 0, "nothing is lodged")
     words = ["--viewer", "alder", "--agent", "alder", "--declaration", "c1", "--record", "e1"]
-    return Command(bor, folder, ["report", "--db", DB, *words], REPORT.encode(), dumped(folder, START))
+    return Command(bor, folder, ["report", "--db", DB, *words, *more], text.encode(), dumped(folder, START))
+
+
+def evidence_made(bor, folder):
+    return report_made(bor, folder, "--evidence", text=EVIDENCED)
 
 
 def tables_moved(bor, folder):
@@ -320,6 +325,7 @@ def ways(bor):
         yield f"{name} over a file", lambda folder, asks=asks, one=is_first: OverFile(bor, folder, asks, one, one)
         yield f"{name} on a socket", lambda folder, asks=asks, one=is_first: OnSocket(bor, folder, asks, False, one)
     yield "a report", lambda folder: report_made(bor, folder)
+    yield "a report with its evidence", lambda folder: evidence_made(bor, folder)
     yield "tables moved", lambda folder: tables_moved(bor, folder)
 
 
@@ -343,11 +349,11 @@ def outcome(bor, library, make, steps, place):
 
 
 def tried(bor, steps, is_tried=lambda name: True):
-    """The name of each way, what was found, and how many runs ended how; nothing where there is no `cc`."""
+    """The name of each way, what was found, and how many runs ended how; that none was run where there is no `cc`."""
     with tempfile.TemporaryDirectory(prefix="bor-standin-") as folder, ThreadPoolExecutor(cpu_count()) as pool:
         library = built(folder)
         if not library:
-            print(f"refused memory {NOT_RUN}", flush=True)
+            yield "refused memory", NOT_RUN, None
             return
         listed = [(name, make) for name, make in ways(bor) if is_tried(name)]
         one = lambda place: outcome(bor, library, listed[place][1], steps, place)

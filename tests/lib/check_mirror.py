@@ -15,6 +15,7 @@ CHANGES = [
 READS = [
     "alder filings", "alder file f1", "alder file f2", "alder published", "alder snapshot alder c1",
     "alder chains alder c1 e1", "alder chains alder c1 e2", "birch filings", "birch published", "birch chains birch c9 b1",
+    "alder evidence alder c1 e1", "alder evidence alder c1 e2", "birch evidence birch c9 b1",
 ]
 
 

@@ -19,6 +19,7 @@ TYPED = [
     (["init", "to"], []),
     (["exchange", "--registrar", ""], []),
     (["report", "--db", "reg"], ["register.db"]),
+    (["report", "--e"], ["--evidence"]),
     (["exchange", "--registrar-file", "to"], ["token"]),
     (["exchange", "to"], ["token"]),
     (["serve", "to"], []),

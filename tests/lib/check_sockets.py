@@ -146,6 +146,22 @@ def a_damaged_register_is_told_on_a_socket(bor, folder):
 
 
 @check
+def a_503_reaches_a_client_that_is_still_sending(bor, folder):
+    """a 503 reaches a client that is still sending, and it may go on to send for a while"""
+    begun(bor, folder, LODGED)
+    changed(folder, "UPDATE statement SET kind = 'ship' WHERE id = 's1'")
+    server, row = bor.serve(folder, DB, 2), ("alder published", "@unavailable.reply")
+    is_told(server.ask(request_of(row[0]) + b"x" * 2_000_000), row)
+    with server.connect() as client:
+        client.sendall(request_of(row[0]))
+        is_told(told(client), row)
+        for _ in range(10):
+            client.sendall(b"x")
+            time.sleep(0.02)
+    has_ended(server, 3)
+
+
+@check
 def a_refusal_is_no_failure(bor, folder):
     """a refused request is no failed connection"""
     server = served(bor, folder, 2)

@@ -11,6 +11,7 @@ from pathlib import Path
 
 from lib.checking import Mismatch, is_so
 from lib.program import TOP
+from lib.scripts import NotRun
 from lib.standins import NOT_RUN, built
 
 # The program of the tests, as `rt ci` and `rt test` leave it.
@@ -53,12 +54,14 @@ def fault_of(program, library, name, folder):
 
 
 def asked(_bor, program=TESTS):
-    """How each test came out; nothing where there is no `cc`, or no program of the tests."""
+    """How each test came out; that they were not run where there is no `cc`, or no program of the tests."""
     with tempfile.TemporaryDirectory(prefix="bor-starved-") as folder:
-        library = built(folder) if program.is_file() else None
+        if not program.is_file():
+            yield "calls without memory", NotRun(f"not run: no {program}")
+            return
+        library = built(folder)
         if not library:
-            told = NOT_RUN if program.is_file() else "not run: no crates/bor_tests/out/bor_tests_tests"
-            print(f"calls without memory {told}", flush=True)
+            yield "calls without memory", NOT_RUN
             return
         names = listed(program)
         yield "calls without memory", None if ASKS_FOR_MEMORY in names else "the tests aren't there: build them anew"

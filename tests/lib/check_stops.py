@@ -313,11 +313,11 @@ def outcome(bor, try_it):
 
 
 def tried(bor, step, rounds=8, seed=20240201):
-    """The name of each case, what was found, and how many stops left what; nothing where there is no `cc`."""
+    """The name of each case, what was found, and how many stops left what; that none was run where there is no `cc`."""
     with tempfile.TemporaryDirectory(prefix="bor-standin-") as folder, ThreadPoolExecutor(cpu_count()) as pool:
         library = built(folder)
         if not library:
-            print(f"stops {NOT_RUN}", flush=True)
+            yield "stops", NOT_RUN, None
             return
         listed = list(cases(library, step, rounds, seed))
         for (name, _), (fault, ends) in zip(listed, pool.map(lambda one: outcome(bor, one[1]), listed)):

@@ -70,6 +70,16 @@ def a_named_file_is_checked_and_stays(bor, folder):
 
 
 @check
+def a_file_comes_byte_by_byte(bor, folder):
+    """a file that comes a byte a read is checked as one that comes at once, whatever its first fault is"""
+    files = [first_file(), first_file()[:-1], b"", b"[]", b"[{}]", first_file().ljust(1_048_576), b" " * 1_048_577]
+    for data in files:
+        slowly, ran = bor.run_slowly(["check"], folder, data), bor.run(["check"], folder, data)
+        is_so(slowly.told() == ran.told(), f"{data[:40]!r}: {slowly.told()}, and at once {ran.told()}")
+    ended(bor.run_slowly(["check"], folder, first_file()), 0, LISTED)
+
+
+@check
 def a_file_named_as_a_command_is_checked(bor, folder):
     """a file with the name of a command is checked"""
     write(folder, "exchange", b"[]")
@@ -134,6 +144,7 @@ def commands(bor, folder):
         ["exchange", *REGISTER, name, name, name],
         ["exchange", "--db", DB, *REGISTER, name],
         ["report", "--db", DB, *seen],
+        ["report", "--db", DB, *seen, "--evidence"],
         ["serve", "--db", DB, "--port", "PORT", "--connections", "0"],
         ["migrate", "--db", DB],
     ]

@@ -10,7 +10,8 @@ from lib.replies import replies_in
 
 STORE_FAULT = "@unavailable.reply"
 FILINGS = ("alder filings", '200 [{"due":"2024-02-01","filing":1,"key":"f1","state":"published"}]')
-SNAPSHOT, CHAINS, FILE = "alder snapshot alder c1", "alder chains alder c1 e1", "alder file f1"
+SNAPSHOT, FILE = "alder snapshot alder c1", "alder file f1"
+CHAINS, EVIDENCE = "alder chains alder c1 e1", "alder evidence alder c1 e1"
 NAMED = (
     '200 {"agent":"alder","date":"2024-02-01","declaration":"c1","persons":[{"agent":"alder",'
     '"declaration":"c1","links":1,"name":"Ann Moss","record":"p1"}],"record":"e1"}'
@@ -115,6 +116,7 @@ DAMAGE = [
     ("UPDATE interest SET high = 101", CHAINS),
     ("UPDATE interest SET high = NULL", CHAINS),
     ("UPDATE interest SET low = NULL", CHAINS),
+    ("UPDATE interest SET high = 101", EVIDENCE),
     ("UPDATE interest SET low_open = 2", "alder published"),
     ("INSERT INTO period VALUES ('alder', 1, 3, 1, 99999999, NULL)", SNAPSHOT),
     ("INSERT INTO period VALUES ('alder', 1, 3, 1, NULL, -99999999)", CHAINS),

@@ -1,10 +1,13 @@
 """What words are answered with: help, what a terminal is told, and a token that isn't told back."""
 import os
 import subprocess
+import threading
+import time
 from pathlib import Path
 
-from lib.checking import DB, check, ended, is_so, write
-from lib.program import SECONDS
+from lib.checking import DB, LODGED, begun, check, ended, is_so, report_words, write
+from lib.notation import request_of
+from lib.program import REGISTER, SECONDS, free_port
 
 # The commands with their words, as they are asked for.
 COMMANDS = {
@@ -12,7 +15,7 @@ COMMANDS = {
     "init": ["--db <PATH>", "--registrar <TOKEN>", "--registrar-file <FILE>", "--day <DAY>"],
     "exchange": ["--db <PATH>", "--registrar <TOKEN>", "--registrar-file <FILE>", "--day <DAY>", "<FILE>..."],
     "serve": ["--db <PATH>", "--port <PORT>", "--connections <COUNT>", "--memory <MB>", "--log"],
-    "report": ["--viewer <AGENT>", "--agent <AGENT>", "--declaration <IDENT>", "--record <IDENT>", "--date <DAY>"],
+    "report": ["--viewer <AGENT>", "--agent <AGENT>", "--declaration <IDENT>", "--record <IDENT>", "--date <DAY>", "--evidence"],
     "migrate": ["--db <PATH>", "version 1 to version 2"],
 }
 # No token, but what somebody may take for one.
@@ -142,3 +145,85 @@ def nobody_else_is_told_so(bor, folder):
         is_so(told[:2] == (status, output) and WAITING not in told[2] + told[3], f"{words}: {told}")
     told = typed(bor, folder, ["help", "check"])
     is_so(told[0] == 0 and told[2] == "", f"help: {told}")
+
+
+# ---- how far a command is
+
+# So many requests, a file of so many bytes, and so many seconds of silence are long.
+MANY, LARGE, SILENCE = 20, 33_554_432, 1
+
+
+def told_beside(bor, folder, words):
+    """What a run tells on standard error where that is a terminal, beside what it does elsewhere, and how long it took."""
+    plain, start = bor.run(words, folder), time.monotonic()
+    status, output, errors, shown = typed(bor, folder, words, on=("stderr",))
+    seconds = time.monotonic() - start
+    elsewhere = plain.errors.decode()
+    is_so((status, output.encode(), errors) == (plain.status, plain.output, ""), f"{words}: {status} {output:.300} {errors}")
+    is_so(shown.endswith(elsewhere), f"{words}: {shown!r:.300}, and elsewhere {elsewhere!r:.300}")
+    return shown.removesuffix(elsewhere), elsewhere, seconds
+
+
+def is_told_where_it_is_long(bor, folder, words, line, is_long):
+    """The line is told on a terminal alone, and there where this is long; as is what took a second."""
+    shown, elsewhere, seconds = told_beside(bor, folder, words)
+    is_so(line in shown if is_long else shown == "" or seconds > SILENCE, f"{words[0]} tells {shown!r:.300}")
+    is_so(line not in elsewhere, f"{words[0]} tells {elsewhere!r:.300} where there is no terminal")
+
+
+@check
+def a_terminal_is_told_of_many_requests(bor, folder):
+    """on a terminal alone it is told that many requests are answered next"""
+    names = [write(folder, f"{at}.http", request_of("alder filings")) for at in range(MANY)]
+    for count in (MANY, MANY - 1):
+        words = ["exchange", *REGISTER, *names[:count]]
+        is_told_where_it_is_long(bor, folder, words, f"bor: answering {count} requests\n", count == MANY)
+
+
+@check
+def a_terminal_is_told_of_a_large_file(bor, folder):
+    """on a terminal alone it is told that a large file is opened"""
+    for size in (LARGE, LARGE - 1):
+        with open(Path(folder, "large.db"), "wb") as file:
+            file.truncate(size)
+        is_told_where_it_is_long(bor, folder, report_words("large.db"), "bor: opening large.db\n", size == LARGE)
+
+
+def given_slowly(path, data):
+    """Gives a pipe's reader the bytes after more than a second."""
+    with open(path, "wb") as pipe:
+        time.sleep(SILENCE + 0.2)
+        pipe.write(data)
+
+
+@check
+def a_terminal_is_told_after_a_second(bor, folder):
+    """on a terminal alone, a command that was silent for a second tells how far it is"""
+    request = request_of("alder filings")
+    quick = write(folder, "quick.http", request)
+    wanted = bor.run(["exchange", *REGISTER, quick, quick], folder).output.decode()
+    for slow, on, line in (("shown.http", ("stderr",), "bor: read 1 of 2 files\n"), ("silent.http", (), "")):
+        os.mkfifo(Path(folder, slow))
+        threading.Thread(target=given_slowly, args=[Path(folder, slow), request], daemon=True).start()
+        status, output, errors, shown = typed(bor, folder, ["exchange", *REGISTER, slow, quick], on=on)
+        is_so((status, output, errors) == (1, wanted, ""), f"it ended as {(status, output, errors)}")
+        is_so(line in shown and bool(line) == bool(shown), f"it tells {shown!r}")
+
+
+@check
+def a_terminal_is_told_where_a_server_reads(bor, folder):
+    """on a terminal alone, a server without a log tells whether its register is in memory"""
+    begun(bor, folder, LODGED)
+    for more, line in (([], "3 statements in memory"), (["--memory", "0"], "no statements in memory, the file is read")):
+        words = ["serve", "--db", DB, "--port", str(free_port()), "--connections", "0", *more]
+        is_told_where_it_is_long(bor, folder, words, f"bor: {line}\n", True)
+
+
+@check
+def what_is_printed_is_the_same_on_a_terminal(bor, folder):
+    """what is printed on a terminal is what is printed elsewhere"""
+    name = write(folder, "file.json", STATEMENT)
+    for words in (["check", name], ["help", "check"], ["exchange", *REGISTER, write(folder, "a.http", request_of("alder filings"))]):
+        plain = bor.run(words, folder)
+        told = typed(bor, folder, words, on=("stdout",))
+        is_so(told == (plain.status, "", plain.errors.decode(), plain.output.decode()), f"{words}: {told}")

@@ -16,6 +16,8 @@ LODGING = "alder lodge f1 2024-02-01 FIRST"
 ENROLLED = (ENROLMENT, '201 {"agent":"alder"}')
 LODGED = (LODGING, "201 F(1, published, 2024-02-01)")
 REPORT = "entity\talder\tc1\te1\t2024-02-01\nperson\talder\tc1\tp1\t1\t\"Ann Moss\"\npersons 1\n"
+# The same with the links of its chains.
+EVIDENCED = REPORT.replace("\npersons", "\talder\tc1\tr1\nlink\talder\tc1\tr1\tlast\npersons")
 CHECKS = []
 
 
@@ -86,9 +88,12 @@ def begun(bor, folder, *rows, db=DB):
     exchange(bor, folder, [ENROLLED, *rows], db)
 
 
+def report_words(db, record="e1", viewer="alder"):
+    return ["report", "--db", db, "--viewer", viewer, "--agent", "alder", "--declaration", "c1", "--record", record]
+
+
 def report(bor, folder, record="e1", db=DB, viewer="alder"):
-    words = ["--viewer", viewer, "--agent", "alder", "--declaration", "c1", "--record", record]
-    return bor.run(["report", "--db", db, *words], folder)
+    return bor.run(report_words(db, record, viewer), folder)
 
 
 def write(folder, name, data):

@@ -62,6 +62,8 @@ PROBES = [
     "birch snapshot birch c9",
     "alder chains alder c1 e2",
     "birch chains birch c9 e9",
+    "alder evidence alder c1 e2",
+    "birch evidence birch c9 e9",
     "alder file d1",
     "birch file b1",
 ]

@@ -10,7 +10,7 @@ import threading
 import time
 
 from lib.check_sockets import has_ended, is_told, served
-from lib.checking import LODGED, LODGING, exchange, is_so
+from lib.checking import DB, LODGED, LODGING, Mismatch, begun, exchange, is_so
 from lib.notation import first_request, request_of
 from lib.program import told
 from lib.replies import reply_of
@@ -413,6 +413,61 @@ def one_more_than_places(bor, folder):
     for client in clients:
         client.close()
     ends_as(server, 3)
+
+
+# ---- a wait that lasts as long as it is told
+
+# A client comes so long after another one, and each is seen to be cut off as much later at most. A busy machine has
+# so many tries.
+LATER, TRIES = 0.5, 5
+# The processor time of a server that waits, in seconds.
+RESTING = 0.05
+
+
+def is_gone(server, name, since):
+    """After how many seconds the server has this socket no more."""
+    while name in server.sockets():
+        is_so(time.monotonic() - since < REST_TIME + LATE, f"a client is there after {time.monotonic() - since:.1f} s")
+        time.sleep(0.005)
+    return time.monotonic() - since
+
+
+def refused(server):
+    """A client that was refused and has not ended, with its socket at the server, and when it came."""
+    before, since = server.sockets(), time.monotonic()
+    client = server.connect()
+    client.sendall(b"GET /filings\r\n\r\n")
+    is_so(told(client).startswith(b"HTTP/1.1 400 "), "it isn't refused")
+    (name,) = server.sockets() - before
+    return client, name, since
+
+
+def own_times(bor, folder):
+    """of clients that have different times left each is cut off as its own is up, and the server rests meanwhile"""
+    begun(bor, folder, BIRCH)
+    for _ in range(TRIES):
+        server = bor.serve(folder, DB, 3)
+        with server.connect() as slow:
+            slow.sendall(request_of(OTHER[0])[:20])
+            time.sleep(0.1)
+            first = refused(server)
+            time.sleep(LATER)
+            second = refused(server)
+            spent = server.seconds_spent()
+            seconds = [is_gone(server, *first[1:])]
+            spent = server.seconds_spent() - spent
+            seconds.append(is_gone(server, *second[1:]))
+            slow.sendall(request_of(OTHER[0])[20:])
+            is_told(told(slow), OTHER)
+        for client in (first[0], second[0]):
+            client.close()
+        has_ended(server)
+        shown = " and ".join(f"{it:.2f}" for it in seconds)
+        is_so(min(seconds) >= REST_TIME, f"they were cut off after {shown} s")
+        is_so(spent <= RESTING, f"the server took {spent:.2f} s of processor time while it waited")
+        if max(seconds) < REST_TIME + LATER:
+            return
+    raise Mismatch(f"they were cut off after {shown} s")
 
 
 def waits_side_by_side(functions):

@@ -23,12 +23,13 @@ DUE = ["2024-02-01"] * 4 + ["2024-02-02", "2024-02-05"]
 DRAFT_DUE = ["2024-03-01", "2024-03-02", "2024-04-01", "2024-12-31", "9999-12-31"]
 ASKED_ON = ["2024-01-10", "2024-01-12", "2024-02-01", "2024-03-01", "2023-12-31", "9999-12-31"]
 KEYS = ["a1", "d1", "d2", "d3", "b1", "f1", "f2"] + [f"k{number}" for number in range(200)]
-LODGING, READING = ["lodge"] * 9, ["filings", "file", "published", "snapshot", "snapshot", "chains", "chains", "chains"]
+LODGING = ["lodge"] * 9
+READING = ["filings", "file", "published", "snapshot", "snapshot", "chains", "chains", "chains", "evidence", "evidence"]
 WISHES = LODGING + READING + ["file", "withdraw", "withdraw", "enrol", "odd"]
 METHODS = ["GET", "PUT", "DELETE", "POST", "HEAD", "PATCH", "OPTIONS", "get", "G@T", ""]
 TARGETS = [
     "/", "*", "/filings", "/filings/", "/filings/f1", "/filings/f1/", "/filings/f1/file", "/filings//file",
-    "/published", "/snapshot", "/chains", "/day", "/agents", "/agents/alder", "/nothing", "http://localhost/filings", "/FILINGS",
+    "/published", "/snapshot", "/chains", "/evidence", "/evidence/", "/day", "/agents", "/agents/alder", "/nothing", "http://localhost/filings", "/FILINGS",
     "/filings/%66%31", "/filings/../published", "//filings", "/filings?", "/filings#x", "/filings/f1/file/x", "filings",
 ]
 VALUES = [
@@ -175,10 +176,10 @@ def asked(rng, wish, keys=KEYS):
     if wish == "snapshot":
         words = query(rng, agent=agent, declaration=declaration, date=date_or_none(rng))
         return "GET", f"/snapshot?{words}"
-    if wish == "chains":
+    if wish in ("chains", "evidence"):
         record = pick(rng, ["e1", "e1", "e2", "e3", "e9", "p1"])
         words = query(rng, agent=agent, declaration=declaration, record=record, date=date_or_none(rng))
-        return "GET", f"/chains?{words}"
+        return "GET", f"/{wish}?{words}"
     if wish == "odd":
         return pick(rng, METHODS), pick(rng, TARGETS)
     return "GET", f"/{wish}"

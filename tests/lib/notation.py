@@ -158,9 +158,9 @@ def spelled(wish, words):
     if wish == "snapshot":
         agent, declaration, *date = names
         return "GET", dated(f"/snapshot?agent={agent}&declaration={declaration}", date), b""
-    if wish == "chains":
+    if wish in ("chains", "evidence"):
         agent, declaration, record, *date = names
-        return "GET", dated(f"/chains?agent={agent}&declaration={declaration}&record={record}", date), b""
+        return "GET", dated(f"/{wish}?agent={agent}&declaration={declaration}&record={record}", date), b""
     if wish == "day":
         return "POST", f"/day?date={names[0]}", b""
     if wish == "enrol":

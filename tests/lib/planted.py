@@ -1,4 +1,5 @@
 """Second answers with a fault each, as one could be planted in the program: each has to be found."""
+from lib.evidence import chain_order, first_lists, in_bytes, link_order, record_first, relationship
 from lib.reading import Refused
 from lib.register import Register, record_of
 
@@ -394,6 +395,218 @@ class SuccessorIsIgnored(Planted):
         return self.line(filing)
 
 
+# ---- evidence
+
+
+def of_persons(chains, nodes):
+    """The first of the chains from each person."""
+    persons = {}
+    for chain in chains:
+        if nodes[chain[0].party].type == "person":
+            persons.setdefault(chain[0].party, chain)
+    return persons
+
+
+class ChainFoundFirst(Planted):
+    """A person's evidence is the chain that is found first, though another is shorter."""
+
+    def first_chains(self, nodes, links, same, target):
+        chains = {}
+
+        def follow(link, below):
+            chains[link] = [link, *below]
+            for other in links:
+                if other not in chains and self.leads_to(other, link, nodes, same):
+                    follow(other, chains[link])
+
+        for link in links:
+            if link not in chains and self.is_last(link, target, same):
+                follow(link, [])
+        return chains
+
+
+class LongestChain(Planted):
+    """A person's evidence is the longest of the first chains from its links."""
+
+    def evidence_chains(self, nodes, links, same, target):
+        chains = self.first_chains(nodes, links, same, target).values()
+        return of_persons(sorted(chains, key=lambda chain: (-len(chain), chain_order(chain))), nodes)
+
+
+class LastLinkDecides(Planted):
+    """Chains of one length are compared from the entity on."""
+
+    def evidence_chains(self, nodes, links, same, target):
+        """Each link with the first chain from the entity up to it, and then the persons'."""
+        chains = {link: [link] for link in sorted(links, key=link_order) if self.is_last(link, target, same)}
+        newest = chains
+        while newest:
+            longer = {}
+            for below, chain in newest.items():
+                for link in sorted(links, key=link_order):
+                    if link not in chains and self.leads_to(link, below, nodes, same):
+                        longer.setdefault(link, [link, *chain])
+            chains, newest = {**chains, **longer}, longer
+        return of_persons(chains.values(), nodes)
+
+
+class LastInOrder(Planted):
+    """Of the last links that fit, the last in order is told."""
+
+    def first_chains(self, nodes, links, same, target):
+        chains = super().first_chains(nodes, links, same, target)
+        lasts = sorted((link for link, chain in chains.items() if len(chain) == 1), key=link_order)
+        for link, chain in chains.items():
+            if len(chain) > 1:
+                fitting = [it for it in lasts if self.leads_to(chain[-2], it, nodes, same)]
+                chains[link] = [*chain[:-1], fitting[-1]]
+        return chains
+
+
+class OtherOrder(Planted):
+    """Chains whose links have another order; those that are wrong say which."""
+
+    def orders(self, links):
+        raise NotImplementedError
+
+    def evidence_chains(self, nodes, links, same, target):
+        order = self.orders(links)
+        last = [link for link in links if self.is_last(link, target, same)]
+        chains = first_lists(last, links, lambda it, below: self.leads_to(it, below, nodes, same), order)
+        return of_persons(sorted(chains.values(), key=lambda it: (len(it), list(map(order, it)))), nodes)
+
+
+class LinksAsLodged(OtherOrder):
+    """Of two links the one that was lodged first comes first."""
+
+    def orders(self, links):
+        return {link: place for place, link in enumerate(links)}.get
+
+
+class LinksByAgent(OtherOrder):
+    """Links are compared by agent and declaration before their records."""
+
+    def orders(self, links):
+        return lambda link: in_bytes(relationship(link))
+
+
+class EvidenceMustEndInStake(Planted):
+    """No evidence ends in a link that is no stake."""
+
+    def evidence_chains(self, nodes, links, same, target):
+        kept = [link for link in links if link.stake]
+        return super().evidence_chains(nodes, kept, same, target)
+
+
+class LongChainsAreLeftOut(Planted):
+    """A person whose chain has more than two links has no evidence."""
+
+    def evidence_chains(self, nodes, links, same, target):
+        persons = super().evidence_chains(nodes, links, same, target)
+        return {person: chain for person, chain in persons.items() if len(chain) < 3}
+
+
+class EvidenceOfDrafts(Planted):
+    """Evidence stands on links of others' drafts between what is seen."""
+
+    breaks_isolation = True
+
+    def evidence_told(self, viewer, date, target, graph):
+        nodes, _, same = graph
+        rows = self.latest([(agent, it) for agent in self.filings for it, _ in self.live(agent)], date)
+        links = [self.link(node, it, nodes, date) for node, it in rows.items() if it.type == "relationship"]
+        return super().evidence_told(viewer, date, target, (nodes, [link for link in links if link], same))
+
+
+class PathFoundFirst(Planted):
+    """A path of aliases is the one that is found first, though another is shorter."""
+
+    def alias_path(self, one, other, nodes, same):
+        met = {one}
+
+        def path(it):
+            if it == other:
+                return [it]
+            for step in sorted(nodes, key=record_first):
+                if step not in met and self.is_alias(it, step, nodes):
+                    met.add(step)
+                    found = path(step)
+                    if found:
+                        return [it, *found]
+            return None
+
+        return path(one) if one != other else []
+
+
+class PathIsLast(Planted):
+    """Of the shortest paths of aliases the last one is told."""
+
+    def alias_path(self, one, other, nodes, same):
+        def precedes(it, below):
+            return self.is_alias(it, below, nodes)
+
+        if one == other:
+            return []
+        items = sorted((it for it in nodes if same[it] == same[other]), key=record_first, reverse=True)
+        places = {it: place for place, it in enumerate(items)}
+        return first_lists([other], items, precedes, places.get)[one]
+
+
+class PathByAgent(Planted):
+    """Paths of aliases are compared by agent and declaration before their records."""
+
+    def alias_path(self, one, other, nodes, same):
+        items = [it for it in nodes if same[it] == same[other]]
+        paths = first_lists([other], items, lambda it, below: self.is_alias(it, below, nodes), in_bytes)
+        return paths[one] if one != other else []
+
+
+class EndsAreAliases(Planted):
+    """Both ends of a path stand side by side, though they are no aliases."""
+
+    def alias_path(self, one, other, nodes, same):
+        return [] if one == other else [one, other]
+
+
+class PathIsEmpty(Planted):
+    """No path of aliases is told."""
+
+    def alias_path(self, one, other, nodes, same):
+        return []
+
+
+class RecordsOfToday(Planted):
+    """The records are those of the register's day, whatever the date."""
+
+    def evidence_rows(self, viewer, date):
+        return super().evidence_rows(viewer, self.day)
+
+
+class FirstStatements(Planted):
+    """A record is told by the first of its statements."""
+
+    def evidence_rows(self, viewer, date):
+        rows = super().evidence_rows(viewer, date)
+        first = {}
+        for agent, it in self.visible(viewer):
+            first.setdefault((agent, *record_of(it)), it)
+        return {node: first[node] for node in rows}
+
+
+class RecordsOfLinksAlone(Planted):
+    """The records within a path of aliases are not told."""
+
+    def met(self, persons, tree, target):
+        return super().met(persons, {link: (below, []) for link, (below, _) in tree.items()}, target)
+
+
+class FirstIsLast(Planted):
+    """A person's first link is the one at the entity."""
+
+    def person_line(self, person, chain, nodes):
+        return {**super().person_line(person, chain[::-1], nodes), "links": len(chain)}
+
+
 PLANTED = [
     HalfCounts,
     OpenHalfIsNone,
@@ -434,4 +647,22 @@ PLANTED = [
     PointZeroIsWhole,
     RepeatIsRefused,
     SuccessorIsIgnored,
+    ChainFoundFirst,
+    LongestChain,
+    LastLinkDecides,
+    LastInOrder,
+    LinksAsLodged,
+    LinksByAgent,
+    EvidenceMustEndInStake,
+    LongChainsAreLeftOut,
+    EvidenceOfDrafts,
+    PathFoundFirst,
+    PathIsLast,
+    PathByAgent,
+    EndsAreAliases,
+    PathIsEmpty,
+    RecordsOfToday,
+    FirstStatements,
+    RecordsOfLinksAlone,
+    FirstIsLast,
 ]

@@ -1,11 +1,14 @@
 """Runs of the built program."""
 import atexit
+import contextlib
+import fcntl
 import itertools
 import os
 import socket
 import subprocess
 import threading
 from pathlib import Path
+from types import SimpleNamespace
 
 TOP = Path(__file__).resolve().parent.parent.parent
 BUILT = TOP / "crates" / "bor" / "out" / "bor"
@@ -47,6 +50,24 @@ class Bor:
         store = ["--db", db] if db else []
         return self.run(["exchange", *store, *REGISTER, *names], folder)
 
+    def run_slowly(self, words, folder, data):
+        """A run whose standard input gives a byte a read; of much data the first do."""
+        read, write = os.pipe2(os.O_CLOEXEC | os.O_DIRECT)  # each write is a read of its own
+        streams = {"stdin": read, "stdout": subprocess.PIPE, "stderr": subprocess.PIPE}
+        with subprocess.Popen([self.path, *words], cwd=folder, env={**os.environ, **self.variables}, **streams) as ran:
+            os.close(read)
+            limit = threading.Timer(SECONDS, ran.kill)
+            limit.start()
+            dripped(write, data)
+            output, errors = ran.communicate()
+            limit.cancel()
+        return Ended(SimpleNamespace(returncode=ran.returncode, stdout=output, stderr=errors))
+
+    def exchange_slowly(self, request, folder, db=None):
+        """A run of one request, which comes a byte a read."""
+        store = ["--db", db] if db else []
+        return self.run_slowly(["exchange", *store, *REGISTER, "/dev/stdin"], folder, request)
+
     def serve(self, folder, db, connections, *words):
         """A server, with more words where they are given; where another program took its port meanwhile, it gets another one."""
         for _ in range(3):
@@ -55,6 +76,21 @@ class Bor:
                 break
             server.stop()
         return server
+
+
+# So many bytes are given one a read.
+DRIPPED = 2_000
+
+
+def dripped(pipe, data):
+    """Writes the first bytes into the pipe one by one, then the others, and closes it."""
+    with contextlib.suppress(BrokenPipeError), open(pipe, "wb", buffering=0) as writer:
+        for byte in data[:DRIPPED]:
+            writer.write(bytes([byte]))
+        fcntl.fcntl(pipe, fcntl.F_SETFL, 0)
+        rest = data[DRIPPED:]
+        while rest:
+            rest = rest[writer.write(rest) :]
 
 
 # ---- servers
@@ -120,6 +156,19 @@ class Server:
     def stop(self):
         self.ran.kill()
         self.ran.communicate()
+
+    def sockets(self):
+        """The sockets that the server has."""
+        names = set()
+        for path in Path(f"/proc/{self.ran.pid}/fd").iterdir():
+            with contextlib.suppress(OSError):
+                names.add(os.readlink(path))
+        return {it for it in names if it.startswith("socket:")}
+
+    def seconds_spent(self):
+        """The processor time that the server has taken."""
+        fields = Path(f"/proc/{self.ran.pid}/stat").read_text().rpartition(")")[2].split()
+        return (int(fields[11]) + int(fields[12])) / os.sysconf("SC_CLK_TCK")
 
 
 def told(client):

@@ -1,7 +1,7 @@
 """Random inputs to a register: filings that mostly may follow one another, and asks for what is seen."""
 import json
 
-from lib.notation import token_of
+from lib.notation import file_of, token_of
 from lib.register import Register
 
 DAY = "2024-02-01"
@@ -12,6 +12,9 @@ PERSONS = ["p1", "p2", "p3"]
 RECORDS = [("entity", record) for record in ENTITIES]
 RECORDS += [("person", record) for record in PERSONS]
 RECORDS += [("relationship", f"r{number}") for number in range(1, 9)]
+# Records of which each is held by those of the next line, in a declaration of their own.
+LAYERS = [["f1"], ["f2", "f3"], ["f4", "f5"], ["p1", "p2"]]
+LAYERED = "c3"
 NODES, LINKS = list(range(7)), list(range(7, 15))
 IDENTIFIERS = [("X", "1"), ("X", "2"), ("Y", "1"), ("x", "1")]
 DATES = ["2024-01-10", "2024-01-11", "2024-01-15", "2024-02-03"]
@@ -194,6 +197,17 @@ class Maker:
         free = [at for at in chosen if self.may_follow(agent, declaration, RECORDS[at][1], due)]
         self.lodge(agent, declaration, due, free or chosen)
 
+    def layer(self, agent):
+        """Records with many chains of one length, between which the order of their links decides."""
+        rng = self.rng
+        pairs = [(low, high) for lows, highs in zip(LAYERS, LAYERS[1:]) for low in lows for high in highs]
+        pairs = [pair for pair in pairs if rng.random() < 0.9]
+        lines = [f"E t-{it} {it}{rng.choice(['', '', ' #T/1', ' #T/2'])}" for lows in LAYERS[:-1] for it in lows]
+        lines += [f"P t-{it} {it}" for it in LAYERS[-1]]
+        names = rng.sample(range(10, 30), len(pairs))
+        lines += [f"R t{name} r{name} {low}<-{high} V60" for name, (low, high) in zip(names, pairs)]
+        self.ask(agent, "lodge", "layers", self.register.day, file_of(f"{'; '.join(lines)} in {LAYERED}"))
+
     def repeat(self, agent):
         """An earlier lodging again, or another one under its key."""
         lodged = [wish for wish in self.inputs if wish[:2] == (agent, "lodge")]
@@ -235,6 +249,19 @@ class Maker:
             self.ask(viewer, "chains", viewer, "c1", "p1")
             self.ask(viewer, "published")
             self.ask(viewer, "filings")
+        for viewer in self.agents:
+            self.ask_why(viewer)
+
+    def ask_why(self, viewer):
+        """Why each entity's persons are named to a viewer, on the register's day and on another one."""
+        for agent in self.agents:
+            for declaration in DECLARATIONS:
+                for record in ENTITIES:
+                    self.ask(viewer, "evidence", agent, declaration, record)
+                    self.ask(viewer, "evidence", agent, declaration, record, self.rng.choice(ASKED_ON))
+            for record in ["f1", "f2"]:
+                self.ask(viewer, "evidence", agent, LAYERED, record)
+        self.ask(viewer, "evidence", viewer, "c1", "p1")
 
 
 def inputs_of(rng):
@@ -248,6 +275,8 @@ def inputs_of(rng):
             maker.begin(agent, "c2")
     for _ in range(rng.randint(4, 12)):
         maker.step()
+    for agent in maker.agents:
+        maker.layer(agent)
     maker.end()
     return maker.inputs
 

@@ -6,6 +6,7 @@ of one link, of two, and so on, until a round has none that is new.
 import json
 from dataclasses import dataclass
 
+from lib.evidence import Evidence, named
 from lib.notation import token_of
 from lib.reading import Refused, read
 from lib.replies import reply
@@ -18,7 +19,7 @@ STATUSES = {
 }
 STATUS_OF = {name: status for status, names in STATUSES.items() for name in names}
 LEGAL_KINDS = ["registeredEntity", "legalEntity"]
-READS = ["chains", "snapshot", "filings", "file", "published"]
+READS = ["chains", "evidence", "snapshot", "filings", "file", "published"]
 # The methods that aren't named as what is wished.
 CALLS = {"day": "set_day", "filings": "list_filings"}
 
@@ -33,10 +34,11 @@ class Filing:
     withdrawn: bool = False
 
 
-@dataclass
+@dataclass(frozen=True)
 class Link:
-    """A relationship between open records, each told by its agent, declaration and identifier."""
+    """A relationship by its record's identifier, between open records, each told by its agent, declaration and identifier."""
 
+    record: str
     subject: tuple
     party: tuple
     stake: bool
@@ -53,7 +55,7 @@ def refused(fault):
     return reply(STATUS_OF.get(fault.name, 422), body)
 
 
-class Register:
+class Register(Evidence):
     """A register on a day, with its agents and their filings in the order in which they were accepted."""
 
     def __init__(self, day):
@@ -188,11 +190,14 @@ class Register:
                 last[agent, it.declaration, it.record] = it
         return {node: it for node, it in last.items() if it.status != "closed"}
 
+    def shown(self, it):
+        return {**line_of(it), "details": it.details}
+
     def snapshot(self, viewer, agent, declaration, date=None):
         date = date or self.day
         shown = self.latest(self.visible(viewer), date)
         records = [
-            {**line_of(it), "details": it.details}
+            self.shown(it)
             for (owner, subject, _), it in sorted(shown.items(), key=lambda pair: pair[0][2].encode())
             if (owner, subject) == (agent, declaration)
         ]
@@ -241,7 +246,7 @@ class Register:
         party = self.end_of(node, it.details["interestedParty"], nodes)
         if not subject or not party or nodes[subject].type != "entity":
             return None
-        return Link(subject, party, self.is_stake(it.interests, date), self.is_holding(it.interests, date))
+        return Link(node[2], subject, party, self.is_stake(it.interests, date), self.is_holding(it.interests, date))
 
     def end_of(self, node, record, nodes):
         end = (node[0], node[1], record)
@@ -294,12 +299,17 @@ class Register:
             count += 1
         return persons
 
-    def chains(self, viewer, agent, declaration, record, date=None):
-        date = date or self.day
-        target = (agent, declaration, record)
+    def graph_about(self, viewer, target, date):
+        """What a viewer sees of an entity, which has to be open."""
         nodes, links, same = self.graph(viewer, date)
         if target not in nodes or nodes[target].type != "entity":
             raise Refused("NoEntity")
+        return nodes, links, same
+
+    def chains(self, viewer, agent, declaration, record, date=None):
+        date = date or self.day
+        target = (agent, declaration, record)
+        nodes, links, same = self.graph_about(viewer, target, date)
         persons = self.joined(nodes, links, same, target)
         lines = [
             {**named(node), "links": count, "name": nodes[node].details["name"]}
@@ -307,12 +317,14 @@ class Register:
         ]
         return reply(200, told({**named(target), "date": date, "persons": lines}))
 
+    def evidence(self, viewer, agent, declaration, record, date=None):
+        date = date or self.day
+        target = (agent, declaration, record)
+        graph = self.graph_about(viewer, target, date)
+        return reply(200, told(self.evidence_told(viewer, date, target, graph)))
+
 
 # ---- records
-
-
-def named(node):
-    return dict(zip(("agent", "declaration", "record"), node))
 
 
 def record_of(it):

@@ -107,6 +107,13 @@ PERSON = {"agent": text, "declaration": text, "links": number, "name": text_or_n
 PUBLISHED = [{"agent": text, "due": day, "statements": [LINE]}]
 SNAPSHOT = {"date": day, "records": [RECORD]}
 CHAINS = {"agent": text, "date": day, "declaration": text, "persons": [PERSON], "record": text}
+KEY = {"agent": text, "declaration": text, "record": text}
+EVIDENCE = {
+    **CHAINS,
+    "links": [{**KEY, "next": either(null, KEY), "same": [KEY]}],
+    "persons": [{**PERSON, "first": KEY}],
+    "records": [{**RECORD, "agent": text, "declaration": text}],
+}
 FILE = "a file"
 # The routes, and what a status of success tells on each.
 ROUTES = [
@@ -117,6 +124,7 @@ ROUTES = [
     (re.compile(rb"GET /published(?:\?.*)?"), {200: PUBLISHED}),
     (re.compile(rb"GET /snapshot\?.*"), {200: SNAPSHOT}),
     (re.compile(rb"GET /chains\?.*"), {200: CHAINS}),
+    (re.compile(rb"GET /evidence\?.*"), {200: EVIDENCE}),
     (re.compile(rb"POST /day\?.*"), {200: {"day": day}}),
     (re.compile(rb"POST /agents\?.*"), {201: {"agent": text}}),
 ]

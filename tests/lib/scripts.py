@@ -21,14 +21,21 @@ def loaded_from(path):
     return module
 
 
+class NotRun(str):
+    """Why something was not run, in the place of a fault."""
+
+
 def tally(outcomes):
-    """Tells of each outcome with a fault, then how many have none; the exit status is 0 where all have none."""
-    passed = failed = 0
+    """Tells of each outcome with a fault, then how many have none, and how many were not run; the exit status is 0 where no fault was found."""
+    passed = failed = left_out = 0
     for name, fault in outcomes:
-        passed, failed = passed + (not fault), failed + bool(fault)
+        if isinstance(fault, NotRun):
+            left_out += 1
+        else:
+            passed, failed = passed + (not fault), failed + bool(fault)
         if fault:
             print(f"{name}: {fault}", flush=True)
-    print(f"{passed} passed, {failed} failed")
+    print(f"{passed} passed, {failed} failed{f', {left_out} not run' if left_out else ''}")
     return int(failed > 0 or passed == 0)
 
 

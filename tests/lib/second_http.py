@@ -26,6 +26,7 @@ ROUTES = [
     (re.compile(r"/published"), {"GET": "published"}),
     (re.compile(r"/snapshot"), {"GET": "snapshot"}),
     (re.compile(r"/chains"), {"GET": "chains"}),
+    (re.compile(r"/evidence"), {"GET": "evidence"}),
     (re.compile(r"/day"), {"POST": "day"}),
     (re.compile(r"/agents"), {"POST": "enrol"}),
 ]
@@ -36,6 +37,7 @@ NAMES = {
     "file": ["key"],
     "snapshot": ["agent", "declaration", "date"],
     "chains": ["agent", "declaration", "record", "date"],
+    "evidence": ["agent", "declaration", "record", "date"],
     "day": ["date"],
     "enrol": ["name", "token"],
 }

@@ -14,6 +14,7 @@ from lib.replies import reply_of
 from lib.scripts import apart
 
 SOURCE = Path(__file__).resolve().parent / "standin.c"
+# Told as a fault: what needs a C compiler has not passed where there is none.
 NOT_RUN = "not run: no cc"
 ENROLMENTS = ["registrar enrol alder alder-token-000001", "registrar enrol birch birch-token-000001"]
 # What tells apart the registers of the lists: their days, their agents, and what each of these sees.
