@@ -17,7 +17,7 @@ _bor() {
         serve)
             words='--db --port --connections --memory --log --help' paths='--db' values='--port --connections --memory' files=0 ;;
         report)
-            words='--db --viewer --agent --declaration --record --date --help' paths='--db' values='--viewer --agent --declaration --record --date' files=0 ;;
+            words='--db --viewer --agent --declaration --record --date --evidence --help' paths='--db' values='--viewer --agent --declaration --record --date' files=0 ;;
         migrate)
             words='--db --help' paths='--db' values='' files=0 ;;
         help)
