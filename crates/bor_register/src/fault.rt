@@ -6,7 +6,8 @@ ghost use Rattle.bor_register.specs.declared.fault.StoreFault.TheVariants as sto
 use std::alloc::AllocError;
 use thiserror::Error;
 
-/// Why a keep did not do what it was asked. The register is as before.
+/// Why a keep did not do what it was asked. The register is as before, unless the store shut in its
+/// commit: then the next opening may show the change.
 #[derive(Clone, Copy, Debug, PartialEq, Eq, Error)]
 pub enum StoreFault {
     /// Memory was wanting.
