@@ -329,9 +329,10 @@ pub fn answer_naming<K: Keep>(
 ///
 /// The refusals are, in their order: `NoAgent` where nobody has the token; `NotRegistrar` where an
 /// agent asks for the registrar's doing; `NotAgent` where the registrar asks for anything else;
-/// then the operation's own. A refusal leaves the register as it was, and so does `Failed`. No call
-/// of the keep is made that the request doesn't need. A keep whose store has shut, or shuts
-/// meanwhile, is answered for by `Failed` alone, if the store has returned what was written.
+/// then the operation's own. A refusal leaves the register as it was, and so does `Failed`, unless
+/// the store shut in its commit. No call of the keep is made that the request doesn't need. Where
+/// the store has shut, or shuts meanwhile, the reply is `Failed`, if the store has returned what
+/// was written.
 ///
 /// What is left is said of every register, and so is what is told, but for snapshots: what one
 /// tells is said of registers whose agents stand in order of their names, as every legal one's do.

@@ -45,7 +45,8 @@ pub enum DeskReply {
     Enrolled(AgentName),
     /// The request is refused. The register is as before.
     Refused(Refusal),
-    /// The keep failed, or memory was wanting. The register is as before.
+    /// The keep failed, or memory was wanting. The register is as before, unless the store shut in
+    /// its commit.
     Failed(StoreFault),
 }
 

@@ -12,7 +12,7 @@ use bor_records::RecordFault;
 use bor_register::StoreFault;
 use std::alloc::AllocError;
 
-/// Why a file was not lodged. The register is as before.
+/// Why a file was not lodged. The register is as before, unless the store shut in its commit.
 #[derive(Clone, Copy, Debug, PartialEq, Eq)]
 pub enum LodgeFault {
     /// The agent has lodged another file under the key, or the same with another due day.
@@ -49,7 +49,7 @@ impl From<AllocError> for LodgeFault {
     }
 }
 
-/// Why a filing was not withdrawn. The register is as before.
+/// Why a filing was not withdrawn. The register is as before, unless the store shut in its commit.
 #[derive(Clone, Copy, Debug, PartialEq, Eq)]
 pub enum WithdrawFault {
     /// The agent has no filing under the key.
@@ -70,7 +70,8 @@ impl From<StoreFault> for WithdrawFault {
     }
 }
 
-/// Why the register's day was not moved. The register is as before.
+/// Why the register's day was not moved. The register is as before, unless the store shut in its
+/// commit.
 #[derive(Clone, Copy, Debug, PartialEq, Eq)]
 pub enum AdvanceFault {
     /// The day is before the register's.
@@ -87,7 +88,7 @@ impl From<StoreFault> for AdvanceFault {
     }
 }
 
-/// Why an agent was not enrolled. The register is as before.
+/// Why an agent was not enrolled. The register is as before, unless the store shut in its commit.
 #[derive(Clone, Copy, Debug, PartialEq, Eq)]
 pub enum EnrolFault {
     /// An agent has the name.

@@ -353,9 +353,10 @@ fn lodge_new<K: Keep>(
 /// with its state now, `fresh` is false and nothing changes. Else the refusals are, in their order:
 /// `KeyReused`; `FilingsFull`; `DuePast`; `Read` with the file's first fault; then by statement in
 /// file order `StatementTwice` and `Record`, each with its place. A refusal leaves the register as
-/// it was, and so does `Store`. The keep is asked at most once for each statement's identifier and
-/// once for its record, and is changed at most once, last; none of its calls lists the agent's
-/// filings or copies a file. Beside the keep, n statements take the time of n look-ups among n.
+/// it was, and so does `Store`, unless the store shut in its commit. The keep is asked at most once
+/// for each statement's identifier and once for its record, and is changed at most once, last; none
+/// of its calls lists the agent's filings or copies a file. Beside the keep, n statements take the
+/// time of n look-ups among n.
 pub fn lodge<K: Keep>(
     alloc: Global,
     keep: &mut K,

@@ -16,7 +16,7 @@ use bor_terms::{AgentName, Day, Token};
 /// Moves the register's day to this one, and hands it back. What is due by then is published.
 ///
 /// `DayBack` is the one refusal: the day is before the register's; the same day is taken. It leaves
-/// the register as it was, and so does `Store`.
+/// the register as it was, and so does `Store`, unless the store shut in its commit.
 pub fn advance<K: Keep>(keep: &mut K, day: Day) -> Result<Day, AdvanceFault>
     ensures leaves { Leaves K.shows K.is_clean K.is_sound K.may_leave keep.old keep.new
         (λ r left. K.left_shows left (advance_step r day).register) }
@@ -64,7 +64,7 @@ fn add_agent<K: Keep>(keep: &mut K, name: &AgentName, token: &Token) -> Result<(
 ///
 /// The refusals are, in their order: `NameTaken` where an agent has the name, and `TokenTaken`
 /// where an agent or the registrar has the token. A refusal leaves the register as it was, and so
-/// does `Store`; name and token are dropped then.
+/// does `Store`, unless the store shut in its commit; name and token are dropped then.
 pub fn enrol<K: Keep>(keep: &mut K, name: AgentName, token: Token) -> Result<AgentName, EnrolFault>
     ensures leaves { Leaves K.shows K.is_clean K.is_sound K.may_leave keep.old keep.new
         (λ r left. K.left_shows left (enrol_step r name token).register) }
