@@ -1,9 +1,10 @@
 //! A register in the tables of a connection: each change is one transaction, each read one query.
 //!
 //! `specs/Shown` says which register a connection shows: what the last commit left is the schema of
-//! [`texts`] with the rows of [`rows`], in any order. A change that is answered `Ok` shows the
-//! changed register, and a refused one leaves what the last commit left. A read leaves it too, and
-//! gives the rows of the part that is asked for; [`rows`] reads their values.
+//! [`texts`] with the rows of [`rows`], in any order. A change that returns `Ok` shows the changed
+//! register, and one that fails leaves what the last commit left, unless the store shut in its
+//! commit. A read leaves it too, and gives the rows of the part that is asked for; [`rows`] reads
+//! their values.
 #![tactic(auto)]
 
 mod additions;

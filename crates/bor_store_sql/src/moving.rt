@@ -68,7 +68,8 @@ fn move_rows<S: Alter>(tx: &mut Transaction<'_, S>, periods: &[PeriodRow]) -> Re
 }
 
 /// Moves the tables of version 1 to those of version 2, with these rows of the days of interests,
-/// in a transaction of its own. After a failure the tables are as they were.
+/// in a transaction of its own. After a failure the tables are as they were, unless the store shut
+/// in its commit.
 pub fn move_tables<S: Alter>(conn: &mut Connection<S>, periods: &[PeriodRow]) -> Result<(), Error>
     requires { conn.old.in_transaction ≡ false }
     ensures mode { conn.new.in_transaction ≡ false }
