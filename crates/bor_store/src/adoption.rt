@@ -150,11 +150,12 @@ fn judge(version: i64, is_whole: bool) -> Result<(), OpenFault>
     }
 }
 
-/// Whether the tables of a connection are those of a register, as [`SqlKeep::adopt`] asks; the
-/// connection stays as it is. No transaction may be open. First [`OpenFault::NoRegister`] comes
-/// where there is no table `register` with the columns `one` and `version`, or not exactly one row
-/// in it, with a whole version; then [`OpenFault::OtherVersion`] where that isn't 2; then
-/// `NoRegister` where another table or column of a register is missing.
+/// Whether the tables of a connection are those of a register, as [`SqlKeep::adopt`] asks. The
+/// connection is read alone (`ReadsOnly`). No transaction may be open. If the disk has returned
+/// what was written, the faults other than `Memory` and `Store` are, in their order:
+/// [`OpenFault::NoRegister`] where there is no table `register` with the columns `one` and
+/// `version`, or not exactly one row in it, with a whole version; [`OpenFault::OtherVersion`] where
+/// that isn't 2; `NoRegister` where another table or column of a register is missing.
 #[tactic(auto, using(crate::proofs::Judging::fault_fails))]
 pub fn examine<S: Alter>(conn: &mut Connection<S>) -> Result<(), OpenFault>
     requires { conn.old.in_transaction ≡ false }
@@ -182,12 +183,13 @@ pub fn examine<S: Alter>(conn: &mut Connection<S>) -> Result<(), OpenFault>
 }
 
 impl<S: Alter + Drop> SqlKeep<S> {
-    /// The register that the tables of a connection are. No transaction may be open. Where it
-    /// answers otherwise the connection is dropped, and the tables are as they were. First
-    /// [`OpenFault::NoRegister`] comes where there is no table `register` with the columns `one`
-    /// and `version`, or not exactly one row in it, with a whole version; then
-    /// [`OpenFault::OtherVersion`] where that isn't 2; then `NoRegister` where another table or
-    /// column of a register is missing.
+    /// The register that the tables of a connection are. No transaction may be open. The tables are
+    /// read alone; after a fault the connection is dropped, and the clauses say nothing of the
+    /// tables then. If the disk has returned what was written, the faults other than `Memory` and
+    /// `Store` are, in their order: [`OpenFault::NoRegister`] where there is no table `register`
+    /// with the columns `one` and `version`, or not exactly one row in it, with a whole version;
+    /// [`OpenFault::OtherVersion`] where that isn't 2; `NoRegister` where another table or column
+    /// of a register is missing.
     pub fn adopt(alloc: Global, conn: Connection<S>) -> Result<SqlKeep<S>, OpenFault>
         requires { conn.in_transaction ≡ false }
         ensures bare { is_versioned (state S.Store conn).now.schema ≡ false

@@ -10,30 +10,30 @@ use std::alloc::AllocError;
 use thiserror::Error as ThisError;
 
 /// Why a register was not set up, or the tables of a store were not taken for one or not moved to
-/// version 2.
+/// version 2. The tables are as they were, unless the store shut in its commit: then the next
+/// opening may show the register that was set up, or the tables that were moved.
 #[derive(Clone, Copy, Debug, PartialEq, Eq, ThisError)]
 pub enum OpenFault {
     /// A table or a column of a register is missing, or the table `register` doesn't have exactly
-    /// one row with a whole version. The tables are as they were.
+    /// one row with a whole version.
     #[error("no register")]
     NoRegister,
     /// The table `register` has this version, which isn't 2, nor 1 where tables were to be moved.
-    /// The tables are as they were.
     #[error("register of version {0}")]
     OtherVersion(i64),
     /// Where a register was to be set up, a table, an index or a view has a name of a register's;
-    /// where tables of version 1 were to be moved, the name `period`. The store is as it was.
+    /// where tables of version 1 were to be moved, the name `period`.
     #[error("not free for a register")]
     Taken,
     /// Where tables of version 1 were to be moved, the reader refuses the file of a live filing, or
     /// what it is read to isn't what the tables have of the filing, or a row of a filing has a
-    /// value of no form. The tables are as they were.
+    /// value of no form.
     #[error("the register is damaged")]
     Damaged,
-    /// Memory was wanting. The last commit stays.
+    /// Memory was wanting.
     #[error("out of memory")]
     Memory,
-    /// The store failed, or the file is no database. The last commit stays.
+    /// The store failed, or the file is no database.
     #[error("the store failed")]
     Store,
 }
