@@ -1,4 +1,4 @@
--- What a source shows: the open entities and persons, and the links between them.
+-- The open entities and persons that a source shows, and the links between them.
 use Rattle.std.specs.Prelude.{◌≡◌, ℕ, List, Bool, true, false, ◌&&◌, ◌||◌, not, Option, None, Some, find, option_map}
 use Rattle.std.specs.List.{list_any}
 use Rattle.bor_terms.specs.Texts.{is_same}
@@ -10,7 +10,7 @@ use Rattle.bor_records.specs.declared.links.node.OpenNode.{OpenNode}
 use Rattle.bor_records.specs.declared.links.node.Link.{Link}
 use Rattle.bor_records.specs.Links.Nodes.{same_node}
 
--- two finite lists: of distinct open nodes, and of the links between them
+-- two finite lists, of open nodes and of links; `NodesAreDistinct` says that those of rows have each node once
 pub record Shown : Type 0 where
   pub nodes : List OpenNode
   pub links : List Link
