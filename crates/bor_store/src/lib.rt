@@ -3,9 +3,9 @@
 //! [`SqlKeep`] is a `Keep` (`bor_register::keeping`) over a connection to a store in memory or in a
 //! file. What it shows is what the last commit left (`bor_store_sql`): a change that returns `Ok`
 //! is in the file, and a fault leaves the file as it was, unless the store shut in its commit. Then
-//! the next opening shows the change whole or not at all, if the disk has returned what was written.
-//! The tables are of version 2; [`migrate`] moves those of version 1, which have nothing of the days
-//! of interests.
+//! the next opening shows the change whole or not at all, if the disk has returned what was
+//! written. The tables are of version 2; [`migrate`] moves those of version 1, which have nothing
+//! of the days of interests.
 #![tactic(auto)]
 
 mod adoption;

@@ -105,9 +105,9 @@ fn move_first<S: Alter>(conn: &mut Connection<S>, alloc: Global) -> Result<(), O
 /// version 1 [`OpenFault::Taken`] comes where a table, an index or a view is named `period`, and
 /// then [`OpenFault::Damaged`] where the reader refuses the file of a live filing, or what it is
 /// read to isn't what the tables have of the filing, but for statuses that it leaves out and for
-/// days, or a row of a filing has a value of no form. A fault leaves the tables as they were, unless
-/// the store shut in its commit. Then the next opening finds the tables as they were, or, of a legal
-/// register, all of them moved, if the disk has returned what was written.
+/// days, or a row of a filing has a value of no form. A fault leaves the tables as they were,
+/// unless the store shut in its commit. Then the next opening finds the tables as they were, or, of
+/// a legal register, all of them moved, if the disk has returned what was written.
 pub fn migrate<S: Alter>(conn: &mut Connection<S>, alloc: Global) -> Result<(), OpenFault>
     requires { conn.old.in_transaction ≡ false }
     ensures mode { conn.new.in_transaction ≡ false }

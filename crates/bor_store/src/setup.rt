@@ -57,11 +57,11 @@ fn is_taken(schema: &Schema) -> bool
 }
 
 /// Sets up a register of this day and registrar with no agents and no filings, in one transaction.
-/// All else that the store has stays as it was. A fault leaves what the last commit left, unless the
-/// store shut in its commit. Then the next opening finds what was there before, or the whole
-/// register beside it, if the disk has returned what was written. [`OpenFault::Taken`] comes where a
-/// table, an index or a view of the store has a name of the register's tables or indexes, whatever
-/// the case of its letters.
+/// All else that the store has stays as it was. A fault leaves what the last commit left, unless
+/// the store shut in its commit. Then the next opening finds what was there before, or the whole
+/// register beside it, if the disk has returned what was written. [`OpenFault::Taken`] comes where
+/// a table, an index or a view of the store has a name of the register's tables or indexes,
+/// whatever the case of its letters.
 pub fn set_up<S: Alter>(
     conn: &mut Connection<S>,
     registrar: &Token,
