@@ -1,4 +1,4 @@
-//! What a statement says of its record (BODS 0.4, `recordDetails`).
+//! The details of a record, as a statement has them (BODS 0.4, `recordDetails`).
 
 ghost use Rattle.std.specs.Prelude.{◌≡◌, IfOk};
 ghost use Rattle.bods_read.specs.Words.{entity_word, person_word};
@@ -8,7 +8,7 @@ use crate::interest::Interest;
 use bor_terms::{Ident, Listed};
 use std::alloc::{AllocError, Global};
 
-/// What kind of entity it is (BODS 0.4, `entityType.type`).
+/// The kind of an entity (BODS 0.4, `entityType.type`).
 #[derive(Clone, Copy, PartialEq, Eq)]
 pub enum EntityKind {
     RegisteredEntity,
@@ -41,7 +41,7 @@ impl EntityKind {
     }
 }
 
-/// What kind of person it is (BODS 0.4, `personType`).
+/// The kind of a person (BODS 0.4, `personType`).
 #[derive(Clone, Copy, PartialEq, Eq)]
 pub enum PersonKind {
     KnownPerson,
@@ -76,7 +76,7 @@ pub struct Identifier {
     pub id: FreeText,
 }
 
-/// What a statement says of its record.
+/// The details of a record, as a statement has them.
 #[derive(Drop)]
 pub enum Details {
     Entity {

@@ -1,4 +1,4 @@
-//! What may be wrong with a file.
+//! The faults that a file may have.
 
 ghost use Rattle.std.specs.Prelude.{◌≡◌};
 ghost use Rattle.bods_read.specs.Words.{field_word};
@@ -60,7 +60,7 @@ impl Field {
     }
 }
 
-/// What is wrong with a statement.
+/// A fault of a statement.
 #[derive(Clone, Copy, Debug, PartialEq, Eq)]
 pub enum Fault {
     /// A required member is absent or null.
@@ -104,7 +104,7 @@ impl Fault {
     }
 }
 
-/// What is wrong with a file.
+/// A fault of a file.
 #[derive(Clone, Copy, Debug, PartialEq, Eq)]
 pub enum FileFault {
     /// The bytes are no JSON.

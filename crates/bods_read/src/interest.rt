@@ -5,7 +5,7 @@ ghost use Rattle.bods_read.specs.Words.{interest_word, directness_word};
 
 use bor_terms::{Day, Span};
 
-/// What kind of interest it is. BODS has more kinds, which play no part in a chain.
+/// The kind of an interest. BODS has more kinds, which play no part in a chain.
 #[derive(Clone, Copy, PartialEq, Eq)]
 pub enum InterestKind {
     Shareholding,
@@ -56,7 +56,7 @@ impl Directness {
 /// An interest of a relationship.
 #[derive(Clone, Copy, PartialEq, Eq)]
 pub struct Interest {
-    /// What kind of interest it is (`type`).
+    /// The kind of interest (`type`).
     pub kind: InterestKind,
     /// Whether it is direct or indirect (`directOrIndirect`).
     pub directness: Directness,

@@ -65,14 +65,14 @@ fn share(kind: InterestKind, interest: &Value) -> Result<Option<Span>, Trouble>
     }
 }
 
-// What is no text, or names no day, month or year, counts as absent.
+// A value that is no text, or names no day, month or year, counts as absent.
 fn starts(interest: &Value) -> Option<Day>
     ensures { result ≡ starts_in (view interest.now) }
 {
     Day::read_start(text_at(interest, "startDate")?)
 }
 
-// The same of its end.
+// The lines of its end, in the same way.
 fn ends(interest: &Value) -> Option<Day>
     ensures { result ≡ ends_in (view interest.now) }
 {

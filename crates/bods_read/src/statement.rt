@@ -7,7 +7,7 @@ use crate::details::Details;
 use bor_terms::{Day, Ident};
 use std::alloc::{AllocError, Global};
 
-/// What a record is of (BODS 0.4, `recordType`).
+/// The kind of a record (BODS 0.4, `recordType`).
 #[derive(Clone, Copy, Debug, PartialEq, Eq)]
 pub enum RecordType {
     Entity,
@@ -42,7 +42,7 @@ impl RecordType {
     }
 }
 
-/// What a statement does to its record (BODS 0.4, `recordStatus`).
+/// The change that a statement makes to its record (BODS 0.4, `recordStatus`).
 #[derive(Clone, Copy, Debug, PartialEq, Eq)]
 pub enum Status {
     New,
@@ -95,7 +95,7 @@ pub struct Statement {
 }
 
 impl Statement {
-    /// What the statement's record is of (`recordType`).
+    /// The kind of the statement's record (`recordType`).
     pub fn record_type(&self) -> RecordType
         ensures { result ≡ type_of self.now.details }
     {

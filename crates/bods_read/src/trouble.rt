@@ -16,7 +16,7 @@ pub(crate) enum Trouble {
 }
 
 impl Trouble {
-    /// What is answered for it at the place of its statement.
+    /// The answer for it at the place of its statement.
     pub(crate) fn at(self, place: u32) -> ReadFault
         ensures { result ≡ fault_at place self }
     {
