@@ -29,18 +29,19 @@ use std::time::Duration;
 // A command that was silent for so many seconds tells where it is.
 const SILENCE: u64 = 1;
 
-// Before so many requests are answered, that is told: over a file each may wait for the disk.
+// Before so many requests are answered, a line says so: over a file each may wait for the disk.
 const MANY: usize = 20;
 
-// Before a file of so many bytes is opened, that is told: it takes about a second.
+// Before a file of so many bytes is opened, a line says so: it takes about a second.
 const LARGE: u64 = 33_554_432;
 
 /// A register in a file that is open, and in memory beside it where it is served from there.
 pub type Served<'r, S> = ServedKeep<FileStore<FileFrom<S>>, Telling<'r>>;
 
-/// What opens registers in files of SQLite, and listens on ports of 127.0.0.1. `S` stands for what
-/// a file and its log hold as they are opened. Where standard error is a terminal, it tells there
-/// where a command is that takes long; and where standard input is one, that a file is read from it.
+/// The host: it opens registers in files of SQLite, and listens on ports of 127.0.0.1. `S` stands
+/// for what a file and its log hold as they are opened. Where standard error is a terminal, it
+/// tells there where a command is that takes long; and where standard input is one, that a file is
+/// read from it.
 #[derive(Drop)]
 pub struct Host<'r, S> {
     rt: &'r HostRuntime,
@@ -60,7 +61,7 @@ impl<'r, S> Host<'r, S> {
 
     // Whether it is time to tell where a command is: somebody has to type what is read next, and
     // else, on a terminal, a file is opened that takes long, many requests are answered next, or
-    // nothing was told for a second.
+    // nothing was printed for a second.
     fn is_due(&self, stage: Stage<'_>) -> bool {
         match stage {
             Stage::Input => self.rt.stdin().is_terminal(),
@@ -68,7 +69,7 @@ impl<'r, S> Host<'r, S> {
         }
     }
 
-    // Whether a stage may take long, or nothing was told for a second.
+    // Whether a stage may take long, or nothing was printed for a second.
     fn is_long(&self, stage: Stage<'_>) -> bool {
         match stage {
             Stage::Opening(path) => is_large(self.rt, path),
@@ -323,7 +324,7 @@ fn migrate_in<S: Start>(rt: &HostRuntime, path: &str, start: S) -> Result<(), Op
     migrated
 }
 
-// What was opened, or the failure of opening the file of this name.
+// The register that was opened, or the failure of opening the file of this name.
 fn told_of<T>(path: &str, opened: Result<T, OpenFault>) -> Result<T, Failure<'_>>
     ensures told { MatchResult opened (λ register. result ≡ Ok register)
         (λ fault. result ≡ Err (failure_of path.entry fault)) }
@@ -335,7 +336,7 @@ fn told_of<T>(path: &str, opened: Result<T, OpenFault>) -> Result<T, Failure<'_>
     }
 }
 
-// What a fault of opening the file of this name is told as.
+// The failure that a fault of opening the file of this name is reported as.
 fn failure_of(path: &str, fault: OpenFault) -> Failure<'_>
     ensures is { result ≡ failure_of path.entry fault }
     ensures opening { IsOpeningOf path.entry result }

@@ -1,4 +1,4 @@
-//! What a file holds as it is opened.
+//! The contents of a file as it is opened.
 
 ghost use Rattle.std.specs.Prelude.{true, []};
 

@@ -59,7 +59,7 @@ pub(crate) fn time(rt: &HostRuntime) -> Duration {
 }
 
 impl Watch<TcpListener> for Waiting<'_> {
-    // What the system tells of sockets has no model.
+    // The system's answers on sockets have no model.
     ghost does = { λ _ _ _. ⊤ };
 
     fn watch_listener(&mut self, listener: &TcpListener) -> io::Result<()> {
