@@ -161,8 +161,8 @@ impl Branches {
     }
 }
 
-// What the steps tell, by how many links lead down from each place and whether they lead down from
-// a person.
+// The evidence of the steps, by how many links lead down from each place and whether they lead down
+// from a person.
 fn gathered(
     alloc: Global,
     steps: Vec<Option<Step>>,

@@ -58,7 +58,7 @@ fn add_like(
     Ok(())
 }
 
-// The same of the places under a sign.
+// Adds the places under a sign, in the same way.
 fn add_under(
     found: &mut Vec<usize>,
     nodes: &[OpenNode],
@@ -103,7 +103,7 @@ fn add_sign(
     Ok(())
 }
 
-// The same of each identifier.
+// Adds the places under each identifier.
 fn add_identifiers(
     alloc: Global,
     found: &mut Vec<usize>,
@@ -126,7 +126,7 @@ fn add_identifiers(
     Ok(())
 }
 
-// The same of each sign of an entity.
+// Adds the places under each sign of an entity.
 fn add_signs(
     alloc: Global,
     found: &mut Vec<usize>,
