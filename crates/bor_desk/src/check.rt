@@ -94,7 +94,7 @@ fn fault_text(alloc: Global, fault: DeskFault) -> Result<Text, StoreFault>
     }
 }
 
-// What the lodging of a file by that agent is told, and what is published then.
+// The reply to the lodging of a file by that agent, and the outward form that is published then.
 fn lodged_in(alloc: Global, keep: &mut ListKeep, bytes: &[u8]) -> Result<Text, StoreFault>
     requires { keep.old.register ≡ check_register }
     ensures text { IfOk result (λ text. text ≡ outcome_text (check_step bytes.now)) }

@@ -160,8 +160,8 @@ fn evidence_for<K: Keep>(
     })
 }
 
-// What an agent is told where its filings stay as they are: what it reads, or that it isn't the
-// registrar.
+// The answer to an agent where its filings stay as they are: the data that it reads, or that it
+// isn't the registrar.
 fn tell_agent<K: Keep>(
     alloc: Global,
     keep: &mut K,
@@ -274,7 +274,7 @@ fn answer_registrar<K: Keep>(
     }
 }
 
-// What was answered, and which agent was.
+// The reply, and the agent that it is for.
 fn named(agent: Option<AgentName>, made: Result<DeskReply, DeskFault>) -> Answered
     ensures agent { result.agent ≡ agent }
     ensures reply { result.reply ≡ reply_of made }
@@ -291,7 +291,7 @@ fn named(agent: Option<AgentName>, made: Result<DeskReply, DeskFault>) -> Answer
 /// Answers the request of whoever has the token, as [`answer`] does, and names the agent that has
 /// it.
 ///
-/// The name is the one that the keep told for the answer: it isn't asked once more.
+/// The name is the one that the keep returned for the answer: it isn't asked once more.
 pub fn answer_naming<K: Keep>(
     alloc: Global,
     keep: &mut K,
@@ -334,8 +334,9 @@ pub fn answer_naming<K: Keep>(
 /// the store has shut, or shuts meanwhile, the reply is `Failed`, if the store has returned what
 /// was written.
 ///
-/// What is left is said of every register, and so is what is told, but for snapshots: what one
-/// tells is said of registers whose agents stand in order of their names, as every legal one's do.
+/// The clause on the register that is left holds of every register, and so does the one on the
+/// reply, but for snapshots: that one holds of registers whose agents stand in order of their
+/// names, as every legal one's do.
 pub fn answer<K: Keep>(alloc: Global, keep: &mut K, token: &Token, request: &Request) -> DeskReply
     ensures leaves { Leaves K.shows K.is_clean K.is_sound K.may_leave keep.old keep.new
         (λ r left. K.left_shows left (step r (caller_of token.now r) request.now).register) }

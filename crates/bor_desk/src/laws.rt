@@ -28,8 +28,9 @@ pub fn refusal_changes_nothing()
     ensures { RefusalChangesNothing }
 {}
 
-/// What only reads leaves the register as it was, whatever it is answered, and each reply that may
-/// be of any length is to such a request. This holds of every register, caller and request.
+/// A request that only reads leaves the register as it was, whatever the answer, and each reply
+/// that may be of any length is to such a request. This holds of every register, caller and
+/// request.
 pub fn reads_leave()
     ensures { ReadsLeave }
 {}
@@ -39,8 +40,8 @@ pub fn legal_stays_legal()
     ensures { StepStaysLegal }
 {}
 
-/// What an agent of a legal register is answered, and its filings after it, are the same as they
-/// would be alone with what the others have published.
+/// The answer to an agent of a legal register, and its filings after it, are the same as they would
+/// be alone with what the others have published.
 pub fn one_exchange_alone()
     ensures { OneExchangeAlone }
 {}

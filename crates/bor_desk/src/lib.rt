@@ -1,4 +1,4 @@
-//! The desk: who asks, what is answered, and the texts that are told of a register.
+//! The desk: who asks, what is answered, and the texts that replies have of a register.
 //!
 //! [`answer`] takes the token and the request of a caller to a keep of a register, and gives the
 //! reply:

@@ -1,4 +1,4 @@
-//! What is refused, and why.
+//! The refusals of requests.
 
 ghost use Rattle.std.specs.Prelude.{◌≡◌};
 ghost use Rattle.bor_register.specs.declared.fault.StoreFault.TheVariants as stores;

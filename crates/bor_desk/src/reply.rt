@@ -1,4 +1,4 @@
-//! What a caller is answered.
+//! The replies to a caller.
 
 use crate::evidence::EntityEvidence;
 use crate::operations::{FilingLine, Lodged, Outward, StoreFault};

@@ -1,4 +1,4 @@
-//! What a caller asks for.
+//! The requests of a caller.
 
 use bor_chains::Node;
 use bor_terms::{AgentName, Day, Ident, Listed, LodgeKey, Token};

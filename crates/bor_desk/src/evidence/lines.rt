@@ -1,4 +1,4 @@
-//! What evidence tells: persons, links and records.
+//! The parts of evidence: persons, links and records.
 
 ghost use Rattle.std.specs.Prelude.{◌≡◌, IfOk, map, option_map};
 ghost use Rattle.bor_records.specs.Links.Nodes.{link_record};
@@ -49,7 +49,7 @@ pub struct LinkEvidence {
     pub same: Listed<Node>,
 }
 
-/// What a record says on the day.
+/// The content of a record on the day.
 #[derive(Drop)]
 pub struct RecordEvidence {
     /// The agent that lodged it.

@@ -118,7 +118,7 @@ fn link_lines<K: Keep>(
     Ok(lines)
 }
 
-// What a row says, as evidence tells it.
+// The content of a row, as evidence has it.
 fn record_line(row: Row) -> RecordEvidence
     ensures { result ≡ record_evidence row }
 {
@@ -131,7 +131,8 @@ fn record_line(row: Row) -> RecordEvidence
     }
 }
 
-// What the records say on a day, as the viewer sees it. One that isn't open is left out.
+// The statements of the records on a day, as the viewer sees them. A record that isn't open is left
+// out.
 fn records_seen<K: Keep>(
     alloc: Global,
     keep: &mut K,

@@ -110,7 +110,7 @@ pub(crate) struct Ways {
     // Each entity that was found, with the one that follows it. The goal itself is followed by
     // none.
     after: BTreeMap<Node, Option<Node>>,
-    // The same by levels, each in order. The search goes on from the last.
+    // The nodes that were found, by levels, each in order. The search goes on from the last.
     levels: Vec<Vec<Node>>,
     // The class, once more than the aliases of the goal were looked for.
     kin: Option<Kin>,

@@ -5,7 +5,7 @@ ghost use Rattle.std.specs.Prelude.{◌≡◌, None, true};
 use bor_chains::ListSource;
 use bor_terms::{AgentName, Day};
 
-/// What a viewer sees on a day, as lists that chains ask.
+/// The nodes and links that a viewer sees on a day, as lists that chains ask.
 #[derive(Drop)]
 pub(crate) struct LastAsked {
     pub(crate) viewer: AgentName,

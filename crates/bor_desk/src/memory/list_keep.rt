@@ -221,7 +221,7 @@ impl ListKeep {
         told
     }
 
-    // What the viewer sees on a day, by these maps.
+    // The part that the viewer sees on a day, by these maps.
     fn sight_by<'a>(&'a self, index: &'a Index, viewer: &'a AgentName, day: Day) -> Sight<'a>
         requires { IsIndex self.now.register.members index.now }
         ensures indexed { IsIndexed result }
@@ -239,7 +239,7 @@ impl ListKeep {
         }
     }
 
-    // What the viewer sees on a day, where the maps are there.
+    // The part that the viewer sees on a day, where the maps are there.
     fn sight<'a>(&'a self, viewer: &'a AgentName, day: Day) -> Option<Sight<'a>>
         ensures { IfSome result (λ sight.
             IsIndexed sight × (in_sight sight ≡ seen_at viewer.now day self.now.register)) }

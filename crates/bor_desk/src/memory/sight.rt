@@ -1,4 +1,4 @@
-//! What a viewer sees of a register in memory on a day, read by key.
+//! The part of a register in memory that a viewer sees on a day, read by key.
 
 ghost use Rattle.std.specs.Prelude.{◌≡◌, ◌++◌, [], true, None, Some, IfOk, OnOk, filter, map, option_map, option_and_then};
 ghost use Rattle.std.specs.List.{cons_option, filter_map, last_or};
@@ -21,7 +21,8 @@ use bor_register::{AcceptedFiling, Member, own_filings, row_of};
 use bor_terms::{AgentName, Day, Ident, Listed};
 use std::alloc::{AllocError, Global};
 
-/// What a viewer sees of these members on the register's day, `today`, as it is told on a day.
+/// The part of these members that a viewer sees on the register's day, `today`, as it stands on a
+/// day.
 #[derive(Clone, Copy)]
 pub(crate) struct Sight<'a> {
     pub(crate) alloc: Global,
@@ -166,7 +167,7 @@ pub(crate) fn row_told(sight: &Sight, node: &Node) -> Result<Option<Row>, AllocE
     }
 }
 
-/// What a chain asks of a node; `None` where it isn't open.
+/// The data that a chain needs of a node; `None` where it isn't open.
 pub(crate) fn node_told(sight: &Sight, node: &Node) -> Result<Option<NodeInfo>, AllocError>
     requires { IsIndexed sight.now }
     ensures { IfOk result (λ info. info ≡ info_of (in_sight sight.now) node.now) }
@@ -232,7 +233,7 @@ fn identifiers_in(alloc: Global, details: &Details) -> Result<Listed<Identifier>
     }
 }
 
-// What the details of an entity or a person say of its node.
+// The open node that the details of an entity or a person make.
 fn node_with(alloc: Global, node: &Node, details: &Details) -> Result<Option<OpenNode>, AllocError>
     ensures { IfOk result (λ one. one ≡ node_with node.now details.now) }
 {

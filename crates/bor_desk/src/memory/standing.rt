@@ -1,4 +1,4 @@
-//! What an agent's live statements say, by their places.
+//! An agent's live statements, by their places.
 
 ghost use Rattle.std.specs.Prelude.{◌≡◌, None, filter, option_map, true};
 ghost use Rattle.std.specs.List.{last_or, list_any};
@@ -13,7 +13,7 @@ use bor_records::Last;
 use bor_records::links::Node;
 use bor_register::{AcceptedFiling, known};
 
-// What is known of the statement at a place.
+// The statement at a place, as far as the rules ask.
 fn known_at(filings: &[AcceptedFiling], place: Place) -> Option<Last>
     ensures { result ≡ option_map (λ x. known_of (as_live x.filing.due x.statement))
         (sited_at filings.now place) }
@@ -53,8 +53,8 @@ pub(crate) fn last_standing(filings: &[AcceptedFiling], places: &[Place]) -> Opt
     None
 }
 
-/// What is known of a record's last live statement, by the places of its statements. `node` names
-/// what the contract speaks of; the body doesn't read it.
+/// A record's last live statement, as far as the rules ask, by the places of its statements. `node`
+/// names what the contract speaks of; the body doesn't read it.
 pub(crate) fn last_known(filings: &[AcceptedFiling], places: &[Place], node: &Node) -> Option<Last>
     requires { ArePlaces filings.now (has_record node.now) places.now }
     ensures { result ≡ last_of node.now.declaration node.now.rec (live_of filings.now) }

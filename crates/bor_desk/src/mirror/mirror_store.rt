@@ -1,4 +1,4 @@
-//! What a keep is asked for that has a mirror.
+//! The store below a mirror, and what is asked of it.
 
 ghost use Rattle.std.specs.Prelude.{◌≡◌, IfOk, IfSome};
 ghost use Rattle.bor_records.specs.Promises.{Reads};
@@ -11,7 +11,7 @@ use bor_register::keeping::Keep;
 /// A keep that can be mirrored: it hands out its register whole.
 pub trait MirrorStore: Keep {
     /// The register in memory, each filing without its file; `None` where it has more live
-    /// statements than so many, or there is no memory for it. It is told by a store that is open, if
+    /// statements than so many, or there is no memory for it. Only a store that is open answers, if
     /// it has returned what was written.
     fn whole(&mut self, most: u32) -> Result<Option<ListKeep>, StoreFault>
         ensures reads { Reads Self.shows Self.is_clean Self.is_sound Self.may_leave Self.fault_count

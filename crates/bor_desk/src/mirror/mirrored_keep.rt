@@ -24,8 +24,8 @@ use std::marker::Model;
 /// answer; the others by the store. So a fault is always the store's. A change goes to the store,
 /// and then to the mirror; where memory is wanting for the mirror's, or it would have taken more
 /// statements than it may, the mirror is let go, and all is asked of the store from then on. Who
-/// has a token is told by the mirror as long as no call of the store has answered a fault since the
-/// store last told who has one: a store that has shut answers no request.
+/// has a token is answered by the mirror as long as no call of the store has answered a fault since
+/// the store last said who has one: a store that has shut answers no request.
 #[derive(Drop)]
 pub struct MirroredKeep<K: MirrorStore + Drop> {
     store: K,

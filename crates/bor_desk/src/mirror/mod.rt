@@ -2,7 +2,7 @@
 //!
 //! [`MirroredKeep`] is a keep over another one, its store. Beside it, it has the same register in
 //! memory, without the files of its filings: its mirror. A change goes to the store, and then to
-//! the mirror; what can be told without a file is told by the mirror, and the rest by the store:
+//! the mirror; a question that needs no file is answered by the mirror, and any other by the store:
 //!
 //! ```
 //! let mut keep = MirroredKeep::new(store, 200_000);

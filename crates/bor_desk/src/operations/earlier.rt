@@ -58,7 +58,7 @@ impl Earlier {
         self.ids.contains(id)
     }
 
-    /// What is known of the last one of the statement's record, where there is one.
+    /// The last statement of the statement's record, as far as the rules ask, where there is one.
     pub(crate) fn last(
         &self,
         alloc: Global,

@@ -8,9 +8,9 @@ use bor_register::StoreFault;
 use bor_register::keeping::Keep;
 use bor_terms::{AgentName, Day};
 
-/// What a viewer sees of a keep's register, as nodes and links on a day: those of the viewer's own
-/// live filings, and of the others' published ones. Each node is asked for at the keep by its key;
-/// the keep stays as it is, and its faults are those of the source.
+/// The part of a keep's register that a viewer sees, as nodes and links on a day: those of the
+/// viewer's own live filings, and of the others' published ones. Each node is asked for at the keep
+/// by its key; the keep stays as it is, and its faults are those of the source.
 #[derive(Drop)]
 pub struct KeepSource<'a, K> {
     keep: &'a mut K,

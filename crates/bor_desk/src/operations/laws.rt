@@ -41,15 +41,15 @@ pub fn sight_is_alone()
     ensures { SightAlone }
 {}
 
-/// What a viewer sees shows the same nodes and links with the numbers of the filings and without,
-/// on every day. So a chain report tells nothing of another agent's numbers. This holds of every
-/// register.
+/// The rows that a viewer sees show the same nodes and links with the numbers of the filings and
+/// without, on every day. So a chain report tells nothing of another agent's numbers. This holds of
+/// every register.
 pub fn numbers_make_no_links()
     ensures { NumbersMakeNoLinks }
 {}
 
-/// A lodging that is told as fresh is the next entry of the journal of all that was accepted: the
-/// register left is the one of the journal with that filing at its end.
+/// A lodging that is answered as fresh is the next entry of the journal of all that was accepted:
+/// the register left is the one of the journal with that filing at its end.
 pub fn a_lodging_is_the_next_entry()
     ensures { LodgingIsNextEntry }
 {}

@@ -31,7 +31,7 @@ use std::alloc::Global;
 /// The most filings that an agent may ever have, withdrawn ones included.
 pub const FILINGS_LIMIT: usize = 999;
 
-/// What an agent is told of a filing that it lodged.
+/// The reply to an agent on a filing that it lodged.
 #[derive(Clone, Copy, PartialEq, Eq)]
 pub struct Lodged {
     /// Its number, from 1, in order of acceptance.
@@ -74,7 +74,7 @@ fn is_taken<K: Keep>(
     keep.has_statement(agent, id)
 }
 
-// What is known of the record's last statement, in the file or before it.
+// The record's last statement, in the file or before it, as far as the rules ask.
 #[tactic(auto, using(crate::proofs::OnOperations::Earlier::file_rules, crate::proofs::OnOperations::Lodgings::moved))]
 fn last<K: Keep>(
     keep: &mut K,
@@ -185,7 +185,7 @@ fn settled<K: Keep>(
     Ok(statements)
 }
 
-// What is told where the agent has a filing under the key, by its line.
+// The answer where the agent has a filing under the key, by its line.
 fn repeat<K: Keep>(
     keep: &mut K,
     agent: &AgentName,
@@ -244,14 +244,14 @@ fn day_for<K: Keep>(keep: &mut K, agent: &AgentName, due: Day) -> Result<Day, Lo
     Ok(day)
 }
 
-// What a lodging under a new key adds.
+// The filing that a lodging under a new key adds.
 #[derive(Drop)]
 struct Prepared {
     statements: Vec<Statement>,
     state: State,
 }
 
-// What a lodging adds, or why it is refused.
+// The filing that a lodging adds, or why it is refused.
 fn prepare<K: Keep>(
     alloc: Global,
     keep: &mut K,
@@ -349,14 +349,14 @@ fn lodge_new<K: Keep>(
 ///
 /// It asks that the agent is enrolled; `has_agent` is the test.
 ///
-/// Where the agent has a filing under the key with the same due day and bytes, that filing is told
-/// with its state now, `fresh` is false and nothing changes. Else the refusals are, in their order:
-/// `KeyReused`; `FilingsFull`; `DuePast`; `Read` with the file's first fault; then by statement in
-/// file order `StatementTwice` and `Record`, each with its place. A refusal leaves the register as
-/// it was, and so does `Store`, unless the store shut in its commit. The keep is asked at most once
-/// for each statement's identifier and once for its record, and is changed at most once, last; none
-/// of its calls lists the agent's filings or copies a file. Beside the keep, n statements take the
-/// time of n look-ups among n.
+/// Where the agent has a filing under the key with the same due day and bytes, the reply has that
+/// filing with its state now, `fresh` is false and nothing changes. Else the refusals are, in their
+/// order: `KeyReused`; `FilingsFull`; `DuePast`; `Read` with the file's first fault; then by
+/// statement in file order `StatementTwice` and `Record`, each with its place. A refusal leaves the
+/// register as it was, and so does `Store`, unless the store shut in its commit. The keep is asked
+/// at most once for each statement's identifier and once for its record, and is changed at most
+/// once, last; none of its calls lists the agent's filings or copies a file. Beside the keep, n
+/// statements take the time of n look-ups among n.
 pub fn lodge<K: Keep>(
     alloc: Global,
     keep: &mut K,

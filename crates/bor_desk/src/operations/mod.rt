@@ -18,8 +18,8 @@
 //! [`KeepSource`] is any keep as a source of nodes and links, as a viewer sees them on a day: what
 //! a walk of `bor_chains` asks.
 //!
-//! Which statement may follow which is told by `bor_records`, what a file says by `bods_read`. Who
-//! asks is not looked into here: the callers say which agent it is.
+//! Which statement may follow which is defined in `bor_records`, and how a file is read in
+//! `bods_read`. Who asks is not looked into here: the callers say which agent it is.
 
 mod earlier;
 mod fault;

@@ -1,4 +1,4 @@
-//! What the registrar does: the day goes on, and agents are enrolled.
+//! The registrar's operations: the day goes on, and agents are enrolled.
 
 ghost use Rattle.std.specs.Prelude.{◌≡◌, false};
 ghost use Rattle.bor_register.specs.Register.{Register, is_enrolled, is_taken};

@@ -49,11 +49,11 @@ fn withdrawable<K: Keep>(
 
 /// Withdraws an agent's draft: its statements are gone, its number, key, due day and bytes stay.
 ///
-/// Tells the filing's line. A filing that is withdrawn already is told as the first time. The
-/// refusals are, in their order: `NoSuchFiling`; `Published`; `HasSuccessor` where a later live
-/// filing of the agent has a statement of one of its records. A refusal leaves the register as it
-/// was, and so does `Store`, unless the store shut in its commit. No call of the keep is made
-/// twice, and the one that changes it last; none copies a file.
+/// Returns the filing's line, also for a filing that is withdrawn already. The refusals are, in
+/// their order: `NoSuchFiling`; `Published`; `HasSuccessor` where a later live filing of the agent
+/// has a statement of one of its records. A refusal leaves the register as it was, and so does
+/// `Store`, unless the store shut in its commit. No call of the keep is made twice, and the one
+/// that changes it last; none copies a file.
 pub fn withdraw<K: Keep>(
     keep: &mut K,
     agent: &AgentName,
