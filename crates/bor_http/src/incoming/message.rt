@@ -1,5 +1,5 @@
-//! What is known of the request that an input begins with. Each function does nothing: its contract
-//! is the law.
+//! Laws of the request that an input begins with. Each function does nothing: its contract is the
+//! law.
 
 ghost use Rattle.bor_http.specs.Incoming.Laws.{OneRequest, RestIsIgnored};
 
@@ -8,7 +8,7 @@ pub fn an_input_is_one_request()
     ensures { OneRequest }
 {}
 
-/// What stands behind the body of a request has no part in it.
+/// The bytes behind the body of a request have no part in it.
 pub fn what_stands_behind_is_ignored()
     ensures { RestIsIgnored }
 {}

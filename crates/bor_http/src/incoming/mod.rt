@@ -13,7 +13,7 @@
 //! Every reader and writer is a [`Counted`], which tells how often it failed; [`send`] writes a
 //! reply.
 //!
-//! What the target and the fields mean is not looked at here, but for `Content-Length` and
+//! The meaning of the target and of the fields is not looked at here, but for `Content-Length` and
 //! `Transfer-Encoding`.
 
 mod buffer;

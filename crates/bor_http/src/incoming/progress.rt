@@ -33,8 +33,8 @@ impl Progress {
         Progress::Searched(0)
     }
 
-    /// What is known of these bytes, of which it was known so much; before a head was found there
-    /// are at most 16,384 of them.
+    /// The progress on these bytes, from the progress that was known before; before a head was
+    /// found there are at most 16,384 of them.
     ///
     /// # Errors
     ///

@@ -1,4 +1,4 @@
-//! What a path asks for by a method, and which methods it has.
+//! The requests that a path has by method, and its methods.
 ghost use Rattle.std.specs.Prelude.{◌≡◌, Some, None, if◌then◌else◌};
 ghost use Rattle.std.specs.Str.{bytes_eq};
 ghost use Rattle.bor_http.specs.Routes.Routes as spec;
@@ -6,7 +6,7 @@ ghost use Rattle.bor_http.specs.Routes.Routes as spec;
 use crate::incoming::Path;
 use http::Method;
 
-/// What a path asks for by a method.
+/// The request of a path by a method.
 #[derive(Clone, Copy, Debug, PartialEq, Eq)]
 pub enum Route {
     /// Lodges the body as a file.
@@ -42,7 +42,7 @@ fn by(wanted: &Method, method: &[u8], route: Route) -> Option<Route>
     }
 }
 
-/// What a path asks for by a method (RFC 9110, 9.3), if it has the method. Methods are compared as
+/// The request of a path by a method (RFC 9110, 9.3), if it has the method. Methods are compared as
 /// they stand: `get` and `HEAD` are not `GET`.
 #[tactic(auto, unfolding(crate::specs::Routes::Routes::route_at))]
 pub fn route_at(path: Path, method: &[u8]) -> Option<Route>
