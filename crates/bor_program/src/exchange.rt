@@ -22,8 +22,8 @@ use bor_words::Exchange;
 use std::alloc::Global;
 use std::io::Write;
 
-/// Does what `bor exchange` is asked to do, once the registrar's token is known; where it isn't,
-/// that is told.
+/// Does what `bor exchange` is asked to do, once the registrar's token is known; where it isn't, a
+/// line says so.
 pub fn exchange<R: NamedFiles + AllocGlobal, H: Registers, O: Output, E: Write>(
     rt: &R,
     host: &mut H,
@@ -59,8 +59,8 @@ pub fn exchange<R: NamedFiles + AllocGlobal, H: Registers, O: Output, E: Write>(
 }
 
 // Answers the requests in files in turn, in the register in a file, which is closed then, or in a
-// new one in memory, and prints the replies in order. A file that can't be read is told, and the
-// next one is taken.
+// new one in memory, and prints the replies in order. A file that can't be read is reported, and
+// the next one is taken.
 fn exchange_told<R: NamedFiles + AllocGlobal, H: Registers, O: Output, E: Write>(
     rt: &R,
     host: &mut H,

@@ -17,7 +17,7 @@ use std::io::{Error, ErrorKind, Write};
 /// Why a command could not be done, though what it asks for is allowed.
 #[derive(Clone, Copy, Debug, PartialEq, Eq)]
 pub enum Failure<'a> {
-    /// What was to be read can't be read, or not to its end.
+    /// The input can't be read, or not to its end.
     Unreadable(Source<'a>),
     /// There is no register in the file of this name.
     NoRegister(&'a str),

@@ -1,4 +1,4 @@
-//! What the program asks of the machine that it runs on, beside streams.
+//! The machine that the program runs on, as far as the program asks it, beside streams.
 
 ghost use Rattle.std.specs.Prelude.{◌≡◌, ⊤, ℕ, List, Bool, IfErr, IfOk, IfSome, OnErr, OnOk, length, map};
 ghost use Rattle.std.specs.Borrow.{Bor};
@@ -35,7 +35,7 @@ use std::net::{OpenListener, OpenStream};
 use std::rt::Files;
 use std::time::Clock;
 
-/// What opens files by their names.
+/// A system that opens files by their names.
 pub trait NamedFiles {
     /// A file that is open, and read from its beginning.
     type File: Read + Drop;
@@ -68,22 +68,22 @@ pub trait OpenRegister {
     /// The state shows this register.
     ghost shows: { Self → Register → Type 0 };
 
-    /// What keeps it has returned what was written, and is open.
+    /// Its store has returned what was written, and is open.
     ghost is_clean: { Self → Type 0 };
 
-    /// What keeps it has returned what was written. It may have shut since.
+    /// Its store has returned what was written. It may have shut since.
     ghost is_sound: { Self → Type 0 };
 
-    /// What a stop leaves for the next one to open.
+    /// The state that a stop leaves for the next one to open.
     ghost Left: { Type 0 };
 
     /// A stop in this state may leave this.
     ghost may_leave: { Self → Left → Type 0 };
 
-    /// What is left shows this register to the next one to open it.
+    /// The state that is left shows this register to the next one to open it.
     ghost left_shows: { Left → Register → Type 0 };
 
-    /// A call led from one state to another, and may have told this fault.
+    /// A call led from one state to another, and may have returned this fault.
     ghost tells: { Self → StoreFault → Self → Type 0 };
 
     /// So many connections of this listener were served within these limits, which led from one
@@ -158,8 +158,8 @@ pub trait OpenRegister {
             (IsOf L.Stream.remaining L.Stream.contents) W.does
             self.old self.new watch.old watch.new connections result };
 
-    /// What was answered lasts: what a stop of a clean one leaves shows each register that it
-    /// showed.
+    /// Answered changes last: the state that a stop of a clean one leaves shows each register that
+    /// it showed.
     ghost lasting: { (k : Self) → is_clean k → (left : Left) → may_leave k left
         → (r : Register) → shows k r → left_shows left r };
 }
@@ -249,8 +249,8 @@ pub enum Stage<'a> {
     Filling,
 }
 
-/// What opens the registers in files. Its states stand for those of the files: what is done to them
-/// leads from one to another.
+/// The system that opens the registers in files. Its states stand for those of the files: what is
+/// done to them leads from one to another.
 pub trait Registers {
     /// A register in a file.
     type Register: OpenRegister + Drop;
@@ -308,12 +308,12 @@ pub trait Registers {
         ensures { does self.old (Closes path.entry register) self.new };
 }
 
-/// What listens on the ports of 127.0.0.1, and waits for what comes there.
+/// The system that listens on the ports of 127.0.0.1, and waits for clients there.
 pub trait Ports: Registers {
     /// A port that is listened on. It doesn't block.
     type Listener: OpenListener + Drop;
 
-    /// What waits for the clients of a listener.
+    /// The watch for the clients of a listener.
     type Waiter: Watch<Self::Listener> + Drop;
 
     /// This port is listened on by this listener.
@@ -324,7 +324,7 @@ pub trait Ports: Registers {
 
     /// The register in the file of this name, made ready to be asked often: it may take so many
     /// megabytes of memory for that. Where there is none, none is made. How it is made ready is
-    /// told whoever waits for the command, and in the log, where there is one.
+    /// printed for whoever waits for the command, and in the log, where there is one.
     ///
     /// # Errors
     ///
@@ -345,7 +345,7 @@ pub trait Ports: Registers {
     fn listen(&self, port: u16) -> Option<Self::Listener>
         ensures { IfSome result (λ listener. listens self.now port listener) };
 
-    /// What waits for the clients of a listener. Where a log is asked for, each request that was
+    /// The watch for the clients of a listener. Where a log is asked for, each request that was
     /// answered has a line on standard error.
     fn waiter(&self, log: bool) -> Self::Waiter
         ensures { waits self.now log result };

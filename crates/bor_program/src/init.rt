@@ -16,8 +16,8 @@ use bor_words::Init;
 use std::alloc::Global;
 use std::io::Write;
 
-/// Does what `bor init` is asked to do, once the registrar's token is known; where it isn't, that is
-/// told.
+/// Does what `bor init` is asked to do, once the registrar's token is known; where it isn't, a line
+/// says so.
 pub fn init<R: NamedFiles + AllocGlobal, H: Registers, O: Output, E: Write>(
     rt: &R,
     host: &mut H,
@@ -65,7 +65,7 @@ fn init_told<H: Registers, O: Output, E: Write>(
 }
 
 // How it ends where a register came to be open like this: what is still to be printed is handed on
-// where it was set up, and one that was there is told.
+// where it was set up, and a line says where one was there.
 fn end_of<O: Output, E: Write>(path: &str, origin: Origin, output: &mut O, errors: &mut E) -> Status
     ensures ended { EndsSettingUp path.entry origin (E.contents errors.old) (E.contents errors.new)
         (exit_code result) }

@@ -16,7 +16,7 @@ use std::io::{self, ErrorKind, Read, Write};
 // The longest head of a request and the longest body: as much is read of a file.
 const REQUEST_LIMIT: u64 = 1_064_960;
 
-/// What was read of the files.
+/// The inputs that were read of the files.
 #[derive(Drop)]
 pub struct Inputs {
     /// The requests, in the order of the files; without those of files that can't be read.

@@ -30,7 +30,7 @@ const SECONDS_A_DAY: u64 = 86_400;
 // 9999-12-31, in days since 1970-01-01.
 const LAST_DAY: u64 = 2_932_896;
 
-/// What bytes ask for, as far as the log may tell it.
+/// The request of some bytes, as far as the log may show it.
 #[derive(Clone, Copy, PartialEq, Eq)]
 pub enum Asked {
     /// A path by one of its methods.
@@ -50,10 +50,10 @@ pub struct Moment {
     pub second: u32,
 }
 
-/// What is noted of a request that was answered, until its line is written.
+/// The note of a request that was answered, until its line is written.
 #[derive(Drop)]
 pub struct Note {
-    /// What was asked for.
+    /// The request.
     pub asked: Asked,
     /// The status of the reply.
     pub status: u16,
@@ -64,7 +64,7 @@ pub struct Note {
 }
 
 impl Note {
-    /// What is noted of the request in these bytes, which had this reply and this agent's token. No
+    /// The note of the request in these bytes, which had this reply and this agent's token. No
     /// memory is taken.
     pub fn of(paths: &Paths, request: &[u8], agent: Option<AgentName>, reply: &Outgoing) -> Note
         ensures asked { result.asked ≡ asked_of request.now }
@@ -86,7 +86,7 @@ impl Note {
 pub struct Entry<'a> {
     /// When the line is made, before the server waits again.
     pub at: Moment,
-    /// What was asked for.
+    /// The request.
     pub asked: Asked,
     /// The status of the reply.
     pub status: u16,
@@ -152,7 +152,7 @@ fn path_found(paths: &Paths, text: &[u8]) -> Option<Path>
     }
 }
 
-// What a path asks for by a method.
+// The request of a path by a method.
 fn asked_at(path: Option<Path>, method: &[u8]) -> Asked
     ensures { result ≡ asked_at path method.now }
 {
@@ -165,7 +165,7 @@ fn asked_at(path: Option<Path>, method: &[u8]) -> Asked
     }
 }
 
-/// What the first line of an input asks for. No memory is taken.
+/// The request of the first line of an input. No memory is taken.
 #[tactic(auto, unfolding(crate::specs::Logging::asked_of))]
 pub fn asked_by(paths: &Paths, input: &[u8]) -> Asked
     ensures { result ≡ asked_of input.now }
@@ -215,7 +215,7 @@ fn path_text(path: Path) -> &'static str
 }
 
 impl Asked {
-    // The method and the path, each a hyphen where it isn't told.
+    // The method and the path, each a hyphen where it isn't shown.
     fn words(self) -> (&'static str, &'static str)
         ensures method { result.0.now ≡ method_word self }
         ensures path { result.1.now ≡ asked_path_word self }

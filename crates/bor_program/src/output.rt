@@ -7,7 +7,8 @@ ghost use Rattle.bor_program.specs.Streams.{AppendsPart};
 use crate::failure::Failure;
 use std::io::{self, ErrorKind, Write};
 
-/// What the program writes its text on. It may keep some of it for itself until that is handed on.
+/// The output that the program writes its text on. It may keep some of the text for itself until
+/// that is handed on.
 pub trait Output: Write {
     /// All that was written was handed on.
     ghost is_flushed: { Self → Type 0 };

@@ -53,7 +53,7 @@ where
     ensures at_most { result ≤ 3 }
 
     // Words that ask for a command have it done, as it is stated of each command, or memory is
-    // wanting, which is told in its line.
+    // wanting, which its line says.
     ensures performed { IsCommand (map S.text words.now) → ((result ≡ 3) × (host.new ≡ host.old)
         × Keeps (O.contents output.old) (O.contents output.new)
         × IsTold IsWantOfMemory (E.contents errors.old) (E.contents errors.new))

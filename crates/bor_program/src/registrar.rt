@@ -17,7 +17,7 @@ use std::io::{self, Read};
 // More than the longest token and the end of its line.
 const FRONT: u64 = 128;
 
-/// What `bor exchange` is asked to do, with the registrar's token.
+/// The request of `bor exchange`, with the registrar's token.
 #[derive(Drop)]
 pub struct Exchanging<'a> {
     /// The register's file. Without one the register is a new one in memory.

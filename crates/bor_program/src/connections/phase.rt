@@ -3,7 +3,7 @@
 use crate::connections::reading::Reading;
 use crate::connections::writing::{Draining, Writing};
 
-/// What is done with a client.
+/// The phase of a client.
 #[derive(Drop)]
 pub(crate) enum Phase<S> {
     /// Its request is read.
@@ -25,7 +25,7 @@ pub(crate) enum Pace {
     Turned,
 }
 
-/// What became of a client in one step.
+/// The state of a client after one step.
 #[derive(Drop)]
 pub(crate) enum Step<S> {
     /// It is in this phase.

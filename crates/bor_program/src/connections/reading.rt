@@ -26,7 +26,7 @@ pub(crate) struct Reading<S> {
     pub(crate) progress: Progress,
 }
 
-/// What one read of a request gave.
+/// The result of one read of a request.
 #[derive(Clone, Copy, PartialEq, Eq)]
 pub(crate) enum Taken {
     /// Bytes, and some are still missing.

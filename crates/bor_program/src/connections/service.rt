@@ -1,4 +1,4 @@
-//! What answers requests: the register's desk, behind the paths that there are.
+//! The service that answers requests: the register's desk, behind the paths that there are.
 
 ghost use Rattle.std.specs.Prelude.{◌≡◌, [], Some};
 ghost use Rattle.bor_records.specs.Promises.{Leaves, Promised};
@@ -14,7 +14,7 @@ use bor_wire::{Outgoing, Response, respond};
 use std::alloc::Global;
 use std::mem;
 
-/// What answers requests. The router of paths is made for the first of them, and kept.
+/// The service that answers requests. The router of paths is made for the first of them, and kept.
 #[derive(Drop)]
 pub(crate) struct Service {
     alloc: Global,
@@ -67,7 +67,7 @@ impl Service {
         }
     }
 
-    /// What was noted of the requests that were answered since this was last asked.
+    /// The notes of the requests that were answered since this was last asked.
     pub(crate) fn take_notes(&mut self) -> Vec<Note>
         ensures all { result.items ≡ self.old.notes.items }
         ensures none { self.new.notes.items ≡ [] }

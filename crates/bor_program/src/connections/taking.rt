@@ -8,7 +8,7 @@ ghost use Rattle.bor_program.specs.Connections.Times.{IsSlow, begun, seen};
 use crate::connections::limits::Limits;
 use std::time::Duration;
 
-/// What the clock told each time that it was read since the reply was made.
+/// The times of the clock, each time that it was read since the reply was made.
 #[derive(Clone, Copy, PartialEq, Eq)]
 pub(crate) struct Taking {
     // When it was first read.

@@ -96,7 +96,7 @@ impl Timing {
     }
 }
 
-// What is left of a time, where some is.
+// The rest of a time, where some is left.
 fn some_left(left: Duration) -> Option<Duration>
     ensures { MatchOption result (as_nanos left ≡ 0) (λ _. as_nanos left ≢ 0) }
 {

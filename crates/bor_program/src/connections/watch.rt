@@ -123,10 +123,10 @@ impl Places {
     }
 }
 
-/// What tells where something may be read or written.
+/// The watch, which says where something may be read or written.
 ///
-/// It tells of a change: a client that was read or written on until nothing more could be is told
-/// of again once something can. It may tell of more than there is.
+/// It reports a change: a client that was read or written on until nothing more could be is
+/// reported again once something can. It may report more than there is.
 pub trait Watch<L: OpenListener> {
     /// This call leads from one state of it to another.
     ghost does: { Self → Act → Self → Type 0 };

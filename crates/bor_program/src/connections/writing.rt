@@ -58,7 +58,7 @@ impl<S> Writing<S> {
     }
 }
 
-/// What one write of a reply did.
+/// The result of one write of a reply.
 #[derive(Clone, Copy, PartialEq, Eq)]
 pub(crate) enum Written {
     /// Bytes were written.
@@ -171,7 +171,7 @@ pub(crate) struct Draining<S> {
     is_waited_for: bool,
 }
 
-/// What one read behind a reply gave.
+/// The result of one read behind a reply.
 #[derive(Clone, Copy, PartialEq, Eq)]
 pub(crate) enum Drained {
     /// Bytes, and more are read.
