@@ -8,11 +8,11 @@ use crate::fault::RecordFault;
 use bods_read::{RecordType, Statement, Status};
 use bor_terms::Day;
 
-/// What is known of a record's last live statement (BODS 0.4, `recordType`, `recordStatus`,
+/// A record's last live statement, as far as the rules ask (BODS 0.4, `recordType`, `recordStatus`,
 /// `statementDate`; the due day is this register's).
 #[derive(Clone, Copy, PartialEq, Eq)]
 pub struct Last {
-    /// What the record is of.
+    /// The kind of the record.
     pub kind: RecordType,
     /// The settled status.
     pub status: Status,

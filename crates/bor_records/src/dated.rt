@@ -1,4 +1,4 @@
-//! What a record says on a day.
+//! The statement that a record has on a day.
 
 ghost use Rattle.std.specs.Prelude.{◌≡◌, Some, option_and_then, slice_get, if◌then◌else◌};
 ghost use Rattle.bor_records.specs.Snapshot.{is_dated, latest, latest_place};

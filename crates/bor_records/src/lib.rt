@@ -20,11 +20,11 @@
 //! `snapshot` answers for one agent's declaration, `open_rows` for all agents and declarations at
 //! once, each in the time of n look-ups among n.
 //!
-//! What open records say of nodes and of the links between them stands in [`links`].
+//! The nodes that open records make, and the links between them, are in [`links`].
 //!
-//! Who may lodge, what is published and who sees which rows is not told here: the callers hand over
-//! the rows that they may see. Nor are the ends of a relationship looked at, so a snapshot may show
-//! a relationship of records that are closed or were never lodged.
+//! Who may lodge, what is published and who sees which rows is not decided here: the callers hand
+//! over the rows that they may see. Nor are the ends of a relationship looked at, so a snapshot may
+//! show a relationship of records that are closed or were never lodged.
 #![tactic(auto)]
 
 mod admission;

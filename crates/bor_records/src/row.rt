@@ -18,7 +18,7 @@ pub struct Row {
     pub statement: Statement,
 }
 
-/// What a snapshot shows of a record: its latest statement, with its settled status.
+/// The entry of a record in a snapshot: its latest statement, with its settled status.
 #[derive(Drop)]
 pub struct Entry {
     /// The settled status.

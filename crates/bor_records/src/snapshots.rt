@@ -1,4 +1,4 @@
-//! What a declaration's records say on a day.
+//! The statements that a declaration's records have on a day.
 
 ghost use Rattle.std.specs.Prelude.{◌≡◌, ◌&&◌, ℕ, List, IfOk};
 ghost use Rattle.bor_terms.specs.Texts.{is_same};

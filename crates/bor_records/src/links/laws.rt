@@ -26,7 +26,7 @@ pub fn snapshots_show_the_open_rows()
     ensures { SnapshotsShowTheOpenRows }
 {}
 
-/// What is listed of a node is what the latest statement of its series says.
+/// The entry that is listed for a node is the one that the latest statement of its series makes.
 pub fn nodes_are_read_by_key()
     ensures { NodesAreReadByKey }
 {}

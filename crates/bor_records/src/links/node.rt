@@ -76,7 +76,7 @@ impl Node {
     }
 }
 
-/// What a chain asks of a node.
+/// The data that a chain needs of a node.
 #[derive(Drop)]
 pub enum NodeInfo {
     /// An entity.

@@ -72,7 +72,7 @@ pub fn node_of(alloc: Global, row: &Row) -> Result<Option<OpenNode>, AllocError>
     }
 }
 
-/// What a chain asks of the node that details make; those of a relationship make none.
+/// The data that a chain needs of the node that details make; those of a relationship make none.
 pub fn info_stated(alloc: Global, details: &Details) -> Result<Option<NodeInfo>, AllocError>
     ensures { IfOk result (λ info. info ≡ info_stated details.now) }
 {
