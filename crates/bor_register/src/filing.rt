@@ -68,7 +68,7 @@ impl AcceptedFiling {
         })
     }
 
-    /// What its agent reads of it.
+    /// The line that its agent reads of it.
     pub(crate) fn shown(&self, alloc: Global) -> Result<Filing, AllocError>
         ensures { IfOk result (λ filing. filing ≡ filing_shown self.now) }
     {
@@ -89,7 +89,7 @@ impl AcceptedFiling {
     }
 }
 
-/// What its agent reads of a filing, a withdrawn one too.
+/// The filing as its agent reads it, a withdrawn one too.
 #[derive(Drop)]
 pub struct Filing {
     /// From 1, in order of acceptance.
@@ -102,7 +102,7 @@ pub struct Filing {
     pub bytes: Listed<u8>,
 }
 
-/// What is known of a filing's publication.
+/// The state of a filing's publication.
 #[derive(Clone, Copy, Debug, PartialEq, Eq)]
 pub enum State {
     /// Its due day is after the register's day; its agent alone sees it.
@@ -151,7 +151,8 @@ pub struct FilingLine {
     pub state: State,
 }
 
-/// What all see of a published filing: neither its number, nor its key, nor its bytes.
+/// The outward form of a published filing, which all see: neither its number, nor its key, nor its
+/// bytes.
 #[derive(Drop)]
 pub struct Outward {
     /// Who lodged it.

@@ -19,7 +19,7 @@ fn filing_with<'a>(filings: &'a [AcceptedFiling], key: &LodgeKey) -> Option<&'a 
     None
 }
 
-/// What its agent reads of the filing under a key.
+/// The filing under a key as its agent reads it.
 pub fn filing_under(
     alloc: Global,
     filings: &[AcceptedFiling],

@@ -1,4 +1,4 @@
-//! A register of filings as a value: what it holds, and what is told of it.
+//! A register of filings as a value: what it holds, and what it answers.
 //!
 //! Agents lodge files of statements. A filing is a draft until its due day, seen by its agent
 //! alone, and published from then on. A register holds its agents by name, each a [`Member`] with
@@ -13,8 +13,8 @@
 //! assert_eq!(rt; all_published(alloc, &members, tomorrow)?.len(), 1);
 //! ```
 //!
-//! Who keeps members calls what is told of them here, wherever it gets them from: who has a token
-//! ([`caller_with`]), filings and their lines, live statements ([`last_live`],
+//! Each keep of members calls the functions here on them, wherever it gets them from: who has a
+//! token ([`caller_with`]), filings and their lines, live statements ([`last_live`],
 //! [`any_live_has_id`]), the rows that a viewer sees, and what is published. What a keep of a
 //! register promises stands in [`keeping`].
 #![tactic(auto)]

@@ -1,4 +1,4 @@
-//! What an agent's live statements say: the last one of a record, and their identifiers.
+//! An agent's live statements: the last one of a record, and their identifiers.
 
 ghost use Rattle.std.specs.Prelude.{◌≡◌};
 ghost use Rattle.std.specs.List.{list_any};
@@ -12,8 +12,8 @@ use crate::statements::{any_has_id, last_in};
 use bor_records::Last;
 use bor_terms::Ident;
 
-/// What is known of the last one of the record among an agent's live statements; `rec` is its
-/// identifier.
+/// The last one of the record among an agent's live statements, as far as the rules ask; `rec` is
+/// its identifier.
 #[tactic(auto, using(crate::proofs::LiveStatements::more_filings))]
 pub fn last_live(filings: &[AcceptedFiling], declaration: &Ident, rec: &Ident) -> Option<Last>
     ensures { result ≡ last_of declaration.now rec.now (live_of filings.now) }

@@ -1,4 +1,4 @@
-//! What all see of the published filings.
+//! The outward forms of the published filings, which all see.
 
 ghost use Rattle.std.specs.Prelude.{◌≡◌, ◌++◌, IfOk, OnOk};
 ghost use Rattle.bor_register.specs.Publication.{published, outwards_of};
@@ -31,8 +31,8 @@ fn add_outwards(
     Ok(())
 }
 
-/// What all see of the filings that are published on a day: by agent, those of an agent in order of
-/// acceptance.
+/// The outward forms of the filings that are published on a day, which all see: by agent, those of
+/// an agent in order of acceptance.
 pub fn all_published(
     alloc: Global,
     members: &[Member],

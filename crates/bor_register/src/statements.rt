@@ -11,7 +11,7 @@ use bor_records::Last;
 use bor_terms::{Day, Ident, Listed};
 use std::alloc::{AllocError, Global};
 
-/// What is known of a statement that is due on a day.
+/// A statement that is due on a day, as far as the rules ask.
 pub fn known(statement: &Statement, due: Day) -> Last
     ensures { result ≡ known_of (as_live due statement.now) }
 {
@@ -30,7 +30,7 @@ pub(crate) fn is_of(statement: &Statement, declaration: &Ident, rec: &Ident) -> 
     statement.declaration == *declaration && statement.rec == *rec
 }
 
-/// What is known of the last one of the record among statements that are due on a day.
+/// The last one of the record among statements that are due on a day, as far as the rules ask.
 #[tactic(auto, using(crate::proofs::LiveStatements::more_statements))]
 pub(crate) fn last_in(
     statements: &[Statement],

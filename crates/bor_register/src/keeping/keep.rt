@@ -1,4 +1,4 @@
-//! What keeps a register, however it does.
+//! The keep of a register, whatever it consists of.
 
 ghost use Rattle.std.specs.Prelude.{◌≡◌, ℕ, ◌+◌, IfOk, map, option_map, length};
 ghost use Rattle.bor_register.specs.declared.fault.StoreFault.{StoreFault};
@@ -29,11 +29,11 @@ use bor_terms::{AgentName, Day, Ident, LodgeKey, Token};
 /// open). A read leaves what is shown (`Reads`); a change makes what it says of it (`Changes`), an
 /// addition of each register that it fits (`ChangesWhere`); a fault leaves it, and adds one to
 /// `faults`. No call has a condition, so a keep over another one can hand each call on. While the
-/// store returns what was written (`is_sound`), an answer leaves a clean keep clean, and who has a
-/// token is told by a clean one alone: a store that has shut tells a fault. What a stop leaves
-/// (`may_leave`), whether a call goes well or answers a fault, is what one before it might have
-/// left, or, after a change of a clean keep, what shows the changed register (`left_shows`), while
-/// the store returns what was written.
+/// store returns what was written (`is_sound`), an answer leaves a clean keep clean, and only a
+/// clean one says who has a token: a store that has shut returns a fault. The state that a stop
+/// leaves (`may_leave`), whether a call goes well or answers a fault, is what one before it might
+/// have left, or, after a change of a clean keep, what shows the changed register (`left_shows`),
+/// while the store returns what was written.
 pub trait Keep {
     /// The state shows this register.
     ghost shows: { Self → Register → Type 0 };
@@ -44,13 +44,13 @@ pub trait Keep {
     /// The store has returned what was written. It may have shut since, as after a disk failed.
     ghost is_sound: { Self → Type 0 };
 
-    /// What a stop leaves for the next one to open.
+    /// The state that a stop leaves for the next one to open.
     ghost Left: { Type 0 };
 
     /// A stop in this state may leave this.
     ghost may_leave: { Self → Left → Type 0 };
 
-    /// What is left shows this register to the next one to open it.
+    /// The state that is left shows this register to the next one to open it.
     ghost left_shows: { Left → Register → Type 0 };
 
     /// How many calls have answered a fault, modulo 2^64.
@@ -63,7 +63,7 @@ pub trait Keep {
     fn faults(&self) -> u64
         ensures { result ≡ fault_count self.now };
 
-    /// Who has the token; `None` where nobody has. A store that has shut tells a fault.
+    /// Who has the token; `None` where nobody has. A store that has shut returns a fault.
     fn who(&mut self, token: &Token) -> Result<Option<Caller>, StoreFault>
         ensures reads { Reads shows is_clean is_sound may_leave fault_count may_tell
             self.old self.new result (λ r caller. caller ≡ caller_of token.now r) }
@@ -115,8 +115,8 @@ pub trait Keep {
             self.old self.new result (λ r lines.
             lines.items ≡ map (line_of r.day) (filings_of agent.now r.members)) };
 
-    /// What is known of the record's last live statement; `rec` is its identifier. `None` where the
-    /// record has none.
+    /// The record's last live statement, as far as the rules ask; `rec` is its identifier. `None`
+    /// where the record has none.
     fn last(
         &mut self,
         agent: &AgentName,
@@ -175,8 +175,8 @@ pub trait Keep {
             self.old self.new result (λ r row.
             row ≡ open_at day node.now (visible viewer.now r.day r.members)) };
 
-    /// What a node is on a day by what the viewer sees, or `None` where it isn't open then. The day
-    /// is any day; what the viewer sees goes by the register's.
+    /// The kind of a node on a day by what the viewer sees, or `None` where it isn't open then. The
+    /// day is any day; what the viewer sees goes by the register's.
     fn node(
         &mut self,
         viewer: &AgentName,
@@ -219,7 +219,8 @@ pub trait Keep {
             self.old self.new result (λ r links.
             AreLinksInto (seen_at viewer.now day r) node.now links.items) };
 
-    /// What all see of the published filings: by agent, those of an agent in order of acceptance.
+    /// The outward forms of the published filings, which all see: by agent, those of an agent in
+    /// order of acceptance.
     fn published(&mut self) -> Result<Vec<Outward>, StoreFault>
         ensures { Reads shows is_clean is_sound may_leave fault_count may_tell
             self.old self.new result (λ r outwards. outwards.items ≡ published r.day r.members) };
@@ -263,8 +264,8 @@ pub trait Keep {
             fault_count may_tell self.old self.new result
             (MayEnrol agent.now token.now) (with_agent agent.now token.now) };
 
-    /// What was answered lasts: what a stop of a clean keep leaves shows each register that it
-    /// showed.
+    /// Answered changes last: the state that a stop of a clean keep leaves shows each register that
+    /// it showed.
     ghost lasting: { (k : Self) → is_clean k → (left : Left) → may_leave k left
         → (r : Register) → shows k r → left_shows left r };
 }

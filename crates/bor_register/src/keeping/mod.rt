@@ -1,4 +1,4 @@
-//! What keeps a register, in memory or in tables.
+//! The keeps of a register, in memory or in tables.
 //!
 //! Any [`Keep`] keeps a register of filings:
 //!
