@@ -1,4 +1,4 @@
-//! What takes the tables of a store for a register.
+//! Taking the tables of a store for a register.
 
 ghost use Rattle.std.specs.Prelude.{◌≡◌, ◌≢◌, ◌⊎◌, ◌↔◌, ℤ, false, [], Some, None, Err, IfOk, IfErr, OnOk, MatchResult, IsTrue, ◌&&◌, is_some};
 ghost use Rattle.std.specs.List.{list_all, list_any};

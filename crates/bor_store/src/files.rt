@@ -1,4 +1,4 @@
-//! What the files of a register's live filings say of the days of interests, over tables of either
+//! The days of interests that the files of a register's live filings have, over tables of either
 //! version.
 
 ghost use Rattle.std.specs.Prelude.{◌≡◌, false, MatchResult, Err, Ok, Some, option_map};

@@ -1,4 +1,4 @@
-//! What sets a register up.
+//! Setting a register up.
 
 ghost use Rattle.std.specs.Prelude.{◌≡◌, ◌↔◌, false, Err, OnOk, OnErr, IsTrue};
 ghost use Rattle.std.specs.List.{list_any};

@@ -39,7 +39,7 @@ pub struct SqlKeep<S: Alter + Drop> {
 }
 
 impl<S: Alter + Drop> SqlKeep<S> {
-    // The answer, or the fault that an error is told as, which is counted.
+    // The answer, or the fault of an error, which is counted.
     fn told<T>(&mut self, answer: Result<T, ReadError>) -> Result<T, StoreFault>
         ensures conn { self.new.conn ≡ self.old.conn }
         ensures told { result ≡ tells answer }
@@ -54,8 +54,8 @@ impl<S: Alter + Drop> SqlKeep<S> {
         }
     }
 
-    // The same of a change: want of memory is told as that, and each other error as a store that
-    // failed.
+    // The answer of a change, or the fault of its error, in the same way: want of memory is
+    // `Memory`, and each other error a store that failed.
     fn made<T>(&mut self, made: Result<T, Error>) -> Result<T, StoreFault>
         ensures conn { self.new.conn ≡ self.old.conn }
         ensures told { result ≡ tells_made made }
@@ -71,7 +71,7 @@ impl<S: Alter + Drop> SqlKeep<S> {
     }
 }
 
-// The fault that an error of the store is told as.
+// The fault of an error of the store.
 fn fault_of(error: Error) -> StoreFault
     ensures { result ≡ store_fault_of error }
 {
