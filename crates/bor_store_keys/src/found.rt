@@ -1,4 +1,4 @@
-//! What a report was last told, for one viewer and day.
+//! The answers that a report last read, for one viewer and day.
 
 ghost use Rattle.std.specs.Prelude.{◌≡◌, None, Option, Some, IfOk, IfSome, OnOk};
 ghost use Rattle.bor_records.specs.declared.links.node.NodeInfo.{NodeInfo};
@@ -46,7 +46,7 @@ const MANY: usize = 128;
 // All are read where the register has at most so many statements per record that was read.
 const SHARE: usize = 16;
 
-/// For a view, whether the viewer sees a filing and which row a record shows, where that was told;
+/// For a view, whether the viewer sees a filing and which row a record shows, where that was read;
 /// of these rows the records, by where they stand; and all that the viewer sees as lists, where it
 /// was read.
 #[derive(Drop)]
@@ -61,7 +61,7 @@ pub(crate) struct Found {
 }
 
 impl Found {
-    /// Nothing was told yet.
+    /// Nothing was read yet.
     pub(crate) fn new(alloc: Global, view: View) -> Found
         ensures view { result.view ≡ view }
         ensures nothing { (r : Register) → view.today ≡ r.day → AreOf r result }
@@ -76,7 +76,7 @@ impl Found {
         }
     }
 
-    /// All that the viewer sees was told.
+    /// All that the viewer sees was read.
     pub(crate) fn listed(alloc: Global, view: View, lists: ListSource) -> Found
         ensures { (r : Register) → view.today ≡ r.day → lists.shown ≡ seen view r → AreOf r result }
     {
@@ -121,7 +121,7 @@ impl Found {
         }
     }
 
-    /// The same with this filing; nothing where memory is wanting.
+    /// The answers with this filing too; nothing where memory is wanting.
     pub(crate) fn with_filing(self, key: FilingKey, seen: bool) -> Option<Found>
         ensures { IfSome result (λ found. (r : Register) → AreOf r self
             → seen ≡ is_number_seen self.view.viewer self.view.today key.agent
@@ -148,8 +148,8 @@ impl Found {
         }
     }
 
-    /// What a chain asks of the node that a record makes. `None` where it wasn't told yet,
-    /// `Some(None)` where the record makes no open node.
+    /// The data that a chain needs of the node that a record makes. `None` where it wasn't read
+    /// yet, `Some(None)` where the record makes no open node.
     #[tactic(auto, using(crate::proofs::Infos::info_closed))]
     pub(crate) fn info(
         &self,
@@ -167,7 +167,7 @@ impl Found {
         }
     }
 
-    /// The node that a record makes. `None` where it wasn't told yet, `Some(None)` where the record
+    /// The node that a record makes. `None` where it wasn't read yet, `Some(None)` where the record
     /// makes no open node.
     pub(crate) fn node(
         &self,
@@ -185,7 +185,7 @@ impl Found {
         }
     }
 
-    /// The same with the row that this record shows; nothing where memory is wanting.
+    /// The answers with the row that this record shows too; nothing where memory is wanting.
     pub(crate) fn with_row(mut self, alloc: Global, node: Node, row: Option<Row>) -> Option<Found>
         ensures { IfSome result (λ found. (r : Register) → IsStored r → AreOf r self
             → row ≡ open_at self.view.day node (rows_seen self.view r) → AreOf r found) }
@@ -224,7 +224,7 @@ impl Found {
     }
 }
 
-/// What was found, which is taken out where it is for this view.
+/// The answers that were found, which are taken out where they are for this view.
 pub(crate) fn taken(found: &mut Option<Found>, view: &View) -> Option<Found>
     ensures left { result ≡ None → found.new ≡ found.old }
     ensures view { IfSome result (λ one. one.view ≡ view.now) }

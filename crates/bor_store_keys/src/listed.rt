@@ -1,4 +1,4 @@
-//! What lists in memory answer, where a report has had all that the viewer sees read.
+//! The answers of lists in memory, where a report has had all that the viewer sees read.
 
 ghost use Rattle.std.specs.Prelude.{◌≡◌};
 ghost use Rattle.sqlite.specs.Held.{state};
@@ -15,7 +15,7 @@ use bor_records::links::{Link, Node, NodeInfo};
 use bor_store_reads::ReadError;
 use sqlite::Alter;
 
-/// What a chain asks of a node. The lists are put back.
+/// The data that a chain needs of a node. The lists are put back.
 pub(crate) fn node_listed<S: Alter + Drop>(
     lookup: &mut Lookup<S>,
     view: &View,

@@ -35,11 +35,11 @@ use std::alloc::{AllocError, Global};
 use std::marker::Model;
 use std::mem::drop;
 
-/// A connection to a register's tables, with what a report was last told over it: of one viewer and
-/// day the filings that are seen and what nodes show, with where it stands. So a report reads each
-/// of them once. Where a report has met much of the register, all is read at once, and the report
-/// asks lists in memory from then on. What was told is forgotten where the connection is used for
-/// anything else.
+/// A connection to a register's tables, with the answers that a report last read over it: of one
+/// viewer and day the filings that are seen and what nodes show, with where it stands. So a report
+/// reads each of them once. Where a report has met much of the register, all is read at once, and
+/// the report asks lists in memory from then on. The answers are forgotten where the connection is
+/// used for anything else.
 #[derive(Drop)]
 pub struct Lookup<S: Alter + Drop> {
     conn: Connection<S>,
@@ -58,7 +58,7 @@ impl<S: Alter + Drop> Model for Lookup<S> {
 
     ghost view = { λ l. l.conn };
 
-    // What was found is of the register that the connection shows.
+    // The answers that were found are of the register that the connection shows.
     ghost invariant = { λ l. AreFound (state S.Store l.conn) l.found };
 }
 
@@ -92,7 +92,7 @@ impl<S: Alter + Drop> Lookup<S> {
     }
 }
 
-// What is read of the tables leaves what has been found.
+// A read of the tables leaves the answers that have been found.
 #[tactic(auto, using(crate::proofs::Holding::still_found))]
 impl<S: Alter + Drop> Lookup<S> {
     /// The register's day, as it is read.
@@ -256,7 +256,7 @@ impl<S: Alter + Drop> Lookup<S> {
     }
 }
 
-// What has been found.
+// The answers that have been found.
 impl<S: Alter + Drop> Lookup<S> {
     /// The register's day, where something was found for this viewer on this day.
     pub(crate) fn today(&self, viewer: &AgentName, day: Day) -> Option<Day>
@@ -300,8 +300,8 @@ impl<S: Alter + Drop> Lookup<S> {
         }
     }
 
-    /// What a chain asks of the node that a record makes, where that was found. `None` where it
-    /// wasn't told yet for this view, `Some(None)` where the record makes no open node.
+    /// The data that a chain needs of the node that a record makes, where that was found. `None`
+    /// where it wasn't read yet for this view, `Some(None)` where the record makes no open node.
     pub(crate) fn info(
         &self,
         alloc: Global,
@@ -318,7 +318,7 @@ impl<S: Alter + Drop> Lookup<S> {
         }
     }
 
-    /// The node that a record makes, where that was found. `None` where it wasn't told yet for this
+    /// The node that a record makes, where that was found. `None` where it wasn't read yet for this
     /// view, `Some(None)` where the record makes no open node.
     pub(crate) fn node(
         &self,
@@ -386,8 +386,8 @@ impl<S: Alter + Drop> Lookup<S> {
         }
     }
 
-    /// What the viewer sees as lists, where all was read. They are taken out, so that they can be
-    /// asked.
+    /// The lists of all that the viewer sees, where all was read. They are taken out, so that they
+    /// can be asked.
     pub(crate) fn take_lists(&mut self, view: &View) -> Option<ListSource>
         ensures kept { self.new ≡ self.old }
         ensures lists { IfSome result (λ lists.
@@ -414,7 +414,7 @@ impl<S: Alter + Drop> Lookup<S> {
     }
 }
 
-// What is read at once.
+// The rows that are read at once.
 impl<S: Alter + Drop> Lookup<S> {
     // Reads and notes all rows that the viewer sees, where the register has at most so many
     // statements.

@@ -87,7 +87,7 @@ pub(crate) fn node_in<S: Alter + Drop>(
     }
 }
 
-// What a chain asks of a node, as the tables have it.
+// The data that a chain needs of a node, as the tables have it.
 fn info_read<S: Alter + Drop>(
     lookup: &mut Lookup<S>,
     alloc: Global,
@@ -104,7 +104,7 @@ fn info_read<S: Alter + Drop>(
     }
 }
 
-// What a chain asks of a node, which is read of the tables once.
+// The data that a chain needs of a node, which is read of the tables once.
 fn info_in<S: Alter + Drop>(
     lookup: &mut Lookup<S>,
     alloc: Global,
@@ -152,8 +152,8 @@ pub(crate) fn is_node<S: Alter + Drop>(
     Ok(info_in(lookup, alloc, view, node)?.is_some())
 }
 
-// What a chain asks of a node, which is read of the tables once, or of the lists where all was
-// read.
+// The data that a chain needs of a node, which is read of the tables once, or of the lists where
+// all was read.
 fn info_told<S: Alter + Drop>(
     lookup: &mut Lookup<S>,
     alloc: Global,
@@ -174,8 +174,8 @@ fn info_told<S: Alter + Drop>(
     }
 }
 
-/// What a chain asks of a node on a day, of what the viewer sees; `None` where no open record of an
-/// entity or a person is there.
+/// The data that a chain needs of a node on a day, of what the viewer sees; `None` where no open
+/// record of an entity or a person is there.
 pub fn read_node<S: Alter + Drop>(
     lookup: &mut Lookup<S>,
     alloc: Global,

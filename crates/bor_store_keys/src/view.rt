@@ -5,7 +5,7 @@ ghost use Rattle.std.specs.Prelude.{◌≡◌, true, IfOk};
 use bor_terms::{AgentName, Day};
 use std::alloc::{AllocError, Global};
 
-/// What a viewer sees of the register on the register's day, as it is told on a day.
+/// The part of the register that a viewer sees on the register's day, as it stands on a day.
 #[derive(Drop)]
 pub(crate) struct View {
     pub(crate) viewer: AgentName,
