@@ -29,7 +29,7 @@ fn found_agent<S: Alter>(
     first_value(alloc, agent_by_token(conn, token.as_str()))
 }
 
-/// Who has the token; `None` where nobody has. It is told by a connection that is open, if its disk
+/// Who has the token; `None` where nobody has. Only a connection that is open answers, if its disk
 /// has returned what was written.
 pub fn read_who<S: Alter>(
     conn: &mut Connection<S>,

@@ -1,4 +1,4 @@
-//! What a register in tables answers to each question of a keep, over a connection. What is asked
+//! The answers of a register in tables to each question of a keep, over a connection. What is asked
 //! of open records, nodes and links is in `bor_store_keys`.
 //!
 //! Each read but those of all rows (`read_visible`, `read_published`, `has_more`) asks by key for

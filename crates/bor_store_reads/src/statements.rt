@@ -68,8 +68,8 @@ pub(crate) fn found_filing<S: Alter>(
     first_value(alloc, line_by_number(conn, agent.as_str(), number))
 }
 
-/// What is known of the record's last live statement; `rec` is its identifier. `None` where the
-/// record has none.
+/// The record's last live statement, as far as the rules ask; `rec` is its identifier. `None` where
+/// the record has none.
 pub fn read_last<S: Alter>(
     conn: &mut Connection<S>,
     alloc: Global,

@@ -131,7 +131,7 @@ fn placed<S: Alter>(conn: &mut Connection<S>, alloc: Global) -> Result<Vec<Place
     )?)
 }
 
-/// Whether there are more live statements than so many. It is told by a connection that is open, if
+/// Whether there are more live statements than so many. Only a connection that is open answers, if
 /// its disk has returned what was written.
 pub fn has_more<S: Alter>(conn: &mut Connection<S>, most: u32) -> Result<bool, ReadError>
     requires { conn.old.in_transaction ≡ false }
@@ -180,7 +180,7 @@ fn whole<S: Alter>(conn: &mut Connection<S>, alloc: Global) -> Result<WholeRegis
 }
 
 /// The register, each filing without its file; `None` where it has more live statements than so
-/// many. It is told by a connection that is open, if its disk has returned what was written.
+/// many. Only a connection that is open answers, if its disk has returned what was written.
 pub fn read_whole<S: Alter>(
     conn: &mut Connection<S>,
     alloc: Global,

@@ -33,7 +33,8 @@ pub fn read_visible<S: Alter>(
     Ok(all_visible(alloc, viewer, day, members.as_slice())?)
 }
 
-/// What all see of the published filings: by agent, those of an agent in order of acceptance.
+/// The outward forms of the published filings, which all see: by agent, those of an agent in order
+/// of acceptance.
 #[tactic(auto, using(crate::proofs::Whole::published_is))]
 pub fn read_published<S: Alter>(
     conn: &mut Connection<S>,
