@@ -1,4 +1,4 @@
-//! What adds an agent, and a filing with its statements.
+//! Adding an agent, and a filing with its statements.
 
 ghost use Rattle.std.specs.Prelude.{◌≡◌, ◌+◌, ◌<◌, ◌^◌, false, true, [], ◌∷◌, All, is_some, ◌||◌, length, IfOk, OnOk, OnErr};
 ghost use Rattle.sqlite.specs.Held.{state};

@@ -178,7 +178,7 @@ fn status_or_null(status: Option<Status>) -> ValueRef<'static>
     }
 }
 
-// What kind of entity or person it is, its name, and what a relationship joins.
+// The kind of the entity or person, its name, and the records that a relationship joins.
 fn part_values(details: &Details) -> [ValueRef<'_>; 4]
     ensures { bound result ≡ part_columns (part_of details.now) }
 {

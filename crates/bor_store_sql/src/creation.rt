@@ -1,4 +1,4 @@
-//! What makes the tables.
+//! Making the tables.
 
 ghost use Rattle.std.specs.Prelude.{◌≡◌, false, [], ◌∷◌, ◌++◌, OnOk, OnErr};
 ghost use Rattle.sqlite.specs.Held.{state};
@@ -121,8 +121,9 @@ fn make_register<S: Alter>(
     insert_register(tx, registrar, day)
 }
 
-/// Makes the tables of a register with no agents and no filings, in a transaction of its own. What
-/// else the store has stays as it was. Where it had nothing, the connection shows the register.
+/// Makes the tables of a register with no agents and no filings, in a transaction of its own. All
+/// else that the store has stays as it was. Where it had nothing, the connection shows the
+/// register.
 pub fn set_up<S: Alter>(conn: &mut Connection<S>, registrar: &Token, day: Day) -> Result<(), Error>
     requires { conn.old.in_transaction ≡ false }
     ensures mode { conn.new.in_transaction ≡ false }

@@ -1,4 +1,4 @@
-//! What compares the statements of a file with those that the tables have of its filing.
+//! Comparing the statements of a file with those that the tables have of its filing.
 
 ghost use Rattle.std.specs.Prelude.{◌≡◌, ◌↔◌, false, map, IsTrue, IfOk};
 ghost use Rattle.sqlite.specs.Held.{state};

@@ -1,4 +1,4 @@
-//! What reads rows by key.
+//! Reading rows by key.
 
 ghost use Rattle.std.specs.Prelude.{◌≡◌, false, [], ◌∷◌, map};
 ghost use Rattle.std.specs.List.{flat_map};

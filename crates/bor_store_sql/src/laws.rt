@@ -12,9 +12,8 @@ pub fn tables_show_one_register()
     ensures { TablesShowOneRegister }
 {}
 
-/// What was answered lasts: where the machine stops while a connection is open, its disk has
-/// returned what was written, and it shows a register, the next one to open the files finds that
-/// register.
+/// Answered changes last: where the machine stops while a connection is open, its disk has returned
+/// what was written, and it shows a register, the next one to open the files finds that register.
 pub fn open_tables_last<S: Alter>()
     ensures { OpenTablesLast S.Store }
 {}

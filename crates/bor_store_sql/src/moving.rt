@@ -1,4 +1,4 @@
-//! What moves the tables of version 1 to those of version 2.
+//! Moving the tables of version 1 to those of version 2.
 
 ghost use Rattle.std.specs.Prelude.{◌≡◌, false, OnOk, OnErr, [], ◌∷◌};
 ghost use Rattle.sqlite.specs.Held.{state};

@@ -1,4 +1,4 @@
-//! What asks a query with parameters.
+//! Asking a query with parameters.
 
 ghost use Rattle.std.specs.Prelude.{◌≡◌, false};
 ghost use Rattle.sqlite.specs.Held.{state};
@@ -8,7 +8,7 @@ ghost use Rattle.bor_store_sql.specs.Found.{IsQuery, Asked};
 use sqlite::types::ValueRef;
 use sqlite::{Alter, Connection, Error, Row};
 
-/// What a query shows of the last commit.
+/// The rows of a query over the last commit.
 pub(crate) fn query<S: Alter>(
     conn: &mut Connection<S>,
     sql: &str,

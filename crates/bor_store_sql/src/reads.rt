@@ -1,4 +1,4 @@
-//! What reads whole tables, and whether there are more statements than a number.
+//! Reading whole tables, and whether there are more statements than a number.
 
 ghost use Rattle.std.specs.Prelude.{◌≡◌, false, pos, [], ◌∷◌, drop, map, take};
 ghost use Rattle.std.specs.List.{flat_map};

@@ -1,4 +1,4 @@
-//! What reads the statements of records by key: by series, by record, by subject and by identifier.
+//! Reading the statements of records by key: by series, by record, by subject and by identifier.
 
 ghost use Rattle.std.specs.Prelude.{◌≡◌, false, map};
 ghost use Rattle.sqlite.specs.Held.{state};

@@ -1,4 +1,4 @@
-//! What sets the register's day, and adds an agent.
+//! Setting the register's day, and adding an agent.
 
 ghost use Rattle.std.specs.Prelude.{◌≡◌, false, OnOk, OnErr};
 ghost use Rattle.sqlite.specs.Held.{state};

@@ -1,4 +1,4 @@
-//! What runs a statement of a transaction, and what ends the transaction.
+//! Running a statement of a transaction, and ending the transaction.
 
 ghost use Rattle.std.specs.Prelude.{◌≡◌, false, pos, [], ◌∷◌};
 ghost use Rattle.sqlite.specs.Held.{state};

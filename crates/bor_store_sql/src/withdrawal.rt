@@ -1,4 +1,4 @@
-//! What withdraws a filing.
+//! Withdrawing a filing.
 
 ghost use Rattle.std.specs.Prelude.{◌≡◌, false, OnOk, OnErr};
 ghost use Rattle.sqlite.specs.Held.{state};

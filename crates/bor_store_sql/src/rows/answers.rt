@@ -53,7 +53,7 @@ pub fn lines_of(
 }
 
 impl Part {
-    /// What the statement's record is of.
+    /// The kind of the statement's record.
     pub fn record_type(&self) -> RecordType
         ensures { result ≡ type_of_part self.now }
     {
@@ -66,7 +66,7 @@ impl Part {
 }
 
 impl StatementRow {
-    /// What is known of the statement, whose filing is due on this day. It takes no memory.
+    /// The statement, whose filing is due on this day, as far as the rules ask. It takes no memory.
     pub fn known(&self, due: Day) -> Last
         ensures { result ≡ known_at due self.now }
     {

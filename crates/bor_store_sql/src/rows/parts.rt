@@ -1,4 +1,4 @@
-//! What the table `statement` has of a statement's details.
+//! The details of a statement, as the table `statement` has them.
 
 ghost use Rattle.std.specs.Prelude.{◌≡◌, ℕ, List, Option, IfOk, IfSome};
 ghost use Rattle.sqlite.specs.declared.types.Value.TheVariants.{Text};

@@ -1,4 +1,4 @@
-//! What callers see of filings and statements, from their rows.
+//! Filings and statements as callers see them, from their rows.
 
 ghost use Rattle.std.specs.Prelude.{◌≡◌};
 ghost use Rattle.bor_store_sql.specs.Rows.Seen.{is_line_visible, line_shown, row_placed};

@@ -52,7 +52,7 @@ pub struct Placed {
     pub statement: Statement,
 }
 
-/// What the table `statement` has of a statement's details.
+/// The details of a statement, as the table `statement` has them.
 #[derive(Drop)]
 pub enum Part {
     Entity {
@@ -84,7 +84,7 @@ pub struct StatementRow {
     pub rec: Ident,
     /// The settled status; the table has no statement without one.
     pub status: Option<Status>,
-    /// What the table has of its details.
+    /// Its details, as the table has them.
     pub part: Part,
 }
 
@@ -95,7 +95,7 @@ pub struct InterestLine {
     pub at: At,
     /// Its place in the statement, from 1.
     pub item: u32,
-    /// What kind of interest it is.
+    /// The kind of interest.
     pub kind: InterestKind,
     /// Whether it is direct or indirect.
     pub directness: Directness,

@@ -1,4 +1,4 @@
-//! What changes the tables.
+//! The statements that change the tables.
 
 /// The version of the tables that are made.
 pub const VERSION: i64 = 2;

@@ -1,4 +1,4 @@
-//! What is asked of the tables.
+//! The queries over the tables.
 //!
 //! Each query is over one table. Those with a condition find their rows by an index; what they show
 //! is sorted by the table's primary key, or is the last row by it, or is the same in each row.

@@ -105,6 +105,6 @@ pub const SUBJECT_INDEX: &str =
 /// Statements with an identifier.
 pub const IDENTIFIER_INDEX: &str = "CREATE INDEX identifier_id ON identifier (scheme, id)";
 
-/// What a filing's line says, so that reading lines passes over no file.
+/// The content of a filing's line, so that reading lines passes over no file.
 pub const LINE_INDEX: &str =
     "CREATE INDEX filing_line ON filing (agent, number, lodge_key, due, withdrawn)";
