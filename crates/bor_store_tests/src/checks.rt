@@ -1,5 +1,5 @@
-//! What the tests assert, each kind in one place: an assertion that stands in a test itself makes the
-//! proof of that test long.
+//! The assertions of the tests, each kind in one place: an assertion that stands in a test itself
+//! makes the proof of that test long.
 
 use bor_register::StoreFault;
 use bor_store::OpenFault;
@@ -10,7 +10,7 @@ pub(crate) fn holds(rt: &impl Abort, what: &str, holds: bool, wanted: bool) {
     assert_eq!(rt; holds, wanted, "{what}");
 }
 
-/// What is told begins with this.
+/// The text that is printed begins with this.
 pub(crate) fn begins(rt: &impl Abort, what: &str, told: &str, start: &str) {
     assert!(rt; told.starts_with(start), "{what}: {told}");
 }

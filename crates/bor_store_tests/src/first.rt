@@ -13,8 +13,8 @@ pub(crate) const FILE: &[u8] = b"[\
 {\"statementId\":\"s2\",\"statementDate\":\"2024-01-10\",\"declarationSubject\":\"c1\",\"recordId\":\"p1\",\"recordType\":\"person\",\"recordDetails\":{\"personType\":\"knownPerson\",\"names\":[{\"fullName\":\"Ann Moss\"}]}},\
 {\"statementId\":\"s3\",\"statementDate\":\"2024-01-10\",\"declarationSubject\":\"c1\",\"recordId\":\"r1\",\"recordType\":\"relationship\",\"recordDetails\":{\"subject\":\"e1\",\"interestedParty\":\"p1\",\"interests\":[{\"type\":\"votingRights\",\"share\":{\"exact\":100},\"startDate\":\"2024-02-01\"},{\"type\":\"shareholding\"},{\"type\":\"shareholding\",\"endDate\":\"2024-02\"}]}}]";
 
-// What its second and third interest add to the rows of the first lodging, and what makes tables of
-// version 1 of those that were set up.
+// The rows that its second and third interest add to those of the first lodging, and what makes
+// tables of version 1 of those that were set up.
 const BACK: [&str; 3] = [
     "INSERT INTO interest VALUES \
      ('alder', 1, 3, 2, 'shareholding', 'unknown', NULL, NULL, NULL, NULL), \

@@ -1,4 +1,4 @@
-//! What tables tell of records as a viewer sees them: a record's row, its aliases, and all rows.
+//! The records of tables as a viewer sees them: a record's row, its aliases, and all rows.
 
 use crate::checks::holds;
 use crate::stores::{agent, day, register};
