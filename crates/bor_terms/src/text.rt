@@ -22,7 +22,7 @@ pub trait Form {
     fn fits(text: &str) -> bool
         ensures { result ≡ is_form text.now };
 
-    /// What `{:?}` writes of a text of the form.
+    /// The text that `{:?}` writes of a text of the form.
     fn shown(text: &str) -> &str
         ensures { result.now ≡ shown text.now };
 }
