@@ -33,9 +33,9 @@ pub fn exchanges_keep_drafts_invisible<K: Keep>()
     ensures { ExchangesKeepDraftsInvisible K.shows }
 {}
 
-/// A lodging that is sent again acts once. Whatever came between, it is told the number and the due
-/// day as before, its filing's state now, and that it isn't new, with status 200, and changes
-/// nothing; a withdrawn filing is told so too. The key with another due day or another file is
+/// A lodging that is sent again acts once. Whatever came between, the reply has the number and the
+/// due day as before, its filing's state now, and that it isn't new, with status 200, and changes
+/// nothing; so it is for a withdrawn filing too. The key with another due day or another file is
 /// refused, and nothing changes. This holds of every register and run.
 pub fn repeats_act_once()
     ensures { RepeatsActOnce }
@@ -71,8 +71,8 @@ pub fn each_is_received()
     ensures { EachIsReceived }
 {}
 
-/// What spells no request, or has a token that nobody has, is in no agent's history and leaves the
-/// register, and no agent receives its reply. What it is told depends on its bytes alone: the
+/// An input that spells no request, or has a token that nobody has, is in no agent's history and
+/// leaves the register, and no agent receives its reply. The reply depends on its bytes alone: the
 /// refusal that they spell, or `NoAgent`. This holds of every register and run.
 pub fn nobodys_inputs()
     ensures { NobodysInputs }
@@ -101,15 +101,16 @@ pub fn answers_are_runs<K: Keep>()
     ensures { AnswersAreRuns K.shows K.is_clean K.is_sound K.may_leave K.left_shows }
 {}
 
-/// What a stop leaves after exchanges one after the other, from a clean keep of a legal register,
-/// if its store has returned what was written: it shows the register after a front of them, or
-/// after that and the next one. The front is a run and has all up to any exchange after which the
-/// keep was clean; those that ended with status 503 or with a failed read have no part in it.
+/// The state that a stop leaves after exchanges one after the other, from a clean keep of a legal
+/// register, if its store has returned what was written: it shows the register after a front of
+/// them, or after that and the next one. The front is a run and has all up to any exchange after
+/// which the keep was clean; those that ended with status 503 or with a failed read have no part in
+/// it.
 pub fn stops_leave_runs<K: Keep>()
     ensures { StopsLeaveRuns K.shows K.is_clean K.is_sound K.may_leave K.left_shows }
 {}
 
-/// What was answered lasts: the front that [`stops_leave_runs`] speaks of has each request that was
+/// Answered changes last: the front that [`stops_leave_runs`] speaks of has each request that was
 /// answered with another status than 503. A stop is one as an exchange ends; that one in its midst
 /// leaves no more is an argument of the store's.
 pub fn answers_last<K: Keep>()

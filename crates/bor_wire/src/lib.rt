@@ -16,8 +16,9 @@
 //! own filings, its own exchanges, the day at each of them, and what the others had published then
 //! ([`laws`]).
 //!
-//! What a request asks is spelled out by [`spelling`]. A connection serves one request, so each
-//! reply has `Connection: close`; [`rendering`] makes its bytes. Nothing here knows of sockets or of how a register is kept.
+//! How requests are spelled is in [`spelling`]. A connection serves one request, so each reply has
+//! `Connection: close`; [`rendering`] makes its bytes. Nothing here knows of sockets or of how a
+//! register is kept.
 #![tactic(auto)]
 
 pub mod laws;

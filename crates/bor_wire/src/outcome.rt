@@ -48,7 +48,7 @@ fn write_reply<W: Write>(writer: &mut Counted<W>, status: u16, bytes: &[u8]) -> 
 /// register left is the one after it. With 503 they are [`UNAVAILABLE`], and nothing changed,
 /// unless the store shut in its commit: then the next one to open it may find the change.
 ///
-/// Of any keep it is said that 503 has [`UNAVAILABLE`] written, which refusal an input is told that
+/// Of any keep it is said that 503 has [`UNAVAILABLE`] written, which refusal answers an input that
 /// spells no request, and, if its store has returned what was written, that a request has another
 /// status than 503 only where the keep ends clean, and that a stop leaves what one before might
 /// have left, or the register after the request. Of a keep that ends clean it is said

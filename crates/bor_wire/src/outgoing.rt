@@ -1,4 +1,5 @@
-//! What goes out for an input, and for whom: it is read, asked of the desk, and made into bytes.
+//! The reply that goes out for an input, and for whom: the input is read, asked of the desk, and
+//! answered in bytes.
 
 ghost use Rattle.std.specs.Prelude.{◌≡◌, ◌≢◌, ◌≤◌, [], Ok, Err, Some, IfSome, vec_capacity};
 ghost use Rattle.bor_records.specs.Promises.{Leaves, Promised};
@@ -26,7 +27,7 @@ use bor_terms::AgentName;
 use std::alloc::Global;
 use std::io::Read;
 
-/// What goes out for an input.
+/// The reply that goes out for an input.
 #[derive(Drop)]
 pub enum Outgoing {
     /// A whole reply, with its status.
@@ -60,13 +61,13 @@ impl Outgoing {
     }
 }
 
-/// What goes out for an input, and for whom.
+/// The reply that goes out for an input, and for whom.
 #[derive(Drop)]
 pub struct Response {
     /// The agent whose token the request has; `None` where the registrar or nobody has it, where
     /// the input spells no request, or where the status is 503 and it isn't known.
     pub agent: Option<AgentName>,
-    /// What goes out.
+    /// The reply.
     pub outgoing: Outgoing,
 }
 
@@ -109,7 +110,7 @@ fn refused(alloc: Global, refusal: Refusal) -> Outgoing
     Outgoing::Full(refusal_status(refusal).as_u16(), out)
 }
 
-// What the desk replies, and to which agent; no reply where the keep failed.
+// The desk's reply, and its agent; no reply where the keep failed.
 fn asked<K: Keep>(
     alloc: Global,
     keep: &mut K,
@@ -133,7 +134,7 @@ fn asked<K: Keep>(
     }
 }
 
-// What goes out of a reply, into room that was reserved for a short one.
+// The bytes of a reply, into room that was reserved for a short one.
 fn rendered(alloc: Global, mut out: Vec<u8>, reply: &DeskReply) -> Outgoing
     requires room { reserved ≤ vec_capacity out }
     requires empty { out.items ≡ [] }
@@ -185,7 +186,8 @@ fn answered<K: Keep>(alloc: Global, keep: &mut K, asking: &Asking) -> Response
     }
 }
 
-// What was read is let go with this, so that no body is held twice while the desk answers.
+// The bytes that were read are let go with this, so that no body is held twice while the desk
+// answers.
 fn spelled(alloc: Global, paths: &Paths, raw: RawRequest) -> Result<Asking, WireFault>
     ensures { Finds asked_view result (spell raw) }
 {

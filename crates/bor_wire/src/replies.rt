@@ -123,8 +123,8 @@ fn reply_to<K: Keep>(alloc: Global, paths: &Paths, keep: &mut K, input: &[u8]) -
 /// holds up to the last request that was answered: the replies are those of exchanges in turn, and
 /// up to each request that was answered these are a run of their own, if the store had returned
 /// what was written by then ([`answers_are_runs`](crate::laws::answers_are_runs)). From the input
-/// on at which the store shut, each is told 503, or the refusal that its bytes spell, if the store
-/// has returned what was written.
+/// on at which the store shut, each is answered 503, or with the refusal that its bytes spell, if
+/// the store has returned what was written.
 ///
 /// # Errors
 ///

@@ -17,7 +17,7 @@ use bor_terms::Day;
 use json::Writer;
 use std::alloc::{AllocError, Global};
 
-// What is shown of each item, in order, as an array.
+// The value of each item, in order, as an array.
 fn array_body<T: Shown>(alloc: Global, items: &[T]) -> Result<Vec<u8>, AllocError>
     ensures { IfOk result (λ body. body.items ≡ compact_text (list_data T.as_data items.now)) }
 {

@@ -11,8 +11,8 @@
 //! assert!(rt; out.as_slice().starts_with(b"HTTP/1.1 405 Method Not Allowed\r\n"));
 //! ```
 //!
-//! What is published, shown or listed goes filing by filing, record by record, into one buffer.
-//! Where the store failed or memory was wanting, the reply is [`UNAVAILABLE`].
+//! Lists of filings and of records go filing by filing, record by record, into one buffer. Where
+//! the store failed or memory was wanting, the reply is [`UNAVAILABLE`].
 //!
 //! Nothing is read, asked or sent here.
 

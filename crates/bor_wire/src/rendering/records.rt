@@ -1,4 +1,4 @@
-//! What open records say.
+//! Open records, as replies show them.
 
 ghost use Rattle.bor_wire.specs.Rendering.Values.{maybe_data, identifier_data, share_data, interest_data, details_data, entry_data};
 ghost use Rattle.bor_wire.specs.Rendering.Parts.{Adds, data_tokens};

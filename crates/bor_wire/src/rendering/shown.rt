@@ -1,4 +1,4 @@
-//! What replies show, written as JSON token by token into one buffer.
+//! The values that replies show, written as JSON token by token into one buffer.
 
 ghost use Rattle.std.specs.Prelude.{◌≡◌, ◌∷◌, [], List, ℕ, IfSome, IsSome, codes};
 ghost use Rattle.json.specs.Token.{key, string};
@@ -11,7 +11,7 @@ use bor_terms::{Day, Form, Text};
 use json::Writer;
 use std::alloc::AllocError;
 
-/// What replies show as a value of JSON.
+/// A value that replies show as JSON.
 pub(crate) trait Shown {
     ghost as_data: { Self → Data };
 

@@ -19,7 +19,7 @@ use std::alloc::Global;
 pub struct Asking {
     /// The bytes behind `Bearer`.
     pub token: Token,
-    /// What is asked for.
+    /// The request.
     pub request: Request,
 }
 
@@ -79,7 +79,7 @@ fn request_for(alloc: Global, route: Route, raw: &RawRequest) -> Result<Request,
     }
 }
 
-/// What a message spells: the request and the token of whoever asks, or the first refusal of those
+/// The request that a message spells, with the token of whoever asks, or the first refusal of those
 /// that are about a path, a method, a token and names. Want of memory is answered where it is met;
 /// the reader is not asked, so [`WireFault::Read`] is never answered.
 pub fn parse(alloc: Global, raw: &RawRequest) -> Result<Asking, WireFault>
@@ -88,8 +88,8 @@ pub fn parse(alloc: Global, raw: &RawRequest) -> Result<Asking, WireFault>
     parse_by(alloc, &Paths::new(alloc)?, raw)
 }
 
-/// What a message spells, as [`parse`] gives it, by paths that were made before: for whoever has
-/// many requests.
+/// The request that a message spells, as [`parse`] gives it, by paths that were made before: for
+/// whoever has many requests.
 #[tactic(auto, using(crate::proofs::OnSpelling::Stepwise::stepwise), unfolding(crate::specs::Spelling::Steps::spell_by_steps))]
 pub fn parse_by(alloc: Global, paths: &Paths, raw: &RawRequest) -> Result<Asking, WireFault>
     ensures { Finds asked_view result (spell raw.now) }

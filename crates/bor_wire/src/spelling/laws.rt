@@ -12,7 +12,7 @@ pub fn message_spells()
     ensures { MessageSpells }
 {}
 
-/// What stands behind a request has no effect, nor what stands behind an input that is refused for
+/// Bytes behind a request have no effect, nor have those behind an input that is refused for
 /// another cause than that it ended.
 pub fn what_follows_is_passed_over()
     ensures { WhatFollowsIsPassedOver }

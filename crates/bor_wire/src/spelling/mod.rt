@@ -1,4 +1,4 @@
-//! What a request asks, and whose token it has.
+//! The request that an input spells, and its token.
 //!
 //! ```
 //! let input = b"GET /filings HTTP/1.1\r\nAuthorization: Bearer alder-token-000001\r\n\r\n";

@@ -1,4 +1,4 @@
-//! What the names of a query stand for.
+//! The names of a query, and their values.
 ghost use Rattle.bor_terms.specs.Texts.{is_agent_name, is_ident};
 ghost use Rattle.bor_terms.specs.Day.{day_of};
 ghost use Rattle.bor_wire.specs.Spelling.Query.{pair_texts};

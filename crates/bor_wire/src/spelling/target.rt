@@ -35,7 +35,7 @@ pub(crate) fn path_at(paths: &Paths, text: &[u8]) -> Result<Path, WireFault>
     }
 }
 
-// What stands behind `/filings/`.
+// The part behind `/filings/`.
 fn behind_filings(path: &[u8]) -> &[u8]
     ensures { result.now ≡ drop 9 path.now }
 {
