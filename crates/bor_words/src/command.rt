@@ -1,4 +1,4 @@
-//! What the words on the command line ask for.
+//! The commands that the words on the command line ask for.
 
 ghost use Rattle.std.specs.Prelude.{◌≡◌, [], None, IfOk, IfErr, OnOk, map, option_map};
 ghost use Rattle.clap.specs.Words.{HasKind, fault_of, subcommand_rows_of};
@@ -20,7 +20,7 @@ use clap::{ArgMatches, Error};
 use std::alloc::Global;
 use std::convert::AsStr;
 
-/// What `bor` is asked to do.
+/// A command of `bor`.
 #[derive(Drop, PartialEq, Eq)]
 pub enum Command<'a> {
     /// Lodge the file into an empty register, and print what becomes of it.
@@ -83,7 +83,7 @@ impl<'a> Command<'a> {
     }
 }
 
-// What clap finds in the words after the program's name.
+// The words that clap finds after the program's name.
 fn parsed<'a, S: AsStr>(alloc: Global, words: &'a [S]) -> Result<ArgMatches<'a>, Error>
     ensures clean { OnOk result (fault_of bor_app (map S.text words.entry.now) ≡ []) }
     ensures found { IfOk result (λ matches.
@@ -93,7 +93,7 @@ fn parsed<'a, S: AsStr>(alloc: Global, words: &'a [S]) -> Result<ArgMatches<'a>,
     parser(alloc)?.try_get_matches_from(words)
 }
 
-// What is named behind check.
+// The source that is named behind check.
 fn name_given<'a>(matches: &ArgMatches<'a>) -> Option<&'a str>
     ensures { option_map (λ name. name.now) result ≡ name_at (subcommand_rows_of matches.now) }
 {

@@ -14,13 +14,13 @@ use bor_terms::Day;
 use clap::ArgMatches;
 use std::alloc::Global;
 
-/// What `bor exchange` is asked to do: to answer the requests in files, each in the register that
-/// the one before it left.
+/// The request of `bor exchange`: to answer the requests in files, each in the register that the
+/// one before it left.
 #[derive(Drop, PartialEq, Eq)]
 pub struct Exchange<'a> {
     /// The register's file. Without one the register is a new one in memory.
     pub db: Option<&'a str>,
-    /// Where the registrar's token of a register that is set up is told.
+    /// Where the registrar's token of a register that is set up stands.
     pub registrar: RegistrarSource<'a>,
     /// The day of a register that is set up.
     pub day: Day,
@@ -29,7 +29,7 @@ pub struct Exchange<'a> {
 }
 
 impl<'a> Exchange<'a> {
-    /// What was found behind the command's name.
+    /// Reads the words that were found behind the command's name.
     pub(crate) fn read(alloc: Global, found: &ArgMatches<'a>) -> Result<Self, Unread<'a>>
         ensures ok { IfOk result (IsExchange (rows_of (found_of found.now))) }
         ensures fits { OnOk result

@@ -33,7 +33,7 @@ macro_rules! page {
     };
 }
 
-// What clap tells of the program, and of each command.
+// The texts that clap prints of the program, and of each command.
 macro_rules! help {
     ($of:ident) => {
         page!(
@@ -168,15 +168,15 @@ pub const REPORT_HELP: &str = help!(report);
 /// The page of `bor migrate`.
 pub const MIGRATE_HELP: &str = help!(migrate);
 
-/// What is printed where these words ask for help: the page of the command that the first of them
-/// names, or the one behind `help`; all of the help where that is none.
+/// The text that is printed where these words ask for help: the page of the command that the first
+/// of them names, or the one behind `help`; all of the help where that is none.
 pub fn help_for<S: AsStr>(words: &[S]) -> &'static str
     ensures { result.now ≡ help_for (map S.text words.now) }
 {
     page_of(topic_of(words)).unwrap_or(HELP)
 }
 
-// What help is asked on.
+// The subject that help is asked on.
 fn topic_of<S: AsStr>(words: &[S]) -> &str
     ensures { result.now ≡ topic_of (map S.text words.now) }
 {

@@ -14,19 +14,19 @@ use bor_terms::Day;
 use clap::ArgMatches;
 use std::alloc::Global;
 
-/// What `bor init` is asked to do: to set up a register in a file that has none.
+/// The request of `bor init`: to set up a register in a file that has none.
 #[derive(Drop, PartialEq, Eq)]
 pub struct Init<'a> {
     /// The register's file.
     pub db: &'a str,
-    /// Where the registrar's token is told.
+    /// Where the registrar's token stands.
     pub registrar: RegistrarSource<'a>,
     /// The register's day.
     pub day: Day,
 }
 
 impl<'a> Init<'a> {
-    /// What was found behind the command's name.
+    /// Reads the words that were found behind the command's name.
     pub(crate) fn read(alloc: Global, found: &ArgMatches<'a>) -> Result<Self, Unread<'a>>
         ensures ok { IfOk result (IsInit (rows_of (found_of found.now))) }
         ensures fits { OnOk result

@@ -1,4 +1,4 @@
-//! What clap found, by the names of words.
+//! The words that clap found, by their names.
 
 ghost use Rattle.std.specs.Prelude.{◌≡◌, IfOk, map, option_map};
 ghost use Rattle.clap.specs.Words.{first_of, found_of, rows_of, subcommand_rows_of};
@@ -7,7 +7,7 @@ ghost use Rattle.bor_words.specs.Words.{files_named, found_behind, given, is_set
 use clap::ArgMatches;
 use std::alloc::{AllocError, Global};
 
-/// What was found behind the command of this name, where it was entered.
+/// The words that were found behind the command of this name, where it was entered.
 pub fn behind<'m, 'a>(matches: &'m ArgMatches<'a>, name: &str) -> Option<&'m ArgMatches<'a>>
     ensures { option_map (λ m. rows_of (found_of m.now)) result
         ≡ found_behind name.now (subcommand_rows_of matches.now) }
@@ -15,7 +15,7 @@ pub fn behind<'m, 'a>(matches: &'m ArgMatches<'a>, name: &str) -> Option<&'m Arg
     matches.subcommand_matches(name)
 }
 
-/// What was given for a word, where it was.
+/// The value of a word, where one was given.
 pub fn optional<'a>(found: &ArgMatches<'a>, word: &str) -> Option<&'a str>
     ensures { option_map (λ text. text.now) result
         ≡ first_of word.now (rows_of (found_of found.now)) }
@@ -23,7 +23,7 @@ pub fn optional<'a>(found: &ArgMatches<'a>, word: &str) -> Option<&'a str>
     found.get_str(word)
 }
 
-/// What was given for a word; nothing where it was left out.
+/// The value of a word; nothing where it was left out.
 pub fn given<'a>(found: &ArgMatches<'a>, word: &str) -> &'a str
     ensures { result.now ≡ given word.now (rows_of (found_of found.now)) }
 {

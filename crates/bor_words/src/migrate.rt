@@ -7,7 +7,7 @@ ghost use Rattle.bor_words.specs.Asked.{IsMigrate};
 use crate::matches::given;
 use clap::ArgMatches;
 
-/// What `bor migrate` is asked to do: to move a register to the tables of this program.
+/// The request of `bor migrate`: to move a register to the tables of this program.
 #[derive(Clone, Copy, PartialEq, Eq)]
 pub struct Migrate<'a> {
     /// The register's file.
@@ -15,7 +15,7 @@ pub struct Migrate<'a> {
 }
 
 impl<'a> Migrate<'a> {
-    /// What was found behind the command's name.
+    /// Reads the words that were found behind the command's name.
     pub(crate) fn read(found: &ArgMatches<'a>) -> Self
         ensures { IsMigrate (rows_of (found_of found.now)) result }
     {

@@ -1,4 +1,4 @@
-//! The words that clap is told of.
+//! The words that clap is given.
 
 ghost use Rattle.std.specs.Prelude.{◌≡◌, IfOk, codes, false};
 ghost use Rattle.clap.specs.Words.{app_of, rule_of};
@@ -79,7 +79,7 @@ fn register_file<'a>(alloc: Global, help: &'a str) -> Arg<'a>
     required(alloc, "db", "PATH", help)
 }
 
-// What a register is set up by beside its file: the registrar's token and the day.
+// The words that a register is set up by beside its file: the registrar's token and the day.
 fn with_setup<'a>(alloc: Global, parser: Parser<'a>) -> Result<Parser<'a>, AllocError>
     ensures app { IfOk result (λ more. app_of more ≡ with_setup (app_of parser.entry)) }
     ensures local { IfOk result (λ more.

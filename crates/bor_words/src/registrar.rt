@@ -1,4 +1,4 @@
-//! Where the registrar's token is told.
+//! The place of the registrar's token: a word or a file.
 
 ghost use Rattle.std.specs.Prelude.{◌≡◌, true, IfErr, IfOk, OnOk, codes};
 ghost use Rattle.clap.specs.Words.{first_of, found_of, rows_of};
@@ -13,7 +13,7 @@ use bor_terms::Token;
 use clap::ArgMatches;
 use std::alloc::Global;
 
-/// Where the registrar's token of a register that is set up is told.
+/// The place of the registrar's token of a register that is set up.
 #[derive(Drop, PartialEq, Eq)]
 pub enum RegistrarSource<'a> {
     /// This is the token.
@@ -23,7 +23,7 @@ pub enum RegistrarSource<'a> {
 }
 
 impl<'a> RegistrarSource<'a> {
-    /// What was found behind the command's name.
+    /// Reads the words that were found behind the command's name.
     pub(crate) fn read(alloc: Global, found: &ArgMatches<'a>) -> Result<Self, Unread<'a>>
         ensures ok { IfOk result (IsRegistrar (rows_of (found_of found.now))) }
         ensures fits { OnOk result

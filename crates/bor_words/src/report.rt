@@ -13,7 +13,7 @@ use bor_terms::{AgentName, Day, Ident};
 use clap::ArgMatches;
 use std::alloc::Global;
 
-/// What `bor report` is asked to do: to tell who stands behind an entity, as an agent sees it.
+/// The request of `bor report`: to print who stands behind an entity, as an agent sees it.
 #[derive(Drop, PartialEq, Eq)]
 pub struct Report<'a> {
     /// The register's file.
@@ -28,12 +28,12 @@ pub struct Report<'a> {
     pub rec: Ident,
     /// The day; the register's where it is left out.
     pub date: Option<Day>,
-    /// Whether the links of the chains are told too.
+    /// Whether the links of the chains are printed too.
     pub evidence: bool,
 }
 
 impl<'a> Report<'a> {
-    /// What was found behind the command's name.
+    /// Reads the words that were found behind the command's name.
     pub(crate) fn read(alloc: Global, found: &ArgMatches<'a>) -> Result<Self, Unread<'a>>
         ensures ok { IfOk result (IsReport (rows_of (found_of found.now))) }
         ensures fits { OnOk result

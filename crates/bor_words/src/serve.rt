@@ -11,7 +11,7 @@ use crate::unread::Unread;
 use crate::values::{connections, memory, port};
 use clap::ArgMatches;
 
-/// What `bor serve` is asked to do: to answer requests over HTTP, one after the other.
+/// The request of `bor serve`: to answer requests over HTTP, one after the other.
 #[derive(Clone, Copy, PartialEq, Eq)]
 pub struct Serve<'a> {
     /// The register's file.
@@ -22,12 +22,12 @@ pub struct Serve<'a> {
     pub connections: u32,
     /// How many megabytes the register in memory may take: at most 1,000,000, and none at 0.
     pub memory: u32,
-    /// Whether a line is told of each request.
+    /// Whether a line is printed for each request.
     pub log: bool,
 }
 
 impl<'a> Serve<'a> {
-    /// What was found behind the command's name.
+    /// Reads the words that were found behind the command's name.
     pub(crate) fn read(found: &ArgMatches<'a>) -> Result<Self, Unread<'a>>
         ensures ok { IfOk result (IsServe (rows_of (found_of found.now))) }
         ensures fits { OnOk result

@@ -17,9 +17,9 @@ pub enum Unread<'a> {
     Unfit(Unfit<'a>),
     /// The registrar's token is none. It may be a secret all the same, so it isn't kept here.
     UnfitToken,
-    /// The registrar's token is told neither by itself nor by a file.
+    /// The registrar's token is given neither by itself nor by a file.
     NoRegistrar,
-    /// It is told by both.
+    /// It is given by both.
     TwoRegistrars,
 }
 
@@ -28,16 +28,16 @@ pub enum Unread<'a> {
 pub struct Unfit<'a> {
     /// The word, without its hyphens.
     pub word: &'static str,
-    /// What was given.
+    /// The value that was given.
     pub value: &'a str,
-    /// What fits.
+    /// The values that fit.
     pub fitting: &'static str,
 }
 
 impl Unread<'_> {
-    /// What went wrong, or what was asked for. A value that doesn't fit, a token's too, is
-    /// `ValueValidation`, a token that isn't told `MissingRequiredArgument`, and one that is told
-    /// twice `ArgumentConflict`.
+    /// The kind of the fault, or of the request for help. A value that doesn't fit, a token's too,
+    /// is `ValueValidation`, a token that isn't given `MissingRequiredArgument`, and one that is
+    /// given twice `ArgumentConflict`.
     pub fn kind(&self) -> ErrorKind
         ensures { result ≡ kind_of_answer self.now }
     {
