@@ -1,4 +1,4 @@
--- What a statement says of its record: of an entity, a person or a relationship (BODS 0.4,
+-- The details of a statement's record: of an entity, a person or a relationship (BODS 0.4,
 -- recordDetails; this register's profile).
 use Rattle.std.specs.Prelude.{ℕ, List, [], ◌∷◌, Option, Some, None, option_and_then, option_map, filter_map, slice_get, codes}
 use Rattle.serde_json.specs.Data.{Data}
@@ -92,7 +92,7 @@ details_lines types.Entity d = entity_lines d
 details_lines types.Person d = []
 details_lines types.Relationship d = relationship_lines d
 
--- what the details say, by what the record is of
+-- the details, by the kind of the record
 abbrev pub details_of : RecordType → Data → Details
 details_of types.Entity d = entity_of d
 details_of types.Person d = person_of d

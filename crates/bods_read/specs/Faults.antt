@@ -1,4 +1,4 @@
--- What is printed of a fault: its name, the place of its statement, and the member that it is about.
+-- The parts of a fault that are printed: its name, the place of its statement, and the member that it is about.
 use Rattle.std.specs.Prelude.{ℕ, List, Option, Some, None, codes}
 use Rattle.bods_read.specs.declared.fault.Field.{Field}
 use Rattle.bods_read.specs.declared.fault.Fault.{Fault}

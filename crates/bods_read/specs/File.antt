@@ -1,4 +1,4 @@
--- What a file reads as: no JSON, the first of its faults, or its statements.
+-- The reading of a file: no JSON, the first of its faults, or its statements.
 use Rattle.std.specs.Prelude.{◌≡◌, ◌∷◌, [], ℕ, List, length, map, Option, Some, None, Result, Ok, Err, nat_lt, ◌==◌, if◌then◌else◌}
 use Rattle.std.specs.Str.{is_utf8}
 use Rattle.serde_json.specs.Data.{Data}
@@ -58,7 +58,7 @@ abbrev pub reading_in : Option Data → Result (List Statement) FileFault
 reading_in None = Err NotJson
 reading_in (Some d) = reading_of d
 
--- what a file reads as
+-- the reading of a file
 unfoldable pub reading : List ℕ → Result (List Statement) FileFault
 reading bytes = reading_in (value_of bytes)
 
@@ -67,7 +67,7 @@ abbrev pub IsUnread : {Y : Type 0} → ReadFault → Result Y FileFault → Type
 IsUnread (File fault) read = read ≡ Err fault
 IsUnread Memory read = Unit {0}
 
--- what a reader returned, seen by view, is what reading gives
+-- the value that a reader returned, seen by view, is the reading
 abbrev pub IsReadingBy : {X Y : Type 0} → (X → Y) → Result X ReadFault → Result Y FileFault → Type 0
 IsReadingBy view (Ok x) read = read ≡ Ok (view x)
 IsReadingBy view (Err why) read = IsUnread why read
@@ -79,7 +79,7 @@ abbrev pub IsNoValue : Type 0 → ReadFault → Type 0
 IsNoValue wanting (File fault) = ¬ wanting × (fault ≡ NotJson)
 IsNoValue wanting Memory = wanting
 
--- what is answered for a trouble with the statement at a place
+-- the fault that is answered for a trouble with the statement at a place
 abbrev pub fault_at : ℕ → Trouble → ReadFault
 fault_at place troubles.Memory = Memory
 fault_at place (troubles.Fault fault) = File (At place fault)

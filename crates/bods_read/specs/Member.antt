@@ -13,7 +13,7 @@ use Rattle.bods_read.specs.Words.{field_word, type_worded, status_worded}
 use Rattle.bods_read.specs.Limits.{items_limit}
 use Rattle.bods_read.specs.Outcome.{unless}
 
--- ---- what a member is
+-- ---- the value of a member
 
 -- null counts as absent (this register's profile)
 abbrev pub present : Data → Option Data
@@ -65,7 +65,7 @@ required_lines field form (Some d) = unless (is_some (form d)) (Bad field)
 abbrev pub required : {X : Type 0} → Field → (Data → Option X) → Data → List Fault
 required field form d = required_lines field form (member (field_word field) d)
 
--- what it stands for; where a fault stands, anything does
+-- the value that it stands for; where a fault stands, any value
 abbrev pub required_value : {X : Type 0} → Field → (Data → Option X) → X → Data → X
 required_value field form any d = unwrap_or (option_and_then form (member (field_word field) d)) any
 
@@ -80,7 +80,7 @@ optional_lines field form (Some d) = unless (is_some (form d)) (Bad field)
 abbrev pub optional : {X : Type 0} → Field → (Data → Option X) → Data → List Fault
 optional field form d = optional_lines field form (member (field_word field) d)
 
--- what it stands for, if it is there
+-- the value that it stands for, if it is there
 abbrev pub optional_value : {X : Type 0} → Field → (Data → Option X) → Data → Option X
 optional_value field form d = option_and_then form (member (field_word field) d)
 

@@ -1,5 +1,5 @@
--- What reading comes to: the value where no line of the table of faults fails, and otherwise the first
--- line that does.
+-- The outcome of reading: the value where no line of the table of faults fails, and otherwise the
+-- first line that does.
 use Rattle.std.specs.Prelude.{◌≡◌, ◌+◌, ℕ, List, [], ◌∷◌, ◌++◌, Result, Ok, Err, Bool, if◌then◌else◌}
 pub use Rattle.bor_terms.specs.Tables.{outcome, table}
 use Rattle.bods_read.specs.declared.fault.Fault.{Fault}
@@ -22,7 +22,7 @@ abbrev pub Fails : {Y : Type 0} → Trouble → Result Y Fault → Type 0
 Fails troubles.Memory read = Unit {0}
 Fails (troubles.Fault fault) read = read ≡ Err fault
 
--- what a part of the reader returned, seen by view, is the outcome
+-- the value that a part of the reader returned, seen by view, is the outcome
 abbrev pub Gives : {X Y : Type 0} → (X → Y) → Result X Trouble → Result Y Fault → Type 0
 Gives view (Ok x) read = read ≡ Ok (view x)
 Gives view (Err trouble) read = Fails trouble read

@@ -26,7 +26,7 @@ percent_of n = option_and_then (λ k. if nat_le k 100 then Some k else None) (as
 abbrev pub numeral_lines : Num → List Fault
 numeral_lines n = if is_float n then Fraction ∷ [] else unless (is_some (percent_of n)) ShareRange
 
--- what is no number is bad
+-- a value that is no number is bad
 abbrev pub number_lines : Field → Option Num → List Fault
 number_lines field None = Bad field ∷ []
 number_lines field (Some n) = numeral_lines n
@@ -65,22 +65,22 @@ either_lines field (Some d) = if is_some (as_bool d) then [] else percent_lines 
 unfoldable pub exclusive_lines_at : Field → Data → List Fault
 exclusive_lines_at field share = either_lines field (member (field_word field) share)
 
--- what a number says
+-- an exclusive bound, from a number
 abbrev pub by_number : Option ℕ → Exclusive
 by_number None = Absent
 by_number (Some m) = Percent m
 
--- what a truth value says; without one, what a number says
+-- an exclusive bound, from a truth value; without one, from a number
 abbrev pub by_flag : Option Bool → Option ℕ → Exclusive
 by_flag None number = by_number number
 by_flag (Some flag) number = Flag flag
 
--- what a value says
+-- an exclusive bound, from a value
 abbrev pub exclusive_in : Option Data → Exclusive
 exclusive_in None = Absent
 exclusive_in (Some d) = by_flag (as_bool d) (percent_in d)
 
--- what the member says
+-- an exclusive bound, from the member
 unfoldable pub exclusive_at : Field → Data → Exclusive
 exclusive_at field share = exclusive_in (member (field_word field) share)
 

@@ -45,7 +45,7 @@ status_word statuses.Closed = codes "closed"
 unfoldable pub status_worded : List ℕ → Option Status
 status_worded text = worded status_word (statuses.New ∷ statuses.Updated ∷ statuses.Closed ∷ []) text
 
--- what a record is of, by its details
+-- the kind of a record, by its details
 abbrev pub type_of : Details → RecordType
 type_of (details.Entity kind name identifiers) = types.Entity
 type_of (details.Person kind name) = types.Person
@@ -104,7 +104,7 @@ directness_word directness.Direct = codes "direct"
 directness_word directness.Indirect = codes "indirect"
 directness_word directness.Unknown = codes "unknown"
 
--- what the word says; unknown for another text and for none (this register's profile)
+-- the directness of the word; unknown for another text and for none (this register's profile)
 unfoldable pub directness_worded : Option (List ℕ) → Directness
 directness_worded text =
     unwrap_or (option_and_then (worded directness_word (directness.Direct ∷ directness.Indirect ∷ [])) text)
