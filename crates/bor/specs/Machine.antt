@@ -1,4 +1,4 @@
--- What is done to registers in files of SQLite.
+-- Deeds on registers in files of SQLite.
 use Rattle.std.specs.Prelude.{◌≡◌, ◌≢◌, ⊤, List, ℕ, ℤ}
 use Rattle.sqlite.specs.State.{HasCleanDisk, State}
 use Rattle.sqlite_wal.specs.Recovery.{Image}
@@ -17,7 +17,7 @@ use Rattle.bor_store.specs.declared.open_fault.OpenFault.TheVariants as faults
 use Rattle.clap.specs.Words.{Text}
 use Rattle.std.specs.Borrow.{Bor}
 
--- what a fault of opening the file of this name is to the program
+-- the program's failure for a fault of opening the file of this name
 abbrev pub failure_of : Bor Text → OpenFault → Failure
 failure_of path faults.NoRegister = NoRegister path
 failure_of path (faults.OtherVersion version) = OtherVersion path version
@@ -40,14 +40,14 @@ pub record FindsOrSetsUp {K : Type 0} (shows : K → Register → Type 0) (is_cl
   pub none : came ≢ origin.Found → is_clean register → (r : Register) → ¬ Held r
   pub made : came ≡ origin.New → is_clean register → shows register (empty_register registrar day)
 
--- What moving the tables of two files comes to, on a connection that was in the one state as it was opened, and is in the other one. What is shown then is each register that the files held, and each legal one that was shown in version 1.
+-- The result of moving the tables of two files, on a connection that was in the one state as it was opened, and is in the other one. It shows then each register that the files held, and each legal one that was shown in version 1.
 pub record IsMoved (image : Image) (old new : State) : Type 0 where
   pub connected : HasCleanDisk old → IsConnected image old
   pub began : IsClean new → IsClean old
   pub second : IsClean new → (r : Register) → HoldsRegister image r → ShowsIn r new
   pub first : IsClean new → (r : Register) → ShowsFirst r old → IsLegal r → ShowsIn r new
 
--- What is done to a file that holds these registers as it is opened. What is opened shows them, none is set up over them, and what is closed is left so. What is moved is a connection, which is closed. Of what fails no connection is left, and nothing is said.
+-- A deed on a file that holds these registers as it is opened. A register that is opened shows them, none is set up over them, and one that is closed is left so. A move is of a connection, which is closed. Of a failure no connection is left, and nothing is said.
 abbrev pub IsDone : {K C : Type 0} → (K → Register → Type 0) → (K → Type 0) → (K → C) → (C → Type 0) → (Register → Type 0) → (C → C → Type 0) → Deed K → Type 0
 IsDone shows is_clean conn IsLeft Held Moved (Opens path register) = is_clean register → (r : Register) → Held r → shows register r
 IsDone shows is_clean conn IsLeft Held Moved (SetsUp path register) = is_clean register → (r : Register) → ¬ Held r
