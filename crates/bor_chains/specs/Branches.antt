@@ -61,7 +61,7 @@ abbrev pub persons_by : NodeInfo → Link → ℕ → List EvidencePerson
 persons_by (infos.Entity legal) l count = []
 persons_by (infos.Person name) l count = record { node = l.party; name = name; first = l; links = count } ∷ []
 
--- what a step tells, where it is needed
+-- the persons and the links of evidence that a step makes, where it is needed
 abbrev pub persons_at : Bool → Option Step → ℕ → List EvidencePerson
 persons_at false o count = []
 persons_at true None count = []

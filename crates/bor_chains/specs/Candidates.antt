@@ -1,4 +1,4 @@
--- What candidates make: links into a node, and nodes that are alike; for clauses of private functions alone.
+-- The results of candidates: links into a node, and nodes that are alike; for clauses of private functions alone.
 use Rattle.std.specs.Prelude.{◌≡◌, ℕ, ℤ, List, Contains, Bool, true, false, ◌&&◌, Option, Some, None, option_and_then}
 use Rattle.bor_terms.specs.Texts.{is_same}
 use Rattle.bods_read.specs.declared.details.Details.{Details}

@@ -22,7 +22,7 @@ chain_cmp ls ks = ordering_then (nat_cmp (length ls) (length ks)) (slice_cmp lin
 abbrev pub IsNotAfter : List Link → List Link → Type 0
 IsNotAfter ls ks = IsTrue (is_le (chain_cmp ls ks))
 
--- A chain from the person that comes after no other one: it is told by nodes and links alone, in whatever order they were listed.
+-- A chain from the person that comes after no other one: nodes and links alone decide which it is, in whatever order they were listed.
 pub record IsEvidence (s : Shown) (person : Node) (ls : List Link) (e : Node) : Type 0 where
   pub chain : IsChain s person ls e
   pub least : (ks : List Link) → IsChain s person ks e → IsNotAfter ls ks
@@ -35,7 +35,7 @@ IsLinkOf [] x = ⊥
 IsLinkOf (l ∷ []) x = x ≡ record { link = l; next = None }
 IsLinkOf (l ∷ k ∷ ls) x = (x ≡ record { link = l; next = Some k }) ⊎ IsLinkOf (k ∷ ls) x
 
--- what is read off a tree from a first link on: each link is the one that follows the one before it, up to one that none follows
+-- the chain that is read off a tree from a first link on: each link is the one that follows the one before it, up to one that none follows
 abbrev pub AreReadOff : List EvidenceLink → Link → List Link → Type 0
 AreReadOff tree first [] = ⊥
 AreReadOff tree first (l ∷ []) = (first ≡ l) × Contains tree (record { link = l; next = None })
@@ -68,6 +68,6 @@ pub record AreEvidenced (s : Shown) (e : Node) (tree : Evidence) : Type 0 where
   pub links : (x : EvidenceLink) → Contains tree.links x ↔ IsOfEvidence s e x
   pub links_sorted : IsStrictlySortedBy tree_cmp tree.links
 
--- the line of a report that tells no chain
+-- the line of a report that shows no chain
 abbrev pub without_chain : EvidencePerson → PersonLine
 without_chain person = record { node = person.node; name = person.name; links = person.links }

@@ -1,4 +1,4 @@
--- What the walk that keeps the reason for each mark knows; for clauses of private functions alone.
+-- The state of the walk that keeps the reason for each mark; for clauses of private functions alone.
 use Rattle.std.specs.Prelude.{◌≡◌, ◌⊎◌, ◌++◌, ◌<◌, ◌≤◌, ℕ, List, [], ◌∷◌, Contains, true, Option, None, Some, length}
 use Rattle.std.specs.List.{slice_get}
 use Rattle.bor_records.specs.declared.links.node.Node.{Node}
@@ -19,7 +19,7 @@ use Rattle.bor_chains.specs.Evidence.{IsNotAfter}
 
 -- ---- chains from marks
 
--- what leads down from a node with a mark to the entity
+-- the links that lead down from a node with a mark to the entity
 abbrev pub DownAs : Shown → Node → Node → Mark → List Link → Type 0
 DownAs s e n Target ls = Same s n e × (ls ≡ [])
 DownAs s e n Middle ls = (q : Node) × Same s n q × IsLegalEntity s q × IsChain s q ls e
@@ -123,7 +123,7 @@ pub record FollowsTo (s : Shown) (cs : List Crossing) (n : ℕ) (old new : Trail
 
 -- ---- one level after another
 
--- what a step tells of the node with a mark
+-- the meaning of a step for the node with a mark
 abbrev pub TellsAs : Shown → Node → Mark → Step → Type 0
 TellsAs s n Target step = ⊥
 TellsAs s n Middle step = step.info ≡ infos.Entity true
