@@ -62,7 +62,7 @@ key_part n = 9 ∷ n.agent ++ 9 ∷ n.declaration ++ 9 ∷ n.rec
 abbrev pub person_part : Node → ℕ → Option (List ℕ) → List ℕ
 person_part n links name = codes "person" ++ key_part n ++ 9 ∷ decimal links ++ 9 ∷ compact_text (name_data name)
 
--- of a person what a report tells, and the record of the first link
+-- of a person the line of a report, and the record of the first link
 abbrev pub evidenced_line : EvidencePerson → List ℕ
 evidenced_line p = person_part p.node p.links p.name ++ key_part (link_record p.first) ++ 10 ∷ []
 

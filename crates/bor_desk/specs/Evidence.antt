@@ -49,7 +49,7 @@ IsBridge s a b same = MatchBool (same_node a b) (same ≡ []) (IsLeastWay s a sa
 abbrev pub person_evidence : EvidencePerson → PersonEvidence
 person_evidence p = record { node = p.node; name = p.name; first = link_record p.first; links = p.links }
 
--- the line of a report that tells no chain
+-- the line of a report that shows no chain
 abbrev pub without_first : PersonEvidence → PersonLine
 without_first p = record { node = p.node; name = p.name; links = p.links }
 

@@ -21,7 +21,7 @@ signs_in kin n = under node_cmp kin.signs n
 abbrev pub signed_in : Kin → Sign → List Node
 signed_in kin k = under sign_cmp kin.signed k
 
--- What is told of signs is so. Each of the nodes tells all its signs, and each sign all of the nodes that have it, but for those that were found.
+-- The lists of signs are right. Each of the nodes has all its signs listed, and each sign all of the nodes that have it, but for those that were found.
 pub record AreKin (s : Shown) (nodes : List Node) (IsFound : Node → Type 0) (kin : Kin) : Type 0 where
   pub of_node : (n : Node) (k : Sign) → Contains (signs_in kin n) k → HasSignAt s n k
   pub of_sign : (n : Node) (k : Sign) → Contains (signed_in kin k) n → HasSignAt s n k

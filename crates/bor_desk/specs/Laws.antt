@@ -1,4 +1,4 @@
--- What an exchange tells an agent, and what it leaves.
+-- Laws of an exchange: the answer to an agent, and the register that it leaves.
 use Rattle.std.specs.Prelude.{◌≡◌, ℕ, ℤ, List, length, map, Bool, true, false, Option, Some, None}
 use Rattle.bor_terms.specs.Texts.{is_same}
 use Rattle.bor_records.specs.declared.row.Row.{Row}
@@ -34,7 +34,7 @@ pub record OwnFilingsUntouched : Type 0 where
   pub by_the_registrar : (r : Register) (request : Request) → KeepsAgents r (registrar_step r request).register
   pub by_nobody : (r : Register) (request : Request) → (step r None request).register ≡ r
 
--- whether the answer may tell of a change: a filing that is lodged and wasn't before, a withdrawal, the day, or an agent that is enrolled
+-- whether the answer may be that of a change: a filing that is lodged and wasn't before, a withdrawal, the day, or an agent that is enrolled
 abbrev pub may_tell_a_change : Answer → Bool
 may_tell_a_change (exactly (tell.Lodged lodged)) = lodged.fresh
 may_tell_a_change (exactly (tell.Withdrawn line)) = true
@@ -72,7 +72,7 @@ pub record EvidenceNamesTheJoined : Type 0 where
   pub reported : (seen : List Row) (entity : Node) (day : ℤ) (told : EntityEvidence) → IsTold (evidence_answer seen entity day) (tell.Evidence entity day told) →
       IsTold (chains_answer seen entity day) (tell.Chains entity day (map without_first told.persons))
 
--- A request that only reads leaves the register as it was, whatever it is answered; and so does each request that is told a reply of any length.
+-- A request that only reads leaves the register as it was, whatever it is answered; and so does each request whose reply may have any length.
 pub record ReadsLeave : Type 0 where
   pub by_request : (r : Register) (caller : Option Caller) (request : Request) → is_read request ≡ true → (step r caller request).register ≡ r
   pub by_reply : (r : Register) (caller : Option Caller) (request : Request) (reply : DeskReply) → IsTold (step r caller request).answer reply → is_long reply ≡ true → (step r caller request).register ≡ r
@@ -81,12 +81,12 @@ pub record ReadsLeave : Type 0 where
 abbrev pub StepStaysLegal : Type 0
 StepStaysLegal = (r : Register) (caller : Option Caller) (request : Request) → IsLegal r → IsLegal (step r caller request).register
 
--- What an agent is answered, and its filings after it, are the same as they would be alone with what the others have published.
+-- The answer to an agent, and its filings after it, are the same as they would be alone with what the others have published.
 pub record IsAsAlone (r : Register) (name : List ℕ) (request : Request) : Type 0 where
   pub answer : (agent_step (alone name r) name request).answer ≡ (agent_step r name request).answer
   pub filings : filings_of name (agent_step (alone name r) name request).register.members ≡ filings_of name (agent_step r name request).register.members
 
--- the reply tells an agent what it would be told alone; of a reply to anybody else nothing is said here
+-- the reply to an agent is the one that it would receive alone; of a reply to anybody else nothing is said here
 abbrev pub IsToldAlone : DeskReply → Option Caller → Register → Request → Type 0
 IsToldAlone reply (Some (Agent name)) r request = IsAnswered reply (agent_step (alone name r) name request).answer
 IsToldAlone reply caller r request = Unit {0}

@@ -1,4 +1,4 @@
--- What is taken at most.
+-- The limits on values and lists.
 use Rattle.std.specs.Prelude.{ℕ}
 
 -- the bytes of a file: 1,048,576, which is 2^20

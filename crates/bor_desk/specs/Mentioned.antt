@@ -47,7 +47,7 @@ pub data IsOfLink (x : EvidenceLink) (n : Node) : Type 0 where
   is_subject : n ≡ x.link.subject → IsOfLink x n
   is_party : n ≡ x.link.party → IsOfLink x n
 
--- what the open ones of these records say
+-- the statements of the open ones of these records
 abbrev pub record_before : Option Row → List RecordEvidence → List RecordEvidence
 record_before None records = records
 record_before (Some r) records = record_evidence r ∷ records

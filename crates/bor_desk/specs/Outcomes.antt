@@ -1,4 +1,4 @@
--- What a reply has of the step.
+-- How a reply follows from the step.
 use Rattle.std.specs.Prelude.{◌≡◌, ℕ, ℤ, List, Option, Some, None, IfSome, Result, Ok, Err}
 use Rattle.bor_records.specs.declared.links.node.Node.{Node}
 use Rattle.bor_chains.specs.declared.line.PersonLine.{PersonLine}
@@ -22,7 +22,7 @@ use Rattle.bor_desk.specs.declared.refusal.DeskFault.TheVariants.{Refused, Faile
 use Rattle.bor_desk.specs.Step.{Answer, exactly, report, evidence, refused, report_on, evidence_answer}
 use Rattle.bor_desk.specs.Evidence.{IsEntityEvidence}
 
--- The reply tells the answer: of a report it names exactly the persons that are joined to the entity.
+-- The reply has the answer: of a report it names exactly the persons that are joined to the entity.
 abbrev pub IsTold : Answer → DeskReply → Type 0
 IsTold (exactly wanted) reply = reply ≡ wanted
 IsTold (report entity day shown) reply = (persons : List PersonLine) × AreJoined shown entity persons × (reply ≡ tell.Chains entity day persons)
@@ -33,12 +33,12 @@ abbrev pub denial : DeskFault → DeskReply
 denial (Refused why) = tell.Refused why
 denial (Failed fault) = tell.Failed fault
 
--- the fault of the store that a reply tells
+-- the fault of the store that a reply has
 abbrev pub fault_of : DeskReply → Option StoreFault
 fault_of (tell.Failed fault) = Some fault
 fault_of reply = None
 
--- The reply tells the answer, or a fault of the store.
+-- The reply has the answer, or a fault of the store.
 abbrev pub IsAnswered : DeskReply → Answer → Type 0
 IsAnswered reply answer = ByStore (fault_of reply) (IsTold answer reply) (λ fault. Unit {0})
 
@@ -47,15 +47,15 @@ abbrev pub IsOrderedFor : Request → Register → Type 0
 IsOrderedFor (ask.Snapshot agent declaration date) r = IsOrdered r.members
 IsOrderedFor request r = Unit {0}
 
--- The step's register is shown; a reply that tells a fault of the store leaves the register as it was.
+-- The step's register is shown; a reply that has a fault of the store leaves the register as it was.
 abbrev pub IsLeft : DeskReply → (Register → Type 0) → Register → Register → Type 0
 IsLeft reply shown r after = ByStore (fault_of reply) (shown after) (λ fault. shown r)
 
--- a reply that tells a fault of the store tells it as what it is, by whether the keep's count of faults moved; any other leaves the count
+-- a reply that has a fault of the store has the right one, by whether the keep's count of faults moved; any other leaves the count
 abbrev pub IsReplyAccounted : DeskReply → ℕ → ℕ → Type 0
 IsReplyAccounted reply before after = ByStore (fault_of reply) (after ≡ before) (IsFaultOf before after)
 
--- such a fault is want of memory, or one that the keep may tell, by whether the count moved
+-- such a fault is want of memory, or one that the keep may return, by whether the count moved
 abbrev pub TellsFault : (StoreFault → Type 0) → DeskReply → ℕ → ℕ → Type 0
 TellsFault may_tell reply before after = ByStore (fault_of reply) (Unit {0}) (IsTellable may_tell before after)
 
@@ -76,7 +76,7 @@ IsNamed reply named asks = ByStore (fault_of reply) (named ≡ asks) (λ fault. 
 
 -- ---- parts of an answer, for clauses of private functions alone
 
--- what was found is right by what is shown, or why nothing was is the answer to who stands behind an entity
+-- the value that was found is right by what is shown, or the reason why none was is the answer to who stands behind an entity
 abbrev pub IsFoundOf : {P : Type 0} → (Shown → P → Type 0) → Result P DeskFault → Shown → Node → ℤ → Type 0
 IsFoundOf right (Ok found) shown entity day = (report_on shown entity day ≡ report entity day shown) × right shown found
 IsFoundOf right (Err (Refused why)) shown entity day = report_on shown entity day ≡ refused why
@@ -103,6 +103,6 @@ reply_of (Err fault) = denial fault
 
 -- ---- a law
 
--- Two replies that tell one answer are one.
+-- Two replies that have one answer are one.
 abbrev pub AnswerIsDetermined : Type 0
 AnswerIsDetermined = (answer : Answer) (x y : DeskReply) → IsTold answer x → IsTold answer y → x ≡ y

@@ -1,4 +1,4 @@
--- What a refusal is told as: its name, the place of a statement, and the member that it is about.
+-- The parts of a refusal: its name, the place of a statement, and the member that it is about.
 use Rattle.std.specs.Prelude.{◌≡◌, ℕ, List, Option, Some, None, codes}
 use Rattle.bods_read.specs.declared.fault.Field.{Field}
 use Rattle.bods_read.specs.Faults.{file_fault_word, file_fault_place, file_fault_field}
@@ -20,7 +20,7 @@ use Rattle.bor_desk.specs.declared.refusal.Refusal.TheVariants.{NoAgent, NotRegi
 use Rattle.bor_desk.specs.declared.refusal.DeskFault.{DeskFault}
 use Rattle.bor_desk.specs.declared.refusal.DeskFault.TheVariants.{Refused, Failed}
 
--- ---- how a refusal is told
+-- ---- how a refusal is shown
 
 unfoldable pub refusal_name : Refusal → List ℕ
 refusal_name NoAgent = codes "NoAgent"
@@ -52,7 +52,7 @@ abbrev pub refusal_field : Refusal → Option Field
 refusal_field (Read fault) = file_fault_field fault
 refusal_field refusal = None
 
--- ---- what the operations' faults are told as
+-- ---- the refusals of the operations' faults
 
 abbrev pub of_lodging : LodgeFault → DeskFault
 of_lodging lodges.KeyReused = Refused KeyReused
@@ -78,7 +78,7 @@ of_enrolment enrols.NameTaken = Refused NameTaken
 of_enrolment enrols.TokenTaken = Refused TokenTaken
 of_enrolment (enrols.Store fault) = Failed fault
 
--- a report on chains; a fault of the source is told as the store's fault that it is made into
+-- the refusal of a report on chains; a fault of the source becomes the store's fault that it is made into
 abbrev pub IsOfChains : {F : Type 0} → (F → StoreFault → Type 0) → ChainFault F → DeskFault → Type 0
 IsOfChains into chains.NoEntity given = given ≡ Refused NoEntity
 IsOfChains into (chains.Source f) given = (fault : StoreFault) × into f fault × (given ≡ Failed fault)

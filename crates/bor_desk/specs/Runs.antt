@@ -64,7 +64,7 @@ abbrev pub told_then : {T : Type 0} → Option Request → T → List T → List
 told_then None told rest = rest
 told_then (Some request) told rest = told ∷ rest
 
--- of what was told in a run, in order, that which was told the agent: answers, replies or their bytes
+-- of a run's answers, replies or their bytes, in order, those that the agent received
 abbrev pub told_to : {T : Type 0} → List ℕ → Register → List Asked → List T → List T
 told_to name r [] all = []
 told_to name r (a ∷ rest) [] = []

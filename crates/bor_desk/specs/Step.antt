@@ -1,4 +1,4 @@
--- What each request is answered, and the register after it (this register's own rules).
+-- The answer to each request, and the register after it (this register's own rules).
 use Rattle.std.specs.Prelude.{ℕ, ℤ, Bool, true, false, List, map, Option, Some, None, unwrap_or, Result, Ok, Err, if◌then◌else◌}
 use Rattle.bor_records.specs.declared.row.Row.{Row}
 use Rattle.bor_records.specs.Snapshot.{snapshot}
@@ -34,7 +34,7 @@ pub data Answer : Type 0 where
 abbrev pub refused : Refusal → Answer
 refused why = exactly (tell.Refused why)
 
--- ---- what an operation's answer is told as
+-- ---- the reply to an operation's answer
 
 abbrev pub denied : DeskFault → Answer
 denied (faults.Refused why) = refused why
@@ -44,7 +44,7 @@ abbrev pub told : {A E : Type 0} → (A → DeskReply) → (E → DeskFault) →
 told reply fault (Ok answer) = exactly (reply answer)
 told reply fault (Err error) = denied (fault error)
 
--- ---- what an agent is answered, by what it can see
+-- ---- the answer to an agent, by what it can see
 
 -- the bytes of its filing, a withdrawn one too
 abbrev pub file_answer : Option AcceptedFiling → Answer
@@ -90,7 +90,7 @@ agent_step r name request =
     let s = sight_of name r in
     record { answer = agent_answer s request; register = record r { members = with_filings name (own_after s request) r.members } }
 
--- ---- what the registrar is answered
+-- ---- the answer to the registrar
 
 abbrev pub refuses : Register → Refusal → Outcome Answer
 refuses r why = record { answer = refused why; register = r }
@@ -105,7 +105,7 @@ registrar_step r request = refuses r NotAgent
 
 -- ---- the step
 
--- Who asks is told by the token: nobody, the registrar or an agent.
+-- The token says who asks: nobody, the registrar or an agent.
 abbrev pub step : Register → Option Caller → Request → Outcome Answer
 step r None request = refuses r NoAgent
 step r (Some Registrar) request = registrar_step r request

@@ -12,7 +12,7 @@ use Rattle.bor_desk.specs.declared.refusal.Refusal.{Refusal}
 use Rattle.bor_desk.specs.Refusals.{refusal_name, refusal_place, refusal_field}
 use Rattle.bor_register.specs.Publication.{state_word}
 
--- what was asked for
+-- a text that is no refusal
 abbrev pub answering : List ℕ → Text
 answering bytes = record { bytes = bytes; refused = false }
 
@@ -25,7 +25,7 @@ abbrev pub tabbed : List ℕ → List (List ℕ) → List ℕ
 tabbed part [] = part ++ 10 ∷ []
 tabbed part (next ∷ parts) = part ++ 9 ∷ [] ++ tabbed next parts
 
--- ---- what is published
+-- ---- the published filings
 
 -- the word of a settled status
 abbrev pub settled_word : Option Status → List ℕ
@@ -46,7 +46,7 @@ abbrev pub outward_lines : List Outward → List ℕ
 outward_lines [] = []
 outward_lines (o ∷ os) = statement_lines 1 o.statements ++ outward_lines os
 
--- ---- what a lodging is answered
+-- ---- the answer to a lodging
 
 -- a filing that was accepted: its number and its state
 abbrev pub accepted_line : Lodged → List ℕ

@@ -1,4 +1,4 @@
--- What the search for the records by which entities are one knows; for clauses of private functions alone.
+-- The state of the search for the records by which entities are one; for clauses of private functions alone.
 use Rattle.std.specs.Prelude.{◌≡◌, ◌⊎◌, ◌↔◌, ◌+◌, ◌<◌, ◌≤◌, ℕ, List, Contains, IsTrue, Option, None, Some, IsSome, IfSome, length}
 use Rattle.std.specs.List.{slice_get}
 use Rattle.std.specs.List.Sorted.{IsSorted}
@@ -40,7 +40,7 @@ Followers = Node → Option (Option Node)
 abbrev pub IsNew : Followers → Followers → Node → Type 0
 IsNew old new x = (old x ≡ None) × IsSome (new x)
 
--- What was found stays, and each of the nodes that wasn't is found now, followed by this one.
+-- All that was found stays, and each of the nodes that wasn't is found now, followed by this one.
 pub record AreAdded (node : Node) (nodes : List Node) (old new : Followers) (before now : List Node) : Type 0 where
   pub stays : (x : Node) (next : Option Node) → old x ≡ Some next → new x ≡ Some next
   pub each : (x : Node) (next : Option Node) → old x ≡ None → new x ≡ Some next → Contains nodes x × (next ≡ Some node)
@@ -55,7 +55,7 @@ pub record IsFirstAlias (s : Shown) (level : List Node) (count : ℕ) (x y : Nod
   pub alias : Alias s y x
   pub first : (i : ℕ) (z : Node) → i < place → slice_get level i ≡ Some z → Alias s z x → ⊥
 
--- What was found stays, and the aliases of the first so many of a level are found, each followed by the first of them.
+-- All that was found stays, and the aliases of the first so many of a level are found, each followed by the first of them.
 pub record AreFoundFrom (s : Shown) (level : List Node) (count : ℕ) (old new : Followers) (found : List Node) : Type 0 where
   pub stays : (x : Node) (next : Option Node) → old x ≡ Some next → new x ≡ Some next
   pub each : (x : Node) (next : Option Node) → old x ≡ None → new x ≡ Some next → (y : Node) × (next ≡ Some y) × IsFirstAlias s level count x y

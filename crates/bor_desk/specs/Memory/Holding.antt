@@ -1,4 +1,4 @@
--- What a register in memory holds.
+-- The contents of a register in memory.
 use Rattle.std.specs.Prelude.{ℕ}
 use Rattle.bor_register.specs.Register.{Register}
 

@@ -1,4 +1,4 @@
--- What a viewer sees of a register in memory, read by key; for clauses of private functions alone.
+-- The part of a register in memory that a viewer sees, read by key; for clauses of private functions alone.
 use Rattle.std.specs.Prelude.{ℕ, List, [], Option, None, Some, option_map, if◌then◌else◌}
 use Rattle.bods_read.specs.declared.details.Details.{Details}
 use Rattle.bods_read.specs.declared.details.Details.TheVariants as details

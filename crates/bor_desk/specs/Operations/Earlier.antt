@@ -19,7 +19,7 @@ record_cmp a b = ordering_then (slice_cmp nat_cmp a.rec b.rec) (slice_cmp nat_cm
 abbrev pub record_of : Statement → RecordKey
 record_of s = record { rec = s.rec; declaration = s.declaration }
 
--- What is found is what these live statements have: their identifiers, and of each record what is known of its last one.
+-- The maps have these live statements: their identifiers, and of each record its last one, as far as the rules ask.
 pub record AreFound (live : List Live) (earlier : Earlier) : Type 0 where
   pub ids : (id : List ℕ) → contains (slice_cmp nat_cmp) earlier.ids id ≡ has_id id live
   pub lasts : (key : RecordKey) → get record_cmp earlier.lasts key ≡ last_of key.declaration key.rec live

@@ -1,4 +1,4 @@
--- What operations do and never do.
+-- Laws of the operations.
 use Rattle.std.specs.Prelude.{◌≡◌, ℕ, ℤ, List, [], ◌∷◌, ◌++◌, map, filter, true, false, Some, IsSome, Ok, Err}
 use Rattle.std.specs.List.{Contains}
 use Rattle.bor_terms.specs.Texts.{is_same}
@@ -40,14 +40,14 @@ pub record KeepsAgents (old new : Register) : Type 0 where
   pub registrar : new.registrar ≡ old.registrar
   pub agents : (m : Member) → Contains old.members m → Contains new.members m
 
--- What an agent does leaves the filings of all others as they were; what the registrar does leaves each agent that was there as it was.
+-- An agent's operation leaves the filings of all others as they were; the registrar's leaves each agent that was there as it was.
 pub record OwnFilingsUntouched : Type 0 where
   pub by_lodging : (r : Register) (name key : List ℕ) (due : ℤ) (bytes : List ℕ) → LeavesOthers name r (lodge_step r name key due bytes).register
   pub by_withdrawal : (r : Register) (name key : List ℕ) → LeavesOthers name r (withdraw_step r name key).register
   pub by_advance : (r : Register) (day : ℤ) → KeepsAgents r (advance_step r day).register
   pub by_enrolment : (r : Register) (name token : List ℕ) → KeepsAgents r (enrol_step r name token).register
 
--- A refusal leaves the register as it was. So does a lodging that is told again, and the withdrawal of a filing that is withdrawn already.
+-- A refusal leaves the register as it was. So does a lodging that is sent again, and the withdrawal of a filing that is withdrawn already.
 pub record RefusalChangesNothing : Type 0 where
   pub of_lodging : (r : Register) (name key : List ℕ) (due : ℤ) (bytes : List ℕ) (fault : LodgeFault) →
       (lodge_step r name key due bytes).answer ≡ Err fault → (lodge_step r name key due bytes).register ≡ r
@@ -74,7 +74,7 @@ series declaration rec live = filter (λ l. is_of declaration rec l.statement) l
 abbrev pub IsPrefix : {X : Type 0} → List X → List X → Type 0
 IsPrefix {X} front whole = (rest : List X) × (whole ≡ front ++ rest)
 
--- What is published of a record is the front of what is live of it. So an agent's published filings obey the record rules by themselves: each one's statements are those of its file, settled as they are after the published ones before it alone, and no settled status tells of a draft.
+-- The published statements of a record are a front of its live ones. So an agent's published filings obey the record rules by themselves: each one's statements are those of its file, settled as they are after the published ones before it alone, and no settled status depends on a draft.
 pub record PublishedPrefix : Type 0 where
   pub of_each_record : (r : Register) (name declaration rec : List ℕ) → IsLegal r →
       IsPrefix (series declaration rec (live_of (filter (is_published r.day) (filings_of name r.members)))) (series declaration rec (live_of (filings_of name r.members)))
@@ -88,11 +88,11 @@ SightAlone = (r : Register) (name : List ℕ) → IsLegal r → is_enrolled name
 abbrev pub NumbersMakeNoLinks : Type 0
 NumbersMakeNoLinks = (day : ℤ) (viewer : List ℕ) (r : Register) → shown_of day (seen_by viewer r) ≡ shown_of day (visible viewer r.day r.members)
 
--- what was accepted, with one more filing of the agent at the end
+-- the journal with one more filing of the agent at the end
 abbrev pub with_entry : Journal → List ℕ → AcceptedFiling → Journal
 with_entry j name f = record j { entries = j.entries ++ record { agent = name; filing = f } ∷ [] }
 
--- The filing that was lodged and told is the next entry of the journal: live, with the file's statements, settled after its agent's live ones. What is left is the register of the journal with it.
+-- The filing that was lodged and answered is the next entry of the journal: live, with the file's statements, settled after its agent's live ones. The register that is left is that of the journal with it.
 pub record IsNextEntry (j : Journal) (name key : List ℕ) (due : ℤ) (bytes : List ℕ) (told : Lodged) (left : Register) (f : AcceptedFiling) : Type 0 where
   pub number : f.number ≡ told.number
   pub filing : f ≡ accepted (entries_of name j.entries) key due bytes f.statements
@@ -100,7 +100,7 @@ pub record IsNextEntry (j : Journal) (name key : List ℕ) (due : ℤ) (bytes : 
   pub in_order : IsInOrder (with_entry j name f)
   pub register : left ≡ register_of (with_entry j name f)
 
--- A lodging that is told as fresh adds one filing behind all that was accepted.
+-- A lodging that is answered as fresh adds one filing behind all that was accepted.
 abbrev pub LodgingIsNextEntry : Type 0
 LodgingIsNextEntry =
     (j : Journal) (name key : List ℕ) (due : ℤ) (bytes : List ℕ) (told : Lodged) → IsInOrder j → IsSome (token_of name j.agents) →

@@ -1,4 +1,4 @@
--- What is true of a new register, and of each that requests lead to from one (this register's own rules).
+-- The facts that hold of a new register, and of each that requests lead to from one (this register's own rules).
 use Rattle.std.specs.Prelude.{◌≡◌, ℕ, ◌+◌, ◌≤◌, List, [], ◌∷◌, ◌++◌, length, map, Bool, true, false, None, Ok}
 use Rattle.bods_read.specs.File.{reading}
 use Rattle.bor_records.specs.Admission.{Live}

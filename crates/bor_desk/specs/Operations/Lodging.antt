@@ -1,4 +1,4 @@
--- What a lodging is answered, and what it leaves, by what its agent can see (this register's own rules, over statements of BODS 0.4).
+-- The answer to a lodging, and the register after it, by what its agent can see (this register's own rules, over statements of BODS 0.4).
 use Rattle.std.specs.Prelude.{ℕ, ℤ, int_lt, nat_le, List, [], ◌∷◌, ◌++◌, length, Bool, ◌&&◌, true, false, Option, Some, None, Result, Ok, Err, if◌then◌else◌}
 use Rattle.std.specs.Ordering.{int_eq}
 use Rattle.bor_terms.specs.Texts.{is_same}
@@ -20,7 +20,7 @@ use Rattle.bor_desk.specs.Operations.Sight.{Sight, sight_of, Outcome}
 
 -- ---- the statements of a file
 
--- what an agent is told of a statement that is refused
+-- the fault that answers a statement that is refused
 abbrev pub fault_at : ℕ → Refusal → LodgeFault
 fault_at place statement_twice = StatementTwice place
 fault_at place (by_record fault) = Record place fault
@@ -36,11 +36,11 @@ settled_reading live due (Err fault) = Err (Read fault)
 
 -- ---- a key that is there
 
--- what the agent is told of a filing on a day
+-- the answer to the agent on a filing on a day
 abbrev pub told_of : Bool → ℤ → AcceptedFiling → Lodged
 told_of fresh day f = record { number = f.number; due = f.due; state = state_of day f; fresh = fresh }
 
--- The same due day and bytes are told the filing that is there, with its state now; anything else is refused.
+-- With the same due day and bytes the answer is the filing that is there, with its state now; anything else is refused.
 abbrev pub repeated : ℤ → ℤ → List ℕ → AcceptedFiling → Result Lodged LodgeFault
 repeated day due bytes f = if int_eq f.due due && is_same f.bytes bytes then Ok (told_of false day f) else Err KeyReused
 
@@ -75,7 +75,7 @@ abbrev pub own_lodged_at : Sight → List ℕ → ℤ → List ℕ → Option Ac
 own_lodged_at sight key due bytes (Some f) = sight.own
 own_lodged_at sight key due bytes None = own_added sight.own (addition sight key due bytes)
 
--- what the agent is answered, by what it can see
+-- the answer to the agent, by what it can see
 abbrev pub lodging : Sight → List ℕ → ℤ → List ℕ → Result Lodged LodgeFault
 lodging sight key due bytes = lodging_at sight key due bytes (filing_keyed key sight.own)
 
@@ -94,12 +94,12 @@ lodge_step r name key due bytes =
 
 -- ---- for clauses of private functions alone
 
--- the status that a statement is settled as, or what the agent is told of its refusal
+-- the status that a statement is settled as, or the fault that answers its refusal
 abbrev pub told_verdict : ℕ → Result Status Refusal → Result Status LodgeFault
 told_verdict place (Ok status) = Ok status
 told_verdict place (Err why) = Err (fault_at place why)
 
--- what a lodging is answered of a file's reading
+-- the answer to a lodging, by the reading of its file
 abbrev pub as_read : Result (List Statement) FileFault → Result (List Statement) LodgeFault
 as_read (Ok statements) = Ok statements
 as_read (Err fault) = Err (Read fault)

@@ -1,4 +1,4 @@
--- What an operation over a keep answers and leaves.
+-- The answer of an operation over a keep, and the register that it leaves.
 use Rattle.std.specs.Prelude.{◌≡◌, ◌≢◌, ◌⊎◌, IfErr, ℕ, Option, Some, None, Result, Ok, Err}
 use Rattle.bor_register.specs.declared.fault.StoreFault.{StoreFault}
 use Rattle.bor_register.specs.declared.fault.StoreFault.TheVariants.{Memory}
@@ -31,7 +31,7 @@ abbrev pub of_enrolment : EnrolFault → Option StoreFault
 of_enrolment (enrols.Store fault) = Some fault
 of_enrolment refusal = None
 
--- ---- what is answered and left
+-- ---- the answer, and the register that is left
 
 -- P of a refusal, Q of a fault of the store
 abbrev pub ByStore : Option StoreFault → Type 0 → (StoreFault → Type 0) → Type 0
@@ -52,7 +52,7 @@ abbrev pub IsAccounted : {A E : Type 0} → (E → Option StoreFault) → Result
 IsAccounted store (Ok answer) before after = after ≡ before
 IsAccounted store (Err fault) before after = ByStore (store fault) (after ≡ before) (IsFaultOf before after)
 
--- A fault of the store is want of memory where the keep's count of faults hasn't moved, and one that the keep may tell where it has.
+-- A fault of the store is want of memory where the keep's count of faults hasn't moved, and one that the keep may return where it has.
 abbrev pub IsTellable : (StoreFault → Type 0) → ℕ → ℕ → StoreFault → Type 0
 IsTellable may_tell before after fault = ((fault ≡ Memory) × (after ≡ before)) ⊎ (may_tell fault × (after ≢ before))
 
@@ -82,7 +82,7 @@ abbrev pub IsDone : {A B E : Type 0} → (E → Option StoreFault) → (A → B)
 IsDone store view (Ok x) told = told ≡ Ok (view x)
 IsDone store view (Err fault) told = Refuses store fault told
 
--- the same of a call that asks no keep: its one fault of the store is want of memory
+-- a call that asks no keep answers what the definition gives: its one fault of the store is want of memory
 pub record IsMade {A B : Type 0} (view : A → B) (made : Result A LodgeFault) (told : Result B LodgeFault) : Type 0 where
   pub done : IsDone of_lodging view made told
   pub err : IfErr made (λ fault. ByStore (of_lodging fault) (Unit {0}) (λ f. f ≡ Memory))

@@ -1,4 +1,4 @@
--- What a source over a keep means.
+-- The meaning of a source over a keep.
 use Rattle.std.specs.Prelude.{ℕ, ℤ, List}
 use Rattle.bor_records.specs.Links.Shown.{Shown}
 use Rattle.bor_register.specs.Register.{Register}

@@ -1,4 +1,4 @@
--- What the registrar does: the day goes on, and agents are enrolled (this register's own rules).
+-- The registrar's operations: the day goes on, and agents are enrolled (this register's own rules).
 use Rattle.std.specs.Prelude.{ℕ, ℤ, int_lt, List, Result, Ok, Err, if◌then◌else◌}
 use Rattle.bor_register.specs.Register.{Register, is_enrolled, is_taken, new_member, with_member}
 use Rattle.bor_desk.specs.declared.operations.fault.AdvanceFault.{AdvanceFault}

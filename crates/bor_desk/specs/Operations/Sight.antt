@@ -1,4 +1,4 @@
--- What a caller can see of a register, and what an operation answers and leaves.
+-- The part of a register that a caller can see, and the answer of an operation with the register after it.
 use Rattle.std.specs.Prelude.{ℕ, ℤ, List, map}
 use Rattle.bor_records.specs.declared.row.Row.{Row}
 use Rattle.bor_register.specs.declared.filing.AcceptedFiling.{AcceptedFiling}
@@ -22,7 +22,7 @@ unnumbered row = record row { filing = 0 }
 abbrev pub seen_by : List ℕ → Register → List Row
 seen_by viewer r = map unnumbered (visible viewer r.day r.members)
 
--- what the agent sees of the register
+-- the part of the register that the agent sees
 abbrev pub sight_of : List ℕ → Register → Sight
 sight_of name r = record { day = r.day; own = filings_of name r.members; published = published r.day r.members; seen = seen_by name r }
 

@@ -8,7 +8,7 @@ use Rattle.bor_register.specs.declared.filing.Outward.{Outward}
 use Rattle.bor_register.specs.Register.{Register, is_enrolled, filings_of, with_filings, with_member}
 use Rattle.bor_register.specs.Publication.{published}
 
--- what is published, without the agent's own
+-- the outward forms that are published, without the agent's own
 abbrev pub published_beside : List ℕ → ℤ → List Member → List Outward
 published_beside name day ms = filter (λ (o : Outward). not (is_same o.agent name)) (published day ms)
 
@@ -31,10 +31,10 @@ abbrev pub with_outwards : List Outward → List Member → List Member
 with_outwards [] ms = ms
 with_outwards (o ∷ os) ms = with_outwards os (with_outward o ms)
 
--- The register of this day with the agent, its own filings, and one live filing for each outward form, numbered 1, 2, .. for each agent. It isn't legal: no token tells anybody from another, and others' filings have no bytes.
+-- The register of this day with the agent, its own filings, and one live filing for each outward form, numbered 1, 2, .. for each agent. It isn't legal: all tokens are empty, and others' filings have no bytes.
 abbrev pub solo_register : List ℕ → List AcceptedFiling → ℤ → List Outward → Register
 solo_register name own day others = record { day = day; registrar = []; members = with_member (member_with name own) (with_outwards others []) }
 
--- the same of an agent of a register: its own filings, and what the others have published
+-- the solo register of an agent of a register: its own filings, and what the others have published
 abbrev pub alone : List ℕ → Register → Register
 alone name r = solo_register name (filings_of name r.members) r.day (published_beside name r.day r.members)

@@ -1,4 +1,4 @@
--- What the withdrawal of a filing is answered, and what it leaves, by what its agent can see (this register's own rules).
+-- The answer to the withdrawal of a filing, and the register after it, by what its agent can see (this register's own rules).
 use Rattle.std.specs.Prelude.{ℕ, int_le, List, Option, Some, None, Result, Ok, Err, if◌then◌else◌}
 use Rattle.bor_register.specs.declared.filing.AcceptedFiling.{AcceptedFiling}
 use Rattle.bor_register.specs.declared.filing.FilingLine.{FilingLine}
@@ -10,7 +10,7 @@ use Rattle.bor_desk.specs.declared.operations.fault.WithdrawFault.{WithdrawFault
 use Rattle.bor_desk.specs.declared.operations.fault.WithdrawFault.TheVariants.{NoSuchFiling, Published, HasSuccessor}
 use Rattle.bor_desk.specs.Operations.Sight.{Sight, sight_of, Outcome}
 
--- No filing under the key; a withdrawn one is told as the first time; a published one stays; so does one that a later live filing stands on; else it is told as withdrawn.
+-- No filing under the key; a withdrawn one is answered as the first time; a published one stays; so does one that a later live filing stands on; else the answer says that it is withdrawn.
 abbrev pub withdrawal_at : Sight → Option AcceptedFiling → Result FilingLine WithdrawFault
 withdrawal_at sight None = Err NoSuchFiling
 withdrawal_at sight (Some f) =
@@ -25,7 +25,7 @@ own_withdrawn_at sight (Some f) =
     else (if int_le f.due sight.day then sight.own
     else (if has_successor f.number sight.own then sight.own else with_withdrawn f.number sight.own))
 
--- what the agent is answered, by what it can see
+-- the answer to the agent, by what it can see
 abbrev pub withdrawal : Sight → List ℕ → Result FilingLine WithdrawFault
 withdrawal sight key = withdrawal_at sight (filing_keyed key sight.own)
 
