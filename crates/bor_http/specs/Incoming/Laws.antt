@@ -8,6 +8,6 @@ use Rattle.bor_http.specs.Incoming.Refusals.{IsMessage}
 abbrev pub OneRequest : Type 0
 OneRequest = (input : List ℕ) (a b : Result Message Refusal) → IsMessage input a → IsMessage input b → a ≡ b
 
--- What stands behind the body of a request has no part in it.
+-- The bytes behind the body of a request have no part in it.
 abbrev pub RestIsIgnored : Type 0
 RestIsIgnored = (input more : List ℕ) (m : Message) → IsMessage input (Ok m) → IsMessage (input ++ more) (Ok m)

@@ -1,4 +1,4 @@
--- What reads do to a reader and a buffer, and what a call that may fail gives.
+-- The effects of reads on a reader and a buffer, and the results of calls that may fail.
 use Rattle.std.specs.Prelude.{◌≡◌, ℕ, ◌+◌, ◌≤◌, ◌<◌, List, ◌++◌, length, take, max, Option, Result, Ok, Err, ⊤}
 use Rattle.std.specs.Io.KnownBytes.{Consumes, IsAtEnd}
 use Rattle.bor_http.specs.Incoming.Counted.{after_fault}
@@ -29,7 +29,7 @@ abbrev pub ReadsPiece : Option (List ℕ) → List ℕ → List ℕ → Result �
 ReadsPiece left old new (Ok n) = (length new ≡ length old + n) × (n ≡ 0 → IsAtEnd left)
 ReadsPiece left old new (Err e) = (new ≡ old) × IsNoRefusal e
 
--- what a call gives is the answer that is stated, unless the reader failed or memory ran out
+-- the result of a call is the answer that is stated, unless the reader failed or memory ran out
 abbrev pub GivesFault : {Y : Type 0} → WireFault → Result Y Refusal → Type 0
 GivesFault (Refused r) stated = stated ≡ Err r
 GivesFault Read stated = ⊤
@@ -49,7 +49,7 @@ abbrev pub FaultsTell : {X : Type 0} → Result X WireFault → ℕ → ℕ → 
 FaultsTell (Ok x) old new = new ≡ old
 FaultsTell (Err e) old new = FaultTells e old new
 
--- what a call gives is an answer that fits, unless the reader failed or memory ran out
+-- the result of a call is an answer that fits, unless the reader failed or memory ran out
 abbrev pub FaultFits : {Y : Type 0} → WireFault → (Result Y Refusal → Type 0) → Type 0
 FaultFits (Refused r) Fits = Fits (Err r)
 FaultFits Read Fits = ⊤
@@ -86,7 +86,7 @@ pub record ReadsBody {X : Type 0} (view : X → List ℕ) (known left : Option (
 abbrev pub TakesAtMost : ℕ → Option (List ℕ) → Option (List ℕ) → Type 0
 TakesAtMost n known left = (bytes : List ℕ) × Consumes known left bytes × (length bytes ≤ n)
 
--- the same of the value as view shows it
+-- the answer fits, of the value as view shows it
 abbrev pub Tells : {X Y : Type 0} → (X → Y) → Result X WireFault → (Result Y Refusal → Type 0) → Type 0
 Tells view (Ok x) Fits = Fits (Ok (view x))
 Tells view (Err e) Fits = FaultFits e Fits

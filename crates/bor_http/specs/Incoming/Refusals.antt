@@ -1,4 +1,4 @@
--- What an input is: a message, or the first of the refusals that hold of its head and its body, in the order of this table.
+-- The reading of an input: a message, or the first of the refusals that hold of its head and its body, in the order of this table.
 use Rattle.std.specs.Prelude.{◌≡◌, ℕ, ◌&&◌, ◌||◌, not, nat_lt, Bool, List, [], ◌∷◌, ◌++◌, length, take, drop, map, Option, Some, None, is_some, Result, if◌then◌else◌, codes}
 use Rattle.std.specs.List.{filter, list_any}
 use Rattle.std.specs.Option.{is_none}
@@ -75,7 +75,7 @@ abbrev pub lines_of_input : List ℕ → Option ℕ → Option Parts → List Re
 lines_of_input input (Some n) (Some parts) = lines_of_head input (Some n) (Some parts) ++ lines_of_body parts.fields (drop n input)
 lines_of_input input end head = lines_of_head input end head
 
--- what an input is whose head is taken apart so
+-- the reading of an input whose head is taken apart so
 unfoldable pub message_read : List ℕ → Option Parts → Result Message Refusal
 message_read input head = outcome (lines_of_input input (head_end input) head) (message_in input (head_end input) head)
 

@@ -1,4 +1,4 @@
--- What an input is, one part looked at after the other: each refuses, or the next is looked at. For clauses of private functions alone, but for `◌>>=◌`; it is proved to be what the table says (`Refusals`).
+-- The reading of an input, one part looked at after the other: each refuses, or the next is looked at. For clauses of private functions alone, but for `◌>>=◌`; it is proved to be what the table says (`Refusals`).
 use Rattle.std.specs.Prelude.{◌≡◌, ℕ, ◌+◌, nat_lt, nat_le, List, [], length, take, drop, map, Result, Ok, Err, if◌then◌else◌, codes, All, ⊤}
 use Rattle.std.specs.Option.{option_map, option_map_or}
 use Rattle.std.specs.Str.Parse.{digits_value}
@@ -25,7 +25,7 @@ abbrev pub ◌>>=◌ : {A B : Type 0} → Result A Refusal → (A → Result B R
 
 -- ---- where the head ends
 
--- what is behind these first bytes says where the head ends
+-- the bytes behind these first ones say where the head ends
 abbrev pub IsScanned : List ℕ → ℕ → Type 0
 IsScanned bytes from = head_len bytes ≡ option_map (λ n. from + n) (head_len (drop from bytes))
 
@@ -66,7 +66,7 @@ abbrev pub HasParts : List ℕ → Result Parts Refusal → Type 0
 HasParts head (Ok parts) = (h : RequestHead) × ReadsRequest head h [] × (parts ≡ parts_of h)
 HasParts head (Err r) = (r ≡ BadHead) × ((h : RequestHead) → ¬ (ReadsRequest head h []))
 
--- what taking a head apart gives; it reads nothing
+-- the result of taking a head apart; it reads nothing
 abbrev pub HeadFault : List ℕ → WireFault → Type 0
 HeadFault head (Refused r) = HasParts head (Err r)
 HeadFault head Read = ⊥
@@ -95,13 +95,13 @@ body_len fields =
 abbrev pub body_of : Parts → List ℕ → ℕ → Result Message Refusal
 body_of parts rest n = if nat_lt (length rest) n then Err CutShort else Ok (record { parts = parts; body = take n rest })
 
--- what stands after a head with these parts
+-- the bytes after a head with these parts
 abbrev pub with_body : List ℕ → Parts → Result Message Refusal
 with_body rest parts = and_then (body_of parts rest) (body_len parts.fields)
 
 -- ---- the whole input
 
--- what the input is, with its first n bytes as its head
+-- the reading of the input, with its first n bytes as its head
 abbrev pub IsBehind : List ℕ → ℕ → Result Message Refusal → Type 0
 IsBehind input n answer =
     (parts : Result Parts Refusal) × HasParts (take n input) parts × (answer ≡ and_then (with_body (drop n input)) parts)

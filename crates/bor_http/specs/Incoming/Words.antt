@@ -1,4 +1,4 @@
--- What names and refusals are told as.
+-- The words of names and refusals.
 use Rattle.std.specs.Prelude.{ℕ, List, Option, Some, None, codes}
 use Rattle.bor_http.specs.declared.incoming.fault.Name.{Name}
 use Rattle.bor_http.specs.declared.incoming.fault.Name.TheVariants as names

@@ -24,7 +24,7 @@ is_written_as text path = pointwise stands_for (segments text) (segments (path_w
 unfoldable pub path_of : List ℕ → Option Path
 path_of text = option_map (λ line. line.path) (find (λ line. is_written_as text line.path) table)
 
--- ---- the same of each path
+-- ---- each path, as it is written
 
 -- one segment that isn't empty
 pub record IsSegment (key : List ℕ) : Type 0 where

@@ -53,7 +53,7 @@ is_same_path a b = bytes_eq (path_word a) (path_word b)
 abbrev pub lines_of : Path → List Line
 lines_of path = filter (λ line. is_same_path line.path path) table
 
--- what a path asks for by a method, if a line has both
+-- the request of a path by a method, if a line has both
 unfoldable pub route_at : Path → List ℕ → Option Route
 route_at path method = option_map (λ line. line.asks) (find (λ line. bytes_eq line.method method) (lines_of path))
 
