@@ -1,4 +1,4 @@
--- What is done to the registers in files.
+-- Deeds on the registers in files.
 use Rattle.std.specs.Prelude.{ℕ, ℤ, List}
 use Rattle.std.specs.Borrow.{Bor}
 use Rattle.bor_register.specs.Register.{Register, empty_register}

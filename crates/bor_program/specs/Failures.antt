@@ -1,4 +1,4 @@
--- What is told of a failure.
+-- The lines that are printed of failures.
 use Rattle.std.specs.Prelude.{◌≡◌, ◌⊎◌, ⊤, ℕ, List, [], ◌∷◌, ◌++◌, Option, codes, map}
 use Rattle.std.specs.Io.KnownBytes.{Appends, Keeps}
 use Rattle.bor_register.specs.declared.fault.StoreFault.{StoreFault}
@@ -19,7 +19,7 @@ abbrev pub joined : List (List ℕ) → List ℕ
 joined [] = []
 joined (text ∷ texts) = text ++ joined texts
 
--- the line that is told of a failure, or nothing where it is standard output that can't be written
+-- the line that is printed of a failure, or nothing where it is standard output that can't be written
 abbrev pub failure_line : Failure → List ℕ
 failure_line (Unreadable source) = codes "bor: cannot read " ++ source_text source ++ 10 ∷ []
 failure_line (NoRegister path) = codes "bor: no register in " ++ path.now ++ 10 ∷ []
@@ -37,7 +37,7 @@ failure_line Unwritable = []
 abbrev pub IsWantOfMemory : Failure → Type 0
 IsWantOfMemory failure = failure ≡ Memory
 
--- what a store's fault is to the program
+-- the program's failure for a store's fault
 abbrev pub failure_of : StoreFault → Failure
 failure_of WantOfMemory = Memory
 failure_of StoreFailed = Store
@@ -98,7 +98,7 @@ pub record IsMetBy (words : List Text) (before after : Option (List ℕ)) (failu
   pub cause : IsFailureOf words failure
   pub output : LeavesOutput before after failure
 
--- a fault was told by a register that is open, before anything was written, and it is what that is to the program; or standard output can't be written
+-- a register that is open returned a fault, before anything was written, and the failure is the program's for it; or standard output can't be written
 abbrev pub IsMetOnKeep : (StoreFault → Type 0) → Option (List ℕ) → Option (List ℕ) → Failure → Type 0
 IsMetOnKeep Told before after failure =
     ((fault : StoreFault) × Told fault × (failure ≡ failure_of fault) × Keeps before after) ⊎ (failure ≡ Unwritable)
@@ -126,7 +126,7 @@ IsTold Of before after = (failure : Failure) × Of failure × AppendsPart before
 
 -- ---- files that can't be read
 
--- the line that is told of a file that can't be read
+-- the line that is printed of a file that can't be read
 abbrev pub unread_line : Bor Text → List ℕ
 unread_line file = failure_line (Unreadable (File file))
 

@@ -1,4 +1,4 @@
--- What the log of a server tells of a request that was answered.
+-- The lines of a server's log, each for a request that was answered.
 use Rattle.std.specs.Prelude.{◌≡◌, ◌⊎◌, ◌+◌, ◌/◌, ◌%◌, ◌++◌, ℕ, List, [], ◌∷◌, length, Option, Some, None, codes, decimal}
 use Rattle.std.specs.Borrow.{Bor}
 use Rattle.std.specs.Option.{option_map_or}
@@ -21,14 +21,14 @@ use Rattle.bor_program.specs.declared.log.Moment.{Moment}
 use Rattle.bor_program.specs.declared.log.Note.{Note}
 use Rattle.bor_program.specs.Splitting.{before, behind}
 
--- ---- what was asked for
+-- ---- the request
 
--- what a path asks for by a method, as far as there are such
+-- the request of a path by a method, as far as there are such
 abbrev pub asked_at : Option Path → List ℕ → Asked
 asked_at None method = asked.Nothing
 asked_at (Some path) method = option_map_or asked.Route (route_at path method) (asked.Path path)
 
--- what the first line of an input asks for: a method, a space, a target up to its question mark, a space
+-- the request of the first line of an input: a method, a space, a target up to its question mark, a space
 unfoldable pub asked_of : List ℕ → Asked
 asked_of input =
     let first = before 10 input in
@@ -59,7 +59,7 @@ route_method asks.Evidence = codes "GET"
 route_method asks.Day = codes "POST"
 route_method asks.Enrol = codes "POST"
 
--- a hyphen stands for what isn't told
+-- a hyphen stands for a value that isn't shown
 abbrev pub untold : List ℕ
 untold = codes "-"
 
@@ -74,7 +74,7 @@ asked_path_word (asked.Route route) = path_word (route_path route)
 asked_path_word (asked.Path path) = path_word path
 asked_path_word asked.Nothing = untold
 
--- ---- what is noted
+-- ---- notes
 
 -- A note of a request that had this reply: what it asks for, and the reply's status and bytes. The agent is the one that has the token which the request spells, in the register as it was, and none where no agent has it or no request is spelled; with 503 it may be none.
 pub record IsNoteOf (promised : (Register → Type 0) → Type 0) (request : List ℕ) (out : Outgoing) (note : Note) : Type 0 where

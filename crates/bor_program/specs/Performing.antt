@@ -1,4 +1,4 @@
--- What each command leaves on the streams, and which exit status it gives.
+-- The output of each command on the streams, and its exit status.
 use Rattle.std.specs.Prelude.{◌≡◌, ◌≤◌, ◌⊎◌, ◌++◌, ◌∷◌, ℕ, ℤ, List, [], Option, None, IfSome, IsSome, IsTrue, codes, decimal}
 use Rattle.std.specs.Io.KnownBytes.{Appends, Keeps}
 use Rattle.std.specs.Borrow.{Bor}
@@ -34,7 +34,7 @@ use Rattle.bor_program.specs.Replying.{AreAnswers, AreRepliesTo, EndsFiles, IsSe
 use Rattle.bor_program.specs.Reporting.{IsToldOf}
 use Rattle.bor_program.specs.Streams.{AppendsPart, TakesAtMostPart, TakesPart, part_limit, part_read}
 
--- what is known of a stream's bytes
+-- the bytes of a stream, where they are known
 abbrev pub Known : Type 0
 Known = Option (List ℕ)
 
@@ -60,12 +60,12 @@ pub record FailsToOpen {M K : Type 0} (does : M → Deed K → M → Type 0) (be
   pub cause : IsOpeningOf path failure
   pub line : AppendsPart errors told (failure_line failure)
 
--- Replies are printed, from the register that was opened on, to what is read of the files. Where the run doesn't fail, they are those to one input a file. Nothing is told but of files that can't be read, and of want of memory.
+-- Replies are printed, from the register that was opened on, to what is read of the files. Where the run doesn't fail, they are those to one input a file. Lines of faults are printed only for files that can't be read, and for want of memory.
 pub record ExchangesFrom {K Left : Type 0} (Reads : Bor Words → List ℕ → Type 0) (shows : K → Register → Type 0) (is_clean is_sound : K → Type 0) (may_leave : K → Left → Type 0) (left_shows : Left → Register → Type 0) (opened left : K) (asked : Exchanging) (output printed errors told : Known) (status : ℕ) : Type 0 where
   pub answered : EndsFiles (AreAnswers shows is_clean is_sound may_leave left_shows opened left) Reads asked.files.items output printed status
   pub unread : TellsFiles asked.files.items output printed errors told
 
--- The same from the new register on, with no file; or from the one that was opened in the file, or set up, and what is left of it is closed there.
+-- Replies are printed from the new register on, with no file; or from the one that was opened in the file, or set up, and what is left of it is closed there.
 pub record Exchanges {M K Left : Type 0} (Reads : Bor Words → List ℕ → Type 0) (shows : K → Register → Type 0) (is_clean is_sound : K → Type 0) (may_leave : K → Left → Type 0) (left_shows : Left → Register → Type 0) (does : M → Deed K → M → Type 0) (begun ended : M) (asked : Exchanging) (output printed errors told : Known) (status : ℕ) : Type 0 where
   pub sent : (replies : List Reply) × IsSentOrCutOff replies output printed status
   pub answered : asked.db ≡ None
@@ -77,7 +77,7 @@ pub record Exchanges {M K Left : Type 0} (Reads : Bor Words → List ℕ → Typ
       × ExchangesFrom Reads shows is_clean is_sound may_leave left_shows opened left asked output printed errors told status))
   pub silent : status ≤ 1 → Keeps errors told
 
--- the registrar's token isn't told: nothing is answered, no register is opened, and the line of that is told
+-- the registrar's token isn't given: nothing is answered, no register is opened, and the line of that failure is printed
 pub record LacksToken {M : Type 0} (Reads : ℕ → Bor Words → List ℕ → Type 0) (begun ended : M) (source : RegistrarSource) (output printed errors told : Known) (status : ℕ) : Type 0 where
   pub status_is : status ≡ 3
   pub untouched : ended ≡ begun
@@ -88,7 +88,7 @@ pub record LacksToken {M : Type 0} (Reads : ℕ → Bor Words → List ℕ → T
 abbrev pub IsDoneOrFailed : ℕ → Type 0
 IsDoneOrFailed status = (status ≡ 0) ⊎ (status ≡ 3)
 
--- How setting a register up ends where one came to be open like this. It was set up, and nothing is told; it ends as failed where what was printed before can't be handed on. Or one stands in the file of this name, and that is told.
+-- How setting a register up ends where one came to be open like this. It was set up, and no fault is printed; it ends as failed where what was printed before can't be handed on. Or one stands in the file of this name, and a line says so.
 abbrev pub EndsSettingUp : Bor Words → Origin → (errors told : Known) → (status : ℕ) → Type 0
 EndsSettingUp path Found errors told status = (status ≡ 3) × AppendsPart errors told (failure_line (Registered path))
 EndsSettingUp path New errors told status = IsDoneOrFailed status × Keeps errors told
@@ -113,29 +113,29 @@ pub record IsOnceTold (Reads : ℕ → Bor Words → List ℕ → Type 0) (asked
   pub day : told.day ≡ asked.day
   pub files : told.files ≡ asked.files
 
--- the registrar's token isn't told, or with it the requests are answered
+-- the registrar's token isn't given, or with it the requests are answered
 abbrev pub ExchangesOnceTold : {M K Left : Type 0} → (ℕ → Bor Words → List ℕ → Type 0) → (K → Register → Type 0) → (K → Type 0) → (K → Type 0) → (K → Left → Type 0) → (Left → Register → Type 0) → (M → Deed K → M → Type 0) → M → M → Exchange → Known → Known → Known → Known → ℕ → Type 0
 ExchangesOnceTold Reads shows is_clean is_sound may_leave left_shows does begun ended asked output printed errors told status =
     LacksToken Reads begun ended asked.registrar output printed errors told status
     ⊎ ((once_told : Exchanging) × IsOnceTold Reads asked once_told × Exchanges (Reads request_limit) shows is_clean is_sound may_leave left_shows does begun ended once_told output printed errors told status)
 
--- the registrar's token isn't told, or with it a register is set up
+-- the registrar's token isn't given, or with it a register is set up
 abbrev pub InitsOnceTold : {M K : Type 0} → (ℕ → Bor Words → List ℕ → Type 0) → (K → Register → Type 0) → (K → Type 0) → (M → Deed K → M → Type 0) → M → M → Init → Known → Known → Known → Known → ℕ → Type 0
 InitsOnceTold Reads shows is_clean does begun ended asked output printed errors told status =
     LacksToken Reads begun ended asked.registrar output printed errors told status
     ⊎ ((registrar : List ℕ) × IsToldBy Reads asked.registrar registrar × Inits shows is_clean does begun ended asked.db registrar asked.day output printed errors told status)
 
--- the line that tells that the server listens
+-- the line that says that the server listens
 abbrev pub listening : ℕ → List ℕ
 listening port = codes "listening 127.0.0.1:" ++ decimal port ++ 10 ∷ []
 
--- it can't listen, or tell that it does: it serves no connection, and a front of the line is printed
+-- it can't listen, or can't print that it does: it serves no connection, and a front of the line is printed
 pub record FailsToListen (port : ℕ) (output printed errors told : Known) (status : ℕ) : Type 0 where
   pub status_is : status ≡ 3
   pub part : AppendsPart output printed (listening port)
   pub line : IsTold (IsMetListening output printed) errors told
 
--- The line is printed, and the port that it names is served as is asked for: so many connections, from the register that was opened on. The status tells whether one failed, and nothing else is told.
+-- The line is printed, and the port that it names is served as is asked for: so many connections, from the register that was opened on. The status says whether one failed, and nothing else is printed.
 pub record ServesFrom {K Left : Type 0} (Hosts : Serve → K → K → ℕ → Type 0) (shows : K → Register → Type 0) (is_clean is_sound : K → Type 0) (may_leave : K → Left → Type 0) (left_shows : Left → Register → Type 0) (opened left : K) (asked : Serve) (output printed errors told : Known) (status : ℕ) : Type 0 where
   pub hosted : Hosts asked opened left status
   pub served : IsServed shows is_clean is_sound may_leave left_shows opened left asked.connections status
@@ -150,7 +150,7 @@ Serves {M} {K} Hosts shows is_clean is_sound may_leave left_shows does begun end
     × (((left ≡ opened) × FailsToListen asked.port output printed errors told status)
     ⊎ ServesFrom Hosts shows is_clean is_sound may_leave left_shows opened left asked output printed errors told status))
 
--- A text on the register that was opened is printed, or nothing; where that fails, the line of the failure is told.
+-- A text on the register that was opened is printed, or nothing; where that fails, the line of the failure is printed.
 pub record TellsFrom {K Left : Type 0} (shows : K → Register → Type 0) (is_clean is_sound : K → Type 0) (may_leave : K → Left → Type 0) (tells : K → StoreFault → K → Type 0) (opened left : K) (asked : Report) (output printed errors told : Known) (status : ℕ) : Type 0 where
   pub kept : Kept shows is_clean is_sound may_leave opened left
   pub text : ((text : Text) × IsToldOf shows is_clean opened left asked text × IsWrittenOrCutOff text output printed status)
@@ -166,18 +166,18 @@ pub record Reports {M K Left : Type 0} (shows : K → Register → Type 0) (is_c
   pub silent : status ≤ 1 → Keeps errors told
   pub line : status ≡ 3 → IsTold (IsMetIn asked.db output printed) errors told
 
--- the text that tells the version to which a register was moved
+-- the text that says the version to which a register was moved
 abbrev pub migrated : Text
 migrated = answering (codes "version 2" ++ 10 ∷ [])
 
--- The register in the file is moved, and the version is printed; or the line of a failure is told.
+-- The register in the file is moved, and the version is printed; or the line of a failure is printed.
 pub record Migrates {M K : Type 0} (does : M → Deed K → M → Type 0) (begun ended : M) (asked : Migrate) (output printed errors told : Known) (status : ℕ) : Type 0 where
   pub moved : FailsToOpen does begun ended asked.db output printed errors told status ⊎ does begun (Moves asked.db) ended
   pub text : IsWrittenOrCutOff migrated output printed status
   pub silent : status ≤ 1 → Keeps errors told
   pub line : status ≡ 3 → IsTold (IsMetIn asked.db output printed) errors told
 
--- What the command does, over whatever registers are opened and files are read, and what is done to files; but for a check it leaves standard input alone, and a check leaves the registers in files alone.
+-- The effects of the command, over whatever registers are opened and files are read, and its deeds on files; but for a check it leaves standard input alone, and a check leaves the registers in files alone.
 abbrev pub Performs : {M K Left : Type 0} → (ℕ → Bor Words → List ℕ → Type 0) → (Serve → K → K → ℕ → Type 0) → (K → Register → Type 0) → (K → Type 0) → (K → Type 0) → (K → Left → Type 0) → (Left → Register → Type 0) → (K → StoreFault → K → Type 0) → (M → Deed K → M → Type 0) → M → M → Command → Known → Known → Known → Known → Known → Known → ℕ → Type 0
 Performs Reads Hosts shows is_clean is_sound may_leave left_shows tells does begun ended (command.Check source) input rest output printed errors told status =
     (ended ≡ begun) × Checks Reads source input rest output printed errors told status
@@ -192,7 +192,7 @@ Performs Reads Hosts shows is_clean is_sound may_leave left_shows tells does beg
 Performs Reads Hosts shows is_clean is_sound may_leave left_shows tells does begun ended (command.Migrate asked) input rest output printed errors told status =
     Keeps input rest × Migrates does begun ended asked output printed errors told status
 
--- ---- what status 1 stands for
+-- ---- the meaning of status 1
 
 -- a refusal was written: the text of one, or replies of which one is
 abbrev pub TellsRefusal : Known → Known → Type 0

@@ -1,4 +1,4 @@
--- What the program writes, and how it ends.
+-- The program's output, and how it ends.
 use Rattle.std.specs.Prelude.{◌≡◌, ℕ, List, Bool, true, Option, Result, MatchResult, ◌⊎◌, if◌then◌else◌, is_err, ⊤}
 use Rattle.std.specs.Borrow.{Bor}
 use Rattle.std.specs.Io.KnownBytes.{Appends, Keeps}
@@ -22,7 +22,7 @@ exit_code Failed = 3
 abbrev pub report_status : Bool → ℕ
 report_status refused = if refused then 1 else 0
 
--- exactly the text was written, and the exit status tells whether it is a refusal
+-- exactly the text was written, and the exit status says whether it is a refusal
 pub record IsWritten (wanted : Text) (before after : Option (List ℕ)) (status : ℕ) : Type 0 where
   pub text : Appends before after wanted.bytes
   pub told : status ≡ report_status wanted.refused
@@ -36,7 +36,7 @@ pub record IsCutOff (wanted : Text) (before after : Option (List ℕ)) (status :
 abbrev pub IsWrittenOrCutOff : Text → Option (List ℕ) → Option (List ℕ) → ℕ → Type 0
 IsWrittenOrCutOff text before after status = IsWritten text before after status ⊎ IsCutOff text before after status
 
--- the same of an end that has not been told yet
+-- the text was written, with the end's status; where the end is a fault, a front of it was
 abbrev pub EndsText : {F : Type 0} → Text → Option (List ℕ) → Option (List ℕ) → Result Status F → Type 0
 EndsText text before after end = MatchResult end (λ status. IsWritten text before after (exit_code status))
     (λ _. AppendsPart before after text.bytes)
@@ -47,7 +47,7 @@ EndsText text before after end = MatchResult end (λ status. IsWritten text befo
 abbrev pub IsReportedOrCutOff : List ℕ → Option (List ℕ) → Option (List ℕ) → ℕ → Type 0
 IsReportedOrCutOff bytes before after status = IsWrittenOrCutOff (check_report bytes) before after status
 
--- the same of an end that has not been told yet
+-- the report on these bytes was written, with the end's status; where the end is a fault, a front of it was
 abbrev pub EndsReport : {F : Type 0} → List ℕ → Option (List ℕ) → Option (List ℕ) → Result Status F → Type 0
 EndsReport bytes before after end = EndsText (check_report bytes) before after end
 
@@ -64,7 +64,7 @@ IsReportedOf Reads before after status =
     ((bytes : List ℕ) × Reads bytes × IsReportedOrCutOff bytes before after status)
     ⊎ (Keeps before after × (status ≡ 3))
 
--- the same of an end that has not been told yet
+-- the report on bytes that were read so was written, with the end's status; where the end is a fault, a front of it was, or nothing
 abbrev pub EndsReportOf : {F : Type 0} → (List ℕ → Type 0) → Option (List ℕ) → Option (List ℕ) → Result Status F → Type 0
 EndsReportOf Reads before after end =
     ((bytes : List ℕ) × Reads bytes × EndsReport bytes before after end)

@@ -1,4 +1,4 @@
--- Where the registrar's token is told.
+-- The registrar's token, in words or in a file.
 use Rattle.std.specs.Prelude.{◌≡◌, ⊤, ℕ, List, Some, None}
 use Rattle.std.specs.Borrow.{Bor}
 use Rattle.clap.specs.Words.{Text}
@@ -19,7 +19,7 @@ first_line bytes = before 13 (before 10 bytes)
 abbrev pub front_limit : ℕ
 front_limit = 128
 
--- the words tell this token: it is the one that they have, or the first line of the file that they name
+-- the words give this token: it is the one that they have, or the first line of the file that they name
 abbrev pub IsToldBy : (ℕ → Bor Text → List ℕ → Type 0) → RegistrarSource → List ℕ → Type 0
 IsToldBy Reads (source.Token token) told = told ≡ token
 IsToldBy Reads (source.File name) told = (bytes : List ℕ) × Reads front_limit name bytes × (text_in is_token (first_line bytes) ≡ Some told)

@@ -19,7 +19,7 @@ use Rattle.bor_program.specs.Program.{exit_code}
 use Rattle.bor_program.specs.Streams.{AppendsPart}
 use Rattle.bor_program.specs.declared.status.Status.{Status}
 
--- ---- what is sent
+-- ---- the bytes that are sent
 
 -- the replies one after the other
 abbrev pub sent : List Reply → List ℕ

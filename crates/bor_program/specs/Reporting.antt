@@ -1,4 +1,4 @@
--- What `bor report` prints.
+-- The text that `bor report` prints.
 use Rattle.std.specs.Prelude.{◌⊎◌, ℤ, ℕ, List, Option, Some, None, Result, MatchResult, if◌then◌else◌}
 use Rattle.std.specs.Io.KnownBytes.{Keeps}
 use Rattle.bor_records.specs.Promises.{Promised}
@@ -29,11 +29,11 @@ report_answer asked r =
     then evidence_answer (seen_by asked.viewer r) (entity_of asked) (day_in asked.date r.day)
     else chains_answer (seen_by asked.viewer r) (entity_of asked) (day_in asked.date r.day)
 
--- the text tells who stands behind the entity, in what the viewer sees of the register
+-- the text says who stands behind the entity, in what the viewer sees of the register
 abbrev pub IsReportOf : Report → Register → Text → Type 0
 IsReportOf asked r text = IsTextOf (report_answer asked r) text
 
--- of a register that was opened and what is left of it: the text tells it of each register that was shown
+-- of a register that was opened and what is left of it: the text says it of each register that was shown
 abbrev pub IsToldOf : {K : Type 0} → (K → Register → Type 0) → (K → Type 0) → K → K → Report → Text → Type 0
 IsToldOf shows is_clean opened left asked text = Promised shows is_clean opened left (λ r. IsReportOf asked r text)
 

@@ -1,4 +1,4 @@
--- What is taken from an input and what is given to an output, where they tell their bytes.
+-- The bytes that are taken from an input and given to an output, where their bytes are known.
 use Rattle.std.specs.Prelude.{◌≡◌, ◌≤◌, ◌+◌, ℕ, List, Option, IfSome, ◌++◌, length, take}
 use Rattle.std.specs.Io.KnownBytes.{Appends, Consumes}
 use Rattle.bor_desk.specs.Limits.{file_limit}

@@ -1,4 +1,4 @@
--- What words ask the program for.
+-- The commands that words ask the program for.
 use Rattle.std.specs.Prelude.{◌≡◌, List, Option, None}
 use Rattle.clap.specs.Words.{Text}
 use Rattle.bor_words.specs.Asked.{EntersCheck, IsCommand}

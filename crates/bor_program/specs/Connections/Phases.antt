@@ -1,4 +1,4 @@
--- What one step of a client does, for clauses of private functions alone.
+-- The effects of one step of a client, for clauses of private functions alone.
 use Rattle.std.specs.Prelude.{◌≡◌, ℕ, List, [], ◌∷◌, ◌++◌, Bool, false, Option, ⊤}
 use Rattle.bor_register.specs.Register.{Register}
 use Rattle.bor_program.specs.declared.connections.phase.Phase.{Phase}
@@ -8,13 +8,13 @@ use Rattle.bor_program.specs.declared.connections.phase.Step.TheVariants as step
 use Rattle.bor_program.specs.Connections.Serving.{Answer, Ended, IsServing, answer_of, has_failed, is_absent, told_on}
 use Rattle.bor_program.specs.Connections.Streams.{IsDraining, IsOf, IsReading, IsWriting, KeepsAll}
 
--- what is being told to a client
+-- the answer that is being sent to a client
 abbrev pub telling : {S : Type 0} → Phase S → List Answer
 telling (phase.Reading reading) = []
 telling (phase.Writing writing) = answer_of writing.request.items writing.reply ∷ []
 telling (phase.Draining draining) = answer_of draining.request.items draining.reply ∷ []
 
--- what is known of a client in its phase
+-- the facts that are known of a client in its phase
 abbrev pub IsHeld : {S : Type 0} → (S → Option (List ℕ)) → (S → Option (List ℕ)) → Phase S → Type 0
 IsHeld remaining contents (phase.Reading reading) = IsReading remaining reading.stream reading.received.items reading.progress
 IsHeld remaining contents (phase.Writing writing) = IsWriting remaining contents writing.stream (answer_of writing.request.items writing.reply) writing.sent
@@ -37,11 +37,11 @@ abbrev pub phase_of : {S : Type 0} → Step S → Phase S
 phase_of (step.Goes at pace) = at
 phase_of (step.Ends at) = at
 
--- a connection ended on which a client had come, and this was being told, and failed or not
+-- a connection ended on which a client had come, and this answer was being sent, and failed or not
 abbrev pub EndsAs : {S : Type 0} → (S → Option (List ℕ)) → (S → Option (List ℕ)) → List Answer → Bool → Type 0
 EndsAs remaining contents told failed = (e : Ended) × IsOf remaining contents e × (told_on e ≡ told) × (failed ≡ has_failed e) × (is_absent e ≡ false)
 
--- a client's step is one of the server, whatever it has done before and whichever other clients there are: this was being told to the client, and then that
+-- a client's step is one of the server, whatever it has done before and whichever other clients there are: this answer was being sent to the client, and then that
 abbrev pub IsStep : {K S Left : Type 0} → (K → Register → Type 0) → (K → Type 0) → (K → Type 0) → (K → Left → Type 0) → (Left → Register → Type 0) → (S → Option (List ℕ)) → (S → Option (List ℕ)) → K → K → List Answer → List Answer → Type 0
 IsStep {K} shows is_clean is_sound may_leave left_shows remaining contents old new this that =
     (start : K) (others : List Answer) (connections pending absent told : ℕ) → IsServing shows is_clean is_sound may_leave left_shows (IsOf remaining contents) start old (this ++ others) connections pending absent told

@@ -1,4 +1,4 @@
--- What a server does, for clauses of private functions alone.
+-- The effects of a server, for clauses of private functions alone.
 use Rattle.std.specs.Prelude.{◌≡◌, ◌≤◌, ◌<◌, ◌+◌, ℕ, List, [], ◌∷◌, ◌++◌, length, map, get_or, remove, Option, if◌then◌else◌}
 use Rattle.std.specs.Duration.{as_nanos}
 use Rattle.std.specs.declared.time.Duration.{Duration}
@@ -14,12 +14,12 @@ use Rattle.bor_program.specs.Connections.Phases.{IsHeld, ReadsOn, telling}
 use Rattle.bor_program.specs.Connections.Times.{IsTaking, IsUp, looked}
 use Rattle.bor_program.specs.Connections.Watching.{Act, AreDone, Does, IsOver, faults_after, refused_in, waits_in}
 
--- what is being told to these clients
+-- the answers that are being sent to these clients
 abbrev pub telling_to : {S : Type 0} → List (Client S) → List Answer
 telling_to [] = []
 telling_to (client ∷ rest) = telling client.phase ++ telling_to rest
 
--- what is known of each of them
+-- the facts that are known of each of them
 abbrev pub AreHeld : {S : Type 0} → (S → Option (List ℕ)) → (S → Option (List ℕ)) → List (Client S) → Type 0
 AreHeld remaining contents [] = Unit {0}
 AreHeld remaining contents (client ∷ rest) = IsHeld remaining contents client.phase × AreHeld remaining contents rest
@@ -65,7 +65,7 @@ IsTimed {S} now client old new = (last : Client S) → new.queue.items ≡ old.q
 abbrev pub IsReadOn : {S : Type 0} → (S → Option (List ℕ)) → Client S → Server S → Server S → Type 0
 IsReadOn {S} remaining client old new = (last : Client S) → new.queue.items ≡ old.queue.items ++ last ∷ [] → ReadsOn remaining client.phase last.phase
 
--- ---- what stays the same
+-- ---- parts that stay the same
 
 -- its clients, its connections and its status are the same
 pub record Becomes {S : Type 0} (old new : Server S) : Type 0 where
@@ -73,7 +73,7 @@ pub record Becomes {S : Type 0} (old new : Server S) : Type 0 where
   pub left : new.left ≡ old.left
   pub status : new.status ≡ old.status
 
--- nothing was answered, and some connections ended, of those that had not ended when this was being told; on so many of them no client came
+-- nothing was answered, and some connections ended, of those that had not ended when these answers were being sent; on so many of them no client came
 pub record Lets {S : Type 0} (remaining contents : S → Option (List ℕ)) (telling : List Answer) (pending absent status : ℕ) (new : Server S) : Type 0 where
   pub held : AreHeld remaining contents new.queue.items
   pub ended : List Ended
@@ -92,7 +92,7 @@ abbrev pub Advances : {K S Left : Type 0} → (K → Register → Type 0) → (K
 Advances {K} shows is_clean is_sound may_leave left_shows remaining contents old_keep new_keep old new =
     (start : K) (connections absent : ℕ) → IsAt shows is_clean is_sound may_leave left_shows remaining contents start old_keep connections absent old → IsAt shows is_clean is_sound may_leave left_shows remaining contents start new_keep connections absent new
 
--- the same, with a client in hand that is being told this
+-- the server goes on so, with a client in hand that is being sent this
 abbrev pub Serves : {K S Left : Type 0} → (K → Register → Type 0) → (K → Type 0) → (K → Type 0) → (K → Left → Type 0) → (Left → Register → Type 0) → (S → Option (List ℕ)) → (S → Option (List ℕ)) → K → K → List Answer → Server S → Server S → Type 0
 Serves {K} shows is_clean is_sound may_leave left_shows remaining contents old_keep new_keep mine old new =
     (start : K) (connections absent : ℕ) → IsServing shows is_clean is_sound may_leave left_shows (IsOf remaining contents) start old_keep (mine ++ telling_in old) connections (pending_in old + 1) absent old.status

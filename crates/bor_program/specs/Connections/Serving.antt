@@ -1,4 +1,4 @@
--- What serving many clients at once leaves, and the status that it gives.
+-- The keep that serving many clients at once leaves, and its status.
 use Rattle.std.specs.Prelude.{◌≡◌, ◌+◌, ℕ, List, [], ◌∷◌, ◌++◌, length, map, count_by, Some, Bool, true, false, ◌==◌, ◌||◌, nat_lt, if◌then◌else◌, ⊤}
 use Rattle.std.specs.List.{All, list_any}
 use Rattle.std.specs.List.Sorted.{IsPermutation}
@@ -12,7 +12,7 @@ use Rattle.bor_wire.specs.Sequences.{AreExchanged, Exchanged, IsRun, keep_left}
 use Rattle.bor_wire.specs.Turns.{AllAnswerClean}
 use Rattle.bor_program.specs.Connections.Watching.{Act, AreDone, IsExcused}
 
--- ---- what was answered
+-- ---- answers
 
 -- a request that was answered: its bytes, and the status and the bytes of its reply
 pub record Answer : Type 0 where
@@ -68,7 +68,7 @@ absent_in ended = count_by is_absent ended
 abbrev pub status_of : List Ended → ℕ
 status_of ended = if list_any has_failed ended then 3 else 0
 
--- what was answered on it
+-- the answer on it
 abbrev pub told_on : Ended → List Answer
 told_on Absent = []
 told_on (Unanswered request) = []
@@ -80,7 +80,7 @@ told_in (e ∷ rest) = told_on e ++ told_in rest
 
 -- ---- the server
 
--- Of so many connections some have ended, and some are pending, on which these answers are still being told. The requests were answered one after the other, each from the keep that the one before it left. A request has another status than 503 only where the keep after it is clean, if its store has returned what was written by then. Each answer is told on one connection, and on no other. On so many no client came. `Is` holds of how each connection ended.
+-- Of so many connections some have ended, and some are pending, on which these answers are still being sent. The requests were answered one after the other, each from the keep that the one before it left. A request has another status than 503 only where the keep after it is clean, if its store has returned what was written by then. Each answer is sent on one connection, and on no other. On so many no client came. `Is` holds of how each connection ended.
 pub record IsServing {K Left : Type 0} (shows : K → Register → Type 0) (is_clean is_sound : K → Type 0) (may_leave : K → Left → Type 0) (left_shows : Left → Register → Type 0) (Is : Ended → Type 0) (old new : K) (telling : List Answer) (connections pending absent told : ℕ) : Type 0 where
   pub answered : List (Answered K)
   pub ended : List Ended
@@ -99,7 +99,7 @@ pub record IsServedAs {K Left : Type 0} (shows : K → Register → Type 0) (is_
   pub served : IsServing shows is_clean is_sound may_leave left_shows Is old new [] connections 0 absent told
   pub run : Promised shows is_clean old new (λ r. IsLegal r → IsRun (shows new) r (exchanges_of served.answered))
 
--- the same, whatever the connections' streams tell
+-- connections were served so, whatever the bytes of their streams
 abbrev pub IsServed : {K Left : Type 0} → (K → Register → Type 0) → (K → Type 0) → (K → Type 0) → (K → Left → Type 0) → (Left → Register → Type 0) → K → K → ℕ → ℕ → Type 0
 IsServed shows is_clean is_sound may_leave left_shows old new connections told = IsServedAs shows is_clean is_sound may_leave left_shows (λ e. ⊤) old new connections told
 

@@ -1,4 +1,4 @@
--- What the bytes of a client's stream have to do with what was answered on it, where the stream tells them.
+-- How the bytes of a client's stream follow from the answers on it, where its bytes are known.
 use Rattle.std.specs.Prelude.{◌≡◌, ◌≤◌, ◌<◌, ◌⊎◌, ◌+◌, ◌++◌, ℕ, List, length, take, Option, ⊤}
 use Rattle.std.specs.Io.KnownBytes.{Appends, Consumes, IsAtEnd}
 use Rattle.bor_http.specs.declared.incoming.progress.Progress.{Progress}
@@ -15,7 +15,7 @@ Came {S} remaining stream bytes = (came : S) × Consumes (remaining came) (remai
 abbrev pub KeepsAll : {S : Type 0} → (S → Option (List ℕ)) → (old : S) → (bytes : List ℕ) → (new : S) → (later : List ℕ) → Type 0
 KeepsAll {S} remaining old bytes new later = (came : S) → Consumes (remaining came) (remaining old) bytes → Consumes (remaining came) (remaining new) later
 
--- What is known of a client whose request is read: where its bytes come from, how far they are known, and that they are no whole request yet, and no more than a head and a body may have.
+-- The facts that are known of a client whose request is read: where its bytes come from, how far they are known, and that they are no whole request yet, and no more than a head and a body may have.
 pub record IsReading {S : Type 0} (remaining : S → Option (List ℕ)) (stream : S) (received : List ℕ) (progress : Progress) : Type 0 where
   pub came : Came remaining stream received
   pub known : IsProgress received progress

@@ -1,4 +1,4 @@
--- What a server asks of its watch, and what comes of it.
+-- The calls of a server to its watch, and their results.
 use Rattle.std.specs.Prelude.{◌≡◌, ◌≤◌, ◌<◌, ◌⊎◌, ◌+◌, ℕ, List, [], ◌∷◌, Bool, true, false, count_by, map}
 use Rattle.std.specs.List.{list_any}
 use Rattle.bor_program.specs.declared.log.Note.{Note}
@@ -21,11 +21,11 @@ abbrev pub AreDone : {W : Type 0} → (W → Act → W → Type 0) → W → Lis
 AreDone does old [] new = new ≡ old
 AreDone {W} does old (act ∷ rest) new = (next : W) × does old act next × AreDone does next rest new
 
--- these notes, and no other, are told to a watch one after the other
+-- these notes, and no other, are given to a watch one after the other
 abbrev pub AreTold : {W : Type 0} → (W → Act → W → Type 0) → W → List Note → W → Type 0
 AreTold does old notes new = AreDone does old (map Notes notes) new
 
--- ---- what the calls came to
+-- ---- the results of the calls
 
 abbrev pub is_deaf : Act → Bool
 is_deaf (Listens failed) = failed
