@@ -27,15 +27,15 @@ is_of declaration rec s = is_same s.declaration declaration && is_same s.rec rec
 abbrev pub status_of : Statement → Status
 status_of s = unwrap_or s.status New
 
--- what is known of a live statement
+-- a live statement, as far as the rules ask
 abbrev pub known_of : Live → Last
 known_of l = record { kind = type_of l.statement.details; status = status_of l.statement; day = l.statement.day; due = l.due }
 
--- what is known of the last one of the record among an agent's live statements, where there is one
+-- the last one of the record among an agent's live statements, as far as the rules ask, where there is one
 abbrev pub last_of : List ℕ → List ℕ → List Live → Option Last
 last_of declaration rec live = option_map known_of (last_or None (filter (λ l. is_of declaration rec l.statement) live))
 
--- ---- what refuses a statement
+-- ---- the refusals of a statement
 
 abbrev pub is_type : RecordType → RecordType → Bool
 is_type Entity Entity = true
@@ -77,7 +77,7 @@ refusals last s due =
     ++ line (has_last (λ l. int_lt s.day l.day) last) DateBack
     ++ line (has_last (λ l. int_lt due l.due) last) DueBeforeRecord
 
--- ---- what a status is settled as
+-- ---- settled statuses
 
 -- the status that the statement gives; one left out is new for the first statement of a record, and updated for a later one
 abbrev pub settled_status : Option Last → Option Status → Status
@@ -94,6 +94,6 @@ unless_refused (fault ∷ faults) x = Err fault
 abbrev pub admission : Option Last → Statement → ℤ → Result Status RecordFault
 admission last s due = unless_refused (refusals last s due) (settled_status last s.status)
 
--- the same after an agent's live statements
+-- the settled status after an agent's live statements
 abbrev pub admitted : List Live → Statement → ℤ → Result Status RecordFault
 admitted live s due = admission (last_of s.declaration s.rec live) s due

@@ -42,7 +42,7 @@ abbrev pub ahead : Statement → Result (List Statement) PlacedRefusal → Resul
 ahead s (Ok ss) = Ok (s ∷ ss)
 ahead s (Err refusal) = Err refusal
 
--- what is made of a statement, and then of those after it
+-- a settled statement and then the result of those after it, or the statement's refusal
 abbrev pub settled_then : ℕ → Statement → Result Status Refusal → (Statement → Result (List Statement) PlacedRefusal) → Result (List Statement) PlacedRefusal
 settled_then place s (Ok status) rest = ahead (as_settled status s) (rest (as_settled status s))
 settled_then place s (Err why) rest = Err (record { place = place; why = why })

@@ -1,4 +1,4 @@
--- What a record says on a day, and what a declaration's records say together.
+-- The statement that a record has on a day, and those of a declaration's records together.
 use Rattle.std.specs.Prelude.{◌≡◌, ◌↔◌, ℕ, ◌+◌, ℤ, int_le, List, [], ◌∷◌, map, Contains, Bool, Option, Some, None, is_some, option_map, option_and_then, if◌then◌else◌}
 use Rattle.std.specs.Option.{option_or}
 use Rattle.std.specs.Ordering.{nat_cmp}
@@ -43,7 +43,7 @@ is_open declaration day rows rec = is_some (open_row declaration day rows rec)
 
 -- ---- all records of a declaration
 
--- what a snapshot shows of a row
+-- the entry of a row in a snapshot
 abbrev pub entry_of : Row → Entry
 entry_of r = record { status = r.status; statement = r.statement }
 
@@ -57,7 +57,7 @@ records declaration (r ∷ rows) =
 abbrev pub snapshot : List ℕ → ℤ → List Row → List Entry
 snapshot declaration day rows = map entry_of (filter_map (open_row declaration day rows) (records declaration rows))
 
--- ---- the same as what it must have
+-- ---- the snapshot, as a relation
 
 -- The entries are those of the open records of the declaration, and they go up by their records' identifiers.
 pub record IsSnapshot (declaration : List ℕ) (day : ℤ) (rows : List Row) (entries : List Entry) : Type 0 where

@@ -1,4 +1,4 @@
--- What may be answered of a node.
+-- The answers on a node.
 use Rattle.std.specs.Prelude.{◌≡◌, ◌↔◌, List, Contains, Option, None, Some, if◌then◌else◌}
 use Rattle.std.specs.List.{IsDistinct}
 use Rattle.bor_records.specs.declared.links.node.Node.{Node}

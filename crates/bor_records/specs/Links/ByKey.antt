@@ -1,4 +1,4 @@
--- Nodes and links read by their keys: what the latest statement of a series tells of them, with no list of all open rows.
+-- Nodes and links read by their keys: those that the latest statement of a series makes, with no list of all open rows.
 use Rattle.std.specs.Prelude.{◌≡◌, ℕ, ℤ, List, Contains, IsTrue, Option, Some, option_and_then}
 use Rattle.std.specs.List.{filter}
 use Rattle.bor_terms.specs.Texts.{is_same}

@@ -28,7 +28,7 @@ is_legal_kind kinds.State = false
 is_legal_kind kinds.StateBody = false
 is_legal_kind kinds.Other = false
 
--- what the details of an entity or a person say of its node
+-- the open node that the details of an entity or a person make
 abbrev pub node_with : Node → Details → Option OpenNode
 node_with n (details.Entity kind name identifiers) = Some (record { node = n; info = Entity (is_legal_kind kind); identifiers = identifiers })
 node_with n (details.Person kind name) = Some (record { node = n; info = Person name; identifiers = [] })
@@ -38,7 +38,7 @@ node_with n (details.Relationship subject party interests) = None
 abbrev pub node_in : Row → Option OpenNode
 node_in r = node_with (stated r.agent r.statement) r.statement.details
 
--- what a chain asks of it
+-- the data that a chain needs of it
 abbrev pub info_stated : Details → Option NodeInfo
 info_stated (details.Entity kind name identifiers) = Some (Entity (is_legal_kind kind))
 info_stated (details.Person kind name) = Some (Person name)

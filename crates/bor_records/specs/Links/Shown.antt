@@ -15,7 +15,7 @@ pub record Shown : Type 0 where
   pub nodes : List OpenNode
   pub links : List Link
 
--- what is listed of a node
+-- the open node that is listed for a node
 abbrev pub listed_at : List OpenNode → Node → Option OpenNode
 listed_at nodes n = find (λ x. same_node x.node n) nodes
 
