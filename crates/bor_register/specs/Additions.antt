@@ -1,4 +1,4 @@
--- What may be added to a register, and what a register is once something is added or withdrawn.
+-- The additions that a register takes, and the register after an addition or a withdrawal.
 use Rattle.std.specs.Prelude.{◌≡◌, ◌<◌, ◌++◌, ◌∷◌, [], ℕ, ℤ, List, None, length, true, false}
 use Rattle.bods_read.specs.declared.statement.Statement.{Statement}
 use Rattle.bor_register.specs.Limits.{filings_limit}

@@ -56,7 +56,7 @@ pub record IsInOrder (j : Journal) : Type 0 where
   pub named : AreNamedOnce j.agents
   pub enrolled : AreOfAgents j.agents j.entries
 
--- The same day and tokens, and each agent's filings in the same order; the order between agents doesn't count.
+-- Two journals with one day and the same tokens, and with each agent's filings in the same order; the order between agents doesn't count.
 pub record AreAlike (j k : Journal) : Type 0 where
   pub day : j.day ≡ k.day
   pub registrar : j.registrar ≡ k.registrar

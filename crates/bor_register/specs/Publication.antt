@@ -1,4 +1,4 @@
--- What is published, and what all see of it (this register's own rules).
+-- The published filings, and their outward forms, which all see (this register's own rules).
 use Rattle.std.specs.Prelude.{ℕ, ℤ, int_le, List, [], ◌∷◌, ◌++◌, map, filter, Bool, false, not, ◌&&◌, Option, Some, None, codes, if◌then◌else◌}
 use Rattle.bor_terms.specs.Texts.{is_same}
 use Rattle.bor_register.specs.declared.member.Member.{Member}
@@ -13,15 +13,15 @@ use Rattle.bor_register.specs.declared.filing.State.TheVariants.{Draft, Publishe
 abbrev pub is_published : ℤ → AcceptedFiling → Bool
 is_published day f = not f.withdrawn && int_le f.due day
 
--- what is known of a live filing's publication on a day, by its due day
+-- the state of a live filing's publication on a day, by its due day
 abbrev pub state_of_live : ℤ → ℤ → State
 state_of_live due day = if int_le due day then Published else Draft
 
--- what is known of a filing's publication on a day
+-- the state of a filing's publication on a day
 abbrev pub state_of : ℤ → AcceptedFiling → State
 state_of day f = if f.withdrawn then Withdrawn else state_of_live f.due day
 
--- what its agent reads of a filing
+-- the filing as its agent reads it
 abbrev pub filing_shown : AcceptedFiling → Filing
 filing_shown f = record { number = f.number; due = f.due; withdrawn = f.withdrawn; bytes = f.bytes }
 
@@ -34,7 +34,7 @@ has_bytes bytes (Some f) = is_same f.bytes bytes
 abbrev pub line_of : ℤ → AcceptedFiling → FilingLine
 line_of day f = record { key = f.key; number = f.number; due = f.due; state = state_of day f }
 
--- what all see of a published filing: neither number, nor key, nor bytes
+-- the outward form of a published filing, which all see: neither number, nor key, nor bytes
 abbrev pub outward : List ℕ → AcceptedFiling → Outward
 outward name f = record { agent = name; due = f.due; statements = f.statements }
 

@@ -1,4 +1,4 @@
--- What a viewer sees of a register: its nodes and links, on a day.
+-- The nodes and links of a register that a viewer sees, on a day.
 use Rattle.std.specs.Prelude.{◌≡◌, ℕ, ℤ, List}
 use Rattle.bor_records.specs.declared.links.node.Node.{Node}
 use Rattle.bor_records.specs.Links.Series.{series}

@@ -1,4 +1,4 @@
--- What it is to withdraw a filing, and which filing another stands on (this register's own rules).
+-- The withdrawal of a filing, and the filings that stand on another (this register's own rules).
 use Rattle.std.specs.Prelude.{ℕ, List, [], ◌∷◌, ◌==◌, Bool, true, false, if◌then◌else◌}
 use Rattle.std.specs.List.{list_any}
 use Rattle.bor_records.specs.Admission.{is_of}
