@@ -1,4 +1,4 @@
--- What the move of tables of version 1 to version 2 comes to. Version 1 has nothing of the days of interests: the files of the live filings say them.
+-- The result of moving tables of version 1 to version 2. Version 1 has nothing of the days of interests: the files of the live filings say them.
 use Rattle.std.specs.Prelude.{◌≡◌, ◌≢◌, ◌⊎◌, ℕ, ℤ, Bool, true, false, List, [], ◌∷◌, ◌++◌, slice_get, Option, Some, None, Result, Ok, Err, MatchResult, Vec, IsTrue}
 use Rattle.std.specs.List.{flat_map}
 use Rattle.std.specs.declared.alloc.Global.{Global}
@@ -24,7 +24,7 @@ use Rattle.bor_store.specs.Opening.{IsFailure, IsToldBy, has_all, has_first, is_
 use Rattle.bor_store.specs.declared.open_fault.OpenFault.{OpenFault}
 use Rattle.bor_store.specs.declared.open_fault.OpenFault.TheVariants as faults
 
--- ---- what the files say of days
+-- ---- the days that files have
 
 -- the days of the interests of these statements, by where the interests stand
 abbrev pub days_of : List Placed → List PeriodRow
@@ -57,9 +57,9 @@ FilesSay [] days = days ≡ []
 FilesSay (m ∷ ms) days =
     (own : List PeriodRow) × (rest : List PeriodRow) × OwnSay m.name m.filings own × FilesSay ms rest × (days ≡ own ++ rest)
 
--- ---- what the move comes to
+-- ---- the result of the move
 
--- What is answered where version 1 showed r, and what is left: the files say days, and where they are those of r's interests, r is shown in version 2; or memory is wanting or the store failed; or the files say none.
+-- The answer where version 1 showed r, and the tables that are left: the files say days, and where they are those of r's interests, r is shown in version 2; or memory is wanting or the store failed; or the files say none.
 abbrev pub Migrates : {X : Type 0} → Register → State → Result X OpenFault → Type 0
 Migrates r new (Ok x) = (days : List PeriodRow) × FilesSay r.members days × (days ≡ all_periods r.members → ShowsIn r new)
 Migrates r new (Err fault) = IsFailure fault ⊎ ((fault ≡ faults.Damaged) × ((days : List PeriodRow) → FilesSay r.members days → ⊥))
@@ -74,7 +74,7 @@ IsFirst version is_whole is_used = (version ≡ Some first_version) × IsTrue is
 abbrev pub IsSecond : Option ℤ → Bool → Type 0
 IsSecond version is_whole = (version ≡ Some tables_version) × IsTrue is_whole
 
--- What a refusal says of the one version that there is, of whether all tables of version 1 are there and the name of the seventh is used, and of whether all of version 2 are there.
+-- The meaning of a refusal, by the one version that there is, by whether all tables of version 1 are there and the name of the seventh is used, and by whether all of version 2 are there.
 abbrev pub RefusesMove : Option ℤ → Bool → Bool → Bool → OpenFault → Type 0
 RefusesMove version first used second (faults.OtherVersion n) = (version ≡ Some n) × (n ≢ first_version) × (n ≢ tables_version)
 RefusesMove version first used second faults.NoRegister =
@@ -82,7 +82,7 @@ RefusesMove version first used second faults.NoRegister =
 RefusesMove version first used second faults.Taken = (version ≡ Some first_version) × IsTrue first × IsTrue used
 RefusesMove version first used second _ = ⊥
 
--- tables are moved in version 1, and stay in version 2; those of no other version are told to be either
+-- tables are moved in version 1, and stay in version 2; those of any other version are refused
 abbrev pub TellsMove : {X : Type 0} → Type 0 → Option ℤ → Bool → Bool → Bool → Result X OpenFault → Type 0
 TellsMove Stays version first used second (Ok x) = IsFirst version first used ⊎ (IsSecond version second × Stays)
 TellsMove Stays version first used second (Err faults.Damaged) = IsFirst version first used
@@ -105,7 +105,7 @@ abbrev pub IsVersionJudged : State → Result Bool OpenFault → Type 0
 IsVersionJudged s result =
     IsToldBy (λ schema rows answer. TellsVersion (version_in rows) (has_first schema) (is_period_used schema) (has_all schema) answer) s result
 
--- what is told of a read that fails
+-- the fault of a read that fails
 abbrev pub of_read : ReadError → OpenFault
 of_read errors.Memory = faults.Memory
 of_read errors.Store = faults.Store
@@ -123,7 +123,7 @@ abbrev pub FoundSays : List ℕ → ℕ → Option AcceptedFiling → List Perio
 FoundSays agent number None days = ⊥
 FoundSays agent number (Some f) days = FileSays agent number f days
 
--- what the file says of the filing whose line this is
+-- the days that the file of the filing with this line says
 abbrev pub LineSays : List Member → FilingRow → List PeriodRow → Type 0
 LineSays ms l days = UnlessWithdrawn l.withdrawn (FoundSays l.agent l.number (filed_at l.agent l.number ms)) days
 
@@ -132,7 +132,7 @@ LinesSay ms [] days = days ≡ []
 LinesSay ms (l ∷ ls) days =
     (first : List PeriodRow) × (rest : List PeriodRow) × LineSays ms l first × LinesSay ms ls rest × (days ≡ first ++ rest)
 
--- the days that are said are put behind those that are there; damage is told only where none are said
+-- the days that are said are put behind those that are there; damage is the answer only where none are said
 abbrev pub Gathers : {X : Type 0} → (List PeriodRow → Type 0) → List PeriodRow → List PeriodRow → Result X ReadError → Type 0
 Gathers Says before after (Ok x) = (days : List PeriodRow) × Says days × (after ≡ before ++ days)
 Gathers Says before after (Err error) = error ≡ errors.Damaged → (days : List PeriodRow) → Says days → ⊥

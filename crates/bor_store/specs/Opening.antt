@@ -1,4 +1,4 @@
--- What a register may be set up beside, and which tables are taken for one.
+-- The stores that a register may be set up in, and the tables that are taken for one.
 use Rattle.std.specs.Prelude.{◌≡◌, ◌≢◌, ◌⊎◌, ℕ, ℤ, Bool, true, false, if◌then◌else◌, ◌||◌, ◌&&◌, List, [], ◌∷◌, ◌++◌, map, is_some, codes, Option, Some, None, Result, Ok, Err, IsErrAnd, IsTrue}
 use Rattle.std.specs.List.{list_any, list_all}
 use Rattle.sqlite.specs.Held.{Held, state}
@@ -39,7 +39,7 @@ abbrev pub wants_memory : Error → Bool
 wants_memory (SqliteFailure OutOfMemory) = true
 wants_memory _ = false
 
--- what an error of the store is told as: want of memory as that, and each other one as a store that failed
+-- the fault of an error of the store: want of memory, and of each other one a store that failed
 abbrev pub fault_of : Error → OpenFault
 fault_of error = if wants_memory error then faults.Memory else faults.Store
 
@@ -66,7 +66,7 @@ has_columns table columns = list_all (λ column. is_some (column_named table col
 abbrev pub has_table : Schema → List ℕ → List (List ℕ) → Bool
 has_table schema name columns = list_any (λ table. same_name table.name name && has_columns table columns) schema.tables
 
--- there are the columns that tell a version
+-- there are the columns that have a version
 abbrev pub is_versioned : Schema → Bool
 is_versioned schema = has_table schema (codes "register") (codes "one" ∷ codes "version" ∷ [])
 
@@ -88,7 +88,7 @@ is_period_used schema = is_used schema period_table.name
 
 -- ---- the version
 
--- what the version is asked by
+-- the query that asks for the version
 abbrev pub version_text : List ℕ
 version_text = codes "SELECT version FROM register"
 
@@ -106,7 +106,7 @@ version_in [] = None
 version_in (row ∷ []) = whole_number (column row 0)
 version_in (row ∷ other ∷ more) = None
 
--- what is answered where the rows of the versions are these: tables of version 2 are taken, with all of their columns, and no others
+-- the answer where the rows of the versions are these: tables of version 2 are taken, with all of their columns, and no others
 abbrev pub Judges : {X : Type 0} → Schema → List Row → Result X OpenFault → Type 0
 Judges schema rows (Ok x) = (version_in rows ≡ Some tables_version) × IsTrue (has_all schema)
 Judges schema rows (Err (faults.OtherVersion n)) = (version_in rows ≡ Some n) × (n ≢ tables_version)
@@ -127,7 +127,7 @@ IsJudged s result = IsToldBy (λ schema rows answer. Judges schema rows answer) 
 abbrev pub RefusesFirst : {X : Type 0} → Result X OpenFault → Type 0
 RefusesFirst result = IsErrAnd result (λ fault. IsFailure fault ⊎ (fault ≡ faults.OtherVersion first_version))
 
--- ---- what files hold
+-- ---- the contents of files
 
 -- Two files, a database and its log, hold a register: they recover to trees that are a sound database of its tables, with its rows.
 pub record HoldsRegister (image : Image) (r : Register) : Type 0 where
@@ -140,7 +140,7 @@ pub record IsConnected (image : Image) (s : State) : Type 0 where
   pub opens : Opens s
   pub shows : (r : Register) → HoldsRegister image r → ShowsIn r s
 
--- What closing a connection gives: two files that hold each register that it showed, as they read and after a crash, on a disk that returned what was written; or the error that the store tells.
+-- The result of closing a connection: two files that hold each register that it showed, as they read and after a crash, on a disk that returned what was written; or the error that the store returns.
 abbrev pub IsClosing : {D : Type 0} {g : Disk D} → Held (FileStore D g) → Result (Files D) Error → Type 0
 IsClosing {D} {g} c (Ok files) =
     AreClean g files.log files.db → (r : Register) → ShowsIn r (file_state c) → (image : Image) → outcomes g files.log files.db image → HoldsRegister image r

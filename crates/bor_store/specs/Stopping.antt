@@ -1,4 +1,4 @@
--- What a stop leaves in the files of a register.
+-- The files of a register that a stop leaves.
 use Rattle.sqlite.specs.Files.{file_state}
 use Rattle.sqlite.specs.Held.{Held}
 use Rattle.sqlite.specs.Held.{IsConnected as IsKept}

@@ -1,4 +1,4 @@
--- How an error of the tables is told as a fault of a keep.
+-- The fault of a keep for an error of the tables.
 use Rattle.std.specs.Prelude.{◌≡◌, ◌≢◌, ℕ, ◌+◌, if◌then◌else◌, Result, Ok, Err}
 use Rattle.sqlite.specs.State.{State}
 use Rattle.sqlite.specs.declared.error.Error.{Error}
@@ -19,11 +19,11 @@ tells (Err error) = Err (told_as error)
 abbrev pub TellsNoDamage : StoreFault → Type 0
 TellsNoDamage fault = fault ≢ store_faults.Damaged
 
--- what an error of the store is told as: want of memory as that, and each other one as a store that failed
+-- the fault of an error of the store: want of memory, and of each other one a store that failed
 abbrev pub store_fault_of : Error → StoreFault
 store_fault_of error = if wants_memory error then store_faults.Memory else store_faults.Store
 
--- what was made, and an error of the store as its fault
+-- the value that was made, and an error of the store as its fault
 abbrev pub tells_made : {X : Type 0} → Result X Error → Result X StoreFault
 tells_made (Ok x) = Ok x
 tells_made (Err error) = Err (store_fault_of error)
