@@ -1,4 +1,4 @@
--- What has been found over a connection, for a viewer and a day.
+-- The answers that have been found over a connection, for a viewer and a day.
 use Rattle.std.specs.Prelude.{◌≡◌, Bool, Option, Some, None, IfSome}
 use Rattle.std.specs.BTreeMap.{BTreeMap, get}
 use Rattle.std.specs.Ordering.{nat_cmp, ordering_then}
@@ -29,7 +29,7 @@ place_cmp a b = ordering_then (nat_cmp a.filing b.filing) (ordering_then (nat_cm
 abbrev pub ArePlaces : Register → BTreeMap PlaceKey Node → Type 0
 ArePlaces r places = (k : PlaceKey) (n : Node) → get place_cmp places k ≡ Some n → record_standing r.members (record { agent = k.agent; filing = k.filing; place = k.place }) ≡ Some n
 
--- what was found is what is told of the register
+-- the answers that were found are those of the register
 pub record AreOf (r : Register) (f : Found) : Type 0 where
   pub today : f.view.today ≡ r.day
   pub filings : (k : FilingKey) (seen : Bool) → get filing_cmp f.filings k ≡ Some seen → seen ≡ is_number_seen f.view.viewer f.view.today k.agent (filings_of k.agent r.members) k.number
@@ -41,7 +41,7 @@ pub record AreOf (r : Register) (f : Found) : Type 0 where
 abbrev pub Holds : State → (Register → Type 0) → Type 0
 Holds s P = IsClean s → (r : Register) → ShowsIn r s → P r
 
--- what was found, if anything, is so of the register that the connection shows
+-- the answers that were found, if any, are those of the register that the connection shows
 abbrev pub AreFound : State → Option Found → Type 0
 AreFound s None = Unit {0}
 AreFound s (Some f) = Holds s (λ r. AreOf r f)

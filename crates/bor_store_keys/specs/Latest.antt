@@ -13,7 +13,7 @@ use Rattle.bor_store_sql.specs.Rows.Seen.{row_placed}
 use Rattle.bor_store_sql.specs.Selected.{interests_at, identifiers_at}
 use Rattle.bor_store_keys.specs.declared.view.View.{View}
 
--- what the table statement has of a row
+-- the row of the table statement for a statement
 abbrev pub bare_row : Row → StatementRow
 bare_row r = bare (record { at = record { agent = r.agent; filing = r.filing; place = r.place }; statement = r.statement })
 

@@ -1,4 +1,4 @@
--- What a viewer sees of a register on a day.
+-- The part of a register that a viewer sees on a day.
 use Rattle.std.specs.Prelude.{List}
 use Rattle.bor_records.specs.declared.row.Row.{Row}
 use Rattle.bor_records.specs.Links.Shown.{Shown}
