@@ -1,4 +1,4 @@
--- What a read answers.
+-- The answers of reads.
 use Rattle.std.specs.Prelude.{◌≡◌, ◌≢◌, false, Result, IfOk, MatchResult}
 use Rattle.sqlite.specs.State.{State, HasCleanDisk}
 use Rattle.bor_register.specs.Register.{Register}
@@ -15,7 +15,7 @@ use Rattle.bor_store_reads.specs.declared.fault.ReadError.TheVariants as errors
 abbrev pub IsNoDamage : ReadError → Type 0
 IsNoDamage error = error ≢ errors.Damaged
 
--- what is told of a row that is not read
+-- the error for a row that is not read
 abbrev pub of_row : RowFault → ReadError
 of_row row_faults.Memory = errors.Memory
 of_row row_faults.Damaged = errors.Damaged
@@ -39,7 +39,7 @@ pub record ReadsAs {X : Type 0} (old new : State) (result : Result X ReadError) 
   pub up : IfOk result (λ x. StaysUp old new)
   pub answer : Answers old new result P
 
--- the fault of a keep that an error is told as
+-- the fault of a keep for an error
 abbrev pub told_as : ReadError → StoreFault
 told_as errors.Memory = store_faults.Memory
 told_as errors.Store = store_faults.Store

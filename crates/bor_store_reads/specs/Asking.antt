@@ -1,4 +1,4 @@
--- What is asked for the statements of a declaration, row by row.
+-- The questions for the statements of a declaration, row by row.
 use Rattle.std.specs.Prelude.{◌≡◌, ℕ, ℤ, Bool, List, [], ◌==◌, ◌&&◌}
 use Rattle.std.specs.List.{list_any}
 use Rattle.bor_register.specs.Rows.{is_visible}
@@ -18,7 +18,7 @@ is_number_seen viewer day agent filings number = list_any (λ f. f.number == num
 
 -- ---- for clauses of private functions alone
 
--- what is known of a filing is so
+-- the data that is known of a filing is right
 abbrev pub IsKnown : List ℕ → ℤ → List ℕ → List AcceptedFiling → Known → Type 0
 IsKnown viewer day agent filings known = known.seen ≡ is_number_seen viewer day agent filings known.number
 
