@@ -1,4 +1,4 @@
--- What setting up makes of a database, whatever stands in it.
+-- The database after setting up, whatever stands in it.
 use Rattle.std.specs.Prelude.{◌≡◌, ◌≢◌, ◌≤◌, ◌+◌, ◌%◌, ◌==◌, ◌⊎◌, Bool, IsTrue, ℕ, filter, length, map, List, [], ◌∷◌, ◌++◌, slice_get, Some}
 use Rattle.std.specs.List.{AllByRecursion, list_any}
 use Rattle.sqlite.specs.Change.{next_tree, KeepsRows}
@@ -19,7 +19,7 @@ use Rattle.bor_store_sql.specs.Kept.{Keeps}
 use Rattle.bor_store_sql.specs.Rows.Encoding.{Contents, contents}
 use Rattle.bor_store_sql.specs.Texts.Tables.{agent_table, filing_table, identifier_index, identifier_table, interest_table, line_index, period_table, record_index, register_table, statement_table, subject_index}
 
--- ---- what stood there
+-- ---- the tables that stood there
 
 -- a list has more at its end, all in trees from a number on
 abbrev pub HasMore : {X : Type 0} → (X → ℕ) → ℕ → List X → List X → Type 0
@@ -39,13 +39,13 @@ pub record IsUnread (db : Database) (tree : ℕ) : Type 0 where
   pub no_index : AllByRecursion (λ i. i.tree ≢ tree) db.schema.indexes
   pub alone : length (filter (λ v. v.tree == tree) db.schema.views) ≤ 1
 
--- What SQL here doesn't read stays as it was: it is listed as before, as triggers are, its trees have the same rows, and the user version is the same.
+-- All that SQL here doesn't read stays as it was: it is listed as before, as triggers are, its trees have the same rows, and the user version is the same.
 pub record SparesUnread (old new : Database) : Type 0 where
   pub listed : KeepsForeign (old.trees catalog_tree) (new.trees catalog_tree)
   pub rows : (tree : ℕ) → IsUnread old tree → new.trees tree ≡ old.trees tree
   pub version : new.trees version_tree ≡ old.trees version_tree
 
--- ---- what is made
+-- ---- the tables that are made
 
 -- the table of this name is this one, at this tree, and has these rows
 pub record HasTable (db : Database) (table : Table) (tree : ℕ) (rows : List Row) : Type 0 where
@@ -131,7 +131,7 @@ pub record SetsUp (r : Register) (old new : Database) : Type 0 where
   pub indexes : HasIndexes four_indexes new.schema
   pub only : MakesOnly seven_tables four_indexes old.schema new.schema
 
--- the same of trees, which list their schema
+-- the register is set up so in trees, which list their schema
 abbrev pub SetsUpIn : Register → Database → Trees → Type 0
 SetsUpIn r old trees = (schema : Schema) × SetsUp r old (record { schema = schema; trees = trees })
 

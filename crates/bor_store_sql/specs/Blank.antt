@@ -17,6 +17,6 @@ pub record IsBlank (schema : Schema) (db : Database) : Type 0 where
 abbrev pub Leads : (Database → Type 0) → (Database → Type 0) → State → State → Result (Unit {0}) Error → Type 0
 Leads before after old new result = Moves (λ was is. before was → after is) old new result
 
--- what seven tables without rows have
+-- the contents of seven tables without rows
 abbrev pub no_contents : Contents
 no_contents = record { register = []; agents = []; filings = []; statements = []; interests = []; identifiers = []; periods = [] }

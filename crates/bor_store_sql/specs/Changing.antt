@@ -1,4 +1,4 @@
--- What the changes make of the tables.
+-- The tables after the changes.
 use Rattle.std.specs.Prelude.{◌≤◌, ℕ, ℤ, pos, Bool, false, not, cond, List, [], ◌∷◌, ◌++◌, map, filter, length}
 use Rattle.std.specs.List.{list_all, flat_map}
 use Rattle.sqlite.specs.declared.types.Value.TheVariants.{Null, Int, Text, Blob}
@@ -36,7 +36,7 @@ added agent key due bytes statements r =
 abbrev pub enrolled : List ℕ → List ℕ → Register → Register
 enrolled agent token r = record r { members = with_member (new_member agent token) r.members }
 
--- ---- what the table period has of a register, statement by statement
+-- ---- the rows of the table period for a register, statement by statement
 
 abbrev pub all_periods : List Member → List PeriodRow
 all_periods ms = flat_map (λ p. flat_map period_rows (interest_rows p)) (placed ms)
@@ -91,7 +91,7 @@ withdrawn_in agent number t =
 abbrev pub live_filing : ℕ → List ℕ → ℤ → List ℕ → List Statement → AcceptedFiling
 live_filing number key due bytes statements = record { number = number; key = key; due = due; withdrawn = false; bytes = bytes; statements = statements }
 
--- what the INSERT of a filing is given: its columns but `withdrawn`
+-- the parameters of the INSERT of a filing: its columns but `withdrawn`
 abbrev pub given_filing : List ℕ → ℕ → List ℕ → ℤ → List ℕ → Row
 given_filing agent number key due bytes = Text agent ∷ Int (pos number) ∷ Text key ∷ Int due ∷ Blob bytes ∷ []
 

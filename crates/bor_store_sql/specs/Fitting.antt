@@ -16,7 +16,7 @@ use Rattle.bor_store_sql.specs.Selected.{numbered, interests_at, identifiers_at}
 use Rattle.bor_store_sql.specs.Ran.{LeavesNoMore}
 use Rattle.bor_store_sql.specs.Shown.{IsClean, ShowsLists}
 
--- ---- what fits
+-- ---- fitting statements
 
 -- the statement at this place of the agent's filing with this number
 abbrev pub standing : List ℕ → ℕ → ℕ → Statement → Placed
@@ -47,7 +47,7 @@ Fit agent number place said kept = Pairwise (FitsAt agent number) place said kep
 abbrev pub statements_kept : List ℕ → ℕ → Register → List Statement
 statements_kept agent number r = flat_map (λ f. f.statements) (numbered number (filings_of agent r.members))
 
--- ---- what is answered
+-- ---- answers
 
 -- The tables, of either version, are asked whether something holds of the register. They are left as they were, and a stop leaves nothing more. The answer is whether it holds, or there is an error.
 pub record Tells (old new : State) (result : Result Bool Error) (Holds : Register → Type 0) : Type 0 where

@@ -1,4 +1,4 @@
--- What a query finds.
+-- The rows that a query finds.
 use Rattle.std.specs.Prelude.{◌≡◌, ℕ, List, Vec, Result, IfOk}
 use Rattle.std.specs.declared.alloc.Global.{Global}
 use Rattle.sqlite.specs.Given.{Returns}
@@ -33,7 +33,7 @@ pub record Finds (old new : State) (result : Result (Vec Row Global) Error) (row
   pub kept : IsClean new → new.committed ≡ old.committed
   pub rows : IsClean new → (r : Register) → ShowsIn r old → IfOk result (λ rows. rows.items ≡ rows_of r)
 
--- The same of tables of either version.
+-- The query leaves what the last commit left, and a stop leaves nothing more; of a register that is shown in either version it gives these rows, or a fault.
 pub record FindsBoth (old new : State) (result : Result (Vec Row Global) Error) (rows_of : Register → List Row) : Type 0 where
   pub clean : HasCleanDisk new → HasCleanDisk old
   pub stops : LeavesNoMore old new

@@ -1,4 +1,4 @@
--- What the statements of the move from version 1 to these tables make, for clauses of private functions alone.
+-- The tables after each statement of the move from version 1, for clauses of private functions alone.
 use Rattle.std.specs.Prelude.{◌≤◌, ◌++◌, [], ◌∷◌, ℤ, Bool, cond, filter, length, List, map}
 use Rattle.sqlite.specs.Effect.{Database}
 use Rattle.sqlite.specs.Order.{Row, column}

@@ -1,4 +1,4 @@
--- What is done in a transaction, for clauses of private functions alone.
+-- The effects of a transaction, for clauses of private functions alone.
 use Rattle.std.specs.Prelude.{◌≡◌, ◌⊎◌, ℕ, List, Ok, Err, Result, OnOk, OnErr, IsOk, IsTrue}
 use Rattle.sqlite.specs.Effect.{Database}
 use Rattle.sqlite.specs.Order.{Row}
@@ -21,7 +21,7 @@ pub record Ran (text : List ℕ) (params : Row) (old new : State) (result : Resu
   pub stops : LeavesNoMore old new
   pub inside : HasCleanDisk new → IsTrue old.in_transaction → RunsInside text params old new result
 
--- what is made of the database by statements that went well; a failure may have ended the transaction
+-- the database after statements that went well; a failure may have ended the transaction
 pub record Moved (Makes : Database → Database → Type 0) (old new : State) (result : Result (Unit {0}) Error) : Type 0 where
   pub was_open : IsTrue new.is_open → IsTrue old.is_open
   pub committed : IsTrue new.is_open → new.committed ≡ old.committed

@@ -69,7 +69,7 @@ with_subject declaration rec ps = filter (λ p. is_same p.statement.declaration 
 abbrev pub identified : List ℕ → List Placed → List Placed
 identified id ps = filter (λ p. is_same p.statement.id id) ps
 
--- ---- what a statement has in lists
+-- ---- the lists of a statement
 
 -- the interests of the statement at this place
 abbrev pub interests_at : At → List Member → List InterestRow
@@ -89,7 +89,7 @@ standing_at at ms = filter (λ p. same_place p.at at) (placed ms)
 abbrev pub identified_by : List ℕ → List ℕ → List Member → List IdentifierRow
 identified_by scheme id ms = filter (λ i. is_same i.identifier.scheme scheme && is_same i.identifier.id id) (flat_map identifier_rows (placed ms))
 
--- ---- what else is shown
+-- ---- other rows that are shown
 
 -- where a statement stands in its agent's filings: filing, place
 abbrev pub place_columns : Placed → Row

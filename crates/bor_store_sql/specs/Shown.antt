@@ -36,7 +36,7 @@ IsUp s = HasCleanDisk s → IsTrue s.is_open
 abbrev pub StaysUp : State → State → Type 0
 StaysUp old new = HasCleanDisk new → IsTrue old.is_open → IsTrue new.is_open
 
--- what the last commit left is the register
+-- the state that the last commit left is the register
 pub record ShowsIn (r : Register) (s : State) : Type 0 where
   pub has : Has (contents r) s.committed
   pub stored : IsStored r
@@ -70,11 +70,11 @@ pub record HasFirst (t : Contents) (db : Database) : Type 0 where
   pub interests : Keeps t.interests (db.trees 11)
   pub identifiers : Keeps t.identifiers (db.trees 13)
 
--- what the tables of version 1 have of a register: all but the days of interests
+-- the rows of the tables of version 1 for a register: all but the days of interests
 abbrev pub first_contents : Register → Contents
 first_contents r = record (contents r) { register = versioned_columns first_version (register_row r) ∷ []; periods = [] }
 
--- what the last commit left is the register in version 1
+-- the state that the last commit left is the register in version 1
 pub record ShowsFirst (r : Register) (s : State) : Type 0 where
   pub has : HasFirst (first_contents r) s.committed
   pub stored : IsStored r
@@ -94,7 +94,7 @@ pub record HasLists (t : Contents) (db : Database) : Type 0 where
   pub interests : Keeps t.interests (db.trees 11)
   pub identifiers : Keeps t.identifiers (db.trees 13)
 
--- what the last commit left has the register's lists, in whichever version
+-- the state that the last commit left has the register's lists, in whichever version
 pub record ShowsLists (r : Register) (s : State) : Type 0 where
   pub has : HasLists (contents r) s.committed
   pub stored : IsStored r

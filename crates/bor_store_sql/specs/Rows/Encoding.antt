@@ -48,7 +48,7 @@ first_version = pos 1
 abbrev pub versioned_columns : ℤ → RegisterRow → Row
 versioned_columns version r = Int (pos 1) ∷ Int version ∷ Int r.day ∷ Text r.registrar ∷ []
 
--- the same in the version of these tables
+-- the columns of the register's row in the version of these tables
 abbrev pub register_row_columns : RegisterRow → Row
 register_row_columns r = versioned_columns tables_version r
 
@@ -120,7 +120,7 @@ abbrev pub filing_rows : List Member → List Row
 filing_rows [] = []
 filing_rows (m ∷ ms) = map (filing_columns m.name) m.filings ++ filing_rows ms
 
--- what the seven tables have
+-- the rows of the seven tables
 pub record Contents : Type 0 where
   pub register : List Row
   pub agents : List Row
@@ -142,7 +142,7 @@ contents r = record {
   identifiers = flat_map (λ p. map identifier_columns (identifier_rows p)) (placed r.members);
 }
 
--- ---- what the queries on filings show
+-- ---- the rows of the queries on filings
 
 -- agent, number, lodge_key, due, withdrawn
 abbrev pub line_columns : FilingRow → Row

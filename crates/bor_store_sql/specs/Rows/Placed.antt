@@ -1,4 +1,4 @@
--- What the tables have of a register, row by row with each value of its type: its day and the registrar's token, agents, filings, and statements with where they stand.
+-- The rows of the tables for a register, row by row with each value of its type: its day and the registrar's token, agents, filings, and statements with where they stand.
 use Rattle.std.specs.Prelude.{◌≡◌, ℕ, ℤ, Option, Some, None, ◌+◌, List, [], ◌∷◌, ◌++◌, map, ◌==◌, ◌&&◌, Bool, false}
 use Rattle.std.specs.List.{AllByRecursion}
 use Rattle.bor_terms.specs.Texts.{is_same}
@@ -45,7 +45,7 @@ filing_lines (m ∷ ms) = map (filing_row m.name) m.filings ++ filing_lines ms
 abbrev pub same_place : At → At → Bool
 same_place a b = is_same a.agent b.agent && (a.filing == b.filing && a.place == b.place)
 
--- ---- what the tables have of a statement
+-- ---- the rows of the tables for a statement
 
 -- the details without their lists
 abbrev pub part_of : Details → Part

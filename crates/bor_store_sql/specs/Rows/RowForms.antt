@@ -32,7 +32,7 @@ pub record IsFormedFilingRow (f : FilingRow) : Type 0 where
   pub key : is_lodge_key f.key ≡ true
   pub due : IsDay f.due
 
--- what an agent reads of its filing
+-- the filing as its agent reads it
 pub record IsFormedShown (f : Filing) : Type 0 where
   pub number : f.number < 2 ^ 32
   pub due : IsDay f.due

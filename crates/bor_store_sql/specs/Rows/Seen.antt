@@ -1,4 +1,4 @@
--- What a viewer sees of an agent's statements, from their rows and those of their filings.
+-- The part of an agent's statements that a viewer sees, from their rows and those of their filings.
 use Rattle.std.specs.Prelude.{ℕ, ℤ, int_le, List, Bool, not, ◌&&◌, ◌==◌, if◌then◌else◌, unwrap_or, Option, Some, None, nat_lt, false}
 use Rattle.std.specs.List.{list_any}
 use Rattle.bor_terms.specs.Texts.{is_same}
@@ -39,13 +39,13 @@ is_seen viewer day agent filings p = list_any (λ f. f.number == p.at.filing && 
 abbrev pub line_shown : ℤ → FilingRow → FilingLine
 line_shown day f = record { key = f.key; number = f.number; due = f.due; state = if f.withdrawn then Withdrawn else state_of_live f.due day }
 
--- what the record of a statement is of, by its row
+-- the kind of a statement's record, by its row
 abbrev pub type_of_part : Part → RecordType
 type_of_part (part.Entity kind name) = types.Entity
 type_of_part (part.Person kind name) = types.Person
 type_of_part (part.Relationship subject party) = types.Relationship
 
--- what is known of the statement of this row, whose filing is due on this day
+-- the statement of this row, whose filing is due on this day, as far as the rules ask
 abbrev pub known_at : ℤ → StatementRow → Last
 known_at due s = record { kind = type_of_part s.part; status = unwrap_or s.status New; day = s.day; due = due }
 

@@ -1,4 +1,4 @@
--- What holds of a register that stands in tables.
+-- The facts that hold of a register that stands in tables.
 use Rattle.std.specs.Prelude.{◌≡◌, ◌<◌, ◌^◌, ℕ, ◌+◌, List, [], ◌∷◌, All, length}
 use Rattle.bods_read.specs.declared.statement.Statement.{Statement}
 use Rattle.bor_register.specs.Register.{Register, IsOrdered}

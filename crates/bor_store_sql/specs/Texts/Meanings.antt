@@ -1,4 +1,4 @@
--- What it is that a text means a command, under the schema of the register's tables.
+-- How a text means a command, under the schema of the register's tables.
 use Rattle.std.specs.Prelude.{◌≡◌, ℕ, List, false, Ok}
 use Rattle.sqlite.specs.Command.{Command}
 use Rattle.sqlite.specs.Command.TheVariants.{CreateTable, CreateIndex}
@@ -19,7 +19,7 @@ AsksIn schema text command =
 abbrev pub Asks : List ℕ → Command → Type 0
 Asks text command = AsksIn keep_schema text command
 
--- the same under the schema of version 1 too
+-- the text means the command under the schema of version 1 too
 pub record AsksBoth (text : List ℕ) (command : Command) : Type 0 where
   pub first : AsksIn first_schema text command
   pub now : AsksIn keep_schema text command

@@ -48,7 +48,7 @@ first_query t tests project order = record (table_query t tests project order) {
 abbrev pub later_query : ℕ → List Term → List Term → ℕ → Query
 later_query t tests project parameter = record (table_query t tests project []) { limit = lit (Int (pos 1)); offset = col 0 parameter }
 
--- what shows the rows of a query under these names
+-- the command that shows the rows of a query under these names
 abbrev pub shows_rows : Query → List (List ℕ) → Command
 shows_rows query names = Select (record { lets = []; body = query }) names
 
