@@ -2,7 +2,7 @@
 use Rattle.std.specs.Prelude.{ℕ, ◌*◌, List, [], ◌∷◌, Bool, true, nat_lt, nat_le, if◌then◌else◌}
 use Rattle.std.specs.List.{list_all, list_any, filter, range_with_len}
 
--- what a share says of its points, in percents
+-- a bound on the points of a share, in percents
 pub data Bound : Type 0 where
   at_least : ℕ → Bound
   above : ℕ → Bound
@@ -30,6 +30,6 @@ low_bound low low_open = if low_open then above low else at_least low
 abbrev pub high_bound : ℕ → Bool → Bound
 high_bound high high_open = if high_open then below high else at_most high
 
--- what the ends of a range say
+-- the bounds at the ends of a range
 abbrev pub end_bounds : ℕ → Bool → ℕ → Bool → List Bound
 end_bounds low low_open high high_open = low_bound low low_open ∷ high_bound high high_open ∷ []

@@ -1,4 +1,4 @@
--- What contracts see of a range (BODS 0.4, share), and its points.
+-- A range as contracts see it (BODS 0.4, share), and its points.
 use Rattle.std.specs.Prelude.{◌≡◌, ℕ, List, Bool, true}
 use Rattle.bor_terms.specs.Points.{Bound, points, has_points, end_bounds}
 
@@ -17,7 +17,7 @@ range low low_open high high_open = record {
   high_open = high_open;
 }
 
--- what the ends say of the points
+-- the bounds at the ends
 abbrev pub bounds_of : Range → List Bound
 bounds_of r = end_bounds r.low r.low_open r.high r.high_open
 

@@ -1,4 +1,4 @@
--- Tables of refusals: of the lines that hold, the first is told.
+-- Tables of refusals: of the lines that hold, the first is the answer.
 use Rattle.std.specs.Prelude.{List, [], ◌∷◌, ◌++◌, Result, Ok, Err}
 
 -- the first of the refusals, or the value where there is none
