@@ -1,4 +1,4 @@
--- What one exchange over a reader and a writer does.
+-- The effects of one exchange over a reader and a writer.
 use Rattle.std.specs.Prelude.{◌≡◌, ◌≢◌, ◌≤◌, ℕ, List, [], ◌∷◌, take, Option, Some, None, Ok, Err, IfSome, true, ⊤}
 use Rattle.std.specs.Io.KnownBytes.{Appends, Keeps}
 use Rattle.bor_register.specs.Register.{Register, caller_of}
@@ -22,19 +22,19 @@ use Rattle.bor_wire.specs.Reports.{IsExact}
 use Rattle.bor_wire.specs.Histories.{IsAlone}
 use Rattle.bor_wire.specs.Refused.{IsFull}
 
--- ---- what an input spells
+-- ---- the spelling of an input
 
 -- the input spells this, where it is known
 abbrev pub IsSpelled : Option (List ℕ) → Spelled → Type 0
 IsSpelled known spelled = IfSome known (λ input. Spells input spelled)
 
--- ---- what goes out; but for `IfRefusing`, for clauses of private functions alone
+-- ---- the reply that goes out; but for `IfRefusing`, for clauses of private functions alone
 
 -- the status and the bytes are those of what is said to the input, and the register after it is shown
 abbrev pub IsSent : (Register → Type 0) → Register → Spelled → ℕ → List ℕ → Type 0
 IsSent shown r spelled status bytes = (said : Said) × IsSaid r spelled said × (bytes ≡ bytes_of said) × (status ≡ status_of said) × shown (after r spelled)
 
--- what goes out for an input that spells this: its reply, or nothing changed
+-- the reply that goes out for an input that spells this, or nothing changed
 abbrev pub GoesOut : Outgoing → (Register → Type 0) → Register → Spelled → Type 0
 GoesOut (outgoing.Full status bytes) shown r spelled = IsSent shown r spelled status bytes.items
 GoesOut outgoing.Unavailable shown r spelled = shown r
@@ -49,7 +49,7 @@ abbrev pub IsRefusal : Outgoing → Refusal → Type 0
 IsRefusal (outgoing.Full status bytes) why = (status ≡ status_of (refused why)) × (bytes.items ≡ bytes_of (refused why))
 IsRefusal outgoing.Unavailable why = ⊤
 
--- the desk's reply, where there is one, tells the answer
+-- the desk's reply, where there is one, has the answer
 abbrev pub TellsAnswer : Option DeskReply → Register → Asked → Type 0
 TellsAnswer reply r asked = IfSome reply (λ told. IsTold (exchange r asked).answer told)
 
@@ -58,7 +58,7 @@ abbrev pub left_by : Option DeskReply → Register → Asked → Register
 left_by (Some reply) r asked = (exchange r asked).register
 left_by None r asked = r
 
--- what goes out of the desk's reply has its status and its bytes; nothing may go out of one that only tells what was read
+-- the reply that goes out has the status and the bytes of the desk's reply; nothing may go out of one that only has what was read
 abbrev pub IsRendered : Outgoing → DeskReply → Type 0
 IsRendered (outgoing.Full status bytes) reply = (status ≡ status_of (answered reply)) × (bytes.items ≡ bytes_of (answered reply))
 IsRendered outgoing.Unavailable reply = is_long reply ≡ true
@@ -117,7 +117,7 @@ pub record IsReplied (outcome : Outcome) (shown : Register → Type 0) (r : Regi
   -- from a legal register each agent receives what it would receive alone
   pub alone : IsLegal r → (name : List ℕ) → IsAlone name r (spelled ∷ []) (bytes ∷ [])
 
--- What an exchange did that ended so, from the register r: `shown` says of a register that it is shown after it. Its reader had the bytes `known`, and its writer held those of `old` before it and those of `new` after it. Where a reader or a writer doesn't tell its bytes, nothing is said of them.
+-- The effects of an exchange that ended so, from the register r: `shown` says of a register that it is shown after it. Its reader had the bytes `known`, and its writer held those of `old` before it and those of `new` after it. Where the bytes of a reader or a writer aren't known, nothing is said of them.
 pub record IsExchanged (outcome : Outcome) (shown : Register → Type 0) (r : Register) (known old new : Option (List ℕ)) : Type 0 where
   -- where the reader failed, nothing changed and nothing was written
   pub unread : status_told outcome ≡ None → shown r × Keeps old new
@@ -126,7 +126,7 @@ pub record IsExchanged (outcome : Outcome) (shown : Register → Type 0) (r : Re
   -- with another status the input was replied to
   pub replied : (status : ℕ) → status_told outcome ≡ Some status → status ≢ 503 → IsReplied outcome shown r known old new status
 
--- ---- what goes out in memory
+-- ---- replies in memory
 
 -- its status and its bytes
 abbrev pub status_out : Outgoing → ℕ
@@ -137,7 +137,7 @@ abbrev pub bytes_out : Outgoing → List ℕ
 bytes_out (outgoing.Full status bytes) = bytes.items
 bytes_out outgoing.Unavailable = UNAVAILABLE.now
 
--- what an exchange over these bytes does, whose reply this is
+-- the effects of an exchange over these bytes, whose reply this is
 abbrev pub IsResponse : (Register → Type 0) → Register → List ℕ → Outgoing → Type 0
 IsResponse shown r input out = IsExchanged (Replied (status_out out)) shown r (Some input) (Some []) (Some (bytes_out out))
 
@@ -164,9 +164,9 @@ UnlessUnavailable (Replied status) P = status ≢ 503 → P
 UnlessUnavailable ReadFailed P = Unit {0}
 UnlessUnavailable (WriteFailed status) P = status ≢ 503 → P
 
--- ---- what a stop leaves
+-- ---- the state that a stop leaves
 
--- what is left shows the register after the input; where its bytes aren't known, after some input
+-- the state that is left shows the register after the input; where its bytes aren't known, after some input
 abbrev pub ShowsAfter : {W : Type 0} → (W → Register → Type 0) → Option (List ℕ) → Register → W → Type 0
 ShowsAfter left_shows known r left = (spelled : Spelled) × IsSpelled known spelled × left_shows left (after r spelled)
 
@@ -186,7 +186,7 @@ IsFor outgoing.Unavailable named asks = IfSome named (λ name. asks ≡ Some nam
 abbrev pub NamesWhoAsks : Register → List ℕ → Response → Type 0
 NamesWhoAsks r input response = (spelled : Spelled) → Spells input spelled → IsFor response.outgoing response.agent (agent_spelled r spelled)
 
--- the same of the desk's reply, where there is one (for clauses of private functions alone)
+-- the desk's reply, where there is one, is for the agent that asks; without one, no other agent is named (for clauses of private functions alone)
 abbrev pub IsToldFor : Option DeskReply → Option (List ℕ) → Option (List ℕ) → Type 0
 IsToldFor (Some reply) named asks = named ≡ asks
 IsToldFor None named asks = IfSome named (λ name. asks ≡ Some name)
@@ -195,7 +195,7 @@ IsToldFor None named asks = IfSome named (λ name. asks ≡ Some name)
 abbrev pub OnSpelled : Option (List ℕ) → (Spelled → Type 0) → Type 0
 OnSpelled known P = IfSome known (λ input. (spelled : Spelled) → Spells input spelled → P spelled)
 
--- ---- what holds of any register and of any keep
+-- ---- facts of any register and of any keep
 
 -- where the status is 503, what was written is `UNAVAILABLE` or a front of it; where the reader failed, nothing was
 abbrev pub TellsUnavailable : Outcome → Option (List ℕ) → Option (List ℕ) → Type 0
@@ -215,7 +215,7 @@ IfRefused (Replied status) P = 400 ≤ status → P
 IfRefused ReadFailed P = P
 IfRefused (WriteFailed status) P = 400 ≤ status → P
 
--- an input that spells a refusal is told it, where the status isn't 503
+-- an input that spells a refusal is answered by it, where the status isn't 503
 abbrev pub TellsRefusal : Outcome → Refusal → Option (List ℕ) → Option (List ℕ) → Type 0
 TellsRefusal (Replied status) why old new = status ≢ 503 → (status ≡ status_of (refused why)) × Appends old new (bytes_of (refused why))
 TellsRefusal ReadFailed why old new = Keeps old new
@@ -230,7 +230,7 @@ abbrev pub GoesOutRefused : Option Outgoing → Refusal → Type 0
 GoesOutRefused (Some out) why = IsRefusal out why
 GoesOutRefused None why = ⊤
 
--- the faults that the reader and the writer counted are those that the outcome tells
+-- the faults that the reader and the writer counted are those that the outcome says
 abbrev pub read_faults : Outcome → ℕ → ℕ
 read_faults ReadFailed n = after_fault n
 read_faults outcome n = n

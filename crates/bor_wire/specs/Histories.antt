@@ -1,4 +1,4 @@
--- What of a run an agent receives.
+-- The part of a run that an agent receives.
 use Rattle.std.specs.Prelude.{◌≡◌, ℕ, List, [], ◌∷◌, length, Ok, Err}
 use Rattle.std.specs.List.{AllZip}
 use Rattle.bor_register.specs.Register.{Register, filings_of}
@@ -11,7 +11,7 @@ use Rattle.bor_wire.specs.Spelling.Spell.{Spelled}
 use Rattle.bor_wire.specs.Rendering.Replies.{answered, bytes_of}
 use Rattle.bor_wire.specs.Runs.{AreReplies}
 
--- these are the bytes of a reply that tells the answer
+-- these are the bytes of a reply that has the answer
 abbrev pub AreBytesOf : Answer → List ℕ → Type 0
 AreBytesOf answer bytes = (reply : DeskReply) × IsTold answer reply × (bytes ≡ bytes_of (answered reply))
 
@@ -40,7 +40,7 @@ history_in name r inputs = history name r (asked_in inputs)
 abbrev pub solo_in : List ℕ → Register → List Spelled → List Answer
 solo_in name r inputs = solo name (filings_of name r.members) (history_in name r inputs)
 
--- What the agent receives are the bytes of the answers to its own exchanges alone: those that follow from its filings at the start and its history.
+-- The agent receives the bytes of the answers to its own exchanges alone: those that follow from its filings at the start and its history.
 abbrev pub IsAlone : List ℕ → Register → List Spelled → List (List ℕ) → Type 0
 IsAlone name r inputs replies = AllZip AreBytesOf (solo_in name r inputs) (received name r inputs replies)
 

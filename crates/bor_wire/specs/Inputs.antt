@@ -1,4 +1,4 @@
--- What is said to one input, and the register after it.
+-- The answer to one input, and the register after it.
 use Rattle.std.specs.Prelude.{◌≡◌, ℕ, List, Ok, Err}
 use Rattle.bor_register.specs.Register.{Register}
 use Rattle.bor_desk.specs.declared.reply.DeskReply.{DeskReply}
@@ -7,7 +7,7 @@ use Rattle.bor_desk.specs.Runs.{exchange}
 use Rattle.bor_wire.specs.Spelling.Spell.{Spelled}
 use Rattle.bor_wire.specs.Rendering.Replies.{Said, refused, answered, bytes_of}
 
--- If the input spells no request, its refusal is said; else a reply that tells the step's answer.
+-- If the input spells no request, its refusal is said; else a reply that has the step's answer.
 abbrev pub IsSaid : Register → Spelled → Said → Type 0
 IsSaid r (Err why) said = said ≡ refused why
 IsSaid r (Ok asked) said = (reply : DeskReply) × IsTold (exchange r asked).answer reply × (said ≡ answered reply)

@@ -15,7 +15,7 @@ abbrev pub IsNobodys : Register → Spelled → Type 0
 IsNobodys r (Err why) = Unit {0}
 IsNobodys r (Ok asked) = caller_of asked.token r ≡ None
 
--- what is said to it, in whatever register: its refusal, or that no agent has the token
+-- the answer to it, in whatever register: its refusal, or that no agent has the token
 abbrev pub said_to_nobody : Spelled → Said
 said_to_nobody (Err why) = refused why
 said_to_nobody (Ok asked) = answered (Refused NoAgent)

@@ -1,4 +1,4 @@
--- What a refusal leaves.
+-- The register after a refusal.
 use Rattle.std.specs.Prelude.{◌≡◌, ◌≢◌, ◌≤◌, ℕ, List, [], ◌∷◌, ◌++◌}
 use Rattle.bor_register.specs.Register.{Register}
 use Rattle.bor_wire.specs.Spelling.Spell.{Spelled}

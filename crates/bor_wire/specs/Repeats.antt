@@ -15,16 +15,16 @@ use Rattle.bor_wire.specs.Inputs.{IsSaid, IsReplyTo, after}
 use Rattle.bor_wire.specs.Refused.{HasStatus}
 use Rattle.bor_wire.specs.Runs.{register_left}
 
--- The request is the lodging of a file under a key, due on a day, and is told so: its agent has the filing, whether the lodging is new or not.
+-- The request is the lodging of a file under a key, due on a day, and is answered so: its agent has the filing, whether the lodging is new or not.
 pub record IsLodged (r : Register) (asked : Asked) (key : List ℕ) (due : ℤ) (file : List ℕ) (told : Lodged) : Type 0 where
   pub request : asked.request ≡ Lodge key due file
   pub said : IsSaid r (Ok asked) (answered (tell.Lodged told))
 
--- What is told of a filing again: its number and its due day as before, its state now, and that it isn't new.
+-- The parts of a repeated reply on a filing: its number and its due day as before, its state now, and that it isn't new.
 abbrev pub told_again : ℤ → AcceptedFiling → Lodged → Lodged
 told_again day filing told = record { number = told.number; due = told.due; state = state_of day filing; fresh = false }
 
--- The lodging was told before, and is sent again: the agent's filing is there under the key, withdrawn ones too, and is told again. The status is 200, the body is the one before where the filing's state is, and nothing changes.
+-- The lodging was answered before, and is sent again: the agent's filing is there under the key, withdrawn ones too, and is the answer again. The status is 200, the body is the one before where the filing's state is, and nothing changes.
 pub record IsToldAgain (q : Register) (asked : Asked) (key : List ℕ) (told : Lodged) : Type 0 where
   pub agent : List ℕ
   pub caller : caller_of asked.token q ≡ Some (Agent agent)
@@ -35,7 +35,7 @@ pub record IsToldAgain (q : Register) (asked : Asked) (key : List ℕ) (told : L
   pub body : (said : Said) → IsSaid q (Ok asked) said → state_of q.day filing ≡ told.state → body_of said ≡ body_of (answered (tell.Lodged told))
   pub left : after q (Ok asked) ≡ q
 
--- The bytes of its reply: they tell the filing again, with status 200, and nothing changes.
+-- The bytes of its reply: they have the filing again, with status 200, and nothing changes.
 pub record IsRepliedAgain (q : Register) (spelled : Spelled) (bytes : List ℕ) (told : Lodged) : Type 0 where
   pub filing : AcceptedFiling
   pub reply : bytes ≡ bytes_of (answered (tell.Lodged (told_again q.day filing told)))
@@ -47,7 +47,7 @@ pub record IsReused (q : Register) (asked : Asked) : Type 0 where
   pub said : (said : Said) → IsSaid q (Ok asked) said → said ≡ answered (tell.Refused KeyReused)
   pub left : after q (Ok asked) ≡ q
 
--- A lodging that was told acts once. Whatever is asked after it, by its agent, by others and by the registrar, the same lodging is told again, also where the same bytes are sent again; and one of its agent under the same key with another due day or another file is refused. This holds of every register.
+-- A lodging that was answered acts once. Whatever is asked after it, by its agent, by others and by the registrar, the same lodging is answered again, also where the same bytes are sent again; and one of its agent under the same key with another due day or another file is refused. This holds of every register.
 pub record RepeatsActOnce : Type 0 where
   pub told : (r : Register) (asked : Asked) (key : List ℕ) (due : ℤ) (file : List ℕ) (told : Lodged) (between : List Spelled) →
       IsLodged r asked key due file told → IsToldAgain (register_left (after r (Ok asked)) between) asked key told

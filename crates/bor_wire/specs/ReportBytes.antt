@@ -1,4 +1,4 @@
--- What the bytes of a report on chains and of evidence tell.
+-- The meaning of the bytes of a report on chains and of evidence.
 use Rattle.std.specs.Prelude.{◌≡◌, ℕ, ℤ, ◌<◌, ◌^◌, List, Option, None, Some, All}
 use Rattle.bor_terms.specs.Day.{day_text}
 use Rattle.bor_terms.specs.Span.{Range}
@@ -47,7 +47,7 @@ pub record IsCounted (told : EntityEvidence) : Type 0 where
 abbrev pub evidence_bytes : Node → ℤ → EntityEvidence → List ℕ
 evidence_bytes entity day told = bytes_of (answered (Evidence entity day told))
 
--- Evidence of the same bytes is of one entity and one day, as it is written, and tells the same persons with the same first links, and the same links with those that follow them and the same records between.
+-- Evidence of the same bytes is of one entity and one day, as it is written, and has the same persons with the same first links, and the same links with those that follow them and the same records between.
 pub record IsSameEvidence (entity other : Node) (day date : ℤ) (told said : EntityEvidence) : Type 0 where
   pub entity_is : entity ≡ other
   pub day_is : day_text day ≡ day_text date

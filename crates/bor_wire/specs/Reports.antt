@@ -1,4 +1,4 @@
--- Whom a report on chains names, and what evidence tells.
+-- The persons whom a report on chains names, and the contents of evidence.
 use Rattle.std.specs.Prelude.{◌≡◌, ℕ, ℤ, List, [], ◌∷◌, map, Option, Some, Ok, Err, unwrap_or}
 use Rattle.bor_records.specs.declared.links.node.Node.{Node}
 use Rattle.bor_records.specs.Links.Rows.{shown_of}
@@ -24,7 +24,7 @@ pub record NamesTheJoined (r : Register) (token : List ℕ) (entity : Node) (dat
   pub joined : AreJoined (shown_of (unwrap_or date r.day) (seen_by name r)) entity persons
   pub told : said ≡ answered (tell.Chains entity (unwrap_or date r.day) persons)
 
--- The reply tells the evidence of the entity, by what the caller, an agent, sees on the day. It names exactly the persons that are joined to the entity, each with a chain of links that the caller sees.
+-- The reply has the evidence of the entity, by what the caller, an agent, sees on the day. It names exactly the persons that are joined to the entity, each with a chain of links that the caller sees.
 pub record TellsTheEvidence (r : Register) (token : List ℕ) (entity : Node) (date : Option ℤ) (said : Said) : Type 0 where
   pub name : List ℕ
   pub caller : caller_of token r ≡ Some (Agent name)
@@ -33,7 +33,7 @@ pub record TellsTheEvidence (r : Register) (token : List ℕ) (entity : Node) (d
   pub joined : AreJoined (shown_of (unwrap_or date r.day) (seen_by name r)) entity (map without_first evidence.persons)
   pub told : said ≡ answered (tell.Evidence entity (unwrap_or date r.day) evidence)
 
--- what is said with status 200 to a request for a report on chains, or for the evidence of one
+-- the reply with status 200 to a request for a report on chains, or for the evidence of one
 pub record IsExactTo (r : Register) (asked : Asked) (said : Said) : Type 0 where
   pub report : (entity : Node) (date : Option ℤ) → asked.request ≡ ask.Chains entity date → status_of said ≡ 200 → NamesTheJoined r asked.token entity date said
   pub evidence : (entity : Node) (date : Option ℤ) → asked.request ≡ ask.Evidence entity date → status_of said ≡ 200 → TellsTheEvidence r asked.token entity date said

@@ -20,7 +20,7 @@ abbrev pub register_left : Register → List Spelled → Register
 register_left r [] = r
 register_left r (spelled ∷ rest) = register_left (after r spelled) rest
 
--- ---- what of a list of inputs is in it
+-- ---- the part of a list of inputs that is in it
 
 -- the inputs that were answered: one whose reply is `Unavailable` changed nothing
 abbrev pub served : List (List ℕ) → List Reply → List (List ℕ)

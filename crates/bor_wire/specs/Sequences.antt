@@ -13,7 +13,7 @@ use Rattle.bor_wire.specs.Reports.{AreReports}
 use Rattle.bor_wire.specs.Refused.{RefusalsLeave}
 use Rattle.bor_wire.specs.Exchanges.{IsExchanged, ShowsAfter, IsSpelled, IsWrittenBy}
 
--- One exchange of a sequence: the bytes that its reader had, how it ended, what its writer held before it and after it, and the keep that it left. Bytes that a reader or a writer doesn't tell, as a socket doesn't, aren't known.
+-- One exchange of a sequence: the bytes that its reader had, how it ended, what its writer held before it and after it, and the keep that it left. The bytes of some readers and writers, as of a socket, aren't known.
 pub record Exchanged (K : Type 0) : Type 0 where
   pub known : Option (List ℕ)
   pub outcome : Outcome
@@ -55,7 +55,7 @@ AreSpelledBy exchanges spelled = AllZip (λ e s. IsSpelled e.known s) exchanges 
 abbrev pub AreWritten : {K : Type 0} → List (Exchanged K) → List (List ℕ) → Type 0
 AreWritten exchanges replies = AllZip (λ e bytes. IsWrittenBy e.outcome e.held e.holds bytes) exchanges replies
 
--- What `replay` says of a list of inputs, of the exchanges that were answered; the register that they leave is legal.
+-- The promise of `replay` on a list of inputs, of the exchanges that were answered; the register that they leave is legal.
 pub record IsRun {K : Type 0} (shown : Register → Type 0) (r : Register) (exchanges : List (Exchanged K)) : Type 0 where
   pub spelled : List Spelled
   pub spells : AreSpelledBy (answered exchanges) spelled

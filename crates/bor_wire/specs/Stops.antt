@@ -1,4 +1,4 @@
--- What a stop leaves after exchanges in turn, for the next one to open.
+-- The state that a stop leaves after exchanges in turn, for the next one to open.
 use Rattle.std.specs.Prelude.{◌≡◌, ◌⊎◌, List, [], ◌∷◌, ◌++◌}
 use Rattle.bor_register.specs.Register.{Register}
 use Rattle.bor_desk.specs.Operations.Legality.{IsLegal}
@@ -6,7 +6,7 @@ use Rattle.bor_wire.specs.Exchanges.{ShowsAfter}
 use Rattle.bor_wire.specs.Sequences.{AreExchanged, Exchanged, IsRun, keep_left}
 use Rattle.bor_wire.specs.Turns.{AnswersClean, IsRequestAnswered}
 
--- what is found shows the register, or the one after the first of these exchanges
+-- the state that is found shows the register, or the one after the first of these exchanges
 abbrev pub ShowsOrNext : {K W : Type 0} → (W → Register → Type 0) → W → List (Exchanged K) → Register → Type 0
 ShowsOrNext left_shows found [] r = left_shows found r
 ShowsOrNext left_shows found (e ∷ later) r = left_shows found r ⊎ ShowsAfter left_shows e.known r found
@@ -25,7 +25,7 @@ StopsLeaveRuns {K} {W} shows is_clean is_sound may_leave left_shows = (keep : K)
     is_clean (keep_left keep done) → is_sound (keep_left keep (done ++ rest)) → (r : Register) → shows keep r → IsLegal r →
     (found : W) → may_leave (keep_left keep (done ++ rest)) found → LeavesARun is_clean left_shows found keep r done rest
 
--- What was answered lasts: where a request was answered with another status than 503, and `AnswersClean` holds of it, all up to it are in that front.
+-- Answered changes last: where a request was answered with another status than 503, and `AnswersClean` holds of it, all up to it are in that front.
 abbrev pub AnswersLast : {K W : Type 0} → (K → Register → Type 0) → (K → Type 0) → (K → Type 0) → (K → W → Type 0) → (W → Register → Type 0) → Type 0
 AnswersLast {K} {W} shows is_clean is_sound may_leave left_shows = (keep : K) (front : List (Exchanged K)) (e : Exchanged K) (rest : List (Exchanged K)) → AreExchanged shows is_clean is_sound may_leave left_shows keep (front ++ e ∷ rest) →
     AnswersClean is_clean is_sound e → IsRequestAnswered e → is_sound (keep_left keep (front ++ e ∷ rest)) → (r : Register) → shows keep r → IsLegal r →

@@ -47,12 +47,12 @@ enrolled_text name = compact_text (enrolled_data name)
 unfoldable pub refusal_text : List ℕ → Option ℕ → Option (List ℕ) → List ℕ
 refusal_text name place field = compact_text (refusal_data name place field)
 
--- ---- what the desk replies
+-- ---- the desk's replies
 
 abbrev pub desk_refusal_text : desk.Refusal → List ℕ
 desk_refusal_text why = refusal_text (refusal_name why) (refusal_place why) (option_map field_word (refusal_field why))
 
--- a fault of the store, want of memory too, is told by one name
+-- a fault of the store, want of memory too, has one name in replies
 abbrev pub desk_body : DeskReply → List ℕ
 desk_body (tell.Lodged lodged) = filing_text lodged.due lodged.number lodged.state
 desk_body (tell.Withdrawn line) = filing_text line.due line.number line.state
@@ -67,7 +67,7 @@ desk_body (tell.Enrolled name) = enrolled_text name
 desk_body (tell.Refused why) = desk_refusal_text why
 desk_body (tell.Failed fault) = refusal_text (codes "StoreFault") None None
 
--- ---- what is said of bytes that spell no request
+-- ---- the refusals of bytes that spell no request
 
 abbrev pub wire_refusal_text : Refusal → List ℕ
 wire_refusal_text why = refusal_text (wire.refusal_word why) None (option_map wire.name_word (wire.refused_name why))

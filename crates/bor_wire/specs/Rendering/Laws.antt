@@ -22,15 +22,15 @@ unfoldable pub before : List ℕ → List ℕ → List ℕ
 before mark [] = []
 before mark (b ∷ bytes) = if starts_with nat_eq (b ∷ bytes) mark then [] else b ∷ before mark bytes
 
--- what stands behind the first empty line
+-- the bytes behind the first empty line
 abbrev pub behind_head : List ℕ → List ℕ
 behind_head bytes = behind (codes "\r\n\r\n") bytes
 
--- what stands in the line of the length
+-- the text in the line of the length
 abbrev pub told_length : List ℕ → List ℕ
 told_length bytes = before (codes "\r\n") (behind (codes "\r\nContent-Length: ") bytes)
 
--- Of each reply the body stands behind the first empty line, and the line of the length tells in decimal how many bytes that are.
+-- Of each reply the body stands behind the first empty line, and the line of the length has their number in decimal.
 pub record LengthIsTold : Type 0 where
   pub body : (said : Said) → behind_head (bytes_of said) ≡ body_of said
   pub told : (said : Said) → told_length (bytes_of said) ≡ decimal (length (behind_head (bytes_of said)))

@@ -14,7 +14,7 @@ use Rattle.serde_json.specs.Written.{outline, items_outline}
 abbrev pub data_tokens : Data → List Token
 data_tokens d = json_tokens (outline d)
 
--- what follows of the tokens of an array, with the closing bracket
+-- the rest of the tokens of an array, with the closing bracket
 abbrev pub rest_tokens : {A : Type 0} → (A → Data) → List A → List Token
 rest_tokens shown items = items_tokens (items_outline (items_of (map shown items)))
 

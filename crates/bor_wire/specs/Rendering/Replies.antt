@@ -8,7 +8,7 @@ use Rattle.bor_wire.specs.Rendering.Bodies.{desk_body, wire_refusal_text}
 use Rattle.bor_wire.specs.Rendering.Statuses.{wire_refusal_status, desk_status}
 use Rattle.bor_wire.specs.Rendering.Heads.{head_bytes}
 
--- What is said to an input: that it spells no request, or what the desk replies.
+-- The answer to an input: that it spells no request, or the desk's reply.
 pub data Said : Type 0 where
   refused : Refusal → Said
   answered : DeskReply → Said

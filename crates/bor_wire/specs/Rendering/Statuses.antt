@@ -19,7 +19,7 @@ wire_refusal_status (WrongMethod _) = 405
 wire_refusal_status NoToken = 401
 wire_refusal_status (BadQuery _) = 400
 
--- what the desk refuses
+-- the statuses of the desk's refusals
 abbrev pub desk_refusal_status : desk.Refusal → ℕ
 desk_refusal_status refuse.NoAgent = 401
 desk_refusal_status refuse.NotRegistrar = 403
@@ -38,7 +38,7 @@ desk_refusal_status (refuse.Read fault) = 422
 desk_refusal_status (refuse.StatementTwice place) = 422
 desk_refusal_status (refuse.Record place fault) = 422
 
--- what the desk replies: a filing is created by its first lodging, and not by a repeat
+-- the statuses of the desk's replies: a filing is created by its first lodging, and not by a repeat
 abbrev pub desk_status : DeskReply → ℕ
 desk_status (tell.Lodged lodged) = if lodged.fresh then 201 else 200
 desk_status (tell.Withdrawn line) = 200

@@ -1,4 +1,4 @@
--- What replies show, as values of JSON with their members in the order of their keys.
+-- The values that replies show, as JSON with their members in the order of their keys.
 use Rattle.std.specs.Prelude.{ℕ, ℤ, List, map, Option, Some, None, codes}
 use Rattle.serde_json.specs.Data.{Data, null, boolean, number, string, array, object, Members, no_members, member, unsigned}
 use Rattle.serde_json.specs.View.{items_of}
@@ -29,7 +29,7 @@ use Rattle.bor_desk.specs.Texts.{settled_word}
 abbrev pub list_data : {A : Type 0} → (A → Data) → List A → Data
 list_data shown items = array (items_of (map shown items))
 
--- what is shown of a value, or null where there is none
+-- the JSON of a value, or null where there is none
 abbrev pub maybe_data : {A : Type 0} → (A → Data) → Option A → Data
 maybe_data shown None = null
 maybe_data shown (Some value) = shown value
@@ -60,7 +60,7 @@ line_data line =
     (member (codes "key") (string line.key)
     (member (codes "state") (string (state_word line.state)) no_members))))
 
--- ---- what is published
+-- ---- published filings
 
 -- a statement, with its settled status
 abbrev pub statement_data : Statement → Data
@@ -73,7 +73,7 @@ statement_data s =
     (member (codes "status") (string (settled_word s.status))
     (member (codes "type") (string (type_word (type_of s.details))) no_members))))))
 
--- what all see of a filing: neither its number, nor its key, nor its bytes
+-- the outward form of a filing, which all see: neither its number, nor its key, nor its bytes
 abbrev pub outward_data : Outward → Data
 outward_data o =
     object
@@ -81,7 +81,7 @@ outward_data o =
     (member (codes "due") (day_data o.due)
     (member (codes "statements") (list_data statement_data o.statements) no_members)))
 
--- ---- what a record says
+-- ---- records
 
 abbrev pub identifier_data : Identifier → Data
 identifier_data i =

@@ -15,7 +15,7 @@ SpellsOne = (input : List ℕ) (a b : Spelled) → Spells input a → Spells inp
 abbrev pub MessageSpells : Type 0
 MessageSpells = (input : List ℕ) (read : Result Message Refusal) → IsMessage input read → Spells input (read >>= spell)
 
--- what stands behind a request has no effect, nor what stands behind an input that is refused for another cause than its end
+-- bytes behind a request have no effect, nor have those behind an input that is refused for another cause than its end
 abbrev pub WhatFollowsIsPassedOver : Type 0
 WhatFollowsIsPassedOver =
     (input more : List ℕ) (spelled : Spelled) → spelled ≢ Err CutShort → Spells input spelled → Spells (input ++ more) spelled

@@ -39,7 +39,7 @@ path_in text = if is_utf8 text then path_of text else None
 abbrev pub path : Message → Option Path
 path m = path_in (path_text m)
 
--- what the path asks for by the method
+-- the request of the path by the method
 abbrev pub route : Message → Option Route
 route m = option_and_then (λ p. route_at p m.parts.method) (path m)
 
@@ -62,11 +62,11 @@ token fields = option_and_then bearer_token (only_value (codes "authorization") 
 
 -- ---- the names that routes ask for
 
--- what the name stands for, where it occurs once in the query
+-- the value of the name, where it occurs once in the query
 unfoldable pub once : {A : Type 0} → (List ℕ → Option A) → Name → List TextPair → Option A
 once read name pairs = option_and_then read (only_text (name_word name) pairs)
 
--- the same of a name that may be missing
+-- the value of a name that may be missing
 unfoldable pub at_most_once : {A : Type 0} → (List ℕ → Option A) → Name → List TextPair → Option (Option A)
 at_most_once read name pairs =
     if how_often (name_word name) pairs == 0 then Some None else option_map Some (once read name pairs)

@@ -15,7 +15,7 @@ TextPair = List ℕ × List ℕ
 unfoldable pub as_text : List ℕ → List ℕ
 as_text bytes = if is_utf8 bytes then bytes else utf8_lossy bytes
 
--- what a pair stands for: percent signs and plus signs are decoded
+-- the name and the value of a pair: percent signs and plus signs are decoded
 abbrev pub decoded : TextPair → TextPair
 decoded pair = (as_text (decode pair.0), as_text (decode pair.1))
 

@@ -1,4 +1,4 @@
--- What a whole input spells: a request of whoever has a token, or the first refusal.
+-- The request that a whole input spells, with a token, or the first refusal.
 use Rattle.std.specs.Prelude.{◌≡◌, ℕ, ℤ, pos, List, [], drop, Option, Some, None, Result, unwrap_or}
 use Rattle.bor_terms.specs.Tables.{outcome}
 use Rattle.bor_desk.specs.declared.request.Request.{Request}
@@ -17,7 +17,7 @@ use Rattle.bor_wire.specs.Spelling.Refusals.{lines_of_message, refusals}
 abbrev pub Spelled : Type 0
 Spelled = Result Asked Refusal
 
--- ---- what is asked; where a refusal stands, anything does
+-- ---- the request; where a refusal stands, any
 
 abbrev pub text_or_any : Option (List ℕ) → List ℕ
 text_or_any text = unwrap_or text []
@@ -54,7 +54,7 @@ request_of (Some routes.Enrol) m = ask.Enrol (text_or_any (part.new_name m)) (te
 unfoldable pub asked : Message → Asked
 asked m = record { token = text_or_any (part.token m.parts.fields); request = request_of (part.route m) m }
 
--- what a message spells: the first of the refusals, or what it asks
+-- the request that a message spells, or the first of the refusals
 unfoldable pub spell : Message → Spelled
 spell m = outcome (lines_of_message m) (asked m)
 
@@ -64,7 +64,7 @@ abbrev pub asked_behind : List ℕ → Option ℕ → Option Parts → Asked
 asked_behind input (Some n) (Some parts) = asked (message_of parts (drop n input))
 asked_behind input end head = record { token = []; request = ask.Filings }
 
--- what an input spells whose head is taken apart so
+-- the request, or the refusal, that an input spells whose head is taken apart so
 unfoldable pub spelling : List ℕ → Option Parts → Spelled
 spelling input head = outcome (refusals input head) (asked_behind input (head_end input) head)
 

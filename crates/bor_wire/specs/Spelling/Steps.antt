@@ -1,4 +1,4 @@
--- What a message spells, one part looked at after the other: each refuses, or the next is looked at.
+-- The request that a message spells, one part looked at after the other: each refuses, or the next is looked at.
 use Rattle.std.specs.Prelude.{◌≡◌, List, Option, Some, None, Result, Ok, Err, ⊤}
 use Rattle.bor_terms.specs.Texts.{is_agent_name, is_ident}
 use Rattle.bor_records.specs.declared.links.node.Node.{Node}
@@ -19,13 +19,13 @@ use Rattle.bor_wire.specs.Spelling.Parts as part
 use Rattle.bor_wire.specs.Spelling.Query.{TextPair}
 use Rattle.bor_wire.specs.Spelling.Spell.{Spelled}
 
--- a fault that is told is the refusal that is stated, or want of memory; nothing was read
+-- a fault that is returned is the refusal that is stated, or want of memory; nothing was read
 abbrev pub Fails : {Y : Type 0} → WireFault → Result Y Refusal → Type 0
 Fails (Refused why) stated = stated ≡ Err why
 Fails Read stated = ⊥
 Fails Memory stated = ⊤
 
--- what is found, seen by view, is what is stated
+-- the value that is found, seen by view, is the one that is stated
 abbrev pub Finds : {X Y : Type 0} → (X → Y) → Result X WireFault → Result Y Refusal → Type 0
 Finds view (Ok x) stated = stated ≡ Ok (view x)
 Finds view (Err fault) stated = Fails fault stated
