@@ -1,4 +1,4 @@
--- What words ask for.
+-- The commands that words ask for.
 use Rattle.std.specs.Prelude.{◌≡◌, ◌≢◌, ◌⊎◌, List, [], Option, Some, None, codes, map, option_and_then, option_map}
 use Rattle.bor_terms.specs.Day.{day_of}
 use Rattle.clap.specs.Words.{IsAmong, Row, Text, fault_of, first_of}
@@ -36,7 +36,7 @@ IsWrong words =
 
 -- ---- for what
 
--- what is read by a check, unless it is standard input
+-- the file that a check reads, unless it is standard input
 abbrev pub name_of : Source → Option Text
 name_of StandardInput = None
 name_of (File name) = Some name.now
@@ -52,25 +52,25 @@ EntersCheck entered = (found_behind (codes "exchange") entered ≡ None) × (fou
     × (found_behind (codes "report") entered ≡ None) × (found_behind (codes "migrate") entered ≡ None)
     × (found_behind (codes "init") entered ≡ None)
 
--- what is told of the registrar's token: the token, or the name of the file that has it
+-- the registrar's token as words give it: the token, or the name of the file that has it
 abbrev pub IsRegistrar : List Row → RegistrarSource → Type 0
 IsRegistrar rows (registrar.Token token) = Some token ≡ first_of (codes "registrar") rows
 IsRegistrar rows (registrar.File name) = Some name.now ≡ first_of (codes "registrar-file") rows
 
--- what is asked of setting a register up
+-- the request for setting a register up
 pub record IsInit (rows : List Row) (asked : Init) : Type 0 where
   pub db : asked.db.now ≡ given (codes "db") rows
   pub registrar : IsRegistrar rows asked.registrar
   pub day : Some asked.day ≡ day_of (given (codes "day") rows)
 
--- what is asked of an exchange
+-- the request for an exchange
 pub record IsExchange (rows : List Row) (asked : Exchange) : Type 0 where
   pub db : option_map (λ path. path.now) asked.db ≡ first_of (codes "db") rows
   pub registrar : IsRegistrar rows asked.registrar
   pub day : Some asked.day ≡ day_of (given (codes "day") rows)
   pub files : map (λ file. file.now) asked.files.items ≡ files_named rows
 
--- what is asked of a server
+-- the request for a server
 pub record IsServe (rows : List Row) (asked : Serve) : Type 0 where
   pub db : asked.db.now ≡ given (codes "db") rows
   pub port : Some asked.port ≡ port_of (given (codes "port") rows)
@@ -78,7 +78,7 @@ pub record IsServe (rows : List Row) (asked : Serve) : Type 0 where
   pub memory : Some asked.memory ≡ memory_of (first_of (codes "memory") rows)
   pub log : asked.log ≡ is_set (codes "log") rows
 
--- what is asked of a report
+-- the request for a report
 pub record IsReport (rows : List Row) (asked : Report) : Type 0 where
   pub db : asked.db.now ≡ given (codes "db") rows
   pub viewer : asked.viewer ≡ given (codes "viewer") rows
@@ -88,7 +88,7 @@ pub record IsReport (rows : List Row) (asked : Report) : Type 0 where
   pub date : asked.date ≡ option_and_then day_of (first_of (codes "date") rows)
   pub evidence : asked.evidence ≡ is_set (codes "evidence") rows
 
--- what is asked of a migration
+-- the request for a migration
 pub record IsMigrate (rows : List Row) (asked : Migrate) : Type 0 where
   pub db : asked.db.now ≡ given (codes "db") rows
 

@@ -1,4 +1,4 @@
--- What is printed where words ask for help.
+-- The text that is printed where words ask for help.
 use Rattle.std.specs.Prelude.{List, [], ℕ, Option, Some, None, codes, if◌then◌else◌, slice_get, unwrap_or}
 use Rattle.std.specs.Str.{bytes_eq}
 use Rattle.clap.specs.Words.{Text}
@@ -22,6 +22,6 @@ page_of topic =
     else (if bytes_eq topic (codes "report") then Some REPORT_HELP.now
     else (if bytes_eq topic (codes "migrate") then Some MIGRATE_HELP.now else None)))))
 
--- what is printed where these words ask for help: the page of the command that they name alone, and all pages where they name none
+-- the text that is printed where these words ask for help: the page of the command that they name alone, and all pages where they name none
 abbrev pub help_for : List Text → Text
 help_for words = unwrap_or (page_of (topic_of words)) HELP.now

@@ -10,7 +10,7 @@ use Rattle.bor_words.specs.declared.unread.Unread.TheVariants as unread
 use Rattle.bor_words.specs.Words.{bor_app, entered_by, given, rows_in}
 use Rattle.bor_words.specs.Values.{Value, first_unfit, values_of}
 
--- what went wrong, or what was asked for
+-- the kind of the fault, or of the request for help
 abbrev pub kind_of_answer : Unread → ErrorKind
 kind_of_answer (unread.Answered error) = kind_of error
 kind_of_answer (unread.Unfit unfit) = ValueValidation
@@ -26,11 +26,11 @@ IsMemory unread.UnfitToken = ⊥
 IsMemory unread.NoRegistrar = ⊥
 IsMemory unread.TwoRegistrars = ⊥
 
--- the value of this word may be told to whoever reads what is wrong with the words: it is not the registrar's token
+-- the value of this word may be shown to whoever reads the faults of the words: it is not the registrar's token
 abbrev pub may_be_told : Text → Bool
 may_be_told word = not (bytes_eq word (codes "registrar"))
 
--- memory was wanting, or this is no token; what it is isn't told
+-- memory was wanting, or this is no token; its bytes aren't shown
 abbrev pub IsUnfitToken : Text → Unread → Type 0
 IsUnfitToken token (unread.Answered error) = kind_of error ≡ OutOfMemory
 IsUnfitToken token (unread.Unfit unfit) = ⊥
@@ -38,16 +38,16 @@ IsUnfitToken token unread.UnfitToken = is_token token ≡ false
 IsUnfitToken token unread.NoRegistrar = ⊥
 IsUnfitToken token unread.TwoRegistrars = ⊥
 
--- the registrar's token is told by itself, and is none
+-- the registrar's token is given by itself, and is none
 abbrev pub HasUnfitToken : List Row → Type 0
 HasUnfitToken rows = (token : Text) × (first_of (codes "registrar") rows ≡ Some token)
     × (first_of (codes "registrar-file") rows ≡ None) × (is_token token ≡ false)
 
--- the registrar's token is told by no word
+-- the registrar's token is given by no word
 abbrev pub HasNoRegistrar : List Row → Type 0
 HasNoRegistrar rows = (first_of (codes "registrar") rows ≡ None) × (first_of (codes "registrar-file") rows ≡ None)
 
--- it is told by both
+-- it is given by both
 abbrev pub HasTwoRegistrars : List Row → Type 0
 HasTwoRegistrars rows = IsSome (first_of (codes "registrar") rows) × IsSome (first_of (codes "registrar-file") rows)
 
@@ -59,7 +59,7 @@ IsUnfitAt word value fits unread.UnfitToken = ⊥
 IsUnfitAt word value fits unread.NoRegistrar = ⊥
 IsUnfitAt word value fits unread.TwoRegistrars = ⊥
 
--- memory was wanting, the token that is told is none, or it isn't told once
+-- memory was wanting, the token that is given is none, or it isn't given once
 abbrev pub IsUnfitRegistrar : List Row → Unread → Type 0
 IsUnfitRegistrar rows (unread.Answered error) = kind_of error ≡ OutOfMemory
 IsUnfitRegistrar rows (unread.Unfit unfit) = ⊥
@@ -67,8 +67,9 @@ IsUnfitRegistrar rows unread.UnfitToken = HasUnfitToken rows
 IsUnfitRegistrar rows unread.NoRegistrar = HasNoRegistrar rows
 IsUnfitRegistrar rows unread.TwoRegistrars = HasTwoRegistrars rows
 
--- memory was wanting, or the word is the first of these whose value doesn't fit, and the value is the one that was given for it,
--- but for the registrar's token, which isn't told; it doesn't fit either where it isn't told once
+-- memory was wanting, or the word is the first of these whose value doesn't fit, and the value is
+-- the one that was given for it, but for the registrar's token, which isn't shown; it doesn't fit
+-- either where it isn't given once
 abbrev pub IsUnfitAmong : List Row → List Value → Unread → Type 0
 IsUnfitAmong rows values (unread.Answered error) = kind_of error ≡ OutOfMemory
 IsUnfitAmong rows values (unread.Unfit unfit) =

@@ -1,4 +1,4 @@
--- What the value of each word has to be.
+-- The form of each word's value.
 use Rattle.std.specs.Prelude.{◌&&◌, ℕ, List, [], ◌∷◌, Bool, not, Option, Some, None, codes, find, is_some, length, nat_le, nat_lt, option_map, if◌then◌else◌, false, true}
 use Rattle.std.specs.Option.{option_map_or}
 use Rattle.std.specs.List.{list_all}
@@ -43,7 +43,7 @@ memory_of (Some text) = number_within 0 1_000_000 text
 abbrev pub Value : Type 0
 Value = Text × Bool
 
--- the registrar's token is told once: by itself, or by the file that has it
+-- the registrar's token is given once: by itself, or by the file that has it
 abbrev pub is_registrar : Option Text → Option Text → Bool
 is_registrar (Some token) None = is_token token
 is_registrar None (Some name) = true

@@ -5,7 +5,7 @@ use Rattle.std.specs.Str.{bytes_eq}
 use Rattle.clap.specs.Words.{App, Row, Rule, Text, all_of, first_of, new_app, new_rule, subcommand_of, with_rule, with_subcommand}
 use Rattle.clap.specs.declared.builder.action.ArgAction.TheVariants.{Append, SetTrue}
 
--- ---- what clap is told
+-- ---- the words that clap is given
 
 -- `--NAME VALUE`, which may be left out
 abbrev pub option_rule : Text → Rule
@@ -26,7 +26,7 @@ files_rule = record (new_rule (codes "FILE")) { action = Some Append; required =
 abbrev pub check_app : App
 check_app = with_rule (new_app (codes "check")) (new_rule (codes "FILE"))
 
--- what a register is set up by beside its file: the registrar's token, by itself or by the file that has it, and the day
+-- the words that a register is set up by beside its file: the registrar's token, by itself or by the file that has it, and the day
 abbrev pub with_setup : App → App
 with_setup a = with_rule (with_rule (with_rule a (option_rule (codes "registrar"))) (option_rule (codes "registrar-file"))) (required_rule (codes "day"))
 
@@ -64,7 +64,7 @@ bor_app =
     with_subcommand (with_subcommand (with_subcommand (with_subcommand (with_subcommand (with_subcommand (without_name (new_app (codes "bor"))) check_app.top)
     init_app.top) exchange_app.top) serve_app.top) report_app.top) migrate_app.top
 
--- ---- what clap finds
+-- ---- the words that clap finds
 
 -- the command that words enter, by its name, with what is found behind it
 abbrev pub Entered : Type 0
@@ -73,15 +73,15 @@ Entered = Option (Text × List Row)
 abbrev pub entered_by : List Text → Entered
 entered_by words = subcommand_of bor_app words
 
--- what is found behind the command that is entered
+-- the words that are found behind the command that is entered
 abbrev pub rows_in : Entered → List Row
 rows_in entered = option_map_or (λ e. e.1) entered []
 
--- what is found behind the command of this name, where it is entered
+-- the words that are found behind the command of this name, where it is entered
 abbrev pub found_behind : Text → Entered → Option (List Row)
 found_behind name entered = option_and_then (λ e. if bytes_eq e.0 name then Some e.1 else None) entered
 
--- what is given for a word; nothing where it is left out
+-- the value of a word; nothing where it is left out
 abbrev pub given : Text → List Row → Text
 given word rows = unwrap_or (first_of word rows) []
 
@@ -93,7 +93,7 @@ is_set word rows = option_map_or (λ text. bytes_eq text (codes "true")) (first_
 abbrev pub files_named : List Row → List Text
 files_named rows = unwrap_or (all_of (codes "FILE") rows) []
 
--- what is named behind check
+-- the source that is named behind check
 abbrev pub name_at : Entered → Option Text
 name_at entered = option_and_then (first_of (codes "FILE")) (found_behind (codes "check") entered)
 
