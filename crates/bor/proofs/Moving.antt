@@ -1,4 +1,4 @@
--- What moving the tables of a file comes to.
+-- The result of moving the tables of a file.
 use Rattle.std.proofs.Common.{◌≡◌, Result, Ok, Err, MatchResult, OnOk}
 use Rattle.sqlite.specs.State.{HasCleanDisk, State}
 use Rattle.sqlite_wal.specs.Recovery.{Image}

@@ -1,4 +1,4 @@
--- What is said of a register that was opened, once its faults are told.
+-- The promises on a register that was opened, once its faults are reported.
 use Rattle.std.proofs.Common.{◌≡◌, ℕ, ℤ, List, Result, Ok, Err, IfOk, MatchResult, refl, subst, sym}
 use Rattle.std.specs.Borrow.{Bor}
 use Rattle.clap.specs.Words.{Text}
