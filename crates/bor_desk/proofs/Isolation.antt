@@ -1,4 +1,4 @@
--- What an agent is answered follows from its own exchanges, the day, and what the others have published.
+-- The answer to an agent follows from its own exchanges, the day, and what the others have published.
 use Rattle.std.proofs.Common.{◌≡◌, ℕ, ℤ, List, [], ◌∷◌, Bool, true, false, Option, Some, None, refl, ◌∙◌, sym, ap, subst, arith}
 use Rattle.std.specs.Prelude.{int_lt, if◌then◌else◌}
 use Rattle.bor_terms.specs.Texts.{is_same}

@@ -1,4 +1,4 @@
--- What leaves the register as it was: refusals, and requests that only read.
+-- The requests that leave the register as it was: refusals, and requests that only read.
 use Rattle.std.proofs.Common.{◌≡◌, ℕ, ℤ, List, Bool, true, false, Option, Some, None, Result, Ok, Err, refl, sym, ap, ◌∙◌}
 use Rattle.std.specs.Prelude.{int_lt, int_le, if◌then◌else◌}
 use Rattle.bor_register.specs.declared.caller.Caller.{Caller}

@@ -1,4 +1,4 @@
--- What records say on a day, one after the other, by rows with the numbers of their filings.
+-- The statements of records on a day, one after the other, by rows with the numbers of their filings.
 use Rattle.std.proofs.Common.{◌≡◌, ◌+◌, ◌<◌, ◌≤◌, ◌++◌, ◌∙◌, ℕ, ℤ, Bool, true, false, cond, Option, Some, None, option_map, List, [], ◌∷◌, map, take, length, get_or, refl, sym, ap, arith, append-nil, length-append, Vec, Global, subst, vec_capacity}
 use Rattle.std.specs.List.{find}
 use Rattle.std.proofs.lemmas.List.{take_more}

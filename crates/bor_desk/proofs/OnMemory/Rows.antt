@@ -1,4 +1,4 @@
--- What the rows of an agent's filings and its live statements say, by the places of statements.
+-- The rows of an agent's filings and its live statements, by the places of statements.
 use Rattle.std.proofs.Common.{◌≡◌, ℕ, ℤ, ◌+◌, ◌++◌, ◌&&◌, List, [], ◌∷◌, map, Bool, true, false, cond, Option, Some, None, option_map, option_and_then, Contains, refl, ◌∙◌, sym, ap, ap₂, subst, inl, inr}
 use Rattle.std.specs.Prelude.{int_le, is_some, ◌||◌}
 use Rattle.std.proofs.Math.Bool.{or-false, or-true}

@@ -1,4 +1,4 @@
--- What a viewer sees of nodes and links, by the statements that records show.
+-- The nodes and links that a viewer sees, by the statements that records show.
 use Rattle.std.proofs.Common.{◌≡◌, ◌↔◌, ℕ, ℤ, true, false, Option, Some, None, option_map, option_and_then, List, [], ◌∷◌, Contains, refl, ◌∙◌, sym, ap, subst}
 use Rattle.std.specs.Prelude.{IsTrue, ◌&&◌}
 use Rattle.std.proofs.lemmas.Bool.{and_parts}

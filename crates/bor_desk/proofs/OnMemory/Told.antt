@@ -1,4 +1,4 @@
--- What follows of an answer.
+-- Facts that follow from an answer.
 use Rattle.std.proofs.Common.{◌≡◌, ℕ, Result, Ok, Err, IfOk, refl, ap, sym, subst}
 use Rattle.std.specs.Prelude.{IfErr, IfSome, OnErr, OnOk}
 use Rattle.std.specs.Result.{result_map_both, result_ok}

@@ -1,4 +1,4 @@
--- What a mirrored keep answers, by its mirror or by its store.
+-- The answers of a mirrored keep, by its mirror or by its store.
 use Rattle.std.proofs.Common.{◌≡◌, ℕ, Option, Some, None, Result, Ok, Err, IfOk, refl, sym, subst, ap, ◌∙◌, inl, inr}
 use Rattle.std.specs.Prelude.{IfSome, option_map}
 use Rattle.bor_records.specs.Promises.{ChangesWhere, Leaves, Reads, StaysClean}

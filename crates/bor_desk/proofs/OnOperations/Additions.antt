@@ -1,4 +1,4 @@
--- What is settled of a file's reading may be added.
+-- The statements that are settled from a file's reading may be added.
 use Rattle.std.proofs.Common.{◌≡◌, ℕ, ℤ, List, length, Bool, true, false, nat_le, int_lt, Result, Ok, Err, ap, if◌then◌else◌}
 use Rattle.bods_read.specs.declared.statement.Statement.{Statement}
 use Rattle.bods_read.specs.declared.fault.FileFault.{FileFault}

@@ -1,4 +1,4 @@
--- What an agent sees alone with what the others have published is what it sees in the register.
+-- An agent sees the same alone, with what the others have published, as in the register.
 use Rattle.std.proofs.Common.{append_assoc, length-append, map, ◌≡◌, ℕ, ◌+◌, ℤ, List, [], ◌∷◌, ◌++◌, length, refl, ◌∙◌, sym, ap, subst, arith, true, false, Bool}
 use Rattle.std.specs.Prelude.{if◌then◌else◌, filter, not, ◌||◌, ◌&&◌, int_le}
 use Rattle.std.proofs.lemmas.List.{append-nil, map-append}

@@ -1,4 +1,4 @@
--- What lodgings are answered and leave: the worked file, each refusal, each pair of neighbours in the order of the refusals where both hold, and what a repeat is told.
+-- Answers to lodgings, and the registers after them: the worked file, each refusal, each pair of neighbours in the order of the refusals where both hold, and the answer to a repeat.
 use Rattle.std.proofs.Common.{◌≡◌, ℕ, ℤ, pos, List, [], ◌∷◌, ◌++◌, replicate, Bool, Result, Ok, Err, codes, refl, map, true, false}
 use Rattle.bods_read.specs.declared.statement.Statement.{Statement}
 use Rattle.bods_read.specs.declared.statement.Status.TheVariants.{New}

@@ -1,4 +1,4 @@
--- What a keep tells of the filing under a key.
+-- The answers of a keep on the filing under a key.
 use Rattle.std.proofs.Common.{◌≡◌, refl}
 use Rattle.std.specs.Prelude.{Option, Some, None, option_map}
 use Rattle.bor_register.specs.declared.filing.AcceptedFiling.{AcceptedFiling}

@@ -1,4 +1,4 @@
--- What a lodging is refused for, and what a refused one leaves.
+-- The refusals of a lodging, and the register after a refused one.
 use Rattle.std.proofs.Common.{◌≡◌, ℕ, zero, suc, ℤ, ◌+◌, ◌<◌, ◌≤◌, subst, List, [], ◌∷◌, ◌++◌, length, take, drop, get_or, set, map, true, false, Result, Ok, Err, refl, ◌∙◌, sym, ap, append_assoc, arith}
 use Rattle.std.specs.Prelude.{◌≢◌, ◌%◌, ◌^◌, Some, Bool, nat_le, int_lt, if◌then◌else◌}
 use Rattle.std.proofs.lemmas.Bool.{leb-false}

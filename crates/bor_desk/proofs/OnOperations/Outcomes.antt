@@ -1,4 +1,4 @@
--- What follows from an operation's outcome.
+-- Facts that follow from an operation's outcome.
 use Rattle.std.proofs.Common.{◌≡◌, Result, Ok, Err, sym, subst}
 use Rattle.std.specs.Prelude.{Option, Some, None}
 use Rattle.bor_register.specs.declared.fault.StoreFault.{StoreFault}

@@ -51,7 +51,7 @@ due_in_order (Some l) s due status h = grind arith
 
 -- ---- the published ones of live statements
 
--- What the published ones of live statements keep of them: a free identifier stays free; of each record they are the front, and all of it where its last is due by the day.
+-- Facts that the published ones of live statements keep: a free identifier stays free; of each record they are the front, and all of it where its last is due by the day.
 record IsFront (day : ℤ) (live kept : List Live) : Type 0 where
   free : (id : List ℕ) → has_id id live ≡ false → has_id id kept ≡ false
   whole : (declaration rec : List ℕ) → is_late day (last_of declaration rec live) ≡ false → series declaration rec live ≡ series declaration rec kept
@@ -154,7 +154,7 @@ verdict_published day due live kept s status by_day w h =
           ∙ ap (λ ls. of_rules (admission (option_map known_of (last_or None ls)) s due)) (sym (w.whole s.declaration s.rec early)) ∙ ap of_rules given.1,
     )
 
--- What the first statement of a file is settled as, and what those after it are.
+-- The settled status of the first statement of a file, and those after it.
 record IsFirstSettled (place : ℕ) (live : List Live) (due : ℤ) (s : Statement) (ss out : List Statement) : Type 0 where
   status : Status
   others : List Statement

@@ -1,4 +1,4 @@
--- What a new day and an enrolment are answered and leave.
+-- Answers to a new day and an enrolment, and the registers after them.
 use Rattle.std.proofs.Common.{◌≡◌, ℕ, ℤ, List, [], ◌∷◌, Ok, Err, Result, codes, refl, map}
 use Rattle.bor_register.specs.declared.member.Member.{Member}
 use Rattle.bor_register.specs.Register.{Register, new_member}

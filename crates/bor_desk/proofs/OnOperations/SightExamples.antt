@@ -1,4 +1,4 @@
--- What agents see of a register, and alone: no number of another's filing, and nothing of another's draft.
+-- The sight of agents in a register, and alone: no number of another's filing, and nothing of another's draft.
 use Rattle.std.proofs.Common.{◌≡◌, ℕ, ℤ, pos, List, [], ◌∷◌, ◌++◌, codes, refl, map}
 use Rattle.std.specs.Prelude.{filter}
 use Rattle.std.specs.Fmt.{digits}

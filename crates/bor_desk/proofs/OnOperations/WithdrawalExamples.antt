@@ -1,4 +1,4 @@
--- What withdrawals are answered and leave: each refusal, each pair of neighbours in their order where both hold, and a filing that is withdrawn already.
+-- Answers to withdrawals, and the registers after them: each refusal, each pair of neighbours in their order where both hold, and a filing that is withdrawn already.
 use Rattle.std.proofs.Common.{◌≡◌, ℕ, List, [], ◌∷◌, Some, Result, Ok, Err, codes, refl, true}
 use Rattle.bods_read.specs.declared.statement.Status.TheVariants.{Updated}
 use Rattle.bor_register.specs.declared.filing.AcceptedFiling.{AcceptedFiling}

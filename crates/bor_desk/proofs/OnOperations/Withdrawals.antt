@@ -29,7 +29,7 @@ share_its gone t = list_any (λ s. is_of s.declaration s.rec t) gone
 abbrev share : List Statement → List Statement → Bool
 share gone ss = list_any (λ s. list_any (λ t. is_of s.declaration s.rec t) ss) gone
 
--- What is kept of the live statements where some are gone: a free identifier stays free, and the last of a record that none of those gone is of stays the last.
+-- Facts that stay of the live statements where some are gone: a free identifier stays free, and the last of a record that none of those gone is of stays the last.
 record IsWithout (gone : List Statement) (live kept : List Live) : Type 0 where
   free : (id : List ℕ) → has_id id live ≡ false → has_id id kept ≡ false
   last : (t : Statement) → share_its gone t ≡ false → last_of t.declaration t.rec live ≡ last_of t.declaration t.rec kept

@@ -1,4 +1,4 @@
--- What a withdrawal leaves, by the line that a keep tells of the filing.
+-- The register after a withdrawal, by the line that a keep returns of the filing.
 use Rattle.std.proofs.Common.{◌≡◌, ℕ, List, Ok, sym, ap, ◌∙◌, arith}
 use Rattle.std.specs.Prelude.{◌≢◌, Some, option_map}
 use Rattle.bor_register.specs.declared.filing.AcceptedFiling.{AcceptedFiling}
