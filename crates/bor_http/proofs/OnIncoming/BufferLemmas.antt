@@ -1,4 +1,4 @@
--- What a buffer has once more bytes have come, and what a body is made of.
+-- The bytes of a buffer once more of them have come, and those of a body.
 use Rattle.std.proofs.Common.{◌≡◌, ◌≤◌, ◌<◌, ℕ, ◌+◌, List, [], ◌∷◌, ◌++◌, length, take, drop, refl, sym, ap, ◌∙◌, append_assoc, append-nil, arith, Option, Result, Ok, Err, length-append, length-drop, inl, inr}
 use Rattle.std.proofs.lemmas.List.{take-take, take-append-le, take_all, drop_all, length-take, length-take-le, take-append-drop}
 use Rattle.std.proofs.lemmas.Bool.{cases_lt}

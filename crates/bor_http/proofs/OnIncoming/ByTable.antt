@@ -1,4 +1,4 @@
--- What an input is, one part looked at after the other, is what the table says of it.
+-- The reading of an input, one part looked at after the other, is that of the table.
 use Rattle.std.proofs.Common.{◌≡◌, ◌≤◌, ℕ, List, [], ◌∷◌, ◌++◌, length, take, drop, Option, Some, None, Ok, Err, Bool, true, false, not, ◌&&◌, refl, sym, ap, subst, ◌∙◌, arith}
 use Rattle.std.specs.Prelude.{Result, nat_lt, if◌then◌else◌}
 use Rattle.std.specs.Option.{IfSome, option_map_or, is_none}

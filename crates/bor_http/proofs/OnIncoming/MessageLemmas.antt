@@ -1,4 +1,4 @@
--- What the whole input is, from what was read of it.
+-- The reading of the whole input, from what was read of it.
 use Rattle.std.proofs.Common.{◌≡◌, ◌≤◌, ◌<◌, length, drop, take, ℕ, ◌-◌, List, [], ◌++◌, refl, sym, ap, ◌∙◌, arith, false, true, Bool, cond, subst, append_assoc, Option, Some, None, IfSome, Result, Ok, Err, nat_lt, nat_le, length-append, codes}
 use Rattle.std.specs.Prelude.{⊤}
 use Rattle.std.specs.Option.{option_map_or}

@@ -1,4 +1,4 @@
--- What a buffer that grew from a reader says of the whole input.
+-- The whole input, from a buffer that grew from a reader.
 use Rattle.std.proofs.Common.{◌≡◌, ◌≤◌, length, drop, take, ℕ, ◌+◌, ◌-◌, ◌<◌, List, [], ◌∷◌, ◌++◌, Some, None, Option, Result, Ok, Err, refl, sym, ap, ◌∙◌, arith, false, true, Bool, nat_lt, not, IfSome, cond, append_assoc, append-nil, length-append, subst}
 use Rattle.std.specs.Io.KnownBytes.{Consumes, IsAtEnd}
 use Rattle.std.proofs.lemmas.List.{take_all, take-append-le, take-append-drop}

@@ -1,4 +1,4 @@
--- What several writes add up to.
+-- The sum of several writes.
 use Rattle.std.proofs.Common.{◌≡◌, ◌+◌, ◌-◌, ℕ, List, ◌++◌, length, take, drop, Option, Some, None, sym, ap, ◌∙◌, append_assoc, subst, arith, length-drop, cond, ◌==◌, ◌&&◌, nat_lt, false}
 use Rattle.bor_http.specs.Incoming.Counted.{after_fault}
 use Rattle.std.proofs.lemmas.Bool.Decides.{nat_tests}

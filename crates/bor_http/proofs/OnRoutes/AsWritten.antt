@@ -1,4 +1,4 @@
--- What is found of a text is the path that it is as it stands.
+-- The path that is found for a text is the one that it is as it stands.
 use Rattle.std.proofs.Common.{◌≡◌, ℕ, inl, inr, List, [], ◌∷◌, ◌++◌, Option, Some, None, Ok, Err, Bool, true, false, cond, ◌||◌, ◌==◌, codes, refl, sym, ap, ◌∙◌, subst, arith, ◌↔◌}
 use Rattle.std.specs.Prelude.{Result, IsUtf8}
 use Rattle.std.specs.List.{list_any}

@@ -1,4 +1,4 @@
--- What an insert that succeeds leaves in a router.
+-- The rows of a router after an insert that succeeds.
 use Rattle.std.proofs.Common.{◌≡◌, Result, Ok, Err, inl, inr}
 use Rattle.matchit.specs.Rows.{RowsOf}
 use Rattle.matchit.specs.Router.{RouteOf, InsertsRead}

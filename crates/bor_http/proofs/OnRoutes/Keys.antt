@@ -1,4 +1,4 @@
--- What a walk finds behind a key.
+-- The rows that a walk finds behind a key.
 use Rattle.std.proofs.Common.{◌≡◌, ℕ, suc, ◌+◌, ◌-◌, ◌<◌, ◌⊎◌, inl, inr, List, [], ◌∷◌, ◌++◌, length, drop, Option, Some, None, Bool, true, false, cond, ◌&&◌, refl, sym, ap, ◌∙◌, subst, arith, length-append, nat_eq, ltb, ◌==◌, codes}
 use Rattle.std.specs.List.{ends_with, list_all}
 use Rattle.std.specs.Cmp.Lexicographic.{pointwise}
