@@ -1,4 +1,4 @@
--- What a loop of reads has taken of known bytes, and a loop of writes has given.
+-- The known bytes that a loop of reads has taken, and that a loop of writes has given.
 use Rattle.std.proofs.Common.{◌≡◌, ◌∙◌, ◌≤◌, ◌<◌, ◌-◌, ℕ, List, [], ◌++◌, Option, Some, None, IfSome, Result, Ok, Err, ap, arith, sym, length, take, drop, append-nil, append_assoc, take-append-drop, subst, lit≤}
 use Rattle.std.specs.Io.KnownBytes.{Appends, Consumes, IsAtEnd, Keeps, ReadConsumes}
 use Rattle.std.proofs.KnownBytes.{Appends-trans, Consumes-trans}

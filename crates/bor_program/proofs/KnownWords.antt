@@ -1,4 +1,4 @@
--- What the answer to words and a failure say of the words.
+-- The facts on words that follow from the answer to them and from a failure.
 use Rattle.std.proofs.Common.{◌≡◌, ◌≢◌, ◌∙◌, ap, ◌⊎◌, ℕ, List, Option, Some, None, codes, refl, subst, sym, inl, inr}
 use Rattle.clap.specs.Words.{IsAmong, Kinds, fault_of, kind_of}
 use Rattle.clap.specs.declared.error.kind.ErrorKind.{ErrorKind}

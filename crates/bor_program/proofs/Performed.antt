@@ -1,4 +1,4 @@
--- What follows of a run from what the command that it performed left.
+-- Facts that follow on a run from the output of the command that it performed.
 use Rattle.std.proofs.Common.{◌≡◌, ◌≤◌, ℕ, ℤ, List, Bool, Option, Some, None, IsSome, IsTrue, arith, inl, inr, refl, sym, subst, true, false, if◌then◌else◌}
 use Rattle.std.specs.Borrow.{Bor}
 use Rattle.std.specs.Io.KnownBytes.{Keeps}

@@ -1,4 +1,4 @@
--- What is told of files that can't be read, file by file.
+-- The lines that are printed of files that can't be read, file by file.
 use Rattle.std.proofs.Common.{◌≡◌, ◌∙◌, ℕ, List, [], ◌∷◌, ◌++◌, Option, ap, append-nil, append_assoc, map, refl, subst, sym}
 use Rattle.std.specs.Borrow.{Bor}
 use Rattle.std.specs.Io.KnownBytes.{Appends}

@@ -1,4 +1,4 @@
--- What is known of a client's stream, read after read and write after write.
+-- The facts that are known of a client's stream, read after read and write after write.
 use Rattle.std.proofs.Common.{◌≡◌, ◌≤◌, ◌<◌, ◌↔◌, Bool, true, false, inl, inr, arith, ℕ, List, [], ◌++◌, Option, Some, None, length, take, refl, sym, ap, subst, ◌∙◌, append_assoc, append-nil, length-append}
 use Rattle.std.proofs.lemmas.Bool.{cases_lt, iff_false}
 use Rattle.std.specs.Io.KnownBytes.{Appends, Consumes, Keeps}

@@ -1,4 +1,4 @@
--- What the floor of a server means, in time.
+-- The meaning of a server's floor, in time.
 use Rattle.std.proofs.Common.{◌≤◌, ◌+◌, ◌*◌, ◌/◌, ℕ, arith}
 use Rattle.bor_program.specs.Connections.Limits.{IsBelow, reply_floor, reply_nanos}
 
