@@ -11,7 +11,7 @@ kept_then shows is_clean is_sound may_leave a b c p q = record {
   stops = λ sound left may. p.stops (q.sound sound) left (q.stops sound left may);
 }
 
--- What is promised of each value that was shown may be made of another one.
+-- A promise on each value that was shown may be made of another one.
 pub leaves_so : {S V W : Type 0} (shows : S → V → Type 0) (is_clean is_sound : S → Type 0) (may_leave : S → W → Type 0) (a b : S) (IsMade IsSo : V → W → Type 0) →
     (is_clean a → (v : V) → shows a v → (left : W) → IsMade v left → IsSo v left) → Leaves shows is_clean is_sound may_leave a b IsMade → Leaves shows is_clean is_sound may_leave a b IsSo
 leaves_so shows is_clean is_sound may_leave a b IsMade IsSo so leaves = record {

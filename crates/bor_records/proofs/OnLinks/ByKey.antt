@@ -1,4 +1,4 @@
--- What a series' latest statement tells of the nodes and links of all rows: an open record and an alias
+-- The nodes and links of all rows, by the latest statement of a series: an open record and an alias
 -- are read by their keys, and a link by candidates that cover those which may make it.
 use Rattle.std.proofs.Common.{◌≡◌, ◌&&◌, not, ℤ, Bool, true, false, cond, Option, Some, None, option_and_then, List, [], ◌∷◌, Contains, sym, refl, ap, ◌∙◌, subst, inl, inr}
 use Rattle.std.specs.List.{find, filter, filter_map, cons_option, list_any}

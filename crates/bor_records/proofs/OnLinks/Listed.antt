@@ -1,4 +1,4 @@
--- What is listed of a node.
+-- The open node that is listed for a node.
 use Rattle.std.proofs.Common.{◌≡◌, Bool, true, false, cond, Some, None, List, [], ◌∷◌, Contains, refl, subst}
 use Rattle.std.proofs.lemmas.Option.{same_Some}
 use Rattle.bor_records.specs.declared.links.node.Node.{Node}
