@@ -1,4 +1,4 @@
--- What is read of a register, but the files themselves, is the same of one without files.
+-- All reads of a register, but of the files themselves, are the same of one without files.
 use Rattle.std.proofs.Common.{◌≡◌, ℕ, ℤ, Bool, true, false, List, [], ◌∷◌, map, length, Option, Some, None, option_map, suc, refl, ap, ◌∙◌}
 use Rattle.std.specs.Prelude.{if◌then◌else◌, ◌||◌}
 use Rattle.bor_terms.specs.Texts.{is_same}

@@ -1,4 +1,4 @@
--- What is read of filings, but their files themselves, is the same without their files.
+-- All reads of filings, but of their files themselves, are the same without their files.
 use Rattle.std.proofs.Common.{◌≡◌, ℕ, ℤ, Bool, true, false, List, [], ◌∷◌, ◌++◌, map, refl, ap, ap₂, ◌∙◌}
 use Rattle.std.specs.Prelude.{filter, if◌then◌else◌, ◌==◌}
 use Rattle.std.specs.List.{list_any}
