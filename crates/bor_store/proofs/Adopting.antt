@@ -1,4 +1,4 @@
--- What the version's query finds, and that the tables of a register are all there.
+-- The rows that the version's query finds, and that the tables of a register are all there.
 use Rattle.std.proofs.Common.{◌≡◌, ℤ, pos, Bool, true, false, ◌&&◌, List, [], ◌∷◌, ◌++◌, codes, Vec, Option, Some, None, Result, Ok, Err, IfOk, refl, sym, subst}
 use Rattle.std.specs.List.{list_all}
 use Rattle.std.proofs.Math.Bool.{and-true}

@@ -1,4 +1,4 @@
--- What is told of the rows that a query finds in tables of either version.
+-- The answers from the rows that a query finds in tables of either version.
 use Rattle.std.proofs.Common.{◌≡◌, List, [], ◌∷◌, map, slice_get, option_map, Vec, Result, Ok, Err, IfOk, MatchResult, refl, sym, subst}
 use Rattle.std.specs.Prelude.{All}
 use Rattle.std.specs.declared.alloc.Global.{Global}

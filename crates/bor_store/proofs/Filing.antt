@@ -1,4 +1,4 @@
--- What a change leaves and tells.
+-- The register after a change, and its answer.
 use Rattle.std.proofs.Common.{◌≡◌, ℕ, Result, Ok, Err, sym, subst, refl, ◌∙◌, ap}
 use Rattle.std.specs.Prelude.{IfErr, IfOk, OnErr, OnOk}
 use Rattle.sqlite.specs.State.{State}

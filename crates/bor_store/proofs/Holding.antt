@@ -1,4 +1,4 @@
--- What a connection shows of the files that it was opened on, and what closing it leaves in them.
+-- The registers that a connection shows of the files that it was opened on, and that closing it leaves in them.
 use Rattle.std.proofs.Common.{◌≡◌, Result, Ok, Err, IfOk, refl, subst, sym}
 use Rattle.std.proofs.Math.Logic.{∥∥₁_elim}
 use Rattle.sqlite.specs.State.{IsLive, Opens, State}

@@ -1,4 +1,4 @@
--- What is answered of tables by the rows of their versions.
+-- The answer on tables, by the rows of their versions.
 use Rattle.std.proofs.Common.{◌≡◌, ◌≢◌, ◌⊎◌, inl, inr, ℤ, pos, Bool, true, false, List, Some, None, Result, Ok, Err, IsTrue, MatchResult, IfErr, true≢false, refl, sym, ap, ◌∙◌, arith, if◌then◌else◌}
 use Rattle.std.proofs.lemmas.Int.{ints}
 use Rattle.sqlite.specs.Order.{Row}

@@ -1,4 +1,4 @@
--- What shows the same register.
+-- States that show the same register.
 use Rattle.std.proofs.Common.{◌≡◌, sym}
 use Rattle.std.specs.Prelude.{◌↔◌}
 use Rattle.sqlite.specs.State.{State}

@@ -1,4 +1,4 @@
--- What lasts where an answer is told.
+-- The promises that last where an answer is returned.
 use Rattle.std.proofs.Common.{◌≡◌, Result, Ok, Err, sym, subst}
 use Rattle.std.specs.Prelude.{IfOk, OnOk}
 use Rattle.sqlite.specs.State.{State, HasCleanDisk}

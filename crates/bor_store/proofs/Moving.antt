@@ -1,4 +1,4 @@
--- What a move answers, by what is told of the version of the tables and of the files.
+-- The answer of a move, by the answers on the version of the tables and on the files.
 use Rattle.std.proofs.Common.{◌≡◌, ◌⊎◌, inl, inr, ℤ, pos, Bool, true, false, List, Option, Some, Vec, Result, Ok, Err, IsErrAnd, IsTrue, MatchResult, IfErr, OnErr, true≢false, refl, sym, ap, subst, ◌∙◌, arith}
 use Rattle.std.specs.declared.alloc.Global.{Global}
 use Rattle.std.proofs.lemmas.Int.{ints}

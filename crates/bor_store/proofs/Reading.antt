@@ -1,4 +1,4 @@
--- What is told of a read over a connection.
+-- The answer of a read over a connection.
 use Rattle.std.proofs.Common.{◌≡◌, ℕ, Result, Ok, Err, sym, subst, ap, ◌∙◌}
 use Rattle.std.specs.Prelude.{IfOk, MatchResult}
 use Rattle.bor_records.specs.Promises.{counted}

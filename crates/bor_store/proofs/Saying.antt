@@ -1,4 +1,4 @@
--- What is gathered of a file.
+-- The days that are gathered of a file.
 use Rattle.std.proofs.Common.{◌≡◌, ◌++◌, ℕ, true, false, List, [], append-nil, Option, Some, None, option_map, Result, Ok, Err, OnOk, IfErr, refl, sym, ap, subst, ◌∙◌}
 use Rattle.bods_read.specs.File.{reading}
 use Rattle.bods_read.specs.declared.fault.FileFault.{FileFault}

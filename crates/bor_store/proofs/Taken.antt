@@ -1,4 +1,4 @@
--- What a loop over a list has found of the elements so far.
+-- The elements that a loop over a list has found so far.
 use Rattle.std.proofs.Common.{◌≡◌, ◌<◌, ◌≤◌, ℕ, ◌+◌, List, All, take, length, slice_index_or, sym, subst}
 use Rattle.std.proofs.lemmas.List.{take_more, take_all}
 use Rattle.std.proofs.lemmas.List.Elements.{All-push}

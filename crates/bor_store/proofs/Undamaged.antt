@@ -1,4 +1,4 @@
--- What an error that is not of damage is told as.
+-- The fault of an error that is not of damage.
 use Rattle.std.proofs.Common.{◌≡◌, Bool, true, false, if◌then◌else◌, Result, Ok, Err, refl, sym, subst}
 use Rattle.std.specs.Prelude.{IfErr, MatchResult}
 use Rattle.sqlite.specs.declared.error.Error.{Error}
