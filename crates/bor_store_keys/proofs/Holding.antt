@@ -1,4 +1,4 @@
--- What was found stays so while what is shown stays.
+-- The answers that were found stay right while the register that is shown stays.
 use Rattle.std.proofs.Common.{◌≡◌, ◌∙◌, Bool, true, false, cond, Option, Some, None, ℕ, List, Result, sym, ap, refl, subst}
 use Rattle.std.specs.declared.cmp.Ordering.{Ordering}
 use Rattle.std.specs.declared.cmp.Ordering.TheVariants.{Less, Equal, Greater}

@@ -1,4 +1,4 @@
--- What a chain asks of a node, by the row that its record shows.
+-- The data that a chain needs of a node, by the row that its record shows.
 use Rattle.std.proofs.Common.{◌≡◌, ◌∙◌, ℤ, List, Option, Some, None, option_map, option_and_then, refl, sym, ap}
 use Rattle.bods_read.specs.declared.details.Details.{Details}
 use Rattle.bods_read.specs.declared.details.Details.TheVariants as details
