@@ -1,4 +1,4 @@
--- What is told of the rows that a query finds.
+-- The answers from the rows that a query finds.
 use Rattle.std.proofs.Common.{◌≡◌, arith, ℕ, zero, suc, nat_le, List, [], ◌∷◌, map, take, drop, length, Bool, true, false, true≢false, not, cond, Vec, Result, Ok, Err, IfOk, IsOk, OnOk, MatchResult, refl, sym, ap, subst, ◌∙◌, slice_get}
 use Rattle.std.specs.Prelude.{All, ◌==◌, ◌||◌, unwrap_or}
 use Rattle.std.specs.List.{filter, list_any}

@@ -1,4 +1,4 @@
--- What all see of members, which is the same without their files.
+-- The outward forms of members' filings, which are the same without their files.
 use Rattle.std.proofs.Common.{◌≡◌, ℕ, ℤ, List, ap, ◌∙◌}
 use Rattle.bor_records.specs.declared.row.Row.{Row}
 use Rattle.bor_register.specs.declared.filing.Outward.{Outward}
