@@ -1,4 +1,4 @@
--- What the texts make that make the tables and their indexes, whatever stands in the database.
+-- The database after the texts that make the tables and their indexes, whatever stands in it.
 use Rattle.std.proofs.Common.{◌≤◌, ◌≡◌, ◌+◌, ℕ, Bool, true, false, ◌&&◌, ◌||◌, IsTrue, List, [], ◌∷◌, ◌++◌, append-nil, length, zero, suc, slice_get, None, Some, Option, MatchBool, Ok, inl, inr, refl, sym, ap, subst, ◌∙◌, arith}
 use Rattle.std.specs.List.{AllByRecursion, list_any}
 use Rattle.sqlite.specs.Change.{created, next_tree}

@@ -1,4 +1,4 @@
--- What the INSERTs do.
+-- The effects of the INSERTs.
 use Rattle.std.proofs.Common.{◌≡◌, ℕ, ℤ, pos, ◌/◌, cond, List, [], ◌∷◌, length, Option, option_map, None, Some, Ok, refl}
 use Rattle.sqlite.specs.declared.types.Value.TheVariants.{Null}
 use Rattle.sqlite.specs.Kind.TheVariants.{Text as Words, Integer as Numbers}

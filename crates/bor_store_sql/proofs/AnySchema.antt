@@ -1,4 +1,4 @@
--- What the texts mean that make the tables and put down the register's row, whatever the schema.
+-- The meanings of the texts that make the tables and put down the register's row, whatever the schema.
 use Rattle.std.specs.Option.{option_or}
 use Rattle.std.proofs.Common.{not, length, ◌==◌, ◌&&◌, ◌≡◌, ◌⊎◌, inl, inr, ℕ, ◌+◌, Bool, true, false, cond, List, [], ◌∷◌, slice_range, Option, None, Some, slice_get, Ok, Err, Result, is_some, true≢false, refl, sym, ap, subst, ◌∙◌}
 use Rattle.sqlite.proofs.Callers.{IsPlain}

@@ -1,4 +1,4 @@
--- What the text does that makes the table `period` beside the six.
+-- The effects of the text that makes the table `period` beside the six.
 use Rattle.std.proofs.Common.{◌≡◌, ℕ, List, [], Ok, Result, refl, sym, subst}
 use Rattle.sqlite.specs.declared.error.Error.{Error}
 use Rattle.sqlite.specs.Order.{Row}

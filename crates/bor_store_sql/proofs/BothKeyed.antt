@@ -1,4 +1,4 @@
--- What is read of one filing's statements, in tables of either version.
+-- The rows that are read of one filing's statements, in tables of either version.
 use Rattle.std.proofs.Common.{◌≡◌, ℕ, pos, Bool, ◌&&◌, ◌==◌, List, [], ◌∷◌, Vec, Result, map, refl, sym, ap, ap₂, ◌∙◌}
 use Rattle.std.specs.List.{flat_map}
 use Rattle.std.specs.declared.alloc.Global.{Global}

@@ -1,4 +1,4 @@
--- What is read of tables of either version: all lists but the days of interests.
+-- The lists that are read of tables of either version: all but the days of interests.
 use Rattle.std.proofs.Common.{◌≡◌, inl, inr, ℕ, pos, Bool, true, ◌&&◌, ◌==◌, List, [], ◌∷◌, Vec, Ok, Err, Result, IfOk, map, refl, sym, ap, ap₂, subst, ◌∙◌}
 use Rattle.std.specs.declared.alloc.Global.{Global}
 use Rattle.std.proofs.Math.Bool.{and-true}

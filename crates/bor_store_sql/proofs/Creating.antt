@@ -1,4 +1,4 @@
--- What the texts do that make the tables and their indexes.
+-- The effects of the texts that make the tables and their indexes.
 use Rattle.std.proofs.Common.{◌≡◌, ℕ, ℤ, pos, List, [], ◌∷◌, slice_get, true, false, None, Some, Ok, Result, refl, sym, ap, subst, ◌∙◌}
 use Rattle.std.specs.List.{AllByRecursion}
 use Rattle.std.proofs.lemmas.List.Elements.{All-nil}

@@ -1,4 +1,4 @@
--- What a query gives of a register that is shown.
+-- The rows that a query gives of a register that is shown.
 use Rattle.std.proofs.Common.{◌≡◌, ℕ, List, [], Vec, Ok, Err, Result, IfOk, sym, subst}
 use Rattle.std.specs.declared.alloc.Global.{Global}
 use Rattle.sqlite.specs.declared.types.Value.TheVariants.{Null}

@@ -1,4 +1,4 @@
--- What a query over one of the tables gives of a register that is shown.
+-- The rows that a query over one of the tables gives of a register that is shown.
 use Rattle.std.proofs.Common.{◌≡◌, ℕ, pos, Bool, List, [], ◌∷◌, map, filter, Option, Some, None, refl, sym}
 use Rattle.std.specs.List.{flat_map}
 use Rattle.sqlite.specs.declared.types.Value.TheVariants.{Null, Int}

@@ -1,4 +1,4 @@
--- What the loops over a statement's lists, and over statements, have added so far.
+-- The rows that the loops over a statement's lists, and over statements, have added so far.
 use Rattle.std.specs.Prelude.{is_some, ◌||◌}
 use Rattle.std.proofs.Common.{◌≡◌, true, false, true≢false, refl, Option, Some, None, ℤ, ℕ, ◌+◌, ◌<◌, ◌^◌, Result, Ok, Err, IfOk, subst, List, [], ◌∷◌, ◌++◌, map, take, length, get_or, append-nil, sym, ap, ap₂, ◌∙◌}
 use Rattle.std.specs.List.{flat_map}

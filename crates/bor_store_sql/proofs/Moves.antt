@@ -1,4 +1,4 @@
--- What is done in a transaction, one statement after the other.
+-- The effects of a transaction, one statement after the other.
 use Rattle.std.proofs.Common.{◌≡◌, ◌⊎◌, inl, inr, ◌<◌, ◌≤◌, ◌+◌, ℕ, List, [], ◌∷◌, ◌++◌, map, take, length, get_or, append_assoc, append-nil, Ok, Err, IfOk, Result, IsTrue, IsErr, true≢false, refl, sym, ap, subst, ◌∙◌, arith}
 use Rattle.std.proofs.lemmas.List.{map-append, take_more}
 use Rattle.sqlite.specs.Effect.{Database}

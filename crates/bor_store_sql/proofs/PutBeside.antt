@@ -1,4 +1,4 @@
--- What the text makes that puts the register's row into its table, whatever stands in the database.
+-- The database after the text that puts the register's row into its table, whatever stands in it.
 use Rattle.std.proofs.Common.{◌==◌, ◌&&◌, ◌≡◌, ◌≢◌, ◌<◌, ◌+◌, ℕ, ℤ, Bool, true, false, cond, List, [], ◌∷◌, ◌++◌, None, Some, Option, Ok, Err, Result, refl, sym, ap, subst, ◌∙◌, arith}
 use Rattle.std.specs.List.{AllByRecursion, filter_map}
 use Rattle.sqlite.proofs.Callers.{IsPlain, command_of}

@@ -1,4 +1,4 @@
--- What a register has, agent by agent, rises where each agent's does.
+-- The rows of a register, agent by agent, rise where each agent's do.
 use Rattle.std.proofs.Common.{◌≡◌, ℕ, ◌+◌, ◌<◌, true, List, [], ◌∷◌, ◌++◌, map, refl, sym, ap, subst, ◌∙◌, arith}
 use Rattle.std.specs.List.{AllByRecursion, flat_map}
 use Rattle.sqlite.specs.Tree.{IsAscending}

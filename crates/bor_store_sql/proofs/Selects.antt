@@ -1,4 +1,4 @@
--- What a SELECT over one table answers.
+-- The answer of a SELECT over one table.
 use Rattle.std.proofs.Common.{◌≡◌, ℕ, ◌^◌, Bool, true, false, ℤ, List, [], ◌∷◌, map, filter, take, drop, flat_map, nat_le, Some, refl, ap, subst, ◌∙◌, bytes_eq, if◌then◌else◌, IsPermutation, IsSorted}
 use Rattle.std.specs.Prelude.{unwrap_or}
 use Rattle.std.specs.List.{list_all}

@@ -1,4 +1,4 @@
--- What stands in a database, while tables are made beside it.
+-- The tables that stand in a database, while others are made beside them.
 use Rattle.std.proofs.Common.{◌≡◌, ℕ, zero, suc, ◌+◌, ◌<◌, ◌≤◌, max, fold, Bool, true, false, cond, List, [], ◌∷◌, ◌++◌, append_assoc, length, slice_get, None, Some, inl, inr, refl, sym, ap, subst, ◌∙◌, arith}
 use Rattle.std.specs.List.{AllByRecursion, position_from}
 use Rattle.std.proofs.lemmas.Grind.{fold-append}

@@ -1,4 +1,4 @@
--- What a table keeps after a change, and what a query over it answers.
+-- The rows that a table keeps after a change, and the answer of a query over it.
 use Rattle.std.proofs.Common.{◌≡◌, ℕ, ℤ, pos, ◌^◌, ◌≤◌, Bool, true, false, not, cond, nat_le, Some, List, [], ◌∷◌, ◌++◌, map, filter, take, drop, length, ◌+◌, refl, sym, ap, subst, subst₂, ◌∙◌, arith, IsPermutation, IsSorted, Less}
 use Rattle.std.proofs.lemmas.List.{length-map}
 use Rattle.std.proofs.lemmas.List.Sorted.{IsPermutation-map, IsPermutation-trans, IsPermutation-sym, IsPermutation-append_left, length_permutation}

@@ -1,4 +1,4 @@
--- What is told of tables that are asked.
+-- The answers of tables that are asked.
 use Rattle.std.proofs.Common.{◌≡◌, ◌↔◌, Bool, true, false, true≢false, List, Vec, Result, Ok, Err, IfOk, IsErr, IsTrue, refl, sym, subst, ◌∙◌}
 use Rattle.std.specs.declared.alloc.Global.{Global}
 use Rattle.sqlite.specs.Order.{Row}

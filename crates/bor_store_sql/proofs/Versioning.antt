@@ -1,4 +1,4 @@
--- What the UPDATE of the version does.
+-- The effects of the UPDATE of the version.
 use Rattle.std.proofs.Common.{◌≡◌, ◌≤◌, ℕ, ℤ, pos, Bool, true, false, cond, List, [], ◌∷◌, length, drop, ◌++◌, ◌==◌, map, Ok, arith, refl, ap, ap₂, subst, ◌∙◌}
 use Rattle.std.specs.List.{flat_map, filter_map}
 use Rattle.std.proofs.Math.Bool.{and-true}

@@ -1,4 +1,4 @@
--- What the statements of a withdrawal do.
+-- The effects of the statements of a withdrawal.
 use Rattle.std.proofs.Common.{◌≡◌, ℕ, pos, Bool, true, false, List, [], ◌∷◌, length, drop, Ok, Result, ◌==◌, refl}
 use Rattle.sqlite.specs.declared.types.Value.TheVariants.{Null, Int, Text}
 use Rattle.sqlite.specs.Order.{Row, column}

@@ -1,4 +1,4 @@
--- What a DELETE and an UPDATE do.
+-- The effects of a DELETE and an UPDATE.
 use Rattle.std.proofs.Common.{◌≡◌, ◌≢◌, ℕ, ℤ, List, [], ◌∷◌, map, drop, slice_get, None, Some, Ok, refl, sym, ap, subst, ◌∙◌}
 use Rattle.sqlite.specs.Order.{Row}
 use Rattle.sqlite_rules.specs.Edit.{without_all, put_all, numbered}

@@ -1,4 +1,4 @@
--- What a register says of an agent, from the rows that are found by key.
+-- An agent's part of a register, from the rows that are found by key.
 use Rattle.std.proofs.Common.{◌≡◌, ℕ, ◌+◌, Bool, true, false, ◌||◌, List, [], ◌∷◌, ◌++◌, length, take, reverse, Option, Some, None, refl, ap, ◌∙◌, arith, if◌then◌else◌}
 use Rattle.std.specs.Prelude.{filter, slice_get, option_map, nat_lt, unwrap_or}
 use Rattle.std.specs.List.{list_any, last_or}

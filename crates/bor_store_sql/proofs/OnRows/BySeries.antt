@@ -1,4 +1,4 @@
--- What a register says of an agent's live statements, from their rows.
+-- An agent's live statements in a register, from their rows.
 use Rattle.std.proofs.Common.{◌≡◌, ℕ, ◌+◌, ◌<◌, ◌==◌, Bool, true, false, List, [], ◌∷◌, ◌++◌, map, length, Option, Some, None, refl, sym, ap, ap₂, ◌∙◌, arith, subst, if◌then◌else◌}
 use Rattle.std.specs.Prelude.{filter, option_map, nat_lt}
 use Rattle.std.specs.List.{AllByRecursion, list_any, last_or}

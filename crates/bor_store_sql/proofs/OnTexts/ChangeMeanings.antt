@@ -1,4 +1,4 @@
--- What the changes' texts mean.
+-- The meanings of the changes' texts.
 use Rattle.std.proofs.Common.{refl}
 use Rattle.sqlite.specs.Listing.{understood}
 use Rattle.sqlite_tied.specs.Compute.{everything}

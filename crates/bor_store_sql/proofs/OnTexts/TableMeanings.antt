@@ -1,4 +1,4 @@
--- What the texts that make the tables mean.
+-- The meanings of the texts that make the tables.
 use Rattle.std.proofs.Common.{refl}
 use Rattle.sqlite.specs.Listing.{understood}
 use Rattle.sqlite_tied.specs.Compute.{everything}

@@ -1,4 +1,4 @@
--- What the texts are that make the tables and put down the register's row, whatever the schema.
+-- The commands of the texts that make the tables and put down the register's row, whatever the schema.
 use Rattle.std.proofs.Common.{◌≡◌, ℕ, Bool, false, List, [], Ok, Err, Result, refl}
 use Rattle.sqlite.specs.Compile.{table_defined_by}
 use Rattle.sqlite.specs.Does.{sequence_text}
