@@ -64,7 +64,7 @@ pub(crate) fn request(rt: &impl Abort, alloc: Global, ask: Ask<'_>) -> Vec<u8> {
     text.into_bytes()
 }
 
-/// What the desk answers to an ask.
+/// The desk's answer to an ask.
 pub(crate) fn answered<K: Keep>(
     rt: &impl Abort,
     alloc: Global,

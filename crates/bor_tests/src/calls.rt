@@ -1,4 +1,4 @@
-//! What a keep is asked for: nothing twice, and nothing that the request doesn't need.
+//! The calls to a keep: none twice, and none that the request doesn't need.
 
 use crate::asking::{ALDER, Ask, answered, day, keep_after, keep_of_two, node, read};
 use crate::checks::{counts, holds};
@@ -8,7 +8,7 @@ use bor_desk::operations::{Keep, KeepSource, ListKeep, StoreFault};
 use std::alloc::Global;
 use std::process::Abort;
 
-// What is asked one after the other, and the calls that come of it.
+// The requests that are asked one after the other, and the calls that they make.
 const CALLS: [(Ask<'static>, &str); 23] = [
     (ALDER, "who has_agent who add_agent"),
     (

@@ -1,5 +1,5 @@
-//! What the tests assert, each kind in one place: what is told where one fails is proved once, and
-//! not in each test.
+//! The assertions of the tests, each kind in one place: the text that is printed where one fails is
+//! proved once, and not in each test.
 
 use std::process::Abort;
 

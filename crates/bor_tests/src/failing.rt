@@ -14,7 +14,7 @@ use std::process::Abort;
 
 const FAULTS: [StoreFault; 3] = [StoreFault::Memory, StoreFault::Store, StoreFault::Damaged];
 
-// What is asked in turn, of a register in which the asks before have been answered.
+// The requests that are asked in turn, of a register in which those before have been answered.
 const ASKS: [Ask<'static>; 14] = [
     ALDER,
     BIRCH,
@@ -35,7 +35,7 @@ const ASKS: [Ask<'static>; 14] = [
     ("alder GET /filings", ""),
 ];
 
-// What tells of the register.
+// The requests whose replies show the register.
 const LOOKS: [Ask<'static>; 4] = [
     ("alder GET /filings", ""),
     ("birch GET /published", ""),

@@ -17,7 +17,7 @@ pub(crate) struct FailingKeep<K> {
     pub(crate) keep: K,
     /// How many calls are still handed on.
     pub(crate) left: u32,
-    /// What the calls after them answer.
+    /// The answer of the calls after them.
     pub(crate) fault: StoreFault,
     /// The calls in order, each after a space; those of a node with its record.
     pub(crate) calls: String,

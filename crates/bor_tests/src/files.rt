@@ -7,7 +7,7 @@ use std::process::Abort;
 pub(crate) const FIRST: &str =
     r#"[{"statementId":"s1","statementDate":"2024-01-10","declarationSubject":"c1","recordId":"e1","recordType":"entity","recordDetails":{"entityType":{"type":"registeredEntity"},"name":"Alder Ltd"}},{"statementId":"s2","statementDate":"2024-01-10","declarationSubject":"c1","recordId":"p1","recordType":"person","recordDetails":{"personType":"knownPerson","names":[{"fullName":"Ann Moss"}]}},{"statementId":"s3","statementDate":"2024-01-10","declarationSubject":"c1","recordId":"r1","recordType":"relationship","recordDetails":{"subject":"e1","interestedParty":"p1","interests":[{"type":"votingRights","share":{"exact":100}}]}}]"#;
 
-// What stands between the words of a statement.
+// The text between the words of a statement.
 const PERSON: &str = r#""person","recordDetails":{}}"#;
 
 const ENTITY: &str = r#""entity","recordDetails":{"entityType":{"type":"registeredEntity"}"#;

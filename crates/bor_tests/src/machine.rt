@@ -115,7 +115,7 @@ impl Ports for Machine {
     }
 }
 
-/// What waits for nobody.
+/// A watch that waits for nobody.
 #[derive(Drop)]
 pub(crate) struct Nobody;
 

@@ -227,7 +227,7 @@ fn replies_of_a_register_that_fails_end_as_failed(rt: HostRuntime) {
     ends_by(&rt, alloc, &mut failing, replies, Ok(Status::Failed));
 }
 
-// What is asked for by the words of a report.
+// The request of the words of a report.
 fn asked<'a>(rt: &impl Abort, alloc: Global, words: &'a [&'a str]) -> Report<'a> {
     match Command::read(alloc, words) {
         Ok(Command::Report(asked)) => asked,

@@ -1,4 +1,4 @@
-//! What a keep tells of records as a viewer sees them: a record's row, its aliases, and all rows.
+//! The records of a keep as a viewer sees them: a record's row, its aliases, and all rows.
 
 use crate::asking::{answered, day, keep_of_two, node, read};
 use crate::checks::{counts, holds};

@@ -1,4 +1,4 @@
-//! What each client of a server has time for, which of many gives way, and what the server ends as.
+//! The time of each client of a server, the one of many that gives way, and the server's status.
 
 use crate::asking::{keep_of_two, request};
 use crate::checks::{all_hold, counts, ends, holds};
@@ -16,7 +16,7 @@ use std::time::Duration;
 const NONE_LISTED: &[u8] =
     b"HTTP/1.1 200 OK\r\nContent-Type: application/json\r\nContent-Length: 2\r\nConnection: close\r\n\r\n[]";
 
-// What alder sends to list its filings, and to withdraw its filing f1.
+// The bytes that alder sends to list its filings, and to withdraw its filing f1.
 const LISTING: &[u8] = b"GET /filings HTTP/1.1\r\nAuthorization: Bearer alder-token-000001\r\n\r\n";
 
 const WITHDRAWAL: &[u8] =
@@ -48,7 +48,7 @@ fn served<K: Keep>(
     serve_on(&(clock, alloc), keep, &queue, &mut waits, count_of(clients))
 }
 
-// The same over a register with alder and no filings.
+// Serves over a register with alder and no filings.
 fn served_to_alder(
     rt: &impl Abort,
     alloc: Global,
@@ -58,7 +58,8 @@ fn served_to_alder(
     served(alloc, &mut keep_of_two(rt, alloc), Some(step), clients)
 }
 
-// The same within limits, by waits that may fail or have the queue begin anew, and for so many connections.
+// Serves within limits, by waits that may fail or have the queue begin anew, and for so many
+// connections.
 fn served_within<'a>(
     rt: &impl Abort,
     alloc: Global,

@@ -7,13 +7,13 @@ use std::io::{ErrorKind, Read, Write};
 /// Gives bytes in pieces, and fails where it is told to.
 #[derive(Drop)]
 pub(crate) struct Drip<'a> {
-    /// What is left to give.
+    /// The bytes that are left to give.
     pub(crate) bytes: &'a [u8],
     /// The most bytes of a piece.
     pub(crate) size: usize,
-    /// What the first read fails with.
+    /// The error of the first read.
     pub(crate) first: Option<ErrorKind>,
-    /// What a read fails with where nothing is left; where it fails with nothing, the bytes end.
+    /// The error of a read where nothing is left; where there is none, the bytes end.
     pub(crate) last: Option<ErrorKind>,
 }
 
@@ -60,11 +60,11 @@ impl<'a> Read for Drip<'a> {
 /// Takes so many bytes in small pieces, and then fails or takes nothing.
 #[derive(Drop)]
 pub(crate) struct Gate {
-    /// What it has taken.
+    /// The bytes that it has taken.
     pub(crate) taken: Vec<u8>,
     /// How many bytes more it takes.
     pub(crate) room: usize,
-    /// What the first write fails with.
+    /// The error of the first write.
     pub(crate) first: Option<ErrorKind>,
     /// Whether it fails where there is no room; else it takes nothing.
     pub(crate) fails: bool,

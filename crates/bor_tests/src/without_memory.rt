@@ -43,7 +43,7 @@ use std::process::Abort;
 use std::rt::Files;
 use std::time::Duration;
 
-// What is read before the calls and behind them.
+// The data that is read before the calls and behind them.
 const MARKS: &str = "/dev/zero";
 
 // Reads a mark.
@@ -545,7 +545,7 @@ fn is_refusal_told(mut out: Vec<u8>) -> bool {
     out.as_slice() == NO_TOKEN && refusal_status(incoming::Refusal::NoToken).as_u16() == 401
 }
 
-// What is sent is what is handed on.
+// The bytes that are sent are those that are handed on.
 fn is_sent(mut out: Vec<u8>) -> bool {
     let is_written = send(&mut Counted::new(&mut out), MOVED);
     let outgoing = Outgoing::Full(200, out);
