@@ -1,4 +1,4 @@
--- What is said is the first refusal of the table that holds.
+-- The answer is the first refusal of the table that holds.
 use Rattle.std.proofs.Common.{◌≡◌, ◌<◌, ℕ, ℤ, List, [], ◌∷◌, ◌++◌, map, Bool, true, false, not, ◌&&◌, Option, Some, None, Result, Ok, Err, refl, sym, ap, subst, ◌∙◌, arith}
 use Rattle.std.specs.Prelude.{if◌then◌else◌, int_lt, int_le, nat_le, length, unwrap_or}
 use Rattle.std.specs.Option.{is_none}

@@ -1,4 +1,4 @@
--- What an exchange did, from what went out.
+-- The effects of an exchange, from the reply that went out.
 use Rattle.std.proofs.Common.{◌≡◌, ◌≢◌, ◌≤◌, ℕ, List, [], ◌∷◌, Option, Some, None, sym, ap, subst, ◌∙◌, refl}
 use Rattle.std.specs.Io.KnownBytes.{Keeps}
 use Rattle.bor_records.specs.Promises.{Promised}

@@ -1,4 +1,4 @@
--- What an agent receives in a run is what it would receive alone.
+-- An agent receives in a run the bytes that it would receive alone.
 use Rattle.std.proofs.Common.{◌≡◌, ℕ, suc, List, [], ◌∷◌, length, Option, Some, None, Ok, Err, refl, sym, ap, subst, ◌∙◌, arith}
 use Rattle.std.specs.List.{AllZip}
 use Rattle.bor_register.specs.Register.{Register, filings_of}

@@ -1,4 +1,4 @@
--- What is nobody's has no part in what an agent receives.
+-- An input that is nobody's has no part in what an agent receives.
 use Rattle.std.proofs.Common.{◌≡◌, ◌↔◌, ℕ, List, [], ◌∷◌, ◌++◌, length, Option, Some, None, Ok, Err, refl, sym, ap, ◌∙◌, arith}
 use Rattle.bor_register.specs.declared.caller.Caller.{Caller}
 use Rattle.bor_register.specs.Register.{Register, caller_of}

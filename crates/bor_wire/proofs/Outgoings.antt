@@ -1,4 +1,4 @@
--- What goes out for an input, from what goes out for what it spells.
+-- The reply that goes out for an input, from the one for what it spells.
 use Rattle.std.proofs.Common.{◌≡◌, ◌≢◌, ◌≤◌, ℕ, List, true, Option, Some, None, Result, Ok, Err, refl, sym, subst, ◌∙◌, arith}
 use Rattle.std.specs.Prelude.{⊤}
 use Rattle.std.specs.Option.{IfSome}

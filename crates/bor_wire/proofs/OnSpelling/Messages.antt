@@ -1,4 +1,4 @@
--- What an input spells, from the message that it is, and that it is one thing.
+-- The request that an input spells, from the message that it is, and that there is only one.
 use Rattle.std.proofs.Common.{◌≡◌, ◌≢◌, ℕ, List, [], ◌∷◌, ◌++◌, length, take, drop, Option, Some, None, Err, Bool, true, false, not, ◌&&◌, refl, sym, ap, subst, ◌∙◌}
 use Rattle.std.specs.Prelude.{Result, nat_lt}
 use Rattle.std.specs.Option.{is_none}
