@@ -1,4 +1,4 @@
--- What clap makes of no words, and of each command.
+-- The answers of clap to no words, and to each command.
 use Rattle.std.proofs.Common.{◌≡◌, ℕ, Bool, List, [], ◌∷◌, ◌++◌, Option, Some, None, false, true, refl, codes}
 use Rattle.std.specs.Option.{option_map}
 use Rattle.clap.proofs.OnLiterals.{clap_on_literals}

@@ -1,4 +1,4 @@
--- What clap makes of the words that it is told of.
+-- The answers of clap to the words that it is given.
 use Rattle.std.proofs.Common.{◌≡◌, [], Result, Ok, Err, OnOk, IfErr, refl, true}
 use Rattle.clap.specs.Words.{FailsBy, HasKind, Kinds, is_simple, is_simple_and_free}
 use Rattle.clap.specs.declared.error.Error.{Error}

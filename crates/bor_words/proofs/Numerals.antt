@@ -1,4 +1,4 @@
--- What a number on the command line is, as std reads it and as it is stated.
+-- A number on the command line, as std reads it and as it is stated.
 use Rattle.std.proofs.Common.{◌≡◌, ◌<◌, ◌≤◌, ◌^◌, ℕ, Bool, List, [], ◌∷◌, Option, Some, None, ap, arith, cond, false, true, length, refl, nat_le, nat_lt, lt-ltb, ltb-true, le-leb, leb-true}
 use Rattle.std.specs.List.{list_all}
 use Rattle.std.specs.Char.{digit_value}

@@ -1,4 +1,4 @@
--- What doesn't fit behind a command doesn't fit among what is entered.
+-- A value that doesn't fit behind a command doesn't fit among the words that are entered.
 use Rattle.std.proofs.Common.{◌≡◌, List, Some, None, codes, sym, subst}
 use Rattle.std.proofs.lemmas.Option.{cond_some, none-some}
 use Rattle.std.proofs.lemmas.Slice.Eq.{bytes_eq-Decides}
