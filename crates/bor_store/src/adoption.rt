@@ -151,8 +151,8 @@ fn judge(version: i64, is_whole: bool) -> Result<(), OpenFault>
 }
 
 /// Whether the tables of a connection are those of a register, as [`SqlKeep::adopt`] asks. The
-/// connection is read alone (`ReadsOnly`). No transaction may be open. If the disk has returned
-/// what was written, the faults other than `Memory` and `Store` are, in their order:
+/// connection is only read (`ReadsOnly`). No transaction may be open. If the disk has returned what
+/// was written, the faults other than `Memory` and `Store` are, in their order:
 /// [`OpenFault::NoRegister`] where there is no table `register` with the columns `one` and
 /// `version`, or not exactly one row in it, with a whole version; [`OpenFault::OtherVersion`] where
 /// that isn't 2; `NoRegister` where another table or column of a register is missing.
@@ -184,7 +184,7 @@ pub fn examine<S: Alter>(conn: &mut Connection<S>) -> Result<(), OpenFault>
 
 impl<S: Alter + Drop> SqlKeep<S> {
     /// The register that the tables of a connection are. No transaction may be open. The tables are
-    /// read alone; after a fault the connection is dropped, and the clauses say nothing of the
+    /// only read; after a fault the connection is dropped, and the clauses say nothing of the
     /// tables then. If the disk has returned what was written, the faults other than `Memory` and
     /// `Store` are, in their order: [`OpenFault::NoRegister`] where there is no table `register`
     /// with the columns `one` and `version`, or not exactly one row in it, with a whole version;

@@ -15,7 +15,7 @@ use bor_register::{Caller, Filing, FilingLine, Outward, StoreFault};
 use bor_terms::{AgentName, Day, Ident, LodgeKey, Token};
 use sqlite::Alter;
 
-/// The notice that is printed once a register in memory is let go.
+/// The notice of a register in memory that is let go.
 pub trait Notice {
     /// The register is no longer in memory: it is read from its tables from now on.
     fn let_go(&self);
