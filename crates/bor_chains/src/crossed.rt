@@ -103,8 +103,7 @@ pub(crate) fn crossings_from<S: LinkSource>(
 {
     let mut crossings = Vec::new(alloc);
     for place in start..marks.len() {
-        let marked = marks.copy_at(alloc, place)?;
-        cross_one(source, &mut crossings, &marked, place)?;
+        cross_one(source, &mut crossings, marks.at(place), place)?;
     }
     Ok(crossings)
 }
