@@ -236,7 +236,7 @@ impl Trail {
             → IsAtLevel (S.shown m) e (length self.old.marks) (level + 1) self.new)) }
     {
         let found = crossings_from(alloc, source, &self.marks, start)?;
-        let crossings = in_order(found);
+        let crossings = in_order(found)?;
         self.follow_all(alloc, source, crossings)?;
         Ok(())
     }

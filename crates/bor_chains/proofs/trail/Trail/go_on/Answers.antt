@@ -9,7 +9,7 @@ returns-clause-walked g c = λ m e k entity level at.
     let s = g.S.LinkSource.shown m in
     let clean = c.follow_all.ensures.kept.began k in
     let found = c.in_ok-found.ensures.crossed m e clean in
-    let all : AreCrossings s c.args.self.now.marks c.args.start (length c.args.self.now.marks) c.in_order-crossings.result.items = λ x. ((λ h. (found x).0 (Contains-permutation _ _ x (IsPermutation-sym _ _ c.in_order-crossings.ensures.same) h)), (λ h. Contains-permutation _ _ x c.in_order-crossings.ensures.same ((found x).1 h))) in
+    let all : AreCrossings s c.args.self.now.marks c.args.start (length c.args.self.now.marks) c.in_ok-crossings.crossings.items = λ x. ((λ h. (found x).0 (Contains-permutation _ _ x (IsPermutation-sym _ _ c.in_ok-crossings.ensures.same) h)), (λ h. Contains-permutation _ _ x c.in_ok-crossings.ensures.same ((found x).1 h))) in
     let then = (c.crossings_from.ensures.kept.same clean m).0 e in
     let goes = c.in_ok-follow_all.ensures.walked m then k at.beside at.whole in
-    level_step s entity c.args.start level c.args.self.now c.follow_all.new.self c.in_order-crossings.result.items at all c.in_order-crossings.ensures.sorted goes.0 goes.1
+    level_step s entity c.args.start level c.args.self.now c.follow_all.new.self c.in_ok-crossings.crossings.items at all c.in_ok-crossings.ensures.sorted goes.0 goes.1
