@@ -20,7 +20,7 @@ use Rattle.bor_records.specs.declared.links.sign.Sign.{Sign}
 use Rattle.bor_records.specs.Links.Nodes.{same_node}
 use Rattle.bor_records.specs.Links.Shown.{Shown, listed_at, are_alike, is_like, is_entity, same_record, share_identifier, same_identifier}
 use Rattle.bor_records.specs.Links.Aliases.{Alias, Same}
-use Rattle.bor_records.specs.Links.Answers.{AreSame}
+use Rattle.bor_records.specs.Links.Answers.{AreAliases, AreSame}
 use Rattle.bor_chains.specs.Laws.{SameAreAClass}
 use Rattle.bor_chains.specs.Tables.{placed}
 use Rattle.bor_records.specs.Links.Signs.{sign_cmp, by_record, by_identifier, signs}
@@ -273,7 +273,7 @@ visits_entity s first place one places a b p q was now d under at entity split s
           record { place = j.0; there = subst (λ (xs : List ℕ). Contains xs j.0) (sym e.begins) (Contains-append_right a e.rest j.0 new); one = y; at = j.2; is = refl }
     ]
 
-entity_is : (o : Option OpenNode) (x : OpenNode) → entity_in o ≡ Some x → (o ≡ Some x) × (is_entity x.info ≡ true)
+pub entity_is : (o : Option OpenNode) (x : OpenNode) → entity_in o ≡ Some x → (o ≡ Some x) × (is_entity x.info ≡ true)
 entity_is None x h = absurd (let no : None ≡ Some x = h in cc)
 entity_is (Some y) x h = by (is_entity y.info) refl h
   where
@@ -405,6 +405,73 @@ same_told s n x found rough out is all rough_is same once = subst (λ (m : Node)
   );
   once = once;
 })
+
+-- ---- one alias away
+
+none_distinct : IsDistinct same_node []
+unfolding IsDistinct
+none_distinct = tt
+
+-- the places of all that are alike by a sign, and no others
+pub aliases_told : (s : Shown) (nodes : List OpenNode) (x : OpenNode) (first : ℕ) (places : Sign → List ℕ) (start found : List ℕ) (was now : Sign → Bool) (rough out : List Node) → s.nodes ≡ nodes → AreDistinct s.nodes
+    → AreUnder (length nodes) nodes places → slice_get nodes first ≡ Some x → is_entity x.info ≡ true → start ≡ [] → ((k : Sign) → was k ≡ false) → Expands nodes places x (signs x) start found was now
+    → rough ≡ filter_map (λ i. node_at (slice_get nodes i)) found → ((b : Node) → Contains out b ↔ Contains rough b) → IsDistinct same_node out → AreAliases s x.node out
+aliases_told s nodes x first places start found was now rough out e d under at entity empty unseen ex rough_is same once = record { each = λ b. (from b, to b); once = once }
+  where
+    in_nodes : (i : ℕ) (y : OpenNode) → slice_get nodes i ≡ Some y → slice_get s.nodes i ≡ Some y
+    in_nodes i y h = ap (λ (xs : List OpenNode). slice_get xs i) e ∙ h
+
+    listed : (i : ℕ) (y : OpenNode) → slice_get nodes i ≡ Some y → listed_at s.nodes y.node ≡ Some y
+    listed i y h = listed_is s.nodes y d (in_place s.nodes y i (in_nodes i y h))
+
+    rest_is : found ≡ ex.rest
+    rest_is = ex.begins ∙ ap (λ (xs : List ℕ). xs ++ ex.rest) empty
+
+    from : (b : Node) → Contains out b → Alias s x.node b
+    from b h =
+        let p = Contains-from_filter_map (λ i. node_at (slice_get nodes i)) found b (subst (λ (bs : List Node). Contains bs b) rough_is ((same b).0 h)) in
+        let y = like_is x (slice_get nodes p.0) (ex.alike p.0 (subst (λ (is : List ℕ). Contains is p.0) rest_is p.1)) in
+        let is : Some (y.0).node ≡ Some b = sym (ap node_at y.1) ∙ p.2 in
+        subst (λ (m : Node). Alias s x.node m) (let same_nodes : (y.0).node ≡ b = cc is in same_nodes) (record { one = x; two = y.0; one_is = listed first x at; two_is = listed p.0 y.0 y.1; alike = y.2 })
+
+    to : (b : Node) → Alias s x.node b → Contains out b
+    to b l =
+        let same_one : x ≡ l.one = same_Some x l.one (sym (listed first x at) ∙ l.one_is) in
+        let two = found_is s.nodes b l.two l.two_is in
+        let k = in_common l.one l.two l.alike in
+        let ea = and_parts (is_entity l.one.info && is_entity l.two.info) (same_record l.one.node l.two.node || share_identifier l.one.identifiers l.two.identifiers && not (same_node l.one.node l.two.node)) l.alike in
+        let own : Contains (signs x) k.0 = subst (λ (z : OpenNode). Contains (signs z) k.0) (sym same_one) k.1 in
+        elim (ex.fresh k.0 (ex.seen k.0 own)) [
+          | inl before ↦ absurd (let no : true ≡ false = sym before ∙ unseen k.0 in cc)
+          | inr all ↦
+              let j = placed_in nodes l.two (subst (λ (xs : List OpenNode). Contains xs l.two) e two.0) in
+              let like : is_like x (slice_get nodes j.0) ≡ true = ap (λ (o : Option OpenNode). is_like x o) j.2 ∙ ap (λ (z : OpenNode). are_alike z l.two) same_one ∙ l.alike in
+              let new = all.1 j.0 (under j.0 l.two j.1 j.2 k.0 k.2) like in
+              (same b).1 (subst (λ (bs : List Node). Contains bs b) (sym rough_is)
+              (Contains-filter_map (λ i. node_at (slice_get nodes i)) found j.0 b (subst (λ (is : List ℕ). Contains is j.0) (sym rest_is) new) (ap node_at j.2 ∙ ap (λ (m : Node). Some m) two.1)))
+        ]
+
+-- what is listed there is no entity
+pub aliases_none : (s : Shown) (nodes : List OpenNode) (x : OpenNode) (first : ℕ) (out : List Node) → s.nodes ≡ nodes → AreDistinct s.nodes → slice_get nodes first ≡ Some x → entity_in (slice_get nodes first) ≡ None → out ≡ [] → AreAliases s x.node out
+aliases_none s nodes x first out e d at gone empty = subst (λ (ns : List Node). AreAliases s x.node ns) (sym empty) (record {
+  each = λ b. (
+    (λ h. absurd (none b h)),
+    (λ l.
+        let listed : listed_at s.nodes x.node ≡ Some x = listed_is s.nodes x d (in_place s.nodes x first (ap (λ (xs : List OpenNode). slice_get xs first) e ∙ at)) in
+        let same_one : x ≡ l.one = same_Some x l.one (sym listed ∙ l.one_is) in
+        let ea = and_parts (is_entity l.one.info && is_entity l.two.info) (same_record l.one.node l.two.node || share_identifier l.one.identifiers l.two.identifiers && not (same_node l.one.node l.two.node)) l.alike in
+        let es = and_parts (is_entity l.one.info) (is_entity l.two.info) ea.0 in
+        absurd (no_entity_is (slice_get nodes first) x gone at (ap (λ (z : OpenNode). is_entity z.info) same_one ∙ es.0))),
+  );
+  once = none_distinct;
+})
+
+-- it isn't listed
+pub aliases_unlisted : (s : Shown) (n : Node) → listed_at s.nodes n ≡ None → AreAliases s n []
+aliases_unlisted s n gone = record {
+  each = λ b. ((λ h. absurd (none b h)), (λ l. absurd (let no : None ≡ Some l.one = sym gone ∙ l.one_is in cc)));
+  once = none_distinct;
+}
 
 one_distinct : (n : Node) → IsDistinct same_node (n ∷ [])
 unfolding IsDistinct

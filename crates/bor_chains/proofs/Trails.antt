@@ -38,6 +38,10 @@ got_left [] ys i x h = absurd (let no : None ≡ Some x = h in cc)
 got_left (a ∷ bs) ys zero x h = h
 got_left (a ∷ bs) ys (suc i) x h = got_left bs ys i x h
 
+got_last : {X : Type 0} (xs : List X) (x : X) → slice_get (xs ++ x ∷ []) (length xs) ≡ Some x
+got_last [] x = refl
+got_last (y ∷ ys) x = got_last ys x
+
 pub got_cases : {X : Type 0} (xs ys : List X) (i : ℕ) (x : X) → slice_get (xs ++ ys) i ≡ Some x → (slice_get xs i ≡ Some x) ⊎ ((length xs ≤ i) × Contains ys x)
 got_cases [] ys i x h = inr (omega arith, got_is ys i x h)
 got_cases (a ∷ bs) ys zero x h = inl h
@@ -191,6 +195,27 @@ to_none s cs a = record {
   given = λ i m o h le. let lt = slice_get_within a.marks i m h.0 in absurd (omega (arith, lt, le));
 }
 
+-- as many of a longer list
+to_longer : (s : Shown) (cs ds : List Crossing) (a b : Trail) → FollowsTo s cs (length cs) a b → FollowsTo s (cs ++ ds) (length cs) a b
+to_longer s cs ds a b f = record {
+  longer = f.longer;
+  every = λ j c m lt is l. f.every j c m lt (left j c lt is) l;
+  given = λ i m o h le. let g = f.given i m o h le in (
+    g.0,
+    record {
+      place = (g.1).place;
+      crossing = (g.1).crossing;
+      is = got_left cs ds (g.1).place (g.1).crossing (g.1).is;
+      leads = (g.1).leads;
+      over = (g.1).over;
+      first = λ j c lt is. (g.1).first j c lt (left j c (omega (arith, lt, slice_get_within cs (g.1).place (g.1).crossing (g.1).is)) is);
+    },
+  );
+}
+  where
+    left : (j : ℕ) (c : Crossing) → j < length cs → slice_get (cs ++ ds) j ≡ Some c → slice_get cs j ≡ Some c
+    left j c lt is = elim (got_cases cs ds j c is) [ inl h ↦ h | inr p ↦ absurd (omega (arith, lt, p.0)) ]
+
 pub to_more : (s : Shown) (cs : List Crossing) (n : ℕ) (c : Crossing) (a b w : Trail) → AreBeside a → slice_get cs n ≡ Some c → FollowsTo s cs n a b → Follows s c b w → FollowsTo s cs (n + 1) a w
 to_more s cs n c a b w beside at f g = record {
   longer = longer_then a b w f.longer g.longer;
@@ -216,3 +241,9 @@ to_more s cs n c a b w beside at f g = record {
   where
     at_most : (j : ℕ) → j < n + 1 → (j < n) ⊎ (j ≡ n)
     at_most j lt = grind arith
+
+-- one more behind them
+pub to_next : (s : Shown) (cs : List Crossing) (c : Crossing) (a b w : Trail) → AreBeside a → FollowsTo s cs (length cs) a b → Follows s c b w → FollowsTo s (cs ++ c ∷ []) (length (cs ++ c ∷ [])) a w
+to_next s cs c a b w beside f g =
+    subst (λ (n : ℕ). FollowsTo s (cs ++ c ∷ []) n a w) (sym (length-append cs (c ∷ [])))
+    (to_more s (cs ++ c ∷ []) (length cs) c a b w beside (got_last cs c) (to_longer s cs (c ∷ []) a b f) g)

@@ -38,7 +38,7 @@ fn count_at(steps: &[Option<Step>], counts: &[u64], place: usize) -> u64
 fn counts_of(alloc: Global, steps: &[Option<Step>]) -> Result<Vec<u64>, AllocError>
     ensures { IfOk result (λ counts. AreCounts steps.now (length steps.now) counts.items) }
 {
-    let mut counts = Vec::new(alloc);
+    let mut counts = Vec::with_capacity(alloc, steps.len())?;
     for place in 0..steps.len() {
         let count = count_at(steps, counts.as_slice(), place);
         counts.push(count)?;
@@ -174,10 +174,9 @@ fn gathered(
     ensures persons { IfOk result (λ found. ArePersonsFrom steps.items 0 found.persons.items) }
     ensures links { IfOk result (λ found. AreLinksFrom steps.items 0 found.links.items) }
 {
-    let mut found = Branches {
-        persons: Vec::new(alloc),
-        links: Vec::new(alloc),
-    };
+    let persons = Vec::with_capacity(alloc, steps.len())?;
+    let links = Vec::with_capacity(alloc, steps.len())?;
+    let mut found = Branches { persons, links };
     let mut left = steps;
     while let Some(step) = left.pop() {
         let place = left.len();

@@ -10,7 +10,7 @@ ghost use Rattle.bor_records.specs.declared.links.node.Node.{Node};
 ghost use Rattle.bor_records.specs.declared.links.node.OpenNode.{OpenNode};
 ghost use Rattle.bor_records.specs.Links.Nodes.{same_node, node_cmp};
 ghost use Rattle.bor_records.specs.Links.Shown.{Shown, is_like};
-ghost use Rattle.bor_records.specs.Links.Answers.{AreSame};
+ghost use Rattle.bor_records.specs.Links.Answers.{AreAliases, AreSame};
 ghost use Rattle.bor_chains.specs.Tables.{items_of};
 ghost use Rattle.bor_records.specs.Links.Signs.{sign_cmp, by_identifier, signs};
 ghost use Rattle.bor_chains.specs.Likeness.{AreUnder};
@@ -284,6 +284,30 @@ pub(crate) fn same_listed(
         → slice_get nodes.now first ≡ Some x → AreSame s x.node out.items) }
 {
     let found = all_same(alloc, nodes, places, first)?;
+    let rough = nodes_at(alloc, nodes, &found)?;
+    Ok(once(rough)?)
+}
+
+/// The nodes one alias away from the node at this place, each once.
+pub(crate) fn aliases_listed(
+    alloc: Global,
+    nodes: &[OpenNode],
+    places: &BTreeMap<Sign, Vec<usize>>,
+    first: usize,
+) -> Result<Vec<Node>, AllocError>
+    ensures { IfOk result (λ out.
+        (s : Shown) (x : OpenNode) → s.nodes ≡ nodes.now
+        → IsDistinct same_node (map (λ y. y.node) s.nodes)
+        → AreUnder (length nodes.now) nodes.now (λ k.
+        items_of (λ v. v.items) (get sign_cmp places.now k))
+        → slice_get nodes.now first ≡ Some x → AreAliases s x.node out.items) }
+{
+    let Some(one) = entity_at(nodes, first) else {
+        return Ok(Vec::new(alloc));
+    };
+    let mut found = Vec::new(alloc);
+    let mut seen = BTreeSet::new(alloc);
+    add_signs(alloc, &mut found, &mut seen, nodes, places, one)?;
     let rough = nodes_at(alloc, nodes, &found)?;
     Ok(once(rough)?)
 }

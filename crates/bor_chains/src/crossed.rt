@@ -103,18 +103,18 @@ pub(crate) fn crossings_from<S: LinkSource>(
 {
     let mut crossings = Vec::new(alloc);
     for place in start..marks.len() {
-        let marked = marks.copy_at(alloc, place)?;
-        cross_one(source, &mut crossings, &marked, place)?;
+        cross_one(source, &mut crossings, marks.at(place), place)?;
     }
     Ok(crossings)
 }
 
-/// The crossings in their order.
-pub(crate) fn in_order(crossings: Vec<Crossing>) -> Vec<Crossing>
-    ensures same { IsPermutation crossings.items result.items }
-    ensures sorted { IsSorted crossing_cmp result.items }
+/// The crossings in their order. Links mostly come in a few runs that are in order, which this sort
+/// joins.
+pub(crate) fn in_order(crossings: Vec<Crossing>) -> Result<Vec<Crossing>, AllocError>
+    ensures same { IfOk result (λ out. IsPermutation crossings.items out.items) }
+    ensures sorted { IfOk result (λ out. IsSorted crossing_cmp out.items) }
 {
     let mut out = crossings;
-    out.sort_unstable();
-    out
+    out.sort()?;
+    Ok(out)
 }

@@ -26,14 +26,14 @@ pub(crate) struct Step {
 }
 
 // The step over a crossing.
-fn step_over(alloc: Global, crossing: &Crossing, info: NodeInfo) -> Result<Step, AllocError>
-    ensures { IfOk result (λ step. step ≡ step_by crossing.now info) }
+fn step_over(crossing: Crossing, info: NodeInfo) -> Step
+    ensures { result ≡ step_by crossing info }
 {
-    Ok(Step {
-        link: crossing.link.copy(alloc)?,
+    Step {
+        link: crossing.link,
         below: crossing.below,
         info,
-    })
+    }
 }
 
 fn copied(alloc: Global, step: &Option<Step>) -> Result<Option<Step>, AllocError>
@@ -99,24 +99,24 @@ impl Trail {
     fn mark_person(
         &mut self,
         alloc: Global,
-        crossing: &Crossing,
+        crossing: Crossing,
         info: NodeInfo,
     ) -> Result<(), AllocError>
         ensures longer { OnOk result (length self.old.marks ≤ length self.new.marks) }
         ensures gives { OnOk result
-            (GivesUnlessThere (record { node = crossing.now.link.party; mark = Holder })
-            (λ n. n ≡ record { node = crossing.now.link.party; mark = Holder })
-            (Some (step_by crossing.now info)) self.old self.new) }
+            (GivesUnlessThere (record { node = crossing.link.party; mark = Holder })
+            (λ n. n ≡ record { node = crossing.link.party; mark = Holder })
+            (Some (step_by crossing info)) self.old self.new) }
     {
         let marked = Marked {
             node: crossing.link.party.copy(alloc)?,
             mark: Mark::Holder,
         };
-        if self.marks.has(&marked) {
+        let is_new = self.marks.add(marked)?;
+        if !is_new {
             return Ok(());
         }
-        let step = Some(step_over(alloc, crossing, info)?);
-        self.marks.add(marked)?;
+        let step = Some(step_over(crossing, info));
         fill(alloc, &mut self.steps, self.marks.len(), step)?;
         Ok(())
     }
@@ -126,7 +126,7 @@ impl Trail {
         &mut self,
         alloc: Global,
         source: &mut S,
-        crossing: &Crossing,
+        crossing: Crossing,
     ) -> Result<(), WalkFault<S::Fault>>
         ensures longer { OnOk result (length self.old.marks ≤ length self.new.marks) }
         ensures same_reference { S.lender source.new ≡ S.lender source.old }
@@ -136,9 +136,9 @@ impl Trail {
         ensures told { Promised S.shows S.is_clean source.old source.new (λ m.
             IfErr result (λ f. OnWalkSource f S.may_tell)) }
         ensures walked { OnOk result (Promised S.shows S.is_clean source.old source.new (λ m.
-            GivesUnlessThere (record { node = crossing.now.link.party; mark = Middle })
-            (IsSameAs (S.shown m) crossing.now.link.party Middle)
-            (Some (step_by crossing.now (infos.Entity true))) self.old self.new)) }
+            GivesUnlessThere (record { node = crossing.link.party; mark = Middle })
+            (IsSameAs (S.shown m) crossing.link.party Middle)
+            (Some (step_by crossing (infos.Entity true))) self.old self.new)) }
     {
         let marked = Marked {
             node: crossing.link.party.copy(alloc)?,
@@ -151,7 +151,7 @@ impl Trail {
             Ok(nodes) => nodes,
             Err(fault) => return Err(WalkFault::Source(fault)),
         };
-        let step = Some(step_over(alloc, crossing, NodeInfo::Entity { legal: true })?);
+        let step = Some(step_over(crossing, NodeInfo::Entity { legal: true }));
         self.give(alloc, &nodes, Mark::Middle, step)?;
         Ok(())
     }
@@ -161,7 +161,7 @@ impl Trail {
         &mut self,
         alloc: Global,
         source: &mut S,
-        crossing: &Crossing,
+        crossing: Crossing,
     ) -> Result<(), WalkFault<S::Fault>>
         ensures longer { OnOk result (length self.old.marks ≤ length self.new.marks) }
         ensures same_reference { S.lender source.new ≡ S.lender source.old }
@@ -172,7 +172,7 @@ impl Trail {
             IfErr result (λ f. OnWalkSource f S.may_tell)) }
         ensures walked { OnOk result (Promised S.shows S.is_clean source.old source.new (λ m.
             AreWhole (S.shown m) self.old.marks → AreWhole (S.shown m) self.new.marks
-            × Follows (S.shown m) crossing.now self.old self.new)) }
+            × Follows (S.shown m) crossing self.old self.new)) }
     {
         match source.node(&crossing.link.party) {
             Err(fault) => Err(WalkFault::Source(fault)),
@@ -194,7 +194,7 @@ impl Trail {
         &mut self,
         alloc: Global,
         source: &mut S,
-        crossings: &[Crossing],
+        crossings: Vec<Crossing>,
     ) -> Result<(), WalkFault<S::Fault>>
         ensures longer { OnOk result (length self.old.marks ≤ length self.new.marks) }
         ensures same_reference { S.lender source.new ≡ S.lender source.old }
@@ -206,7 +206,8 @@ impl Trail {
         ensures walked { OnOk result (Promised S.shows S.is_clean source.old source.new (λ m.
             AreBeside self.old → AreWhole (S.shown m) self.old.marks
             → AreWhole (S.shown m) self.new.marks
-            × FollowsTo (S.shown m) crossings.now (length crossings.now) self.old self.new)) }
+            × FollowsTo (S.shown m) crossings.items (length crossings.items)
+            self.old self.new)) }
     {
         for crossing in crossings {
             self.follow(alloc, source, crossing)?;
@@ -235,8 +236,8 @@ impl Trail {
             → IsAtLevel (S.shown m) e (length self.old.marks) (level + 1) self.new)) }
     {
         let found = crossings_from(alloc, source, &self.marks, start)?;
-        let crossings = in_order(found);
-        self.follow_all(alloc, source, &crossings)?;
+        let crossings = in_order(found)?;
+        self.follow_all(alloc, source, crossings)?;
         Ok(())
     }
 }

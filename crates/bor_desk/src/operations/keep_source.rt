@@ -68,6 +68,10 @@ impl<'a, K: Keep> LinkSource for KeepSource<'a, K> {
         self.keep.node(self.viewer, self.day, node)
     }
 
+    fn aliases(&mut self, node: &Node) -> Result<Vec<Node>, StoreFault> {
+        self.keep.aliases(self.viewer, self.day, node)
+    }
+
     fn same(&mut self, node: &Node) -> Result<Vec<Node>, StoreFault> {
         self.keep.same(self.viewer, self.day, node)
     }

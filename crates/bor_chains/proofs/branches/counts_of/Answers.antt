@@ -4,7 +4,7 @@ use Rattle.bor_chains.proofs.Steps.{counts_none, counts_more}
 use Rattle.bor_chains.proofs.branches.counts_of.Goals as goal
 
 pub loop-place-init : goal.loop-place-init
-loop-place-init c = counts_none c.args.steps.now c.new-counts.result.items c.new-counts.ensures.items
+loop-place-init c = counts_none c.args.steps.now c.in_ok-counts.counts.items c.in_ok-counts.ensures.items
 
 pub loop-place-preserved : goal.loop-place-preserved
 loop-place-preserved c =

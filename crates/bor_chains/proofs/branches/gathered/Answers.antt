@@ -7,8 +7,8 @@ pub loop-step-init : goal.loop-step-init
 loop-step-init c = record {
   rest = [];
   begins = sym (append-nil c.args.steps.items);
-  persons = persons_from_end c.args.steps.items c.new.result.items c.new.ensures.items;
-  links = links_from_end c.args.steps.items c.new-2.result.items c.new-2.ensures.items;
+  persons = persons_from_end c.args.steps.items c.in_ok-persons.persons.items c.in_ok-persons.ensures.items;
+  links = links_from_end c.args.steps.items c.in_ok-links.links.items c.in_ok-links.ensures.items;
 }
 
 pub loop-step-preserved : goal.loop-step-preserved

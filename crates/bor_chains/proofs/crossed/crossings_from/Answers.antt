@@ -23,7 +23,7 @@ loop-place-preserved g c =
       counts = cc (c.in_ok-cross_one.ensures.counts, invariant.counts);
       crossed = λ m e k. let s = g.S.LinkSource.shown m in
           let clean = c.cross_one.ensures.kept.began k in
-          crossings_more s c.args.marks.now c.args.start c.loop-place.place c.in_ok-marked.marked c.loop-place.crossings.items c.cross_one.new.crossings.items (omega arith) (omega arith) c.in_ok-marked.ensures
+          crossings_more s c.args.marks.now c.args.start c.loop-place.place c.at.result.now c.loop-place.crossings.items c.cross_one.new.crossings.items (omega arith) (omega arith) c.at.ensures
           (invariant.crossed m e clean) (c.in_ok-cross_one.ensures.crossed m ((invariant.kept.same clean m).0 e) k);
     }
 

@@ -1,8 +1,11 @@
-use Rattle.std.proofs.Common.{◌≡◌, ℕ, length, arith, rules, refl, subst}
-use Rattle.std.proofs.lemmas.Option.{slice_get_read}
+use Rattle.std.proofs.Common.{◌≡◌, ◌∙◌, [], List, length, arith, rules, refl, sym, subst}
+use Rattle.std.proofs.lemmas.Iterator.Consumers.{YieldsList-end}
+use Rattle.std.proofs.lemmas.Iterator.Adapters.{YieldsList-from_vec}
+use Rattle.std.proofs.lemmas.List.{map-id}
+use Rattle.bor_chains.specs.declared.crossed.Crossing.{Crossing}
 use Rattle.bor_chains.specs.Trail.{FollowsTo}
 use Rattle.bor_records.proofs.KeptLaws.{kept_then, lasts_then, same_lasts}
-use Rattle.bor_chains.proofs.Trails.{to_none, to_more}
+use Rattle.bor_chains.proofs.Trails.{to_none, to_next}
 use Rattle.bor_chains.proofs.trail.Trail.follow_all.Goals as goal
 
 pub loop-crossing-init : goal.loop-crossing-init
@@ -12,7 +15,7 @@ loop-crossing-init g c = record {
   kept = search rules;
   lasts = same_lasts _ _ _;
   counts = refl;
-  walked = λ m e k beside whole. (whole, to_none (g.S.LinkSource.shown m) c.args.crossings.now c.args.self.now);
+  walked = λ m e k beside whole. (whole, to_none (g.S.LinkSource.shown m) [] c.args.self.now);
 }
 
 pub loop-crossing-preserved : goal.loop-crossing-preserved
@@ -28,16 +31,14 @@ loop-crossing-preserved g c =
           let s = g.S.LinkSource.shown m in
           let clean = c.follow.ensures.kept.began k in
           let before = invariant.walked m e clean beside whole in
-          let more = c.in_ok-follow.ensures.walked m ((invariant.kept.same clean m).0 e) k before.0 in (
-            more.0,
-            to_more s c.args.crossings.now c.loop-crossing.crossing-index c.crossing-item.result c.args.self.now c.loop-crossing.self c.follow.new.self beside
-                (slice_get_read c.args.crossings.now (length c.args.crossings.now) c.loop-crossing.crossing-index c.crossing-item.result refl (omega arith) c.crossing-item.is) before.1 more.1,
-          );
+          let more = c.in_ok-follow.ensures.walked m ((invariant.kept.same clean m).0 e) k before.0 in
+          (more.0, to_next s c.loop-crossing.yielded c.in-Some.crossing c.args.self.now c.loop-crossing.self c.follow.new.self beside before.1 more.1);
     }
 
 pub returns-clause-walked : goal.returns-clause-walked
 returns-clause-walked g c = λ m e k beside whole.
     let s = g.S.LinkSource.shown m in
-    let end : c.loop-crossing.crossing-index ≡ length c.args.crossings.now = omega arith in
+    let gives = c.into_iter-crossing-iterator.ensures.into_iter_gives in
+    let all = YieldsList-end (YieldsList-from_vec c.args.crossings.items gives.0 (gives.1 ∙ c.args.crossings.ok.0)) c.loop-crossing.yielded c.loop-crossing.crossing-iterator c.loop-crossing.yielded_by c.next.result c.next.new.self c.in-None.is c.next.ensures.steps in
     let r = c.loop-crossing.invariant.walked m e k beside whole in
-    (r.0, subst (λ (n : ℕ). FollowsTo s c.args.crossings.now n c.args.self.now c.loop-crossing.self) end r.1)
+    (r.0, subst (λ (cs : List Crossing). FollowsTo s cs (length cs) c.args.self.now c.loop-crossing.self) (sym (map-id c.loop-crossing.yielded) ∙ all.0) r.1)

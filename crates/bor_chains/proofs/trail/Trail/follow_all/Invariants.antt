@@ -14,5 +14,5 @@ invariant-loop-crossing g l =
       lasts : StaysClean source.is_clean source.is_sound l.initial.source l.source;
       counts : source.fault_count l.source ≡ source.fault_count l.initial.source;
       walked : Promised source.shows source.is_clean l.initial.source l.source
-          (λ m. AreBeside l.initial.self → AreWhole (source.shown m) l.initial.self.marks → AreWhole (source.shown m) l.self.marks × FollowsTo (source.shown m) l.crossings l.crossing-index l.initial.self l.self);
+          (λ m. AreBeside l.initial.self → AreWhole (source.shown m) l.initial.self.marks → AreWhole (source.shown m) l.self.marks × FollowsTo (source.shown m) l.yielded (length l.yielded) l.initial.self l.self);
     }
