@@ -125,6 +125,20 @@ def asked(port, method="GET", target=CHAINS):
     return reply.status
 
 
+def readers_are_left_alone(machine):
+    """Readers that have the copy run on, and so do all where there is none; no part of a copy is left."""
+    folder, ports = machine.root / "var" / "lib" / "bor-readers", [machine.ports[it] for it in READERS]
+    whole, none = (["bor-readers", f"{machine.root}/var/lib/{it}", str(folder), *ports] for it in ("bor/register.db", "none.db"))
+    told = []
+    for run in (whole, whole, none, whole[:3]):
+        ran = subprocess.run(run, env=machine.variables, capture_output=True, timeout=SECONDS, check=False)
+        told.append((ran.returncode, [machine.process(f"bor-reader@{it}") for it in ports]))
+    is_so([status for status, _ in told] == [0, 0, 1, 2], f"bor-readers ended with {told}")
+    is_so(all(it == told[0][1] for _, it in told), f"readers were started again: {told}")
+    left = sorted({it.name.removesuffix("-wal") for it in folder.iterdir()})
+    is_so(left == sorted([*(f"{it}.db" for it in ports), "copied"]), f"{left} are left")
+
+
 def banks_are_answered(machine):
     """Behind nginx banks are answered while each reader is killed in its turn; no log of nginx has a key or a query."""
     with machine.nginx() as port:
@@ -158,6 +172,7 @@ def the_page_for_operators_does_what_it_says(bor, folder):
                 wanted = blocks[at + 1][1] if blocks[at + 1 : at + 2] and blocks[at + 1][0] == "text" else ""
                 wanted = machine.here(wanted)
                 is_so(told.rstrip("\n") == wanted.rstrip("\n"), f"{text!r:.200}: wanted {wanted!r}, told {told!r}")
+        readers_are_left_alone(machine)
         if shutil.which("nginx"):
             banks_are_answered(machine)
     finally:
