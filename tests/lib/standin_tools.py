@@ -1,7 +1,8 @@
 """Tools of root that docs/OPERATE.md calls, as far as its commands need them, over folders that stand for the machine's.
 
-`systemctl` starts and stops what the units in the folder say, as their ExecStart, UMask and Restart have it; `curl`
-asks over HTTP; `useradd` and `chown` do nothing, and `runuser` runs the command as it stands.
+`systemctl` starts and stops what the units in the folder say, as their ExecStart, ExecStartPost, UMask and Restart have it;
+`journalctl` prints what a unit wrote; `curl` asks over HTTP; `useradd` and `chown` do nothing, and `runuser` runs the command as
+it stands.
 """
 import contextlib
 import http.client
@@ -14,8 +15,8 @@ import time
 from pathlib import Path
 from urllib.parse import urlsplit
 
-TOOLS = ["systemctl", "curl", "useradd", "chown", "runuser"]
-SECONDS = 20
+TOOLS = ["systemctl", "journalctl", "curl", "useradd", "chown", "runuser"]
+SECONDS = 120
 
 
 def made(folder):
@@ -30,10 +31,21 @@ def made(folder):
 
 
 def unit(name):
-    """The lines of a unit, by their names."""
-    path = Path(os.environ["UNITS"], name if "." in name else f"{name}.service")
+    """The lines of a unit, by their names; of one with an @, those of its template, with what stands behind the @."""
+    file = name if "." in name else f"{name}.service"
+    stem, at, instance = file.rpartition(".")[0].partition("@")
+    path = Path(os.environ["UNITS"], f"{stem}@.{file.rpartition('.')[2]}" if at else file)
     lines = [line for line in path.read_text().splitlines() if "=" in line and not line.startswith("#")]
-    return dict(line.split("=", 1) for line in lines)
+    return {key: value.replace("%i", instance).replace("%%", "%") for key, value in (line.split("=", 1) for line in lines)}
+
+
+def words_of(command):
+    """The words of a command of a unit, in which $$ stands for $."""
+    return [it.replace("$$", "$") for it in shlex.split(command)]
+
+
+def beside(name, kind):
+    return Path(os.environ["RUNNING"], f"{name}.{kind}")
 
 
 def mark(name):
@@ -50,7 +62,7 @@ def is_active(name):
 
 def keep_running(name, said):
     """Runs the unit's command, and again wherever it ends, as Restart says, until it is stopped."""
-    words, ran = shlex.split(said["ExecStart"]), []
+    words, ran = words_of(said["ExecStart"]), []
 
     def stop(*_):
         # (not by its own wait, which may be what was interrupted)
@@ -62,19 +74,32 @@ def keep_running(name, said):
 
     signal.signal(signal.SIGTERM, stop)
     os.umask(int(said.get("UMask", "0022"), 8))
-    with open(Path(os.environ["RUNNING"], f"{name}.journal"), "ab") as journal:
+    with open(beside(name, "journal"), "ab") as journal:
         while True:
             ran.append(subprocess.Popen(words, stdin=subprocess.DEVNULL, stdout=journal, stderr=journal))
+            beside(name, "process").write_text(str(ran[-1].pid))
             ran[-1].wait()
             if said.get("Restart") != "always":
                 return
             time.sleep(float(said.get("RestartSec", "0.1")))
 
 
+def ended(name, command, said, **variables):
+    """The exit status of a command of a unit, which writes to the unit's journal."""
+    how = {"stdin": subprocess.DEVNULL, "timeout": SECONDS, "check": False, "env": {**os.environ, **variables}}
+    how["umask"] = int(said.get("UMask", "0022"), 8)
+    with open(beside(name, "journal"), "ab") as journal:
+        return subprocess.run(words_of(command), stdout=journal, stderr=journal, **how).returncode
+
+
 def start(name):
+    """Starts the unit, as systemd does: nothing waits for a server but its ExecStartPost."""
     said = unit(name)
     if "ExecStart" not in said or is_active(name):
-        return
+        return 0
+    if said.get("Type") == "oneshot":
+        return ended(name, said["ExecStart"], said)
+    beside(name, "process").unlink(missing_ok=True)
     process = os.fork()
     if process == 0:
         os.setsid()
@@ -85,20 +110,15 @@ def start(name):
         keep_running(name, said)
         os._exit(0)
     mark(name).write_text(str(process))
-    wait_for_listening(said)
-
-
-def wait_for_listening(said):
-    """A port that the command names is listened on; systemd itself doesn't wait for that."""
-    words = shlex.split(said["ExecStart"])
-    port = int(words[words.index("--port") + 1]) if "--port" in words else None
     until = time.monotonic() + SECONDS
-    while port and time.monotonic() < until:
-        try:
-            http.client.HTTPConnection("127.0.0.1", port).connect()
-            return
-        except OSError:
-            time.sleep(0.02)
+    while not (beside(name, "process").exists() and beside(name, "process").read_text()) and time.monotonic() < until:
+        time.sleep(0.005)
+    if "ExecStartPost" not in said:
+        return 0
+    status = ended(name, said["ExecStartPost"], said, MAINPID=beside(name, "process").read_text())
+    if status:
+        stop(name)
+    return status
 
 
 def stop(name):
@@ -114,14 +134,23 @@ def stop(name):
 def systemctl(words):
     name = words[-1]
     if words[0] == "start" or words[:2] == ["enable", "--now"]:
-        start(name)
-    elif words[0] == "stop":
+        return int(any([start(it) for it in words if it not in ("start", "enable", "--now")]))
+    if words[0] == "stop":
         stop(name)
     elif words[0] == "is-active":
-        print("active" if is_active(name) else "inactive")
+        if "--quiet" not in words:
+            print("active" if is_active(name) else "inactive")
         return 0 if is_active(name) else 3
-    elif words != ["daemon-reload"]:
+    elif words[0] not in ("daemon-reload", "enable"):
         raise SystemExit(f"systemctl: nobody knows {words}")
+    return 0
+
+
+def journalctl(words):
+    """Prints what the unit wrote, as `-o cat` has it."""
+    if words[:1] != ["-u"] or words[2:] != ["-o", "cat"]:
+        raise SystemExit(f"journalctl: nobody knows {words}")
+    sys.stdout.write(beside(words[1], "journal").read_text())
     return 0
 
 
@@ -135,7 +164,7 @@ def given(text):
 
 def curl(words):
     method, body, fields, told, output, url = None, None, {}, None, None, None
-    fails = False
+    fails, tries, delay = False, 1, 1.0
     words = list(words)
     while words:
         word = words.pop(0)
@@ -151,15 +180,29 @@ def curl(words):
             output = words.pop(0)
         elif word == "-w":
             told = words.pop(0)
+        elif word == "--retry":
+            tries += int(words.pop(0))
+        elif word == "--retry-delay":
+            delay = float(words.pop(0))
+        elif word == "--retry-connrefused":
+            pass
         elif word.startswith("-") and set(word[1:]) <= set("fsS"):
             fails = fails or "f" in word
         else:
             url = urlsplit(word)
-    client = http.client.HTTPConnection(url.hostname, url.port, timeout=SECONDS)
     target = url.path + (f"?{url.query}" if url.query else "")
-    client.request(method or ("POST" if body is not None else "GET"), target, body, fields)
-    reply = client.getresponse()
-    data = reply.read()
+    asked = method or ("POST" if body is not None else "GET"), target, body, fields
+    for left in range(tries - 1, -1, -1):
+        try:
+            client = http.client.HTTPConnection(url.hostname, url.port, timeout=SECONDS)
+            client.request(*asked)
+            reply = client.getresponse()
+            data = reply.read()
+            break
+        except ConnectionRefusedError:
+            if not left:
+                return 7
+            time.sleep(delay)
     if fails and reply.status >= 400:
         print(f"curl: (22) The requested URL returned error: {reply.status}", file=sys.stderr)
         return 22
@@ -174,7 +217,7 @@ def main(name, words):
     if name == "runuser":
         after = words.index("--") + 1
         os.execvp(words[after], words[after:])
-    return {"systemctl": systemctl, "curl": curl}.get(name, lambda _: 0)(words)
+    return {"systemctl": systemctl, "journalctl": journalctl, "curl": curl}.get(name, lambda _: 0)(words)
 
 
 if __name__ == "__main__":
