@@ -15,9 +15,10 @@ def as_script(commands, port):
     """The commands for one shell, a mark before what each prints. A server is waited for, until it listens and until it ends."""
     lines = ["trap 'kill $! 2> /dev/null' EXIT"]
     for command in commands:
-        lines += [f"printf '\\n{MARK}\\n'", command.replace("8080", str(port)).replace("kill %1", "kill $!; wait")]
+        typed = command.replace("8080", str(port)).replace("curl ", "curl -s ").replace("kill %1", "kill $!; wait")
+        lines += [f"printf '\\n{MARK}\\n'", typed]
         if command.endswith("&"):
-            lines.append(f"for _ in $(seq 200); do curl -s -o /dev/null http://127.0.0.1:{port}/ && break; sleep 0.1; done")
+            lines.append(f"for _ in $(seq 100); do curl -s -o /dev/null http://127.0.0.1:{port}/ && break; sleep 0.1; done")
     return "\n".join(lines)
 
 
