@@ -2,8 +2,8 @@
 
 use crate::asking::{answered, day, keep_of_two, node, read};
 use crate::checks::{counts, holds};
-use bor_chains::Node;
-use bor_desk::operations::{Keep, ListKeep};
+use bor_chains::{LinkSource, ListSource, Node};
+use bor_desk::operations::{Keep, KeepSource, ListKeep};
 use std::alloc::Global;
 use std::process::Abort;
 
@@ -26,7 +26,8 @@ fn of_birch(rt: &impl Abort, alloc: Global) -> Node {
     b1
 }
 
-// The aliases of a node, as the agent sees them.
+// The aliases of a node, as the agent sees them: of a source over the keep, and of one over the rows
+// that the agent sees, they are those of the keep.
 fn aliases<K: Keep>(
     rt: &impl Abort,
     alloc: Global,
@@ -35,8 +36,18 @@ fn aliases<K: Keep>(
     node: &Node,
 ) -> Vec<Node> {
     let viewer = read(rt, alloc, viewer);
-    let told = keep.aliases(&viewer, day(rt, "2024-02-01"), node);
-    told.expect(rt, "no aliases")
+    let today = day(rt, "2024-02-01");
+    let rows = keep.visible_rows(&viewer).expect(rt, "no rows");
+    let mut listed = ListSource::from_rows(alloc, &rows, today).expect(rt, "memory");
+    let of_rows = listed.aliases(node).expect(rt, "no aliases of rows");
+    let mut source = KeepSource::new(keep, &viewer, today);
+    let of_source = source.aliases(node).expect(rt, "no aliases of a source");
+    let of_keep = keep.aliases(&viewer, today, node).expect(rt, "no aliases");
+    let is_alike = of_source.as_slice() == of_keep.as_slice();
+    holds(rt, "a source over the keep", is_alike);
+    let is_alike = of_rows.as_slice() == of_keep.as_slice();
+    holds(rt, "a source over rows", is_alike);
+    of_keep
 }
 
 // The filing, the place and the identifier of the statement that a record shows the agent on a day, as `1 2
