@@ -6,7 +6,7 @@ mod setup;
 mod start;
 mod waiting;
 
-use bor_program::{Failure, Status};
+use bor_program::{Failure, Status, joined};
 use host::Host;
 use sqlite::Start;
 use start::Anything;
@@ -47,9 +47,11 @@ fn run<F: Start + Copy, S: AsStr, I: Read, O: Write, E: Write>(
     bor_program::run(rt, &mut host, words, input, output, errors)
 }
 
-// The words after the program's name.
+// The words after the program's name, as clap takes them: a value that begins with a hyphen is
+// joined with its option.
 fn words<R: Env + AllocGlobal>(rt: &R) -> io::Result<Vec<String>> {
-    Ok(env::args(rt)?.skip(1).collect(rt.alloc())?)
+    let words: Vec<String> = env::args(rt)?.skip(1).collect(rt.alloc())?;
+    Ok(joined(rt.alloc(), words.as_slice())?)
 }
 
 // Tells on standard error why the words could not be read.

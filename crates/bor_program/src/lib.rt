@@ -30,6 +30,7 @@ mod serve;
 mod split;
 mod status;
 
+pub use bor_words::joined;
 pub use exchange::exchange_on;
 pub use failure::Failure;
 pub use host::{NamedFiles, OpenRegister, Opened, Origin, Ports, Registers, Stage};

@@ -1,12 +1,15 @@
 -- The answers of clap to no words, and to each command.
-use Rattle.std.proofs.Common.{◌≡◌, ℕ, Bool, List, [], ◌∷◌, ◌++◌, Option, Some, None, false, true, refl, codes}
-use Rattle.std.specs.Option.{option_map}
+use Rattle.std.proofs.Common.{◌≡◌, ◌==◌, ℕ, Bool, List, [], ◌∷◌, ◌++◌, Option, Some, None, false, true, refl, codes}
+use Rattle.std.specs.Prelude.{if◌then◌else◌}
+use Rattle.std.specs.List.{list_all}
+use Rattle.std.specs.Option.{option_map, option_map_or}
 use Rattle.clap.proofs.OnLiterals.{clap_on_literals}
-use Rattle.clap.specs.Words.{Text, fault_of, first_of}
+use Rattle.clap.specs.Words.{Rule, Shape, Text, fault_of, first_of}
 use Rattle.bor_words.specs.Asked.{EntersCheck}
 use Rattle.bor_words.specs.declared.help.TheConstants.{HELP, CHECK_HELP, INIT_HELP}
 use Rattle.bor_words.specs.Help.{help_for}
-use Rattle.bor_words.specs.Words.{bor_app, entered_by, file_at, found_behind, is_set}
+use Rattle.bor_words.specs.Words.{bor_app, entered_by, file_at, found_behind, given, is_set}
+use Rattle.bor_words.specs.Joined.{is_flag, is_value, joined, takes_value}
 use Rattle.bor_words.specs.Values.{first_unfit, memory_of, number_within, values_of}
 
 pub no_words : (fault_of bor_app [] ≡ []) × (entered_by [] ≡ None)
@@ -78,3 +81,37 @@ memory_where_told = (refl, refl)
 pub pages : (help_for (codes "help" ∷ codes "check" ∷ []) ≡ CHECK_HELP.now) × (help_for (codes "init" ∷ codes "--help" ∷ []) ≡ INIT_HELP.now)
     × (help_for (codes "help" ∷ []) ≡ HELP.now) × (help_for (codes "-h" ∷ codes "check" ∷ []) ≡ HELP.now)
 pages = (refl, refl, refl, refl)
+
+-- ---- values that begin with a hyphen
+
+-- clap's option is one that takes a value, or one that takes none, as it is joined
+abbrev pub is_known : Text → Rule → Bool
+is_known command rule =
+    option_map_or (λ name. if rule.value_names == 1 then takes_value command (codes "--" ++ name) else is_flag command (codes "--" ++ name)) rule.long true
+
+pub options_are_known : list_all (λ (shape : Shape). list_all (is_known shape.name) shape.rules) bor_app.subs ≡ true
+unfolding takes_value is_flag
+options_are_known = refl
+
+-- a value is joined with its option, and behind `--` each word stays
+pub values_join : joined (codes "report" ∷ codes "--record" ∷ codes "-x" ∷ codes "--date" ∷ codes "-1" ∷ codes "--" ∷ codes "--db" ∷ codes "-y" ∷ [])
+    ≡ codes "report" ∷ codes "--record=-x" ∷ codes "--date=-1" ∷ codes "--" ∷ codes "--db" ∷ codes "-y" ∷ []
+unfolding takes_value is_flag is_value
+values_join = refl
+
+-- a command's own options are no values, and an option without a value has none
+abbrev pub options : List Text
+options = codes "report" ∷ codes "--record" ∷ codes "--date" ∷ codes "2024-01-01" ∷ codes "--viewer" ∷ codes "--agent=a" ∷ codes "--db" ∷ codes "-h" ∷ codes "--evidence" ∷ codes "-x" ∷ []
+
+pub options_stay : joined options ≡ options
+unfolding takes_value is_flag is_value
+options_stay = refl
+
+-- the record that a report is asked of
+abbrev pub record_told : List Text → Option Text
+record_told words = option_map (given (codes "record")) (found_behind (codes "report") (entered_by (joined words)))
+
+pub hyphen_is_told : record_told (codes "report" ∷ codes "--db" ∷ codes "a" ∷ codes "--viewer" ∷ codes "alder" ∷ codes "--agent" ∷ codes "birch"
+    ∷ codes "--declaration" ∷ codes "c1" ∷ codes "--record" ∷ codes "-x" ∷ []) ≡ Some (codes "-x")
+unfolding clap_on_literals takes_value is_flag is_value
+hyphen_is_told = refl

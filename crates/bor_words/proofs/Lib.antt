@@ -1,5 +1,6 @@
 pub mod Numerals
 pub mod KnownWords
 pub mod Locals
+pub mod HyphenLemmas
 pub mod Reporting
 mod Examples

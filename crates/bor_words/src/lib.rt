@@ -15,6 +15,7 @@
 mod command;
 mod exchange;
 mod help;
+mod hyphens;
 mod init;
 mod matches;
 mod migrate;
@@ -32,6 +33,7 @@ pub use exchange::Exchange;
 pub use help::{
     CHECK_HELP, EXCHANGE_HELP, HELP, INIT_HELP, MIGRATE_HELP, REPORT_HELP, SERVE_HELP, help_for,
 };
+pub use hyphens::joined;
 pub use init::Init;
 pub use migrate::Migrate;
 pub use registrar::RegistrarSource;
