@@ -13,3 +13,5 @@ pub mod OnOperations
 pub mod OnMemory
 pub mod OnMirror
 pub mod OnEvidence
+pub mod Past
+pub mod PastExamples

@@ -5,11 +5,13 @@ use Rattle.bor_records.specs.declared.row.Row.{Row}
 use Rattle.bor_records.specs.declared.links.node.Node.{Node}
 use Rattle.bor_records.specs.Links.Rows.{shown_of}
 use Rattle.bor_chains.specs.Chains.{AreJoined}
+use Rattle.bor_chains.specs.Laws.{dated_by}
 use Rattle.bor_register.specs.declared.caller.Caller.{Caller}
 use Rattle.bor_register.specs.declared.caller.Caller.TheVariants.{Agent}
 use Rattle.bor_register.specs.Register.{Register, caller_of, filings_of}
 use Rattle.bor_desk.specs.Operations.Legality.{IsLegal}
 use Rattle.bor_desk.specs.Operations.Laws.{KeepsAgents, LeavesOthers}
+use Rattle.bor_desk.specs.Operations.Sight.{seen_by}
 use Rattle.bor_desk.specs.Operations.Solo.{alone}
 use Rattle.bor_desk.specs.declared.request.Request.{Request}
 use Rattle.bor_desk.specs.declared.request.Request.TheVariants as ask
@@ -105,3 +107,18 @@ pub record IsolationOfHistories : Type 0 where
   pub alone_each : (r : Register) (run : List Asked) (name : List ℕ) → IsLegal r → answers_to name r run ≡ solo name (filings_of name r.members) (history name r run)
   pub two_runs : (r q : Register) (run other : List Asked) (name : List ℕ) → IsLegal r → IsLegal q →
       filings_of name r.members ≡ filings_of name q.members → history name r run ≡ history name q other → answers_to name r run ≡ answers_to name q other
+
+-- the date of a request for a snapshot, a report or evidence, where it names one
+abbrev pub date_of : Request → Option ℤ
+date_of (ask.Snapshot agent declaration date) = date
+date_of (ask.Chains entity date) = date
+date_of (ask.Evidence entity date) = date
+date_of request = None
+
+-- Where an agent sees the same statements dated by a day, it is told the same of that day, whatever
+-- else the registers hold: statements dated later, and filings that the agent doesn't see.
+abbrev pub LaterStatementsChangeNoPast : Type 0
+LaterStatementsChangeNoPast =
+    (name : List ℕ) (day : ℤ) (r q : Register) (request : Request) (reply : DeskReply) → date_of request ≡ Some day
+    → dated_by day (seen_by name r) ≡ dated_by day (seen_by name q)
+    → IsTold (agent_step r name request).answer reply → IsTold (agent_step q name request).answer reply

@@ -1,7 +1,7 @@
 //! Laws of the step. Each function does nothing: its contract is the law.
 
 ghost use Rattle.bor_desk.specs.Outcomes.{AnswerIsDetermined};
-ghost use Rattle.bor_desk.specs.Laws.{EachIsAnswered, EvidenceNamesTheJoined, OwnFilingsUntouched, ReadsLeave, RefusalChangesNothing, StepStaysLegal, OneExchangeAlone, IsolationOfHistories};
+ghost use Rattle.bor_desk.specs.Laws.{EachIsAnswered, EvidenceNamesTheJoined, LaterStatementsChangeNoPast, OwnFilingsUntouched, ReadsLeave, RefusalChangesNothing, StepStaysLegal, OneExchangeAlone, IsolationOfHistories};
 
 /// Two replies that tell one answer are equal.
 pub fn answer_is_determined()
@@ -57,4 +57,12 @@ pub fn histories_are_isolated()
 /// occasions. This holds of every register and run.
 pub fn each_is_answered()
     ensures { EachIsAnswered }
+{}
+
+/// A snapshot, a report and evidence as of a date are told by the statements dated by then that the
+/// agent sees. Where these are the same in two registers, whatever one tells the other tells: no
+/// statement dated later and no filing that the agent doesn't see changes it. This holds of every
+/// register.
+pub fn later_statements_change_no_past()
+    ensures { LaterStatementsChangeNoPast }
 {}
