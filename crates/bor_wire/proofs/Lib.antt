@@ -17,3 +17,4 @@ pub mod HistoryExamples
 pub mod Examples
 pub mod OnRendering
 pub mod HeadlineLaws
+pub mod RestartLaws

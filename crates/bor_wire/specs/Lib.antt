@@ -14,3 +14,4 @@ pub mod Turns
 pub mod Stops
 pub mod Rendering
 pub mod Headline
+pub mod Restarts

@@ -6,6 +6,7 @@ ghost use Rattle.bor_wire.specs.Histories.{EachIsReceived, SameHistorySameBytes}
 ghost use Rattle.bor_wire.specs.Nobody.{NobodysInputs};
 ghost use Rattle.bor_wire.specs.Repeats.{RepeatsActOnce};
 ghost use Rattle.bor_wire.specs.ReportBytes.{BytesGiveEvidence, BytesGivePersons};
+ghost use Rattle.bor_wire.specs.Restarts.{ExchangesCompose, FilingsFollowHistory, LivesKeepDraftsInvisible, RunsCompose};
 ghost use Rattle.bor_wire.specs.Sequences.{ExchangesAreARun};
 ghost use Rattle.bor_wire.specs.Stops.{AnswersLast, StopsLeaveRuns};
 ghost use Rattle.bor_wire.specs.Turns.{AnswersAreRuns, FrontsAreRuns};
@@ -115,4 +116,31 @@ pub fn stops_leave_runs<K: Keep>()
 /// leaves no more is an argument of the store's.
 pub fn answers_last<K: Keep>()
     ensures { AnswersLast K.shows K.is_clean K.is_sound K.may_leave K.left_shows }
+{}
+
+/// A run that goes on from the register that another run left, as after a restart, is one run with
+/// it: the same replies, the same register at the end, and of each agent the history and the
+/// exchanges of the first and then those of the second. This holds of every register and run.
+pub fn runs_compose()
+    ensures { RunsCompose }
+{}
+
+/// The same of exchanges one after the other, where the second ones begin with a keep of the
+/// register that the first ones left: together they are a run, with what both spell and the bytes
+/// that both sent, and the keep at the end shows the register that it leaves.
+pub fn exchanges_compose<K: Keep>()
+    ensures { ExchangesCompose K.shows }
+{}
+
+/// After a run from a legal register an agent has the filings that follow from those at the start
+/// and its own history, whatever the others ask for.
+pub fn filings_follow_history()
+    ensures { FilingsFollowHistory }
+{}
+
+/// The first sentence of whole lives of registers, from new ones on, however many starts of the
+/// program each has: an agent whose own exchanges are the same in both, on the same days and with
+/// the same published by the others at each, receives the same bytes.
+pub fn lives_keep_drafts_invisible()
+    ensures { LivesKeepDraftsInvisible }
 {}
