@@ -155,18 +155,15 @@ def told_of(bor, folder, sql, reported, exchanged):
     changed(folder, sql, path)
     failed(report(bor, folder, db=path), reported)
     failed(served(bor, folder, path), reported)
-    if exchanged:
-        failed(opening(bor, folder, path), exchanged)
-    else:
-        replied(opening(bor, folder, path), [NO_TOKEN])
-        ended(report(bor, folder, db=path), 1, "refused NoEntity\n")
+    failed(opening(bor, folder, path), exchanged)
 
 
 NONE, TAKEN = "no register in other.db", "other.db is not free for a register"
 ONE, SEVEN = "register of version 1 in other.db", "register of version 7 in other.db"
 VERSIONS = "CREATE TABLE Register (VERSION, One); INSERT INTO Register (One, VERSION) VALUES "
 FOREIGN = [
-    ("CREATE TABLE agents (name TEXT) STRICT", NONE, None),
+    ("CREATE TABLE agents (name TEXT) STRICT", NONE, TAKEN),
+    ("CREATE VIEW agents AS SELECT 1 AS name", NONE, TAKEN),
     ("CREATE TABLE agent (name TEXT) STRICT", NONE, TAKEN),
     ("CREATE TABLE agent (age INTEGER) STRICT", NONE, TAKEN),
     ("CREATE TABLE IDENTIFIER (name TEXT) STRICT", NONE, TAKEN),
@@ -207,25 +204,39 @@ INSERT INTO note VALUES ('paid');
 INSERT INTO customer (name) VALUES ('Ann'), ('Ben');
 INSERT INTO bill VALUES (1, 250), (2, 1000), (2, NULL);
 """
-# What is there of them: how each is defined, and its rows.
+# What is there: how each is defined, and the rows.
 OTHERS_READ = [
-    "SELECT type, name, tbl_name, rootpage, sql FROM sqlite_master WHERE tbl_name IN ('customer', 'bill', 'owing', 'note') ORDER BY name",
+    "SELECT type, name, tbl_name, rootpage, sql FROM sqlite_master ORDER BY name",
     *(f"SELECT * FROM {it}" for it in ("customer", "bill", "owing", "note", "sqlite_sequence", "pragma_user_version")),
 ]
 
 
-@check
-def a_register_stands_beside_other_tables(bor, folder):
-    """a register that is set up beside other tables answers as it does alone, and they stay as they were"""
+def others_stay(bor, folder, run):
+    """The run, on a file with the tables of another program, is told that it isn't free, and they stay as they were."""
     changed(folder, OTHERS, "other.db")
     before = [rows_of(folder, query, "other.db") for query in OTHERS_READ]
-    requests = [*map(str, sorted(DAY_FILES.glob("*.http")))]
-    alone = bor.run(["exchange", "--db", "day.db", *REGISTER, *requests], folder)
-    beside = bor.run(["exchange", "--db", "other.db", *REGISTER, *requests], folder)
-    is_so((beside.output, beside.status, beside.errors) == (alone.output, 1, b""), beside.told())
+    failed(run(bor, folder, "other.db"), TAKEN)
     for query, there in zip(OTHERS_READ, before):
         is_so(there and rows_of(folder, query, "other.db") == there, f"{query}: {rows_of(folder, query, 'other.db')}")
     is_so(rows_of(folder, "PRAGMA integrity_check", "other.db") == [("ok",)], "the file isn't sound")
+
+
+@check
+def no_register_is_set_up_beside_other_tables(bor, folder):
+    """a file with the tables of another program isn't free for a register, and they stay as they were"""
+    others_stay(bor, folder, opening)
+
+
+@check
+def a_file_without_tables_is_free(bor, folder):
+    """a database whose tables were all dropped is free for a register, which answers as one in a new file"""
+    changed(folder, "PRAGMA user_version = 5; CREATE TABLE t (a); DROP TABLE t", "bare.db")
+    requests = [*map(str, sorted(DAY_FILES.glob("*.http")))]
+    alone = bor.run(["exchange", "--db", "day.db", *REGISTER, *requests], folder)
+    bare = bor.run(["exchange", "--db", "bare.db", *REGISTER, *requests], folder)
+    is_so((bare.output, bare.status, bare.errors) == (alone.output, 1, b""), bare.told())
+    is_so(rows_of(folder, "PRAGMA user_version", "bare.db") == [(5,)], "the user version has changed")
+    is_so(rows_of(folder, "PRAGMA integrity_check", "bare.db") == [("ok",)], "the file isn't sound")
 
 
 # What is done to a register's own tables, and what is told then.

@@ -4,9 +4,9 @@ import shutil
 import stat
 from pathlib import Path
 
-from lib.check_files import FOREIGN, LOOSE, NO_TOKEN, OTHERS, OTHERS_READ, SPOILED, TEXT
+from lib.check_files import FOREIGN, LOOSE, NO_TOKEN, SPOILED, TEXT, others_stay
 from lib.checking import DB, ENROLLED, LODGED, REPORT, begun, changed, check, ended, exchange, failed, is_so
-from lib.checking import replied, report, rows_of, write
+from lib.checking import report, rows_of, write
 from lib.notation import request_of
 from lib.program import REGISTER
 
@@ -92,10 +92,7 @@ def files_that_are_not_free_are_told(bor, folder):
     for sql, _, told in FOREIGN:
         Path(folder, "other.db").unlink(missing_ok=True)
         changed(folder, sql, "other.db")
-        if told:
-            failed(init(bor, folder, "other.db"), told)
-        else:
-            made(bor, folder, "other.db")
+        failed(init(bor, folder, "other.db"), told)
     for sql, _, told in SPOILED:
         Path(folder, "other.db").unlink(missing_ok=True)
         made(bor, folder, "other.db")
@@ -104,15 +101,9 @@ def files_that_are_not_free_are_told(bor, folder):
 
 
 @check
-def a_register_is_made_beside_other_tables(bor, folder):
-    """a register is made beside the tables of another program, which stay as they are"""
-    changed(folder, OTHERS, "other.db")
-    before = [rows_of(folder, query, "other.db") for query in OTHERS_READ]
-    made(bor, folder, "other.db")
-    after = [rows_of(folder, query, "other.db") for query in OTHERS_READ]
-    is_so(after == before, f"the other tables are {after}")
-    ran = bor.exchange([request_of(ENROLLED[0])], folder, "other.db")
-    replied(ran, [ENROLLED])
+def none_is_made_beside_other_tables(bor, folder):
+    """none is made in a file with the tables of another program, which stay as they are"""
+    others_stay(bor, folder, init)
 
 
 @check

@@ -1,16 +1,15 @@
 -- How a register comes to be open on a connection that was looked at.
-use Rattle.std.proofs.Common.{◌≡◌, ◌≢◌, ◌∙◌, ℕ, ℤ, List, Result, Ok, Err, IfOk, inl, inr, subst, sym}
+use Rattle.std.proofs.Common.{◌≡◌, ◌∙◌, ℕ, ℤ, List, Result, Ok, Err, IfOk, inl, inr, subst, sym}
 use Rattle.sqlite.specs.State.{State}
 use Rattle.bor_register.specs.Register.{Register, empty_register}
 use Rattle.bor_store_sql.specs.Rows.Encoding.{contents}
 use Rattle.bor_store_sql.specs.Shown.{Has, IsClean, ShowsIn}
-use Rattle.bor_store_sql.specs.Texts.Tables.{no_schema}
 use Rattle.bor_store.specs.Opening.{IsFailure}
 use Rattle.bor_store.specs.declared.open_fault.OpenFault.{OpenFault}
 use Rattle.bor_store.specs.declared.open_fault.OpenFault.TheVariants as faults
 use Rattle.bor_program.specs.declared.host.Opened.{Opened}
 use Rattle.bor_program.specs.declared.host.Origin.{Origin}
-use Rattle.bor_program.specs.declared.host.Origin.TheVariants.{Found, New, Beside}
+use Rattle.bor_program.specs.declared.host.Origin.TheVariants.{Found, New}
 use Rattle.bor.specs.Machine.{ComesOpen}
 
 pub not_failed : (fault : OpenFault) → fault ≡ faults.NoRegister → IsFailure fault → ⊥
@@ -19,9 +18,6 @@ not_failed fault is (inr e) = let same : faults.NoRegister ≡ faults.Store = sy
 
 not_new : (came : Origin) → came ≡ Found → came ≡ New → ⊥
 not_new came is new = let same : Found ≡ New = sym is ∙ new in cc
-
-not_beside : (came : Origin) → came ≡ Found → came ≡ Beside → ⊥
-not_beside came is beside = let same : Found ≡ Beside = sym is ∙ beside in cc
 
 pub shows_still : (r : Register) (old mid : State) → mid.committed ≡ old.committed → ShowsIn r old → ShowsIn r mid
 shows_still r old mid kept shown = record { has = subst (Has (contents r)) (sym kept) shown.has; stored = shown.stored }
@@ -36,19 +32,16 @@ module _ {K E : Type 0} (shows : K → Register → Type 0) (is_clean : K → Ty
     found = λ _ clean r shown. sh clean r (shows_still r old mid (kept (began clean)) shown);
     none = λ not. absurd (not is);
     made = λ new. absurd (not_new o.origin is new);
-    beside = λ beside. absurd (not_beside o.origin is beside);
   }
 
   -- the one that is set up, where none was shown
-  pub made_open : (IsClean mid → (r : Register) → ShowsIn r old → ⊥) → (result : Result (Opened K) E) → IfOk result (λ o. o.origin ≢ Found) → IfOk result (λ o. is_clean o.register → IsClean mid)
-      → IfOk result (λ o. o.origin ≡ New → is_clean o.register → shows o.register (empty_register registrar day))
-      → IfOk result (λ o. o.origin ≡ Beside → is_clean o.register → mid.committed.schema ≢ no_schema)
+  pub made_open : (IsClean mid → (r : Register) → ShowsIn r old → ⊥) → (result : Result (Opened K) E) → IfOk result (λ o. o.origin ≡ New) → IfOk result (λ o. is_clean o.register → IsClean mid)
+      → IfOk result (λ o. is_clean o.register → shows o.register (empty_register registrar day))
       → IfOk result (λ o. ComesOpen shows is_clean registrar day old o.register o.origin)
-  made_open none (Err e) is began made beside = tt
-  made_open none (Ok o) is began made beside = record {
+  made_open none (Err e) is began made = tt
+  made_open none (Ok o) is began made = record {
     began = λ clean. was_clean (began clean);
-    found = λ found. absurd (is found);
+    found = λ found. absurd (not_new o.origin found is);
     none = λ _ clean. none (began clean);
-    made = made;
-    beside = λ apart clean. subst (λ db. db.schema ≢ no_schema) (kept (began clean)) (beside apart clean);
+    made = λ _ clean. made clean;
   }

@@ -9,7 +9,7 @@ use Rattle.bor_store.specs.Opening.{HoldsRegister, IsConnected}
 use Rattle.bor_program.specs.Deeds.{ComesToBe, Deed, Opens, SetsUp}
 use Rattle.bor_program.specs.declared.host.Opened.{Opened}
 use Rattle.bor_program.specs.declared.host.Origin.{Origin}
-use Rattle.bor_program.specs.declared.host.Origin.TheVariants.{Found, New, Beside}
+use Rattle.bor_program.specs.declared.host.Origin.TheVariants.{Found, New}
 use Rattle.bor.specs.Machine.{ComesOpen, FindsOrSetsUp}
 
 pub told_ok : {A E F : Type 0} (P : A → Type 0) (of : E → F) (opened : Result A E) (told : Result A F) → MatchResult opened (λ x. told ≡ Ok x) (λ e. told ≡ Err (of e))
@@ -24,7 +24,6 @@ module _ {K : Type 0} (shows : K → Register → Type 0) (is_clean : K → Type
   comes : (register : K) (came : Origin) → FindsOrSetsUp shows is_clean Held registrar day register came → ComesToBe shows is_clean path registrar day register came Done
   comes register Found h = found register (h.found refl)
   comes register New h = (made register (h.none (λ e. cc)), h.made refl)
-  comes register Beside h = made register (h.none (λ e. cc))
 
   -- the same, once faults are told
   pub told_comes : {E F : Type 0} (of : E → F) (opened : Result (Opened K) E) (told : Result (Opened K) F) → MatchResult opened (λ x. told ≡ Ok x) (λ e. told ≡ Err (of e))

@@ -5,7 +5,6 @@ use Rattle.sqlite_wal.specs.Recovery.{Image}
 use Rattle.bor_register.specs.Register.{Register, empty_register}
 use Rattle.bor_desk.specs.Operations.Legality.{IsLegal}
 use Rattle.bor_store_sql.specs.Shown.{IsClean, ShowsFirst, ShowsIn}
-use Rattle.bor_store_sql.specs.Texts.Tables.{no_schema}
 use Rattle.bor_program.specs.Deeds.{Deed, Opens, SetsUp, Closes, Moves, Fails}
 use Rattle.bor_program.specs.declared.failure.Failure.{Failure}
 use Rattle.bor_program.specs.declared.failure.Failure.TheVariants.{NoRegister, OtherVersion, Taken, Memory, Store}
@@ -26,13 +25,12 @@ failure_of path faults.Damaged = Store
 failure_of path faults.Memory = Memory
 failure_of path faults.Store = Store
 
--- A register came to be open on a connection, which was in this state. One that was there shows what it did; where one is set up, none was shown; and in a store that has nothing else, the new one of this registrar and day is shown.
+-- A register came to be open on a connection, which was in this state. One that was there shows what it did; where one is set up, none was shown, and the new one of this registrar and day is shown.
 pub record ComesOpen {K : Type 0} (shows : K → Register → Type 0) (is_clean : K → Type 0) (registrar : List ℕ) (day : ℤ) (old : State) (register : K) (came : Origin) : Type 0 where
   pub began : is_clean register → IsClean old
   pub found : came ≡ origin.Found → is_clean register → (r : Register) → ShowsIn r old → shows register r
   pub none : came ≢ origin.Found → is_clean register → (r : Register) → ¬ ShowsIn r old
   pub made : came ≡ origin.New → is_clean register → shows register (empty_register registrar day)
-  pub beside : came ≡ origin.Beside → is_clean register → old.committed.schema ≢ no_schema
 
 -- The same, where the files hold these registers.
 pub record FindsOrSetsUp {K : Type 0} (shows : K → Register → Type 0) (is_clean : K → Type 0) (Held : Register → Type 0) (registrar : List ℕ) (day : ℤ) (register : K) (came : Origin) : Type 0 where

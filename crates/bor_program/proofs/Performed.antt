@@ -19,7 +19,7 @@ use Rattle.bor_words.specs.Asked.{EntersCheck, IsAsked, IsCommand, name_of}
 use Rattle.bor_words.specs.Words.{Entered, entered_by, file_at}
 use Rattle.bor_program.specs.Performing.{Checks, EndsSettingUp, Exchanges, Inits, InitsOnceTold, IsDoneOrFailed, Known, Performs, Serves, TellsRefusal, migrated}
 use Rattle.bor_program.specs.declared.host.Origin.{Origin}
-use Rattle.bor_program.specs.declared.host.Origin.TheVariants.{Found, New, Beside}
+use Rattle.bor_program.specs.declared.host.Origin.TheVariants.{Found, New}
 use Rattle.bor_program.specs.declared.registrar.Exchanging.{Exchanging}
 use Rattle.bor_program.specs.Program.{IsWrittenOrCutOff, report_status}
 use Rattle.bor_program.specs.Streams.{TakesAtMostPart}
@@ -83,7 +83,6 @@ untaken Reads Hosts shows is_clean is_sound may_leave left_shows tells does begu
 unheard_of : (path : Bor Words) (origin : Origin) (errors told : Known) (status : ℕ) → status ≤ 1 → EndsSettingUp path origin errors told status → Keeps errors told
 unheard_of path Found errors told status le h = absurd (omega (arith, le, h.0))
 unheard_of path New errors told status le h = h.1
-unheard_of path Beside errors told status le h = h.1
 
 inits_unheard : {M K : Type 0} (shows : K → Register → Type 0) (is_clean : K → Type 0) (does : M → Deed K → M → Type 0) (begun ended : M) (path : Bor Words) (registrar : List ℕ) (day : ℤ) (output printed errors told : Known) (status : ℕ) → status ≤ 1
     → Inits shows is_clean does begun ended path registrar day output printed errors told status → Keeps errors told
@@ -143,7 +142,6 @@ serves_end Hosts shows is_clean is_sound may_leave left_shows does begun ended a
 end_of : (path : Bor Words) (origin : Origin) (errors told : Known) (status : ℕ) → EndsSettingUp path origin errors told status → IsDoneOrFailed status
 end_of path Found errors told status h = inr h.0
 end_of path New errors told status h = h.0
-end_of path Beside errors told status h = h.0
 
 inits_end : {M K : Type 0} (Reads : ℕ → Bor Words → List ℕ → Type 0) (shows : K → Register → Type 0) (is_clean : K → Type 0) (does : M → Deed K → M → Type 0) (begun ended : M) (asked : AskedInit) (output printed errors told : Known) (status : ℕ)
     → InitsOnceTold Reads shows is_clean does begun ended asked output printed errors told status → IsDoneOrFailed status

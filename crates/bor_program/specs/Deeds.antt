@@ -5,7 +5,7 @@ use Rattle.bor_register.specs.Register.{Register, empty_register}
 use Rattle.clap.specs.Words.{Text}
 use Rattle.bor_program.specs.declared.failure.Failure.{Failure}
 use Rattle.bor_program.specs.declared.host.Origin.{Origin}
-use Rattle.bor_program.specs.declared.host.Origin.TheVariants.{Found, New, Beside}
+use Rattle.bor_program.specs.declared.host.Origin.TheVariants.{Found, New}
 
 -- One deed, on the file of this name.
 pub data Deed (K : Type 0) : Type 0 where
@@ -20,12 +20,11 @@ pub data Deed (K : Type 0) : Type 0 where
   -- none of these can be done, for this failure
   Fails : Bor Text → Failure → Deed K
 
--- How a register came to be open: it stood in the file, or one was set up. Where the file has nothing else, that is the new register of this registrar and day.
+-- How a register came to be open: it stood in the file, or one was set up, the new register of this registrar and day.
 abbrev pub ComesToBe : {K : Type 0} → (K → Register → Type 0) → (K → Type 0) → Bor Text → List ℕ → ℤ → K → Origin → (Deed K → Type 0) → Type 0
 ComesToBe shows is_clean path registrar day register Found done = done (Opens path register)
 ComesToBe shows is_clean path registrar day register New done =
     done (SetsUp path register) × (is_clean register → shows register (empty_register registrar day))
-ComesToBe shows is_clean path registrar day register Beside done = done (SetsUp path register)
 
 -- A register comes to be open, and what is left of it is closed in the file of this name. Nothing else is done.
 pub record Visits {M K : Type 0} (does : M → Deed K → M → Type 0) (begun ended : M) (path : Bor Text) (Comes : (Deed K → Type 0) → Type 0) (left : K) : Type 0 where

@@ -24,7 +24,7 @@ use Rattle.bor_words.specs.Asked.{name_of}
 use Rattle.bor_program.specs.declared.failure.Failure.{Failure}
 use Rattle.bor_program.specs.declared.failure.Failure.TheVariants.{Registered}
 use Rattle.bor_program.specs.declared.host.Origin.{Origin}
-use Rattle.bor_program.specs.declared.host.Origin.TheVariants.{Found, New, Beside}
+use Rattle.bor_program.specs.declared.host.Origin.TheVariants.{Found, New}
 use Rattle.bor_program.specs.Deeds.{ComesToBe, Deed, Fails, Moves, Opens, Visits}
 use Rattle.bor_program.specs.Failures.{IsMetIn, IsMetListening, IsMetOn, IsMetOnKeep, IsOpeningOf, IsTold, TellsFiles, failure_line}
 use Rattle.bor_program.specs.declared.registrar.Exchanging.{Exchanging}
@@ -92,7 +92,6 @@ IsDoneOrFailed status = (status ≡ 0) ⊎ (status ≡ 3)
 abbrev pub EndsSettingUp : Bor Words → Origin → (errors told : Known) → (status : ℕ) → Type 0
 EndsSettingUp path Found errors told status = (status ≡ 3) × AppendsPart errors told (failure_line (Registered path))
 EndsSettingUp path New errors told status = IsDoneOrFailed status × Keeps errors told
-EndsSettingUp path Beside errors told status = IsDoneOrFailed status × Keeps errors told
 
 -- The register that stands in the file of this name, or a new one that was set up there, is closed there as it came to be open.
 abbrev pub SetsUpIn : {M K : Type 0} → (K → Register → Type 0) → (K → Type 0) → (M → Deed K → M → Type 0) → M → M → Bor Words → List ℕ → ℤ → Known → Known → ℕ → Type 0

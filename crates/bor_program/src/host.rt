@@ -215,8 +215,6 @@ pub enum Origin {
     Found,
     /// It was set up, in a file that had nothing else.
     New,
-    /// It was set up beside what else the file has.
-    Beside,
 }
 
 /// A register that was opened, or set up where there was none.

@@ -74,7 +74,7 @@ fn end_of<O: Output, E: Write>(path: &str, origin: Origin, output: &mut O, error
 {
     match origin {
         Origin::Found => Failure::Registered(path).tell(errors),
-        Origin::New | Origin::Beside => hand_on(output),
+        Origin::New => hand_on(output),
     }
 }
 

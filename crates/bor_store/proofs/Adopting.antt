@@ -1,18 +1,19 @@
 -- The rows that the version's query finds, and that the tables of a register are all there.
-use Rattle.std.proofs.Common.{◌≡◌, ℤ, pos, Bool, true, false, ◌&&◌, List, [], ◌∷◌, ◌++◌, codes, Vec, Option, Some, None, Result, Ok, Err, IfOk, refl, sym, subst}
+use Rattle.std.proofs.Common.{◌≡◌, ℤ, pos, Bool, true, false, ◌&&◌, List, [], ◌∷◌, ◌++◌, codes, Vec, Option, Some, None, Result, Ok, Err, IfOk, OnOk, IsTrue, refl, sym, subst}
 use Rattle.std.specs.List.{list_all}
 use Rattle.std.proofs.Math.Bool.{and-true}
 use Rattle.std.specs.declared.alloc.Global.{Global}
 use Rattle.sqlite_tied.specs.Compute.{everything}
 use Rattle.sqlite.specs.declared.types.Value.TheVariants.{Int, Null}
 use Rattle.sqlite.specs.Command.{Command}
-use Rattle.sqlite.specs.Listing.{understood}
+use Rattle.sqlite.specs.Effect.{Database}
+use Rattle.sqlite.specs.Listing.{IsSourceOf, reads_listing, understood}
 use Rattle.sqlite.specs.Order.{Row}
 use Rattle.sqlite.specs.Program.{overlay}
 use Rattle.sqlite.specs.Query.{IsAnswer, Query}
 use Rattle.sqlite.specs.Clock.{timed}
 use Rattle.sqlite.specs.Given.{Returns}
-use Rattle.sqlite.specs.State.{State, Shown, ShowsRows}
+use Rattle.sqlite.specs.State.{IsStatement, State, Shown, ShowsRows}
 use Rattle.sqlite.specs.declared.error.Error.{Error}
 use Rattle.sqlite_schema.specs.declared.command.Returning.{Returning}
 use Rattle.sqlite.specs.Table.{Table}
@@ -65,6 +66,38 @@ module _ (old new : State) where
   pub versions_told : (result : Result (Vec Row Global) Error) → IfOk result (λ rows. Shown version_text [] old new rows.items) → IfOk result (λ rows. AreVersions old rows.items)
   versions_told (Ok rows) h = versions_of rows.items h
   versions_told (Err error) h = tt
+
+  -- the query leaves what it was asked of
+  left_same : (rows : List Row) → Shown version_text [] old new rows → new.now ≡ old.now
+  unfolding Shown
+  left_same rows h = go h.0.returning refl h.2
+    where
+      go : (o : Option Returning) → h.0.returning ≡ o → ShowsRows old new version_text h.0 (timed [] h.0.formats h.1.now) rows o → new.now ≡ old.now
+      go None e k = k.3.0.now_is
+      go (Some what) e k = absurd (version_asks old.now.schema (subst Returns (sym h.1.is) (rw e refl)))
+
+  pub versions_left : (result : Result (Vec Row Global) Error) → IfOk result (λ rows. Shown version_text [] old new rows.items) → OnOk result (new.now ≡ old.now)
+  versions_left (Ok rows) h = left_same rows.items h
+  versions_left (Err error) h = tt
+
+-- a connection that is open and shows the same has the same versions
+pub versions_same : (old new : State) (rows : List Row) → new.now ≡ old.now → IsTrue new.is_open → AreVersions old rows → AreVersions new rows
+unfolding Shown
+versions_same old new rows same up h =
+    let now : old.now ≡ new.now = sym same in
+    let it : IsStatement new version_text [] h.0 = record {
+      is = subst (λ (db : Database). understood db.schema version_text ≡ Ok h.0) now h.1.is;
+      whole = h.1.whole;
+      given = h.1.given;
+      now = h.1.now;
+    } in
+    (h.0, it, go h.0.returning refl h.2)
+  where
+    go : (o : Option Returning) → h.0.returning ≡ o → ShowsRows old old version_text h.0 (timed [] h.0.formats h.1.now) rows o → ShowsRows new new version_text h.0 (timed [] h.0.formats h.1.now) rows o
+    go None e k =
+        (k.0, subst (λ (db : Database). IsSourceOf (reads_listing db.schema version_text) db k.0) (sym same) k.1, k.2,
+        (record { was_open = up; is_open = up; now_is = refl; committed_is = refl; mode = refl }, record { changes = refl; last_rowid = refl }, refl))
+    go (Some what) e k = absurd (version_asks old.now.schema (subst Returns (sym h.1.is) (rw e refl)))
 
 -- the one row of a version tells it
 picked : (version : ℤ) (row : RegisterRow) (old : State) (rows : List Row) → Keeps (versioned_columns version row ∷ []) (old.now.trees 0) → IsAnswer version_query (overlay old.now.trees []) [] rows → rows ≡ (Int version ∷ []) ∷ []

@@ -1,13 +1,15 @@
 -- The answer on tables, by the rows of their versions.
-use Rattle.std.proofs.Common.{◌≡◌, ◌≢◌, ◌⊎◌, inl, inr, ℤ, pos, Bool, true, false, List, Some, None, Result, Ok, Err, IsTrue, MatchResult, IfErr, true≢false, refl, sym, ap, ◌∙◌, arith, if◌then◌else◌}
+use Rattle.std.proofs.Common.{◌≡◌, ◌≢◌, ◌⊎◌, inl, inr, ℤ, pos, Bool, true, false, List, Some, None, Result, Ok, Err, IsTrue, MatchResult, IfErr, true≢false, refl, sym, subst, ap, ◌∙◌, arith, if◌then◌else◌}
 use Rattle.std.proofs.lemmas.Int.{ints}
+use Rattle.sqlite.specs.Effect.{Database}
 use Rattle.sqlite.specs.Order.{Row}
 use Rattle.sqlite.specs.Schema.{Schema}
 use Rattle.sqlite.specs.State.{State}
 use Rattle.bor_store.specs.declared.open_fault.OpenFault.{OpenFault}
 use Rattle.bor_store.specs.declared.open_fault.OpenFault.TheVariants as faults
 use Rattle.sqlite.specs.declared.error.Error.{Error}
-use Rattle.bor_store.specs.Opening.{IsFailure, IsJudged, Judges, RefusesFirst, fault_of, version_in, wants_memory}
+use Rattle.bor_store.specs.Opening.{IsFailure, IsJudged, IsRegister, Judges, RefusesFirst, fault_of, has_all, version_in, wants_memory}
+use Rattle.bor_store.proofs.Adopting.{versions_same}
 
 told_memory : (is : Bool) → IsFailure (if is then faults.Memory else faults.Store)
 told_memory true = inl refl
@@ -63,3 +65,14 @@ pub judged_told : (X Y : Type 0) (s : State) (fault : OpenFault) → IsJudged s 
 judged_told X Y s fault (inl failure) = inl failure
 judged_told X Y s fault (inr (inl bare)) = inr (inl (bare.0, ap (refused Y) (fault_is X fault faults.NoRegister bare.1)))
 judged_told X Y s fault (inr (inr h)) = inr (inr (h.0, h.1, judges_told X Y s.now.schema h.0 fault h.2))
+
+-- what is taken of a connection is a register's on one that is open and shows the same
+pub taken_is : {X : Type 0} (old new : State) (x : X) → new.now ≡ old.now → IsTrue new.is_open → IsJudged {X = X} old (Ok x) → IsRegister new
+taken_is old new x same up (inl failure) = absurd failure
+taken_is old new x same up (inr (inl bare)) = absurd (let it = bare.1 in cc)
+taken_is old new x same up (inr (inr h)) = record {
+  rows = h.0;
+  versions = versions_same old new h.0 same up h.1;
+  version = h.2.0;
+  whole = subst (λ (db : Database). IsTrue (has_all db.schema)) (sym same) h.2.1;
+}

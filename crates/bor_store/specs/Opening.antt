@@ -1,9 +1,10 @@
--- The stores that a register may be set up in, and the tables that are taken for one.
-use Rattle.std.specs.Prelude.{◌≡◌, ◌≢◌, ◌⊎◌, ℕ, ℤ, Bool, true, false, if◌then◌else◌, ◌||◌, ◌&&◌, List, [], ◌∷◌, ◌++◌, map, is_some, codes, Option, Some, None, Result, Ok, Err, IsErrAnd, IsTrue}
+-- The tables that are taken for a register, and the registers that files hold.
+use Rattle.std.specs.Prelude.{◌≡◌, ◌≢◌, ◌⊎◌, ℕ, ℤ, Bool, true, false, if◌then◌else◌, ◌||◌, ◌&&◌, List, [], ◌∷◌, map, is_some, codes, Option, Some, None, Result, Ok, Err, IsErrAnd, IsTrue}
 use Rattle.std.specs.List.{list_any, list_all}
 use Rattle.sqlite.specs.Held.{Held, state}
 use Rattle.sqlite.specs.Order.{Row, column}
 use Rattle.sqlite.specs.Schema.{Schema}
+use Rattle.sqlite.specs.Start.{FindsIn}
 use Rattle.sqlite.specs.State.{State, HasCleanDisk, Opens, Shown}
 use Rattle.sqlite.specs.Files.{FailsToClose, HoldsDatabase, IsClosed, file_state}
 use Rattle.sqlite_disk.specs.declared.Disk.{Ghosts as Disk}
@@ -26,7 +27,7 @@ use Rattle.sqlite_schema.specs.Names.{same_name, table_named, index_named, view_
 use Rattle.bor_register.specs.Register.{Register}
 use Rattle.bor_store_sql.specs.Rows.Encoding.{first_version, tables_version}
 use Rattle.bor_store_sql.specs.Shown.{ShowsIn, Stands}
-use Rattle.bor_store_sql.specs.Texts.Tables.{first_schema, keep_schema, period_table, record_index, subject_index, identifier_index, line_index}
+use Rattle.bor_store_sql.specs.Texts.Tables.{first_schema, keep_schema, period_table}
 use Rattle.bor_store.specs.declared.open_fault.OpenFault.{OpenFault}
 use Rattle.bor_store.specs.declared.open_fault.OpenFault.TheVariants as faults
 
@@ -42,19 +43,6 @@ wants_memory _ = false
 -- the fault of an error of the store: want of memory, and of each other one a store that failed
 abbrev pub fault_of : Error → OpenFault
 fault_of error = if wants_memory error then faults.Memory else faults.Store
-
--- ---- setting up
-
--- the names of a register's tables, and of the indexes that are made by name
-abbrev pub register_names : List (List ℕ)
-register_names = map (λ t. t.name) keep_schema.tables ++ record_index.name ∷ subject_index.name ∷ identifier_index.name ∷ line_index.name ∷ []
-
--- a table, an index or a view has the name, but for the case of ASCII letters
-abbrev pub is_used : Schema → List ℕ → Bool
-is_used schema name = is_some (table_named schema name) || (is_some (index_named schema name) || is_some (view_named schema name))
-
-abbrev pub is_taken : Schema → Bool
-is_taken schema = list_any (is_used schema) register_names
 
 -- ---- taking tables for a register
 
@@ -81,6 +69,10 @@ has_all schema = has_tables schema keep_schema.tables
 -- there are all tables of a register of version 1
 abbrev pub has_first : Schema → Bool
 has_first schema = has_tables schema first_schema.tables
+
+-- a table, an index or a view has the name, but for the case of ASCII letters
+abbrev pub is_used : Schema → List ℕ → Bool
+is_used schema name = is_some (table_named schema name) || (is_some (index_named schema name) || is_some (view_named schema name))
 
 -- a table, an index or a view has the name of the table that version 2 has beside those of version 1
 abbrev pub is_period_used : Schema → Bool
@@ -123,6 +115,13 @@ IsToldBy tells s result =
 abbrev pub IsJudged : {X : Type 0} → State → Result X OpenFault → Type 0
 IsJudged s result = IsToldBy (λ schema rows answer. Judges schema rows answer) s result
 
+-- The tables of a connection are a register's: SQL gives one version, it is that of these tables, and no table and no column is missing.
+pub record IsRegister (s : State) : Type 0 where
+  pub rows : List Row
+  pub versions : AreVersions s rows
+  pub version : version_in rows ≡ Some tables_version
+  pub whole : IsTrue (has_all s.now.schema)
+
 -- tables of version 1 are refused as such, or memory is wanting or the store failed
 abbrev pub RefusesFirst : {X : Type 0} → Result X OpenFault → Type 0
 RefusesFirst result = IsErrAnd result (λ fault. IsFailure fault ⊎ (fault ≡ faults.OtherVersion first_version))
@@ -135,9 +134,10 @@ pub record HoldsRegister (image : Image) (r : Register) : Type 0 where
   pub holds : ∥ HoldsDatabase image trees ∥₁
   pub stands : Stands r trees
 
--- A connection to them that is new, and shows each register that they hold.
+-- A connection to them that is new, and shows what they recover to, and each register that they hold.
 pub record IsConnected (image : Image) (s : State) : Type 0 where
   pub opens : Opens s
+  pub found : FindsIn image s
   pub shows : (r : Register) → HoldsRegister image r → ShowsIn r s
 
 -- The result of closing a connection: two files that hold each register that it showed, as they read and after a crash, on a disk that returned what was written; or the error that the store returns.

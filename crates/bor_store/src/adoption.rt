@@ -10,7 +10,7 @@ ghost use Rattle.bor_store_sql.specs.Rows.Encoding.{tables_version};
 ghost use Rattle.bor_store_sql.specs.Found.{Asked};
 ghost use Rattle.bor_store_sql.specs.Shown.{IsClean, IsUp, ShowsFirst, ShowsIn};
 ghost use Rattle.bor_store_reads.specs.Answering.{ReadsOnly};
-ghost use Rattle.bor_store.specs.Opening.{AreVersions, IsFailure, IsFaithful, IsJudged, RefusesFirst, has_all, has_first, is_versioned, version_in, version_text};
+ghost use Rattle.bor_store.specs.Opening.{AreVersions, IsFailure, IsFaithful, IsJudged, IsRegister, RefusesFirst, has_all, has_first, is_versioned, version_in, version_text};
 ghost use Rattle.bor_store.specs.declared.open_fault.OpenFault.TheVariants as faults;
 
 use crate::open_fault::OpenFault;
@@ -113,6 +113,8 @@ pub(crate) fn version_rows<S: Alter>(conn: &mut Connection<S>) -> Result<Vec<Row
     ensures asked { Asked version_text [] (state S.Store conn.old) (state S.Store conn.new) result }
     ensures versions { HasCleanDisk (state S.Store conn.new)
         → IfOk result (λ rows. AreVersions (state S.Store conn.old) rows.items) }
+    ensures same { HasCleanDisk (state S.Store conn.new)
+        → OnOk result ((state S.Store conn.new).now ≡ (state S.Store conn.old).now) }
 {
     // Its clause says that the connection shows what the last commit left.
     let _settled = conn.is_autocommit();
@@ -165,6 +167,8 @@ pub fn examine<S: Alter>(conn: &mut Connection<S>) -> Result<(), OpenFault>
     ensures other { (n : ℤ) → result ≡ Err (faults.OtherVersion n) → n ≢ tables_version }
     ensures whole { OnOk result (IsTrue (has_all (state S.Store conn.old).now.schema)) }
     ensures up { OnOk result (IsUp (state S.Store conn.new)) }
+    ensures same { HasCleanDisk (state S.Store conn.new)
+        → OnOk result ((state S.Store conn.new).now ≡ (state S.Store conn.old).now) }
     ensures judged { HasCleanDisk (state S.Store conn.new)
         → IsJudged (state S.Store conn.old) result }
     ensures shown { HasCleanDisk (state S.Store conn.new) → IsTrue (state S.Store conn.old).is_open
@@ -203,6 +207,10 @@ impl<S: Alter + Drop> SqlKeep<S> {
             → ShowsIn r (state S.Store conn) → IfErr result IsFailure }
         ensures first { IsFaithful S.Store → IsTrue (state S.Store conn).is_open
             → (r : Register) → ShowsFirst r (state S.Store conn) → RefusesFirst result }
+        ensures is { IfOk result (λ k.
+            HasCleanDisk (state S.Store k.conn) → IsRegister (state S.Store k.conn)) }
+        ensures kept { IfOk result (λ k. IsClean (state S.Store k.conn)
+            → (state S.Store k.conn).committed ≡ (state S.Store conn).committed) }
         ensures up { IfOk result (λ k. IsUp (state S.Store k.conn)) }
         ensures began { IfOk result (λ k.
             IsClean (state S.Store k.conn) → IsClean (state S.Store conn)) }

@@ -7,18 +7,28 @@ ghost use Rattle.bor_desk.specs.Operations.Legality.{IsLegal};
 ghost use Rattle.bor_register.specs.Register.{Register};
 ghost use Rattle.bor_store_sql.specs.Shown.{IsClean, LeavesAtMost, ShowsFirst, ShowsIn, Stands};
 ghost use Rattle.bor_store_reads.specs.Answering.{ReadsOnly};
-ghost use Rattle.bor_store.specs.Opening.{IsFailure, is_period_used, is_versioned, version_in};
+ghost use Rattle.bor_store.specs.Opening.{IsFailure, is_period_used, is_used, is_versioned, version_in};
 ghost use Rattle.bor_store.specs.Migrating.{IsMoveJudged, IsVersionJudged, Migrates, TellsVersion};
 ghost use Rattle.bor_store.specs.declared.open_fault.OpenFault.TheVariants as faults;
 
 use crate::adoption::{has_all, has_first, is_versioned, version_in, version_rows};
 use crate::files::days_in_files;
 use crate::open_fault::OpenFault;
-use crate::setup::is_used;
 use bor_store_sql::move_tables;
 use bor_store_sql::texts::changes::{FIRST_VERSION, VERSION};
 use sqlite::{Alter, Connection, Row};
+use sqlite_schema::schema::Schema;
 use std::alloc::Global;
+
+// Whether a table, an index or a view has the name, but for the case of ASCII letters.
+fn is_used(schema: &Schema, name: &str) -> bool
+    ensures { result ≡ is_used schema.now name.now }
+{
+    let name = name.as_bytes();
+    schema.table_named(name).is_some()
+        || schema.index_named(name).is_some()
+        || schema.view_named(name).is_some()
+}
 
 // Whether tables are of version 1, and not of version 2: by the rows of their versions, and by
 // whether all tables of each version are there and the name `period` is used.

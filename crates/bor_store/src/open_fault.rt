@@ -21,8 +21,8 @@ pub enum OpenFault {
     /// The table `register` has this version, which isn't 2, nor 1 where tables were to be moved.
     #[error("register of version {0}")]
     OtherVersion(i64),
-    /// Where a register was to be set up, a table, an index or a view has a name of a register's;
-    /// where tables of version 1 were to be moved, the name `period`.
+    /// Where a register was to be set up, the store has a table, an index or a view; where tables of
+    /// version 1 were to be moved, it has one of the name `period`. The store is as it was.
     #[error("not free for a register")]
     Taken,
     /// Where tables of version 1 were to be moved, the reader refuses the file of a live filing, or

@@ -2,11 +2,12 @@
 
 ghost use Rattle.std.specs.Prelude.{◌≡◌, false, IfErr, IfOk};
 ghost use Rattle.sqlite.specs.Files.{file_state};
+ghost use Rattle.sqlite.specs.Start.{FindsIn};
 ghost use Rattle.sqlite.specs.State.{HasCleanDisk};
 ghost use Rattle.sqlite_wal.specs.Files.{image_at};
 ghost use Rattle.bor_register.specs.Register.{Register};
 ghost use Rattle.bor_store_sql.specs.Shown.{IsClean, IsUp, ShowsIn};
-ghost use Rattle.bor_store.specs.Opening.{HoldsRegister, IsClosing, IsConnected, IsFailure};
+ghost use Rattle.bor_store.specs.Opening.{HoldsRegister, IsClosing, IsConnected, IsFailure, IsRegister};
 
 use crate::open_fault::OpenFault;
 use crate::sql_keep::SqlKeep;
@@ -34,14 +35,20 @@ pub fn connect<S: Start>(
 }
 
 impl<S: Start> SqlKeep<FileStore<FileFrom<S>>> {
-    /// The register in the file of this path, which is made where there is none. `:memory:` and
-    /// files that are no database are [`OpenFault::Store`]; the rest is [`SqlKeep::adopt`]'s.
+    /// The register in the file of this path, which is made where there is none; `start` stands for
+    /// what the file and its log hold. The tables that it has are those of a register, as
+    /// [`SqlKeep::adopt`] asks, and they are what the files recover to. `:memory:` and files that
+    /// are no database are [`OpenFault::Store`]; the rest is [`SqlKeep::adopt`]'s.
     pub fn open(
         rt: &HostRuntime,
         path: &str,
         start: S,
     ) -> Result<SqlKeep<FileStore<FileFrom<S>>>, OpenFault>
         ensures up { IfOk result (λ k. IsUp (file_state k.conn)) }
+        ensures is { IfOk result (λ k.
+            HasCleanDisk (file_state k.conn) → IsRegister (file_state k.conn)) }
+        ensures held { IfOk result (λ k. HasCleanDisk (file_state k.conn)
+            → FindsIn (image_at S.Start) (file_state k.conn)) }
         ensures found { IfOk result (λ k. IsClean (file_state k.conn)
             → (r : Register) → HoldsRegister (image_at S.Start) r → ShowsIn r (file_state k.conn)) }
         ensures one { IfOk result (λ k.

@@ -15,4 +15,4 @@ returns-in-Err-NoRegister g c =
     let mid = state g.S.Store c.examine.new.conn in
     let reads = c.examine.ensures.reads in
     let none : IsClean mid → (r : Register) → ShowsIn r old → ⊥ = λ clean r shown. not_failed _ c.in-Err-NoRegister.field-0-is (c.in-Err-NoRegister.ensures.shown clean.0 (reads.began clean).1 r shown) in
-    made_open _ _ _ _ old mid reads.began reads.kept none c.set_up_on.result c.set_up_on.ensures.origin c.set_up_on.ensures.began c.set_up_on.ensures.made c.set_up_on.ensures.beside
+    made_open _ _ _ _ old mid reads.began reads.kept none c.set_up_on.result c.set_up_on.ensures.origin c.set_up_on.ensures.began c.set_up_on.ensures.made

@@ -6,7 +6,7 @@ use Rattle.bor_store_sql.proofs.Finding.{settled_shown}
 use Rattle.bor_store_sql.proofs.Keeping.{leaves_no_more, left_by, up_by}
 use Rattle.bor_store_sql.proofs.Moves.{was_clean}
 use Rattle.bor_store.specs.Opening.{version_text}
-use Rattle.bor_store.proofs.Adopting.{version_asks, versions_told}
+use Rattle.bor_store.proofs.Adopting.{version_asks, versions_left, versions_told}
 use Rattle.bor_store.proofs.adoption.version_rows.Goals as goal
 
 abbrev rows_in : Vec Row Global → List Row
@@ -29,3 +29,6 @@ returns-clause-asked g c =
 
 pub returns-clause-versions : goal.returns-clause-versions
 returns-clause-versions g c clean = versions_told (state g.S.Store c.args.conn.now) (state g.S.Store c.query_all.new.self) c.query_all.result (c.query_all.ensures.ok clean)
+
+pub returns-clause-same : goal.returns-clause-same
+returns-clause-same g c clean = versions_left (state g.S.Store c.args.conn.now) (state g.S.Store c.query_all.new.self) c.query_all.result (c.query_all.ensures.ok clean)

@@ -1,7 +1,7 @@
 use Rattle.std.proofs.lemmas.Result.{err_from_is_err_and}
 use Rattle.sqlite.specs.Held.{state}
 use Rattle.bor_store_sql.proofs.OneRegister.{one_shown}
-use Rattle.bor_store.proofs.Judging.{judged_told}
+use Rattle.bor_store.proofs.Judging.{judged_told, taken_is}
 use Rattle.bor_store.proofs.sql_keep.SqlKeep.adopt.Goals as goal
 
 pub returns-in_err-examine-clause-refused : goal.returns-in_err-examine-clause-refused
@@ -11,3 +11,9 @@ returns-in_err-examine-clause-refused g c faithful =
 
 pub returns-clause-one : goal.returns-clause-one
 returns-clause-one g c r q shows too = one_shown r q _ shows too
+
+pub returns-clause-is : goal.returns-clause-is
+returns-clause-is g c clean =
+    rw c.new.ensures
+    (let ended = rw c.new.ensures at clean in
+    taken_is (state g.S.Store c.args.conn) (state g.S.Store c.examine.new.conn) _ (c.in_ok-examine.ensures.same ended) (c.in_ok-examine.ensures.up ended) (c.in_ok-examine.ensures.judged ended))
