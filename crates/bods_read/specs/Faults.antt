@@ -1,10 +1,13 @@
--- The parts of a fault that are printed: its name, the place of its statement, and the member that it is about.
+-- The parts of a fault that are printed: its name, the place of its statement, and the member that
+-- it is about.
 use Rattle.std.specs.Prelude.{ℕ, List, Option, Some, None, codes}
 use Rattle.bods_read.specs.declared.fault.Field.{Field}
 use Rattle.bods_read.specs.declared.fault.Fault.{Fault}
-use Rattle.bods_read.specs.declared.fault.Fault.TheVariants.{Missing, Bad, Fraction, ShareRange, EmptyShare, TooLong}
+use Rattle.bods_read.specs.declared.fault.Fault.TheVariants.{Missing, Bad, Fraction, ShareRange}
+use Rattle.bods_read.specs.declared.fault.Fault.TheVariants.{EmptyShare, TooLong}
 use Rattle.bods_read.specs.declared.fault.FileFault.{FileFault}
-use Rattle.bods_read.specs.declared.fault.FileFault.TheVariants.{NotJson, NotAList, NoStatements, TooMany, At}
+use Rattle.bods_read.specs.declared.fault.FileFault.TheVariants.{NotJson, NotAList, NoStatements}
+use Rattle.bods_read.specs.declared.fault.FileFault.TheVariants.{TooMany, At}
 
 -- the name of what is wrong with a statement
 unfoldable pub fault_word : Fault → List ℕ

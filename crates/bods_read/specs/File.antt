@@ -1,5 +1,6 @@
 -- The reading of a file: no JSON, the first of its faults, or its statements.
-use Rattle.std.specs.Prelude.{◌≡◌, ◌∷◌, [], ℕ, List, length, map, Option, Some, None, Result, Ok, Err, nat_lt, ◌==◌, if◌then◌else◌}
+use Rattle.std.specs.Prelude.{◌≡◌, ◌∷◌, [], ℕ, List, length, map, Option, Some, None, Result, Ok}
+use Rattle.std.specs.Prelude.{Err, nat_lt, ◌==◌, if◌then◌else◌}
 use Rattle.std.specs.Str.{is_utf8}
 use Rattle.serde_json.specs.Data.{Data}
 use Rattle.serde_json.specs.Read.{read}
@@ -8,7 +9,8 @@ use Rattle.bods_read.specs.declared.trouble.Trouble.TheVariants as troubles
 use Rattle.bods_read.specs.declared.fault.ReadFault.{ReadFault}
 use Rattle.bods_read.specs.declared.fault.ReadFault.TheVariants.{File, Memory}
 use Rattle.bods_read.specs.declared.fault.FileFault.{FileFault}
-use Rattle.bods_read.specs.declared.fault.FileFault.TheVariants.{NotJson, NotAList, NoStatements, TooMany, At}
+use Rattle.bods_read.specs.declared.fault.FileFault.TheVariants.{NotJson, NotAList, NoStatements}
+use Rattle.bods_read.specs.declared.fault.FileFault.TheVariants.{TooMany, At}
 use Rattle.bods_read.specs.declared.statement.Statement.{Statement}
 use Rattle.bods_read.specs.Limits.{statements_limit}
 use Rattle.bods_read.specs.Outcome.{outcome, lines_from}
@@ -35,13 +37,13 @@ faults d = list_lines (items_in d)
 -- ---- the statements
 
 -- the statements of a list, in order
-abbrev pub statements_in : Option (List Data) → List Statement
-statements_in None = []
-statements_in (Some ds) = map statement_of ds
+abbrev pub statements_listed : Option (List Data) → List Statement
+statements_listed None = []
+statements_listed (Some ds) = map statement_of ds
 
 -- the statements of a value
 unfoldable pub statements : Data → List Statement
-statements d = statements_in (items_in d)
+statements d = statements_listed (items_in d)
 
 -- ---- reading
 
@@ -62,7 +64,8 @@ reading_in (Some d) = reading_of d
 unfoldable pub reading : List ℕ → Result (List Statement) FileFault
 reading bytes = reading_in (value_of bytes)
 
--- a fault of the file that a reader returned is what reading gives; of want of memory nothing is said
+-- a fault of the file that a reader returned is what reading gives; of want of memory nothing is
+-- said
 abbrev pub IsUnread : {Y : Type 0} → ReadFault → Result Y FileFault → Type 0
 IsUnread (File fault) read = read ≡ Err fault
 IsUnread Memory read = Unit {0}

@@ -40,7 +40,8 @@ pub record IsFormedEntity (name : Option (List ℕ)) (identifiers : List Identif
   pub identifiers_are : All IsFormedIdentifier identifiers
 
 -- a relationship
-pub record IsFormedRelationship (subject party : Option (List ℕ)) (interests : List Interest) : Type 0 where
+pub record IsFormedRelationship (subject party : Option (List ℕ))
+    (interests : List Interest) : Type 0 where
   pub subject_is : IfSome subject IsIdent
   pub party_is : IfSome party IsIdent
   pub interests_are : All IsFormedInterest interests
@@ -48,7 +49,8 @@ pub record IsFormedRelationship (subject party : Option (List ℕ)) (interests :
 abbrev pub IsFormedDetails : Details → Type 0
 IsFormedDetails (Entity kind name identifiers) = IsFormedEntity name identifiers
 IsFormedDetails (Person kind name) = IfSome name IsFreeText
-IsFormedDetails (Relationship subject party interests) = IsFormedRelationship subject party interests
+IsFormedDetails (Relationship subject party interests) =
+    IsFormedRelationship subject party interests
 
 -- Each value of a statement has its form; its words have one by themselves.
 pub record IsFormedStatement (s : Statement) : Type 0 where

@@ -1,5 +1,6 @@
 -- The interests of a relationship (BODS 0.4, interests; this register's profile).
-use Rattle.std.specs.Prelude.{List, [], ◌∷◌, Bool, true, false, map, Option, Some, None, option_and_then, is_some, codes, if◌then◌else◌, ℤ}
+use Rattle.std.specs.Prelude.{List, [], ◌∷◌, Bool, true, false, map, Option, Some, None}
+use Rattle.std.specs.Prelude.{option_and_then, is_some, codes, if◌then◌else◌, ℤ}
 use Rattle.serde_json.specs.Data.{Data}
 use Rattle.bor_terms.specs.Period.{end_of, start_of}
 use Rattle.bor_terms.specs.Span.{Range}
@@ -12,34 +13,34 @@ use Rattle.bods_read.specs.declared.interest.InterestKind.TheVariants as kinds
 use Rattle.bods_read.specs.declared.interest.Directness.{Directness}
 use Rattle.bods_read.specs.Words.{field_word, interest_worded, directness_worded}
 use Rattle.bods_read.specs.Outcome.{table, lines_from}
-use Rattle.bods_read.specs.Member.{member, object_in, text_at, array, array_items}
+use Rattle.bods_read.specs.Member.{member, object_in, member_text, array, array_items}
 use Rattle.bods_read.specs.Share.{range_lines, range_of}
 
 -- ---- an interest
 
--- the first day on which it counts (BODS 0.4, startDate); what is no text, or names no day, month or
--- year, counts as absent (this register's profile)
+-- the first day on which it counts (BODS 0.4, startDate); what is no text, or names no day, month
+-- or year, counts as absent (this register's profile)
 abbrev pub starts_in : Data → Option ℤ
-starts_in d = option_and_then start_of (text_at (codes "startDate") d)
+starts_in d = option_and_then start_of (member_text (codes "startDate") d)
 
 -- the last day on which it counts (BODS 0.4, endDate)
 abbrev pub ends_in : Data → Option ℤ
-ends_in d = option_and_then end_of (text_at (codes "endDate") d)
+ends_in d = option_and_then end_of (member_text (codes "endDate") d)
 
 -- the kind is the type (BODS 0.4)
 abbrev pub interest_kind : Data → InterestKind
-interest_kind d = interest_worded (text_at (codes "type") d)
+interest_kind d = interest_worded (member_text (codes "type") d)
 
 -- a kind whose share is read
-abbrev pub is_named : InterestKind → Bool
-is_named kinds.Shareholding = true
-is_named kinds.VotingRights = true
-is_named kinds.AppointmentOfBoard = true
-is_named kinds.Other = false
+abbrev pub is_share_read : InterestKind → Bool
+is_share_read kinds.Shareholding = true
+is_share_read kinds.VotingRights = true
+is_share_read kinds.AppointmentOfBoard = true
+is_share_read kinds.Other = false
 
 -- whether it is held directly (BODS 0.4, directOrIndirect)
 abbrev pub directness_of : Data → Directness
-directness_of d = directness_worded (text_at (codes "directOrIndirect") d)
+directness_of d = directness_worded (member_text (codes "directOrIndirect") d)
 
 -- the share has to be an object
 abbrev pub share_object_lines : Option Data → List Fault
@@ -49,11 +50,13 @@ share_object_lines (Some d) = if is_some (object_in d) then range_lines d else B
 -- the lines about the share, where there is one; it is looked at where the kind is named (this
 -- register's profile)
 unfoldable pub share_lines : InterestKind → Data → List Fault
-share_lines kind d = if is_named kind then share_object_lines (member (field_word TheShare) d) else []
+share_lines kind d =
+    if is_share_read kind then share_object_lines (member (field_word TheShare) d) else []
 
 -- the range that the share gives, where there is one and the kind is named
 unfoldable pub share_of : InterestKind → Data → Option Range
-share_of kind d = if is_named kind then option_and_then range_of (member (field_word TheShare) d) else None
+share_of kind d =
+    if is_share_read kind then option_and_then range_of (member (field_word TheShare) d) else None
 
 -- the lines about an object
 unfoldable pub interest_object_lines : Data → List Fault

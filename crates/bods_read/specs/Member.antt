@@ -1,5 +1,6 @@
 -- The members of an object, and the forms that a member may have to have.
-use Rattle.std.specs.Prelude.{ℕ, ℤ, List, [], ◌∷◌, Option, Some, None, option_and_then, option_map, unwrap_or, is_some, length, nat_le, if◌then◌else◌}
+use Rattle.std.specs.Prelude.{ℕ, ℤ, List, [], ◌∷◌, Option, Some, None, option_and_then, option_map}
+use Rattle.std.specs.Prelude.{unwrap_or, is_some, length, nat_le, if◌then◌else◌}
 use Rattle.serde_json.specs.Data.{Data, Items, no_items, item}
 use Rattle.serde_json.specs.Find.{get, as_null, as_str, as_array, as_object}
 use Rattle.bor_terms.specs.Texts.{is_ident}
@@ -49,8 +50,8 @@ status_in d = option_and_then status_worded (as_str d)
 unfoldable pub object_in : Data → Option Data
 object_in d = if is_some (as_object d) then Some d else None
 
--- an end of a relationship: an identifier of a record, or an object, which names no record and makes no
--- link (BODS 0.4, subject, interestedParty; this register's profile)
+-- an end of a relationship: an identifier of a record, or an object, which names no record and
+-- makes no link (BODS 0.4, subject, interestedParty; this register's profile)
 unfoldable pub end_in : Data → Option (Option (List ℕ))
 end_in d = if is_some (as_object d) then Some None else option_map Some (ident_in d)
 
@@ -87,8 +88,8 @@ optional_value field form d = option_and_then form (member (field_word field) d)
 -- ---- members that are read without a fault
 
 -- the text of a member, where it is one
-abbrev pub text_at : List ℕ → Data → Option (List ℕ)
-text_at name d = option_and_then as_str (member name d)
+abbrev pub member_text : List ℕ → Data → Option (List ℕ)
+member_text name d = option_and_then as_str (member name d)
 
 -- items as a list
 abbrev pub listed : Items → List Data
@@ -121,4 +122,5 @@ within_limit ds = if nat_le (length ds) items_limit then ds else []
 
 -- the items that are looked at
 abbrev pub array_items : Field → Data → List Data
-array_items field d = within_limit (unwrap_or (option_and_then items_in (member (field_word field) d)) [])
+array_items field d =
+    within_limit (unwrap_or (option_and_then items_in (member (field_word field) d)) [])

@@ -1,6 +1,7 @@
 -- The outcome of reading: the value where no line of the table of faults fails, and otherwise the
 -- first line that does.
-use Rattle.std.specs.Prelude.{◌≡◌, ◌+◌, ℕ, List, [], ◌∷◌, ◌++◌, Result, Ok, Err, Bool, if◌then◌else◌}
+use Rattle.std.specs.Prelude.{◌≡◌, ◌+◌, ℕ, List, [], ◌∷◌, ◌++◌, Result, Ok, Err, Bool}
+use Rattle.std.specs.Prelude.{if◌then◌else◌}
 pub use Rattle.bor_terms.specs.Tables.{outcome, table}
 use Rattle.bods_read.specs.declared.fault.Fault.{Fault}
 use Rattle.bods_read.specs.declared.trouble.Trouble.{Trouble}

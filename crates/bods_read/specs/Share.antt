@@ -1,12 +1,14 @@
 -- The share of an interest, in percent (BODS 0.4, share; this register's profile).
-use Rattle.std.specs.Prelude.{◌≤◌, ℕ, List, [], ◌∷◌, ◌++◌, Bool, false, Option, Some, None, option_and_then, is_some, nat_le, IfSome, if◌then◌else◌}
+use Rattle.std.specs.Prelude.{◌≤◌, ℕ, List, [], ◌∷◌, ◌++◌, Bool, false, Option, Some, None}
+use Rattle.std.specs.Prelude.{option_and_then, is_some, nat_le, IfSome, if◌then◌else◌}
 use Rattle.serde_json.specs.Data.{Num, Data}
 use Rattle.serde_json.specs.Find.{as_number, as_bool, is_float, as_u64}
 use Rattle.bor_terms.specs.Points.{Bound, at_least, above, at_most, below, points, has_points}
 use Rattle.bor_terms.specs.Span.{Range}
 use Rattle.bor_terms.specs.Shown.{shown}
 use Rattle.bods_read.specs.declared.fault.Field.{Field}
-use Rattle.bods_read.specs.declared.fault.Field.TheVariants.{Exact, Minimum, Maximum, ExclusiveMinimum, ExclusiveMaximum}
+use Rattle.bods_read.specs.declared.fault.Field.TheVariants.{Exact, Minimum, Maximum}
+use Rattle.bods_read.specs.declared.fault.Field.TheVariants.{ExclusiveMinimum, ExclusiveMaximum}
 use Rattle.bods_read.specs.declared.fault.Fault.{Fault}
 use Rattle.bods_read.specs.declared.fault.Fault.TheVariants.{Bad, Fraction, ShareRange, EmptyShare}
 use Rattle.bods_read.specs.declared.numeral.Share.{Share}
@@ -103,15 +105,17 @@ open_number Absent = None
 open_number (Flag flag) = None
 open_number (Percent m) = Some m
 
--- minimum m asks for at least m, and for more where exclusiveMinimum is true; exclusiveMinimum m asks
--- for more than m
+-- minimum m asks for at least m, and for more where exclusiveMinimum is true; exclusiveMinimum m
+-- asks for more than m
 abbrev pub lows : Option ℕ → Exclusive → List Bound
-lows minimum e = bound_given (if opens e then above else at_least) minimum ++ bound_given above (open_number e)
+lows minimum e =
+    bound_given (if opens e then above else at_least) minimum ++ bound_given above (open_number e)
 
--- maximum m asks for at most m, and for less where exclusiveMaximum is true; exclusiveMaximum m asks
--- for less than m
+-- maximum m asks for at most m, and for less where exclusiveMaximum is true; exclusiveMaximum m
+-- asks for less than m
 abbrev pub highs : Option ℕ → Exclusive → List Bound
-highs maximum e = bound_given (if opens e then below else at_most) maximum ++ bound_given below (open_number e)
+highs maximum e =
+    bound_given (if opens e then below else at_most) maximum ++ bound_given below (open_number e)
 
 -- exact x asks for x and nothing else
 abbrev pub exactly_or : Option ℕ → List Bound → List Bound
@@ -120,7 +124,8 @@ exactly_or (Some x) bounds = at_least x ∷ at_most x ∷ []
 
 -- all the bounds that the members ask for
 unfoldable pub share_bounds : Share → List Bound
-share_bounds s = exactly_or s.exact (lows s.minimum s.exclusive_minimum ++ highs s.maximum s.exclusive_maximum)
+share_bounds s =
+    exactly_or s.exact (lows s.minimum s.exclusive_minimum ++ highs s.maximum s.exclusive_maximum)
 
 -- ---- the share
 
@@ -137,7 +142,8 @@ members_of share = record {
 -- the lines about its members, in order
 unfoldable pub member_lines : Data → List Fault
 member_lines share =
-    table (percent_lines_at Exact share ∷ percent_lines_at Minimum share ∷ percent_lines_at Maximum share
+    table
+    (percent_lines_at Exact share ∷ percent_lines_at Minimum share ∷ percent_lines_at Maximum share
     ∷ exclusive_lines_at ExclusiveMinimum share ∷ exclusive_lines_at ExclusiveMaximum share ∷ [])
 
 -- lines that are looked at where none of those before them fails
@@ -149,7 +155,8 @@ unless_failed (fault ∷ more) lines = []
 unfoldable pub range_lines : Data → List Fault
 range_lines share =
     table (member_lines share
-    ∷ unless_failed (member_lines share) (unless (has_points (share_bounds (members_of share))) EmptyShare) ∷ [])
+    ∷ unless_failed (member_lines share)
+    (unless (has_points (share_bounds (members_of share))) EmptyShare) ∷ [])
 
 -- the range from the least to the greatest of its points
 unfoldable pub range_of : Data → Option Range

@@ -8,7 +8,8 @@ use Rattle.bods_read.specs.declared.statement.RecordType.{RecordType}
 use Rattle.bods_read.specs.declared.statement.RecordType.TheVariants as types
 use Rattle.bods_read.specs.declared.statement.Statement.{Statement}
 use Rattle.bods_read.specs.Outcome.{table}
-use Rattle.bods_read.specs.Member.{ident_in, day_in, type_in, status_in, object_in, required, required_value, optional, optional_value}
+use Rattle.bods_read.specs.Member.{ident_in, day_in, type_in, status_in, object_in, required}
+use Rattle.bods_read.specs.Member.{required_value, optional, optional_value}
 use Rattle.bods_read.specs.Details.{details_lines, details_of}
 
 -- the lines about the details, where there are details, and a type to read them by
@@ -24,12 +25,14 @@ statement_object_lines d =
     ∷ required fields.DeclarationSubject ident_in d ∷ required fields.RecordId ident_in d
     ∷ required fields.RecordType type_in d ∷ optional fields.RecordStatus status_in d
     ∷ required fields.RecordDetails object_in d
-    ∷ further_lines (optional_value fields.RecordType type_in d) (optional_value fields.RecordDetails object_in d)
+    ∷ further_lines (optional_value fields.RecordType type_in d)
+    (optional_value fields.RecordDetails object_in d)
     ∷ [])
 
 -- a statement is an object
 unfoldable pub statement_lines : Data → List Fault
-statement_lines d = if is_some (object_in d) then statement_object_lines d else Bad fields.Statement ∷ []
+statement_lines d =
+    if is_some (object_in d) then statement_object_lines d else Bad fields.Statement ∷ []
 
 -- the statement that an object gives, member by member; where a fault stands, anything does
 unfoldable pub statement_of : Data → Statement

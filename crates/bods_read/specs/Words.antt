@@ -1,5 +1,6 @@
 -- The words of BODS 0.4: for what a record is of, what a statement does to it, kinds and members.
-use Rattle.std.specs.Prelude.{ℕ, List, [], ◌∷◌, Option, Some, None, option_and_then, unwrap_or, codes, if◌then◌else◌}
+use Rattle.std.specs.Prelude.{ℕ, List, [], ◌∷◌, Option, Some, None, option_and_then, unwrap_or}
+use Rattle.std.specs.Prelude.{codes, if◌then◌else◌}
 use Rattle.std.specs.Str.{bytes_eq}
 use Rattle.bods_read.specs.declared.statement.RecordType.{RecordType}
 use Rattle.bods_read.specs.declared.statement.RecordType.TheVariants as types
@@ -43,7 +44,8 @@ status_word statuses.Closed = codes "closed"
 
 -- the status whose word a text is
 unfoldable pub status_worded : List ℕ → Option Status
-status_worded text = worded status_word (statuses.New ∷ statuses.Updated ∷ statuses.Closed ∷ []) text
+status_worded text =
+    worded status_word (statuses.New ∷ statuses.Updated ∷ statuses.Closed ∷ []) text
 
 -- the kind of a record, by its details
 abbrev pub type_of : Details → RecordType
@@ -95,7 +97,8 @@ interest_word interests.Other = codes "other"
 -- the kind whose word a text is; other for another text and for none (this register's profile)
 unfoldable pub interest_worded : Option (List ℕ) → InterestKind
 interest_worded text =
-    unwrap_or (option_and_then (worded interest_word (interests.Shareholding ∷ interests.VotingRights
+    unwrap_or
+    (option_and_then (worded interest_word (interests.Shareholding ∷ interests.VotingRights
     ∷ interests.AppointmentOfBoard ∷ [])) text) interests.Other
 
 -- directOrIndirect (BODS 0.4); every other word, and none, is unknown
@@ -107,7 +110,8 @@ directness_word directness.Unknown = codes "unknown"
 -- the directness of the word; unknown for another text and for none (this register's profile)
 unfoldable pub directness_worded : Option (List ℕ) → Directness
 directness_worded text =
-    unwrap_or (option_and_then (worded directness_word (directness.Direct ∷ directness.Indirect ∷ [])) text)
+    unwrap_or
+    (option_and_then (worded directness_word (directness.Direct ∷ directness.Indirect ∷ [])) text)
     directness.Unknown
 
 -- ---- members

@@ -4,7 +4,7 @@ ghost use Rattle.std.specs.Prelude.{◌≡◌, Some, None, map, option_map};
 ghost use Rattle.serde_json.specs.View.{view};
 ghost use Rattle.bods_read.specs.Outcome.{Gives, outcome};
 ghost use Rattle.bods_read.specs.Words.{interest_worded, directness_worded};
-ghost use Rattle.bods_read.specs.Interests.{is_named, starts_in, ends_in, share_lines, share_of, interest_object_lines, interest_lines, interest_of, each_lines, interests_lines, interests_of};
+ghost use Rattle.bods_read.specs.Interests.{is_share_read, starts_in, ends_in, share_lines, share_of, interest_object_lines, interest_lines, interest_of, each_lines, interests_lines, interests_of};
 
 use crate::fault::{Fault, Field};
 use crate::interest::{Directness, Interest, InterestKind};
@@ -40,7 +40,7 @@ fn directness_worded(text: Option<&str>) -> Directness
 
 // Whether shares of interests of the kind are read.
 fn is_named(kind: InterestKind) -> bool
-    ensures { result ≡ is_named kind }
+    ensures { result ≡ is_share_read kind }
 {
     !matches!(kind, InterestKind::Other)
 }

@@ -4,7 +4,7 @@ ghost use Rattle.std.specs.Prelude.{◌≡◌, Some, None, Ok, [], IfOk, option_
 ghost use Rattle.serde_json.specs.Data.{null};
 ghost use Rattle.serde_json.specs.View.{view};
 ghost use Rattle.bods_read.specs.Outcome.{Gives, outcome};
-ghost use Rattle.bods_read.specs.Member.{member, required, required_lines, required_value, optional, optional_value, ident_in, day_in, type_in, status_in, object_in, text_at, items_in, array, array_items};
+ghost use Rattle.bods_read.specs.Member.{member, required, required_lines, required_value, optional, optional_value, ident_in, day_in, type_in, status_in, object_in, member_text, items_in, array, array_items};
 ghost use Rattle.bods_read.specs.declared.statement.RecordType.TheVariants.{Entity};
 
 use crate::fault::{Fault, Field};
@@ -29,7 +29,7 @@ pub(crate) fn member<'a>(object: &'a Value, name: &str) -> Option<&'a Value>
 
 /// The text of a member, if it is one.
 pub(crate) fn text_at<'a>(object: &'a Value, name: &str) -> Option<&'a str>
-    ensures { option_map (λ s. s.now) result ≡ text_at name.now (view object.now) }
+    ensures { option_map (λ s. s.now) result ≡ member_text name.now (view object.now) }
 {
     member(object, name)?.as_str()
 }
@@ -40,7 +40,7 @@ pub(crate) fn free_text_at(
     object: &Value,
     name: &str,
 ) -> Result<Option<FreeText>, AllocError>
-    ensures { IfOk result (λ text. text ≡ text_at name.now (view object.now)) }
+    ensures { IfOk result (λ text. text ≡ member_text name.now (view object.now)) }
 {
     match text_at(object, name) {
         Some(text) => Ok(Some(FreeText::new(alloc, String::from_str(alloc, text)?)?)),

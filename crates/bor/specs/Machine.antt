@@ -7,7 +7,8 @@ use Rattle.bor_desk.specs.Operations.Legality.{IsLegal}
 use Rattle.bor_store_sql.specs.Shown.{IsClean, ShowsFirst, ShowsIn}
 use Rattle.bor_program.specs.Deeds.{Deed, Opens, SetsUp, Closes, Moves, Fails}
 use Rattle.bor_program.specs.declared.failure.Failure.{Failure}
-use Rattle.bor_program.specs.declared.failure.Failure.TheVariants.{NoRegister, OtherVersion, Taken, Memory, Store}
+use Rattle.bor_program.specs.declared.failure.Failure.TheVariants.{NoRegister, OtherVersion, Taken}
+use Rattle.bor_program.specs.declared.failure.Failure.TheVariants.{Memory, Store}
 use Rattle.bor_program.specs.declared.host.Origin.{Origin}
 use Rattle.bor_program.specs.declared.host.Origin.TheVariants as origin
 use Rattle.bor_store.specs.Opening.{HoldsRegister, IsConnected}
@@ -17,38 +18,52 @@ use Rattle.clap.specs.Words.{Text}
 use Rattle.std.specs.Borrow.{Bor}
 
 -- the program's failure for a fault of opening the file of this name
-abbrev pub failure_of : Bor Text → OpenFault → Failure
-failure_of path faults.NoRegister = NoRegister path
-failure_of path (faults.OtherVersion version) = OtherVersion path version
-failure_of path faults.Taken = Taken path
-failure_of path faults.Damaged = Store
-failure_of path faults.Memory = Memory
-failure_of path faults.Store = Store
+abbrev pub opening_failure : Bor Text → OpenFault → Failure
+opening_failure path faults.NoRegister = NoRegister path
+opening_failure path (faults.OtherVersion version) = OtherVersion path version
+opening_failure path faults.Taken = Taken path
+opening_failure path faults.Damaged = Store
+opening_failure path faults.Memory = Memory
+opening_failure path faults.Store = Store
 
--- A register came to be open on a connection, which was in this state. One that was there shows what it did; where one is set up, none was shown, and the new one of this registrar and day is shown.
-pub record ComesOpen {K : Type 0} (shows : K → Register → Type 0) (is_clean : K → Type 0) (registrar : List ℕ) (day : ℤ) (old : State) (register : K) (came : Origin) : Type 0 where
+-- A register came to be open on a connection, which was in this state. One that was there shows
+-- what it did; where one is set up, none was shown, and the new one of this registrar and day is
+-- shown.
+pub record ComesOpen {K : Type 0} (shows : K → Register → Type 0) (is_clean : K → Type 0)
+    (registrar : List ℕ) (day : ℤ) (old : State) (register : K) (came : Origin) : Type 0 where
   pub began : is_clean register → IsClean old
-  pub found : came ≡ origin.Found → is_clean register → (r : Register) → ShowsIn r old → shows register r
+  pub found : came ≡ origin.Found → is_clean register → (r : Register) → ShowsIn r old
+      → shows register r
   pub none : came ≢ origin.Found → is_clean register → (r : Register) → ¬ ShowsIn r old
   pub made : came ≡ origin.New → is_clean register → shows register (empty_register registrar day)
 
 -- The same, where the files hold these registers.
-pub record FindsOrSetsUp {K : Type 0} (shows : K → Register → Type 0) (is_clean : K → Type 0) (Held : Register → Type 0) (registrar : List ℕ) (day : ℤ) (register : K) (came : Origin) : Type 0 where
+pub record FindsOrSetsUp {K : Type 0} (shows : K → Register → Type 0) (is_clean : K → Type 0)
+    (Held : Register → Type 0) (registrar : List ℕ) (day : ℤ) (register : K)
+    (came : Origin) : Type 0 where
   pub found : came ≡ origin.Found → is_clean register → (r : Register) → Held r → shows register r
   pub none : came ≢ origin.Found → is_clean register → (r : Register) → ¬ Held r
   pub made : came ≡ origin.New → is_clean register → shows register (empty_register registrar day)
 
--- The result of moving the tables of two files, on a connection that was in the one state as it was opened, and is in the other one. It shows then each register that the files held, and each legal one that was shown in version 1.
+-- The result of moving the tables of two files, on a connection that was in the one state as it was
+-- opened, and is in the other one. It shows then each register that the files held, and each legal
+-- one that was shown in version 1.
 pub record IsMoved (image : Image) (old new : State) : Type 0 where
   pub connected : HasCleanDisk old → IsConnected image old
   pub began : IsClean new → IsClean old
   pub second : IsClean new → (r : Register) → HoldsRegister image r → ShowsIn r new
   pub first : IsClean new → (r : Register) → ShowsFirst r old → IsLegal r → ShowsIn r new
 
--- A deed on a file that holds these registers as it is opened. A register that is opened shows them, none is set up over them, and one that is closed is left so. A move is of a connection, which is closed. Of a failure no connection is left, and nothing is said.
-abbrev pub IsDone : {K C : Type 0} → (K → Register → Type 0) → (K → Type 0) → (K → C) → (C → Type 0) → (Register → Type 0) → (C → C → Type 0) → Deed K → Type 0
-IsDone shows is_clean conn IsLeft Held Moved (Opens path register) = is_clean register → (r : Register) → Held r → shows register r
-IsDone shows is_clean conn IsLeft Held Moved (SetsUp path register) = is_clean register → (r : Register) → ¬ Held r
-IsDone shows is_clean conn IsLeft Held Moved (Closes path register) = IsLeft (conn register)
-IsDone {K} {C} shows is_clean conn IsLeft Held Moved (Moves path) = (opened : C) × (left : C) × Moved opened left × IsLeft left
-IsDone shows is_clean conn IsLeft Held Moved (Fails path failure) = ⊤
+-- A deed on a file that holds these registers as it is opened. A register that is opened shows
+-- them, none is set up over them, and one that is closed is left so. A move is of a connection,
+-- which is closed. Of a failure no connection is left, and nothing is said.
+abbrev pub IsDeedDone : {K C : Type 0} → (K → Register → Type 0) → (K → Type 0) → (K → C)
+    → (C → Type 0) → (Register → Type 0) → (C → C → Type 0) → Deed K → Type 0
+IsDeedDone shows is_clean conn IsLeft Held Moved (Opens path register) =
+    is_clean register → (r : Register) → Held r → shows register r
+IsDeedDone shows is_clean conn IsLeft Held Moved (SetsUp path register) =
+    is_clean register → (r : Register) → ¬ Held r
+IsDeedDone shows is_clean conn IsLeft Held Moved (Closes path register) = IsLeft (conn register)
+IsDeedDone {K} {C} shows is_clean conn IsLeft Held Moved (Moves path) =
+    (opened : C) × (left : C) × Moved opened left × IsLeft left
+IsDeedDone shows is_clean conn IsLeft Held Moved (Fails path failure) = ⊤

@@ -7,7 +7,7 @@ ghost use Rattle.bor_store.specs.Opening.{HoldsRegister, IsClosing};
 ghost use Rattle.sqlite.specs.Files.{file_state};
 ghost use Rattle.sqlite_wal.specs.Files.{image_at};
 ghost use Rattle.bor_program.specs.Deeds.{Moves};
-ghost use Rattle.bor.specs.Machine.{FindsOrSetsUp, IsDone, IsMoved, failure_of};
+ghost use Rattle.bor.specs.Machine.{FindsOrSetsUp, IsDeedDone, IsMoved, opening_failure};
 
 use crate::setup::find_or_set_up;
 use crate::waiting::{Waiting, time};
@@ -110,7 +110,7 @@ impl<'r, S: Start + Copy> Registers for Host<'r, S> {
     type Register = Served<'r, S>;
 
     ghost does = { let keep = ⟦<Served<'r, S> as Keep>⟧ in
-        λ _ deed _. IsDone keep.shows keep.is_clean (λ k. k.keep.0.conn)
+        λ _ deed _. IsDeedDone keep.shows keep.is_clean (λ k. k.keep.0.conn)
         (λ c. (closed : _) × IsClosing c closed)
         (HoldsRegister (image_at S.Start))
         (λ opened left. IsMoved (image_at S.Start) (file_state opened) (file_state left)) deed };
@@ -313,7 +313,7 @@ fn make_private(rt: &HostRuntime, path: &str) {
 // Moves the register in the file of this name to the tables of this program, and closes the file.
 fn migrate_in<S: Start>(rt: &HostRuntime, path: &str, start: S) -> Result<(), OpenFault>
     ensures { let keep = ⟦<SqlKeep<FileStore<FileFrom<S>>> as Keep>⟧ in OnOk result
-        (IsDone keep.shows keep.is_clean (λ k. k.conn) (λ c. (closed : _) × IsClosing c closed)
+        (IsDeedDone keep.shows keep.is_clean (λ k. k.conn) (λ c. (closed : _) × IsClosing c closed)
         (HoldsRegister (image_at S.Start))
         (λ opened left. IsMoved (image_at S.Start) (file_state opened) (file_state left))
         (Moves path.entry)) }
@@ -327,7 +327,7 @@ fn migrate_in<S: Start>(rt: &HostRuntime, path: &str, start: S) -> Result<(), Op
 // The register that was opened, or the failure of opening the file of this name.
 fn told_of<T>(path: &str, opened: Result<T, OpenFault>) -> Result<T, Failure<'_>>
     ensures told { MatchResult opened (λ register. result ≡ Ok register)
-        (λ fault. result ≡ Err (failure_of path.entry fault)) }
+        (λ fault. result ≡ Err (opening_failure path.entry fault)) }
     ensures err { IfErr result (IsOpeningOf path.entry) }
 {
     match opened {
@@ -338,7 +338,7 @@ fn told_of<T>(path: &str, opened: Result<T, OpenFault>) -> Result<T, Failure<'_>
 
 // The failure that a fault of opening the file of this name is reported as.
 fn failure_of(path: &str, fault: OpenFault) -> Failure<'_>
-    ensures is { result ≡ failure_of path.entry fault }
+    ensures is { result ≡ opening_failure path.entry fault }
     ensures opening { IsOpeningOf path.entry result }
 {
     match fault {

@@ -21,7 +21,7 @@ use Rattle.bor_records.specs.Links.Shown.{Shown, listed_at, info_in}
 use Rattle.bor_records.specs.Links.Stakes.{is_stake, is_holding}
 use Rattle.bor_records.specs.Links.Rows.{is_entity_info, is_some_info, beside, link_in, link_with}
 use Rattle.bor_records.specs.Links.Answers.{AreLinksInto, only_into}
-use Rattle.bor_chains.specs.Tables.{placed, items_of, items_at, StayAt, ArePlaces, AreInto, IsBelow, links_at}
+use Rattle.bor_chains.specs.Tables.{node_at_place, items_of, items_at, StayAt, ArePlaces, AreInto, IsBelow, links_at}
 use Rattle.bor_records.proofs.OnLinks.Found.{none, Contains-filter_map, Contains-from_filter_map}
 use Rattle.bor_records.proofs.OnLinks.SameNode.{same_node_is}
 
@@ -62,15 +62,15 @@ subject_listed day nodes r l h = by r.statement.details h
 
 -- a node before those that have a place
 pub places_before : (nodes : List OpenNode) (next k : ℕ) (x : OpenNode) (key : Node) (was now : Node → Option ℕ) → k + 1 ≡ next → k < length nodes → x ≡ get_or nodes k x → key ≡ x.node
-    → ((q : Node) → placed nodes (was q) ≡ listed_at (drop next nodes) q) → ((q : Node) → now q ≡ cond (is_eq (node_cmp key q)) (Some k) (was q))
-    → (q : Node) → placed nodes (now q) ≡ listed_at (drop k nodes) q
+    → ((q : Node) → node_at_place nodes (was q) ≡ listed_at (drop next nodes) q) → ((q : Node) → now q ≡ cond (is_eq (node_cmp key q)) (Some k) (was q))
+    → (q : Node) → node_at_place nodes (now q) ≡ listed_at (drop k nodes) q
 places_before nodes next k x key was now one lt at named before more q =
-    ap (λ (o : Option ℕ). placed nodes o) (more q ∙ ap (λ (z : Node). cond (is_eq (node_cmp z q)) (Some k) (was q)) named ∙ ap (λ (b : Bool). cond b (Some k) (was q)) (sym (node_ties x.node q)))
+    ap (λ (o : Option ℕ). node_at_place nodes o) (more q ∙ ap (λ (z : Node). cond (is_eq (node_cmp z q)) (Some k) (was q)) named ∙ ap (λ (b : Bool). cond b (Some k) (was q)) (sym (node_ties x.node q)))
     ∙ by (same_node x.node q)
     ∙ ap (λ (y : OpenNode). listed_at (y ∷ drop (k + 1) nodes) q) at
     ∙ sym (ap (λ (ys : List OpenNode). listed_at ys q) (drop_more nodes k x lt))
   where
-    by : (b : Bool) → placed nodes (cond b (Some k) (was q)) ≡ cond b (Some x) (listed_at (drop (k + 1) nodes) q)
+    by : (b : Bool) → node_at_place nodes (cond b (Some k) (was q)) ≡ cond b (Some x) (listed_at (drop (k + 1) nodes) q)
     by true = slice_get-get_or nodes k x lt ∙ ap (λ (y : OpenNode). Some y) (sym at)
     by false = before q ∙ ap (λ (j : ℕ). listed_at (drop j nodes) q) (sym one)
 
@@ -155,7 +155,7 @@ subject_placed day nodes rows place_of are l h =
     let p = Contains-from_filter_map (link_in day nodes) rows l h in
     by (place_of l.subject) (are l.subject) (subject_listed day nodes p.0 l p.2)
   where
-    by : (o : Option ℕ) → placed nodes o ≡ listed_at nodes l.subject → IsSome (listed_at nodes l.subject) → IsBelow (length nodes) o
+    by : (o : Option ℕ) → node_at_place nodes o ≡ listed_at nodes l.subject → IsSome (listed_at nodes l.subject) → IsBelow (length nodes) o
     by None e some = let no : IsSome {T = OpenNode} None = subst (λ (x : Option OpenNode). IsSome x) (sym e) some in absurd cc
     by (Some i) e some = within (slice_get nodes i) refl (subst (λ (x : Option OpenNode). IsSome x) (sym e) some)
       where

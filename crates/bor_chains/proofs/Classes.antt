@@ -22,10 +22,10 @@ use Rattle.bor_records.specs.Links.Shown.{Shown, listed_at, are_alike, is_like, 
 use Rattle.bor_records.specs.Links.Aliases.{Alias, Same}
 use Rattle.bor_records.specs.Links.Answers.{AreAliases, AreSame}
 use Rattle.bor_chains.specs.Laws.{SameAreAClass}
-use Rattle.bor_chains.specs.Tables.{placed}
+use Rattle.bor_chains.specs.Tables.{node_at_place}
 use Rattle.bor_records.specs.Links.Signs.{sign_cmp, by_record, by_identifier, signs}
 use Rattle.bor_chains.specs.Likeness.{AreUnder}
-use Rattle.bor_chains.specs.Classes.{node_at, entity_in, place_in, IsAmong, HasSign, Expands, AreGathered, Visits, AreAllSame}
+use Rattle.bor_chains.specs.Classes.{listed_node, entity_in, place_in, IsAmong, HasSign, Expands, AreGathered, Visits, AreAllSame}
 use Rattle.bor_records.proofs.OnLinks.SameNode.{same_node_is}
 use Rattle.bor_records.proofs.OnLinks.Found.{Contains-filter_map, Contains-from_filter_map, none, here, cases, Contains-filter, Contains-from_filter, Contains-from_map}
 use Rattle.bor_records.proofs.OnLinks.Listed.{found_is}
@@ -386,22 +386,22 @@ pub way_end : (s : Shown) (nodes : List OpenNode) (x : OpenNode) (first next : �
 way_end s nodes x first next found seen done e d at all w = gathered_all s x first found seen done d (ap (λ (xs : List OpenNode). slice_get xs first) e ∙ at) w.there w.gathered
     (λ i h. w.passed i (subst (λ (xs : List ℕ). Contains xs i) (sym (take_all next found all)) h))
 
-node_is : (o : Option OpenNode) (n : Node) → node_at o ≡ Some n → (x : OpenNode) × (o ≡ Some x) × (x.node ≡ n)
+node_is : (o : Option OpenNode) (n : Node) → listed_node o ≡ Some n → (x : OpenNode) × (o ≡ Some x) × (x.node ≡ n)
 node_is None n h = absurd (let no : None ≡ Some n = h in cc)
 node_is (Some x) n h = (x, refl, let e : Some x.node ≡ Some n = h in cc)
 
-pub same_told : (s : Shown) (n : Node) (x : OpenNode) (found : List ℕ) (rough out : List Node) → x.node ≡ n → AreAllSame s x.node found → rough ≡ filter_map (λ i. node_at (slice_get s.nodes i)) found
+pub same_told : (s : Shown) (n : Node) (x : OpenNode) (found : List ℕ) (rough out : List Node) → x.node ≡ n → AreAllSame s x.node found → rough ≡ filter_map (λ i. listed_node (slice_get s.nodes i)) found
     → ((b : Node) → Contains out b ↔ Contains rough b) → IsDistinct same_node out → AreSame s n out
 same_told s n x found rough out is all rough_is same once = subst (λ (m : Node). AreSame s m out) is (record {
   each = λ b. (
     (λ h.
-        let p = Contains-from_filter_map (λ i. node_at (slice_get s.nodes i)) found b (subst (λ (bs : List Node). Contains bs b) rough_is ((same b).0 h)) in
+        let p = Contains-from_filter_map (λ i. listed_node (slice_get s.nodes i)) found b (subst (λ (bs : List Node). Contains bs b) rough_is ((same b).0 h)) in
         let y = node_is (slice_get s.nodes p.0) b p.2 in
         (all b).0 (record { place = p.0; there = p.1; one = y.0; at = y.1; is = y.2 })),
     (λ h.
         let p = (all b).1 h in
         (same b).1 (subst (λ (bs : List Node). Contains bs b) (sym rough_is)
-        (Contains-filter_map (λ i. node_at (slice_get s.nodes i)) found p.place b p.there (ap node_at p.at ∙ ap (λ (m : Node). Some m) p.is)))),
+        (Contains-filter_map (λ i. listed_node (slice_get s.nodes i)) found p.place b p.there (ap listed_node p.at ∙ ap (λ (m : Node). Some m) p.is)))),
   );
   once = once;
 })
@@ -415,7 +415,7 @@ none_distinct = tt
 -- the places of all that are alike by a sign, and no others
 pub aliases_told : (s : Shown) (nodes : List OpenNode) (x : OpenNode) (first : ℕ) (places : Sign → List ℕ) (start found : List ℕ) (was now : Sign → Bool) (rough out : List Node) → s.nodes ≡ nodes → AreDistinct s.nodes
     → AreUnder (length nodes) nodes places → slice_get nodes first ≡ Some x → is_entity x.info ≡ true → start ≡ [] → ((k : Sign) → was k ≡ false) → Expands nodes places x (signs x) start found was now
-    → rough ≡ filter_map (λ i. node_at (slice_get nodes i)) found → ((b : Node) → Contains out b ↔ Contains rough b) → IsDistinct same_node out → AreAliases s x.node out
+    → rough ≡ filter_map (λ i. listed_node (slice_get nodes i)) found → ((b : Node) → Contains out b ↔ Contains rough b) → IsDistinct same_node out → AreAliases s x.node out
 aliases_told s nodes x first places start found was now rough out e d under at entity empty unseen ex rough_is same once = record { each = λ b. (from b, to b); once = once }
   where
     in_nodes : (i : ℕ) (y : OpenNode) → slice_get nodes i ≡ Some y → slice_get s.nodes i ≡ Some y
@@ -429,9 +429,9 @@ aliases_told s nodes x first places start found was now rough out e d under at e
 
     from : (b : Node) → Contains out b → Alias s x.node b
     from b h =
-        let p = Contains-from_filter_map (λ i. node_at (slice_get nodes i)) found b (subst (λ (bs : List Node). Contains bs b) rough_is ((same b).0 h)) in
+        let p = Contains-from_filter_map (λ i. listed_node (slice_get nodes i)) found b (subst (λ (bs : List Node). Contains bs b) rough_is ((same b).0 h)) in
         let y = like_is x (slice_get nodes p.0) (ex.alike p.0 (subst (λ (is : List ℕ). Contains is p.0) rest_is p.1)) in
-        let is : Some (y.0).node ≡ Some b = sym (ap node_at y.1) ∙ p.2 in
+        let is : Some (y.0).node ≡ Some b = sym (ap listed_node y.1) ∙ p.2 in
         subst (λ (m : Node). Alias s x.node m) (let same_nodes : (y.0).node ≡ b = cc is in same_nodes) (record { one = x; two = y.0; one_is = listed first x at; two_is = listed p.0 y.0 y.1; alike = y.2 })
 
     to : (b : Node) → Alias s x.node b → Contains out b
@@ -448,7 +448,7 @@ aliases_told s nodes x first places start found was now rough out e d under at e
               let like : is_like x (slice_get nodes j.0) ≡ true = ap (λ (o : Option OpenNode). is_like x o) j.2 ∙ ap (λ (z : OpenNode). are_alike z l.two) same_one ∙ l.alike in
               let new = all.1 j.0 (under j.0 l.two j.1 j.2 k.0 k.2) like in
               (same b).1 (subst (λ (bs : List Node). Contains bs b) (sym rough_is)
-              (Contains-filter_map (λ i. node_at (slice_get nodes i)) found j.0 b (subst (λ (is : List ℕ). Contains is j.0) (sym rest_is) new) (ap node_at j.2 ∙ ap (λ (m : Node). Some m) two.1)))
+              (Contains-filter_map (λ i. listed_node (slice_get nodes i)) found j.0 b (subst (λ (is : List ℕ). Contains is j.0) (sym rest_is) new) (ap listed_node j.2 ∙ ap (λ (m : Node). Some m) two.1)))
         ]
 
 -- what is listed there is no entity
@@ -489,7 +489,7 @@ pub if_ok : {T E : Type 0} (P Q : T → Type 0) (r : Result T E) → ((x : T) �
 if_ok P Q (Ok x) f h = f x h
 if_ok P Q (Err e) f h = tt
 
-pub place_is : (nodes : List OpenNode) (o : Option ℕ) (i : ℕ) → place_in nodes o ≡ Some i → (x : OpenNode) × (slice_get nodes i ≡ Some x) × (placed nodes o ≡ Some x)
+pub place_is : (nodes : List OpenNode) (o : Option ℕ) (i : ℕ) → place_in nodes o ≡ Some i → (x : OpenNode) × (slice_get nodes i ≡ Some x) × (node_at_place nodes o ≡ Some x)
 place_is nodes None i h = absurd (let no : None ≡ Some i = h in cc)
 place_is nodes (Some j) i h = by (slice_get nodes j) refl h
   where
@@ -497,7 +497,7 @@ place_is nodes (Some j) i h = by (slice_get nodes j) refl h
     by None e k = absurd (let no : None ≡ Some i = k in cc)
     by (Some x) e k = let same : Some j ≡ Some i = k in let at : j ≡ i = cc in (x, ap (λ (z : ℕ). slice_get nodes z) (sym at) ∙ e, e)
 
-pub place_none : (nodes : List OpenNode) (o : Option ℕ) → place_in nodes o ≡ None → placed nodes o ≡ None
+pub place_none : (nodes : List OpenNode) (o : Option ℕ) → place_in nodes o ≡ None → node_at_place nodes o ≡ None
 place_none nodes None h = refl
 place_none nodes (Some j) h = by (slice_get nodes j) refl h
   where

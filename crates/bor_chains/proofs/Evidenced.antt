@@ -30,7 +30,7 @@ use Rattle.bor_chains.specs.Lines.{reading_cmp, same_evidence, evidence_cmp, evi
 use Rattle.bor_chains.specs.Chains.{IsJoinedBy}
 use Rattle.bor_chains.specs.Evidence.{IsEvidence, IsLinkOf, IsNamedBy, IsOfEvidence, AreReadOff, AreEvidenced}
 use Rattle.bor_chains.specs.Trail.{DownAs, IsLeastDown, ReadsOff, TellsAs, IsAll}
-use Rattle.bor_chains.specs.Branches.{link_in, IsNeeded, IsPersonAt, IsLinkAt, ArePersonsFrom, AreLinksFrom}
+use Rattle.bor_chains.specs.Branches.{step_link, IsNeeded, IsPersonAt, IsLinkAt, ArePersonsFrom, AreLinksFrom}
 use Rattle.bor_chains.proofs.Joining.{one_name}
 use Rattle.bor_chains.proofs.Needed.{needed_person, needed_below}
 use Rattle.bor_chains.proofs.OneEvidence.{evidence_is_one, read_off}
@@ -110,9 +110,9 @@ link_at_is steps i l ls x r at =
     let rest = subst (λ (y : Step). ReadsOff steps y.below ls) (sym same) r.4 in
     evidence_link_is x (record { link = l; next = first_of ls }) (at.link ∙ ap (λ (y : Step). y.link) same ∙ r.3) (at.next low ∙ next (at.step).below ls rest)
   where
-    next : (j : ℕ) (ks : List Link) → ReadsOff steps j ks → link_in (slice_get steps j) ≡ first_of ks
-    next j [] h = ap (λ (o : Option (Option Step)). link_in o) h
-    next j (k ∷ ks) h = ap (λ (o : Option (Option Step)). link_in o) h.1 ∙ ap (λ (y : Link). Some y) h.3
+    next : (j : ℕ) (ks : List Link) → ReadsOff steps j ks → step_link (slice_get steps j) ≡ first_of ks
+    next j [] h = ap (λ (o : Option (Option Step)). step_link o) h
+    next j (k ∷ ks) h = ap (λ (o : Option (Option Step)). step_link o) h.1 ∙ ap (λ (y : Link). Some y) h.3
 
 link_of_first : (l : Link) (ls : List Link) (x : EvidenceLink) → x ≡ record { link = l; next = first_of ls } → IsLinkOf (l ∷ ls) x
 link_of_first l [] x h = h

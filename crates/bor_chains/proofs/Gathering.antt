@@ -9,7 +9,7 @@ use Rattle.bor_records.proofs.OnLinks.Found.{none}
 use Rattle.bor_chains.specs.declared.tree.EvidenceLink.{EvidenceLink}
 use Rattle.bor_chains.specs.declared.tree.EvidencePerson.{EvidencePerson}
 use Rattle.bor_chains.specs.declared.trail.Step.{Step}
-use Rattle.bor_chains.specs.Branches.{link_in, IsNeeded, AreNeeded, IsCount, AreCounts, persons_by, persons_at, links_at, IsPersonAt, IsLinkAt, ArePersonsFrom, AreLinksFrom}
+use Rattle.bor_chains.specs.Branches.{step_link, IsNeeded, AreNeeded, IsCount, AreCounts, persons_by, persons_at, links_at, IsPersonAt, IsLinkAt, ArePersonsFrom, AreLinksFrom}
 use Rattle.bor_chains.proofs.Steps.{one_step}
 
 -- ---- the last of some steps
@@ -133,8 +133,8 @@ links_more steps below n b o links more is before needed is_needed pushed a = su
     by : (t : Bool) (p : Option Step) → slice_get steps n ≡ Some p → (IsNeeded steps n → t ≡ true) → (t ≡ true → IsNeeded steps n) → AreLinksFrom steps n (links ++ links_at t p below)
     by false p at is back = nothing (λ x h there. let no : false ≡ true = is h in cc)
     by true None at is back = nothing (λ x h there. let no : None ≡ Some x = same_Some None (Some x) (sym at ∙ there) in cc)
-    by true (Some step) at is back = links_push steps n links (record { link = step.link; next = link_in (slice_get below step.below) }) (back refl)
-        (record { step = step; is = at; link = refl; next = λ lt. ap (λ (p : Option (Option Step)). link_in p) (before step.below lt) }) a
+    by true (Some step) at is back = links_push steps n links (record { link = step.link; next = step_link (slice_get below step.below) }) (back refl)
+        (record { step = step; is = at; link = refl; next = λ lt. ap (λ (p : Option (Option Step)). step_link p) (before step.below lt) }) a
 
 -- ---- the last of those that are left
 

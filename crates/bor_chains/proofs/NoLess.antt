@@ -16,7 +16,7 @@ use Rattle.bor_records.specs.declared.links.node.OpenNode.{OpenNode}
 use Rattle.bor_records.specs.declared.links.node.Link.{Link}
 use Rattle.bor_records.specs.Links.Series.{series_of, is_of, open_at}
 use Rattle.bor_records.specs.Links.Shown.{Shown, info_in, info_of, listed_at}
-use Rattle.bor_records.specs.Links.Aliases.{Alias, Steps, Same}
+use Rattle.bor_records.specs.Links.Aliases.{Alias, IsAliasPath, Same}
 use Rattle.bor_records.specs.Links.Stakes.{is_stake, is_holding, is_voting_majority, is_board_majority, is_membership}
 use Rattle.bor_records.specs.Links.Rows.{node_in, node_with, nodes_of, is_entity_info, is_some_info, beside, link_with, link_in, shown_of}
 use Rattle.bor_records.proofs.Lists.{none_pass}
@@ -254,7 +254,7 @@ module _ (s t : Shown) (no_less : ShowsNoLess s t) where
   alias_kept : (a b : Node) → Alias s a b → Alias t a b
   alias_kept a b h = record { one = h.one; two = h.two; one_is = no_less.nodes a ∙ h.one_is; two_is = no_less.nodes b ∙ h.two_is; alike = h.alike }
 
-  steps_kept : (a : Node) (cs : List Node) (b : Node) → Steps s a cs b → Steps t a cs b
+  steps_kept : (a : Node) (cs : List Node) (b : Node) → IsAliasPath s a cs b → IsAliasPath t a cs b
   steps_kept a [] b h = h
   steps_kept a (c ∷ cs) b h = (alias_kept a c h.0, steps_kept c cs b h.1)
 

@@ -3,7 +3,7 @@ use Rattle.std.proofs.Common.{ℕ, List, [], ◌∷◌, sym, subst}
 use Rattle.bor_records.specs.declared.links.node.Node.{Node}
 use Rattle.bor_records.specs.declared.links.node.Link.{Link}
 use Rattle.bor_records.specs.Links.Shown.{Shown}
-use Rattle.bor_records.specs.Links.Aliases.{Steps, Same}
+use Rattle.bor_records.specs.Links.Aliases.{IsAliasPath, Same}
 use Rattle.bor_records.proofs.OnLinks.Sames.{same_turn}
 use Rattle.bor_chains.specs.declared.tree.EvidenceLink.{EvidenceLink}
 use Rattle.bor_chains.specs.declared.tree.EvidencePerson.{EvidencePerson}
@@ -12,7 +12,7 @@ use Rattle.bor_chains.specs.Evidence.{IsEvidence, IsNamedBy, IsOfEvidence}
 use Rattle.bor_chains.specs.Laws.{SameEntitiesHaveOneReport}
 
 -- steps go on to what the last node is the same as
-same_on : (s : Shown) (a : Node) (cs : List Node) (b c : Node) → Steps s a cs b → Same s b c → Same s a c
+same_on : (s : Shown) (a : Node) (cs : List Node) (b c : Node) → IsAliasPath s a cs b → Same s b c → Same s a c
 same_on s a [] b c h k = subst (λ (n : Node). Same s n c) (sym h) k
 same_on s a (d ∷ ds) b c h k = let r = same_on s d ds b c h.1 k in (d ∷ r.0, (h.0, r.1))
 

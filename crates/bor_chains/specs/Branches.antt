@@ -1,5 +1,7 @@
--- From the steps of a walk to the persons and links of its evidence; for clauses of private functions alone.
-use Rattle.std.specs.Prelude.{◌≡◌, ◌<◌, ◌≤◌, ℕ, nat_lt, Bool, true, false, List, [], ◌∷◌, Contains, Option, None, Some, length, if◌then◌else◌}
+-- From the steps of a walk to the persons and links of its evidence; for clauses of private
+-- functions alone.
+use Rattle.std.specs.Prelude.{◌≡◌, ◌<◌, ◌≤◌, ℕ, nat_lt, Bool, true, false, List, [], ◌∷◌, Contains}
+use Rattle.std.specs.Prelude.{Option, None, Some, length, if◌then◌else◌}
 use Rattle.std.specs.List.{slice_get}
 use Rattle.bor_records.specs.declared.links.node.NodeInfo.{NodeInfo}
 use Rattle.bor_records.specs.declared.links.node.NodeInfo.TheVariants as infos
@@ -20,15 +22,17 @@ abbrev pub step_down : List (Option Step) → ℕ → Option Step
 step_down steps i = lower_step i (slice_get steps i)
 
 -- its link, where there is a step
-abbrev pub link_in : Option (Option Step) → Option Link
-link_in None = None
-link_in (Some None) = None
-link_in (Some (Some step)) = Some step.link
+abbrev pub step_link : Option (Option Step) → Option Link
+step_link None = None
+step_link (Some None) = None
+step_link (Some (Some step)) = Some step.link
 
 -- from one place step by step down to another, over these links
 abbrev pub LeadsDown : List (Option Step) → ℕ → List Link → ℕ → Type 0
 LeadsDown steps i [] j = i ≡ j
-LeadsDown steps i (l ∷ ls) j = (step : Step) × (step_down steps i ≡ Some step) × (step.link ≡ l) × LeadsDown steps step.below ls j
+LeadsDown steps i (l ∷ ls) j =
+    (step : Step) × (step_down steps i ≡ Some step) × (step.link ≡ l)
+    × LeadsDown steps step.below ls j
 
 -- the place of a person leads down to this one
 pub record IsNeeded (steps : List (Option Step)) (i : ℕ) : Type 0 where
@@ -54,12 +58,14 @@ pub record AreNeeded (steps : List (Option Step)) (n : ℕ) (needed : List Bool)
   pub long : length needed ≡ length steps
   pub only : (i : ℕ) → slice_get needed i ≡ Some true → IsNeeded steps i
   pub every : (i : ℕ) → n ≤ i → IsNeeded steps i → slice_get needed i ≡ Some true
-  pub below : (i : ℕ) (step : Step) → n ≤ i → IsNeeded steps i → step_down steps i ≡ Some step → slice_get needed step.below ≡ Some true
+  pub below : (i : ℕ) (step : Step) → n ≤ i → IsNeeded steps i → step_down steps i ≡ Some step
+      → slice_get needed step.below ≡ Some true
 
 -- the person to whom a step leads
 abbrev pub persons_by : NodeInfo → Link → ℕ → List EvidencePerson
 persons_by (infos.Entity legal) l count = []
-persons_by (infos.Person name) l count = record { node = l.party; name = name; first = l; links = count } ∷ []
+persons_by (infos.Person name) l count =
+    record { node = l.party; name = name; first = l; links = count } ∷ []
 
 -- the persons and the links of evidence that a step makes, where it is needed
 abbrev pub persons_at : Bool → Option Step → ℕ → List EvidencePerson
@@ -70,7 +76,8 @@ persons_at true (Some step) count = persons_by step.info step.link count
 abbrev pub links_at : Bool → Option Step → List (Option Step) → List EvidenceLink
 links_at false o below = []
 links_at true None below = []
-links_at true (Some step) below = record { link = step.link; next = link_in (slice_get below step.below) } ∷ []
+links_at true (Some step) below =
+    record { link = step.link; next = step_link (slice_get below step.below) } ∷ []
 
 -- the person of a place, with how many links lead down
 pub record IsPersonAt (steps : List (Option Step)) (i : ℕ) (person : EvidencePerson) : Type 0 where
@@ -86,14 +93,20 @@ pub record IsLinkAt (steps : List (Option Step)) (i : ℕ) (x : EvidenceLink) : 
   pub step : Step
   pub is : slice_get steps i ≡ Some (Some step)
   pub link : x.link ≡ step.link
-  pub next : step.below < i → x.next ≡ link_in (slice_get steps step.below)
+  pub next : step.below < i → x.next ≡ step_link (slice_get steps step.below)
 
 -- the persons of the places from n on that are needed
-pub record ArePersonsFrom (steps : List (Option Step)) (n : ℕ) (persons : List EvidencePerson) : Type 0 where
-  pub each : (person : EvidencePerson) → Contains persons person → (i : ℕ) × IsPersonAt steps i person
-  pub every : (i : ℕ) (step : Step) (name : Option (List ℕ)) → n ≤ i → IsNeeded steps i → slice_get steps i ≡ Some (Some step) → step.info ≡ infos.Person name → (person : EvidencePerson) × Contains persons person × IsPersonAt steps i person
+pub record ArePersonsFrom (steps : List (Option Step)) (n : ℕ)
+    (persons : List EvidencePerson) : Type 0 where
+  pub each : (person : EvidencePerson) → Contains persons person
+      → (i : ℕ) × IsPersonAt steps i person
+  pub every : (i : ℕ) (step : Step) (name : Option (List ℕ)) → n ≤ i → IsNeeded steps i
+      → slice_get steps i ≡ Some (Some step) → step.info ≡ infos.Person name
+      → (person : EvidencePerson) × Contains persons person × IsPersonAt steps i person
 
 -- the links of these places
-pub record AreLinksFrom (steps : List (Option Step)) (n : ℕ) (links : List EvidenceLink) : Type 0 where
+pub record AreLinksFrom (steps : List (Option Step)) (n : ℕ)
+    (links : List EvidenceLink) : Type 0 where
   pub each : (x : EvidenceLink) → Contains links x → (i : ℕ) × IsNeeded steps i × IsLinkAt steps i x
-  pub every : (i : ℕ) (step : Step) → n ≤ i → IsNeeded steps i → slice_get steps i ≡ Some (Some step) → (x : EvidenceLink) × Contains links x × IsLinkAt steps i x
+  pub every : (i : ℕ) (step : Step) → n ≤ i → IsNeeded steps i → slice_get steps i
+      ≡ Some (Some step) → (x : EvidenceLink) × Contains links x × IsLinkAt steps i x

@@ -1,5 +1,7 @@
--- The results of candidates: links into a node, and nodes that are alike; for clauses of private functions alone.
-use Rattle.std.specs.Prelude.{◌≡◌, ℕ, ℤ, List, Contains, Bool, true, false, ◌&&◌, Option, Some, None, option_and_then}
+-- The results of candidates: links into a node, and nodes that are alike; for clauses of private
+-- functions alone.
+use Rattle.std.specs.Prelude.{◌≡◌, ℕ, ℤ, List, Contains, Bool, true, false, ◌&&◌, Option, Some}
+use Rattle.std.specs.Prelude.{None, option_and_then}
 use Rattle.bor_terms.specs.Texts.{is_same}
 use Rattle.bods_read.specs.declared.details.Details.{Details}
 use Rattle.bods_read.specs.declared.details.Details.TheVariants as details
@@ -23,7 +25,8 @@ names rec (details.Relationship (Some subject) party interests) = is_same subjec
 
 -- such a relationship beside a node: of its agent and declaration
 abbrev pub is_into : Node → List ℕ → Statement → Bool
-is_into n agent s = is_same agent n.agent && (is_same s.declaration n.declaration && names n.rec s.details)
+is_into n agent s =
+    is_same agent n.agent && (is_same s.declaration n.declaration && names n.rec s.details)
 
 -- the link into the node that a row makes, were it the latest of its series
 abbrev pub link_into : ℤ → List Row → Node → Row → Option Link
@@ -39,4 +42,5 @@ IsAlike day rows one candidate b = (b ≡ candidate) × (is_like one (node_at da
 
 -- one of the candidates that are
 abbrev pub IsAlikeIn : ℤ → List Row → OpenNode → List Node → Node → Type 0
-IsAlikeIn day rows one candidates b = Contains candidates b × (is_like one (node_at day b rows) ≡ true)
+IsAlikeIn day rows one candidates b =
+    Contains candidates b × (is_like one (node_at day b rows) ≡ true)

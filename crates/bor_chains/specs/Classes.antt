@@ -1,5 +1,7 @@
--- All nodes that are the same as one, while they are looked for sign by sign; for clauses of private functions alone.
-use Rattle.std.specs.Prelude.{◌≡◌, ◌⊎◌, ◌++◌, ℕ, Bool, true, List, Contains, IsTrue, Option, Some, None, option_map, if◌then◌else◌}
+-- All nodes that are the same as one, while they are looked for sign by sign; for clauses of
+-- private functions alone.
+use Rattle.std.specs.Prelude.{◌≡◌, ◌⊎◌, ◌++◌, ℕ, Bool, true, List, Contains, IsTrue, Option, Some}
+use Rattle.std.specs.Prelude.{None, option_map, if◌then◌else◌}
 use Rattle.std.specs.List.{slice_get}
 use Rattle.bor_records.specs.declared.links.node.Node.{Node}
 use Rattle.bor_records.specs.declared.links.node.OpenNode.{OpenNode}
@@ -8,9 +10,9 @@ use Rattle.bor_records.specs.Links.Shown.{Shown, is_entity, is_like}
 use Rattle.bor_records.specs.Links.Aliases.{Same}
 use Rattle.bor_records.specs.Links.Signs.{signs}
 
-abbrev pub node_at : Option OpenNode → Option Node
-node_at None = None
-node_at (Some x) = Some x.node
+abbrev pub listed_node : Option OpenNode → Option Node
+listed_node None = None
+listed_node (Some x) = Some x.node
 
 -- an entity, where there is one
 abbrev pub entity_in : Option OpenNode → Option OpenNode
@@ -34,29 +36,41 @@ pub record IsAmong (nodes : List OpenNode) (found : List ℕ) (n : Node) : Type 
 abbrev pub HasSign : OpenNode → Sign → Type 0
 HasSign x k = IsTrue (is_entity x.info) × Contains (signs x) k
 
--- Places under these signs of an entity are added: those of nodes that are alike, unless the sign was seen.
-pub record Expands (nodes : List OpenNode) (places : Sign → List ℕ) (one : OpenNode) (ks : List Sign) (old_found new_found : List ℕ) (old_seen new_seen : Sign → Bool) : Type 0 where
+-- Places under these signs of an entity are added: those of nodes that are alike, unless the sign
+-- was seen.
+pub record Expands (nodes : List OpenNode) (places : Sign → List ℕ) (one : OpenNode)
+    (ks : List Sign) (old_found new_found : List ℕ) (old_seen new_seen : Sign → Bool) : Type 0 where
   pub rest : List ℕ
   pub begins : new_found ≡ old_found ++ rest
   pub alike : (i : ℕ) → Contains rest i → is_like one (slice_get nodes i) ≡ true
   pub stays : (k : Sign) → old_seen k ≡ true → new_seen k ≡ true
   pub seen : (k : Sign) → Contains ks k → new_seen k ≡ true
-  pub fresh : (k : Sign) → new_seen k ≡ true → (old_seen k ≡ true) ⊎ (Contains ks k × ((i : ℕ) → Contains (places k) i → is_like one (slice_get nodes i) ≡ true → Contains rest i))
+  pub fresh : (k : Sign) → new_seen k ≡ true → (old_seen k ≡ true) ⊎ (Contains ks k × ((i : ℕ)
+      → Contains (places k) i → is_like one (slice_get nodes i) ≡ true → Contains rest i))
 
--- The places found are of nodes that are the same as the first. All that has a seen sign is found, and the signs of each place that is done are seen.
-pub record AreGathered (s : Shown) (first : Node) (found : List ℕ) (seen : Sign → Bool) (done : ℕ → Bool) : Type 0 where
-  pub sound : (i : ℕ) → Contains found i → (x : OpenNode) × (slice_get s.nodes i ≡ Some x) × Same s first x.node
-  pub covered : (k : Sign) (y : OpenNode) → seen k ≡ true → Contains s.nodes y → HasSign y k → IsAmong s.nodes found y.node
-  pub signed : (i : ℕ) (x : OpenNode) (k : Sign) → done i ≡ true → slice_get s.nodes i ≡ Some x → HasSign x k → seen k ≡ true
+-- The places found are of nodes that are the same as the first. All that has a seen sign is found,
+-- and the signs of each place that is done are seen.
+pub record AreGathered (s : Shown) (first : Node) (found : List ℕ) (seen : Sign → Bool)
+    (done : ℕ → Bool) : Type 0 where
+  pub sound : (i : ℕ) → Contains found i
+      → (x : OpenNode) × (slice_get s.nodes i ≡ Some x) × Same s first x.node
+  pub covered : (k : Sign) (y : OpenNode) → seen k ≡ true → Contains s.nodes y → HasSign y k
+      → IsAmong s.nodes found y.node
+  pub signed : (i : ℕ) (x : OpenNode) (k : Sign) → done i ≡ true → slice_get s.nodes i ≡ Some x
+      → HasSign x k → seen k ≡ true
 
 -- a place more is done
-pub record Visits (s : Shown) (first : Node) (place : ℕ) (old_found new_found : List ℕ) (old_seen new_seen : Sign → Bool) (old_done new_done : ℕ → Bool) : Type 0 where
+pub record Visits (s : Shown) (first : Node) (place : ℕ) (old_found new_found : List ℕ)
+    (old_seen new_seen : Sign → Bool) (old_done new_done : ℕ → Bool) : Type 0 where
   pub rest : List ℕ
   pub begins : new_found ≡ old_found ++ rest
   pub stays : (i : ℕ) → old_done i ≡ true → new_done i ≡ true
   pub done : new_done place ≡ true
-  pub gathered : AreGathered s first old_found old_seen old_done → Contains old_found place → AreGathered s first new_found new_seen new_done
+  pub gathered : AreGathered s first old_found old_seen old_done → Contains old_found place
+      → AreGathered s first new_found new_seen new_done
 
 -- all that are the same as the first, and no others
 abbrev pub AreAllSame : Shown → Node → List ℕ → Type 0
-AreAllSame s first found = (n : Node) → (IsAmong s.nodes found n → Same s first n) × (Same s first n → IsAmong s.nodes found n)
+AreAllSame s first found =
+    (n : Node)
+    → (IsAmong s.nodes found n → Same s first n) × (Same s first n → IsAmong s.nodes found n)

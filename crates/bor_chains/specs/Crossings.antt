@@ -1,5 +1,6 @@
 -- The links that a walk crosses on one level; for clauses of private functions alone.
-use Rattle.std.specs.Prelude.{◌≡◌, ◌↔◌, ◌⊎◌, ◌++◌, ◌<◌, ◌≤◌, ℕ, List, [], ◌∷◌, Contains, IsTrue, Some, if◌then◌else◌}
+use Rattle.std.specs.Prelude.{◌≡◌, ◌↔◌, ◌⊎◌, ◌++◌, ◌<◌, ◌≤◌, ℕ, List, [], ◌∷◌, Contains, IsTrue}
+use Rattle.std.specs.Prelude.{Some, if◌then◌else◌}
 use Rattle.std.specs.List.{slice_get}
 use Rattle.std.specs.Ordering.{nat_cmp, ordering_then}
 use Rattle.std.specs.declared.cmp.Ordering.{Ordering}
@@ -26,12 +27,14 @@ pub record IsCountedOf (links : List Link) (mark : Mark) (below : ℕ) (c : Cros
   pub counted : IsTrue (counts_at mark c.link)
 
 -- the same, but that some links are left
-pub record AreCounted (links : List Link) (mark : Mark) (below : ℕ) (left : List Link) (old new : List Crossing) : Type 0 where
+pub record AreCounted (links : List Link) (mark : Mark) (below : ℕ) (left : List Link)
+    (old new : List Crossing) : Type 0 where
   pub rest : List Crossing
   pub begins : new ≡ old ++ rest
   pub only : (c : Crossing) → Contains rest c → IsCountedOf links mark below c
   pub within : (l : Link) → Contains left l → Contains links l
-  pub every : (c : Crossing) → IsCountedOf links mark below c → Contains left c.link ⊎ Contains new c
+  pub every : (c : Crossing) → IsCountedOf links mark below c
+      → Contains left c.link ⊎ Contains new c
 
 -- a link that counts at the mark, with this place
 pub record IsCrossingInto (s : Shown) (m : Marked) (below : ℕ) (c : Crossing) : Type 0 where
@@ -39,7 +42,8 @@ pub record IsCrossingInto (s : Shown) (m : Marked) (below : ℕ) (c : Crossing) 
   pub place : c.below ≡ below
 
 -- a link that counts at one of the marks from `start` on and before `end`
-pub record IsCrossing (s : Shown) (marks : List Marked) (start end : ℕ) (c : Crossing) : Type 0 where
+pub record IsCrossing (s : Shown) (marks : List Marked) (start end : ℕ)
+    (c : Crossing) : Type 0 where
   pub mark : Marked
   pub is : slice_get marks c.below ≡ Some mark
   pub above : start ≤ c.below

@@ -1,9 +1,11 @@
--- The lines of a report and the links of its evidence: when two are one, and their order with its laws.
+-- The lines of a report and the links of its evidence: when two are one, and their order with its
+-- laws.
 use Rattle.std.specs.Prelude.{◌≡◌, ◌&&◌, Bool, refl}
 use Rattle.std.specs.Ordering.{ordering_then, is_eq, eq_by_cmp}
 use Rattle.std.specs.declared.cmp.Ordering.{Ordering}
 use Rattle.std.specs.declared.cmp.Ordering.TheVariants.{Less, Equal, Greater}
-use Rattle.std.specs.Cmp.{IsTotalOrder, IsEquivalence, IsPartialOrder, partial_order_from_total, on_total, then_total, on_equiv, bool_cmp_total}
+use Rattle.std.specs.Cmp.{IsTotalOrder, IsEquivalence, IsPartialOrder, partial_order_from_total}
+use Rattle.std.specs.Cmp.{on_total, then_total, on_equiv, bool_cmp_total}
 use Rattle.std.specs.Cmp.Lexicographic.{nat_list_cmp_total, texts_ties}
 use Rattle.std.proofs.Common.{◌∙◌, sym, subst, Some}
 use Rattle.std.proofs.lemmas.Cmp.{eq_by_cmp_equiv}
@@ -17,12 +19,18 @@ use Rattle.bor_chains.specs.declared.tree.EvidencePerson.{EvidencePerson}
 
 -- nodes as a reader looks for them: by agent, then declaration, then record
 abbrev pub reading_cmp : Node → Node → Ordering
-reading_cmp x y = ordering_then (text_cmp x.agent y.agent) (ordering_then (text_cmp x.declaration y.declaration) (text_cmp x.rec y.rec))
+reading_cmp x y =
+    ordering_then (text_cmp x.agent y.agent)
+    (ordering_then (text_cmp x.declaration y.declaration) (text_cmp x.rec y.rec))
 
 reading_total : IsTotalOrder reading_cmp
-reading_total = then_total (on_total (λ (n : Node). n.agent) nat_list_cmp_total) (then_total (on_total (λ (n : Node). n.declaration) nat_list_cmp_total) (on_total (λ (n : Node). n.rec) nat_list_cmp_total))
+reading_total =
+    then_total (on_total (λ (n : Node). n.agent) nat_list_cmp_total)
+    (then_total (on_total (λ (n : Node). n.declaration) nat_list_cmp_total)
+    (on_total (λ (n : Node). n.rec) nat_list_cmp_total))
 
-three : (a d r : Ordering) → (is_eq a && (is_eq d && is_eq r)) ≡ is_eq (ordering_then a (ordering_then d r))
+three : (a d r : Ordering)
+    → (is_eq a && (is_eq d && is_eq r)) ≡ is_eq (ordering_then a (ordering_then d r))
 three Less d r = refl
 three Greater d r = refl
 three Equal Less r = refl
@@ -31,7 +39,8 @@ three Equal Equal r = refl
 
 reading_ties : (x y : Node) → same_node x y ≡ eq_by_cmp reading_cmp x y
 reading_ties x y =
-    all_three _ _ _ _ _ _ (texts_ties x.agent y.agent) (texts_ties x.declaration y.declaration) (texts_ties x.rec y.rec)
+    all_three _ _ _ _ _ _ (texts_ties x.agent y.agent) (texts_ties x.declaration y.declaration)
+    (texts_ties x.rec y.rec)
     ∙ three (text_cmp x.agent y.agent) (text_cmp x.declaration y.declaration) (text_cmp x.rec y.rec)
 
 -- ---- lines of persons
@@ -53,7 +62,10 @@ pub line_ties : (x y : PersonLine) → same_line x y ≡ eq_by_cmp line_cmp x y
 line_ties x y = reading_ties x.node y.node
 
 pub line_po : IsPartialOrder same_line (λ x y. Some (line_cmp x y))
-line_po = subst (λ (same : PersonLine → PersonLine → Bool). IsPartialOrder same (λ x y. Some (line_cmp x y))) (λ i x y. sym (line_ties x y) i) (partial_order_from_total line_total)
+line_po =
+    subst
+    (λ (same : PersonLine → PersonLine → Bool). IsPartialOrder same (λ x y. Some (line_cmp x y)))
+    (λ i x y. sym (line_ties x y) i) (partial_order_from_total line_total)
 
 -- ---- persons with evidence
 
@@ -73,7 +85,10 @@ pub evidence_ties : (x y : EvidencePerson) → same_evidence x y ≡ eq_by_cmp e
 evidence_ties x y = reading_ties x.node y.node
 
 pub evidence_po : IsPartialOrder same_evidence (λ x y. Some (evidence_cmp x y))
-evidence_po = subst (λ (same : EvidencePerson → EvidencePerson → Bool). IsPartialOrder same (λ x y. Some (evidence_cmp x y))) (λ i x y. sym (evidence_ties x y) i) (partial_order_from_total evidence_total)
+evidence_po =
+    subst (λ (same : EvidencePerson → EvidencePerson → Bool). IsPartialOrder same
+    (λ x y. Some (evidence_cmp x y))) (λ i x y. sym (evidence_ties x y) i)
+    (partial_order_from_total evidence_total)
 
 -- ---- links of a tree
 
@@ -81,14 +96,19 @@ pub link_total : IsTotalOrder link_cmp
 link_total =
     then_total (on_total (λ (l : Link). l.rec) nat_list_cmp_total)
     (then_total (on_total (λ (l : Link). l.subject) node_total)
-    (then_total (on_total (λ (l : Link). l.party) node_total) (then_total (on_total (λ (l : Link). l.stake) bool_cmp_total) (on_total (λ (l : Link). l.holding) bool_cmp_total))))
+    (then_total (on_total (λ (l : Link). l.party) node_total) (then_total (on_total
+    (λ (l : Link). l.stake) bool_cmp_total) (on_total (λ (l : Link). l.holding) bool_cmp_total))))
 
--- by the agent, declaration and record of the link's record; only over a source with several links of one record the rest decides
+-- by the agent, declaration and record of the link's record; only over a source with several links
+-- of one record the rest decides
 abbrev pub tree_cmp : EvidenceLink → EvidenceLink → Ordering
-tree_cmp x y = ordering_then (reading_cmp (link_record x.link) (link_record y.link)) (link_cmp x.link y.link)
+tree_cmp x y =
+    ordering_then (reading_cmp (link_record x.link) (link_record y.link)) (link_cmp x.link y.link)
 
 pub tree_total : IsTotalOrder tree_cmp
-tree_total = then_total (on_total (λ (x : EvidenceLink). link_record x.link) reading_total) (on_total (λ (x : EvidenceLink). x.link) link_total)
+tree_total =
+    then_total (on_total (λ (x : EvidenceLink). link_record x.link) reading_total)
+    (on_total (λ (x : EvidenceLink). x.link) link_total)
 
 -- a link stands once, whatever follows it
 abbrev pub same_in_tree : EvidenceLink → EvidenceLink → Bool

@@ -1,5 +1,7 @@
--- The state of the walk that keeps the reason for each mark; for clauses of private functions alone.
-use Rattle.std.specs.Prelude.{◌≡◌, ◌⊎◌, ◌++◌, ◌<◌, ◌≤◌, ℕ, List, [], ◌∷◌, Contains, true, Option, None, Some, length}
+-- The state of the walk that keeps the reason for each mark; for clauses of private functions
+-- alone.
+use Rattle.std.specs.Prelude.{◌≡◌, ◌⊎◌, ◌++◌, ◌<◌, ◌≤◌, ℕ, List, [], ◌∷◌, Contains, true, Option}
+use Rattle.std.specs.Prelude.{None, Some, length}
 use Rattle.std.specs.List.{slice_get}
 use Rattle.bor_records.specs.declared.links.node.Node.{Node}
 use Rattle.bor_records.specs.declared.links.node.NodeInfo.{NodeInfo}
@@ -50,7 +52,9 @@ step_by c info = record { link = c.link; below = c.below; info = info }
 -- from a place step by step down to one without a step, over these links
 abbrev pub ReadsOff : List (Option Step) → ℕ → List Link → Type 0
 ReadsOff steps i [] = slice_get steps i ≡ Some None
-ReadsOff steps i (l ∷ ls) = (step : Step) × (slice_get steps i ≡ Some (Some step)) × (step.below < i) × (step.link ≡ l) × ReadsOff steps step.below ls
+ReadsOff steps i (l ∷ ls) =
+    (step : Step) × (slice_get steps i ≡ Some (Some step)) × (step.below < i) × (step.link ≡ l)
+    × ReadsOff steps step.below ls
 
 -- copies of the step are put at the end, until there are so many
 pub record IsFilled (count : ℕ) (step : Option Step) (old new : List (Option Step)) : Type 0 where
@@ -74,11 +78,15 @@ pub record Gives (P : Marked → Type 0) (step : Option Step) (old new : Trail) 
 
 -- .. unless a mark is there
 abbrev pub GivesUnlessThere : Marked → (Marked → Type 0) → Option Step → Trail → Trail → Type 0
-GivesUnlessThere marked P step old new = (Contains old.marks marked × (new ≡ old)) ⊎ ((Contains old.marks marked → ⊥) × Gives P step old new)
+GivesUnlessThere marked P step old new =
+    (Contains old.marks marked × (new ≡ old))
+    ⊎ ((Contains old.marks marked → ⊥) × Gives P step old new)
 
 -- with an entity in the middle all that are the same have the mark
 abbrev pub AreWhole : Shown → List Marked → Type 0
-AreWhole s marks = (a b : Node) → Same s a b → Contains marks (record { node = a; mark = Middle }) → Contains marks (record { node = b; mark = Middle })
+AreWhole s marks =
+    (a b : Node) → Same s a b → Contains marks (record { node = a; mark = Middle })
+    → Contains marks (record { node = b; mark = Middle })
 
 -- ---- one crossing after another
 
@@ -115,11 +123,14 @@ pub record IsByFirst (s : Shown) (cs : List Crossing) (m : Marked) (o : Option S
   pub over : IsStepOver s crossing o
   pub first : (j : ℕ) (c : Crossing) → j < place → slice_get cs j ≡ Some c → LeadsTo s c.link m → ⊥
 
--- the marks to which the first n crossings lead are there, and each that wasn't before was given by the first of all that lead to it
+-- the marks to which the first n crossings lead are there, and each that wasn't before was given by
+-- the first of all that lead to it
 pub record FollowsTo (s : Shown) (cs : List Crossing) (n : ℕ) (old new : Trail) : Type 0 where
   pub longer : IsLonger old new
-  pub every : (j : ℕ) (c : Crossing) (m : Marked) → j < n → slice_get cs j ≡ Some c → LeadsTo s c.link m → Contains new.marks m
-  pub given : (i : ℕ) (m : Marked) (o : Option Step) → StandsAt new i m o → length old.marks ≤ i → (Contains old.marks m → ⊥) × IsByFirst s cs m o
+  pub every : (j : ℕ) (c : Crossing) (m : Marked) → j < n → slice_get cs j ≡ Some c
+      → LeadsTo s c.link m → Contains new.marks m
+  pub given : (i : ℕ) (m : Marked) (o : Option Step) → StandsAt new i m o → length old.marks ≤ i
+      → (Contains old.marks m → ⊥) × IsByFirst s cs m o
 
 -- ---- one level after another
 
@@ -129,8 +140,10 @@ TellsAs s n Target step = ⊥
 TellsAs s n Middle step = step.info ≡ infos.Entity true
 TellsAs s n Holder step = (n ≡ step.link.party) × (Some step.info ≡ info_of s n)
 
--- From the mark at a place its least chain is read off: it has `level` links from `start` on, and fewer before.
-pub record IsReached (s : Shown) (e : Node) (start level : ℕ) (steps : List (Option Step)) (i : ℕ) (m : Marked) : Type 0 where
+-- From the mark at a place its least chain is read off: it has `level` links from `start` on, and
+-- fewer before.
+pub record IsReached (s : Shown) (e : Node) (start level : ℕ) (steps : List (Option Step)) (i : ℕ)
+    (m : Marked) : Type 0 where
   pub chain : List Link
   pub reads : ReadsOff steps i chain
   pub least : IsLeastDown s e m chain
@@ -141,13 +154,17 @@ pub record IsReached (s : Shown) (e : Node) (start level : ℕ) (steps : List (O
 pub record IsAtLevel (s : Shown) (e : Node) (start level : ℕ) (w : Trail) : Type 0 where
   pub whole : AreWhole s w.marks
   pub beside : AreBeside w
-  pub each : (i : ℕ) (m : Marked) → slice_get w.marks i ≡ Some m → IsReached s e start level w.steps.items i m
+  pub each : (i : ℕ) (m : Marked) → slice_get w.marks i ≡ Some m
+      → IsReached s e start level w.steps.items i m
   pub near : (m : Marked) (ks : List Link) → Down s e m ks → length ks ≤ level → Contains w.marks m
-  pub tells : (i : ℕ) (m : Marked) (step : Step) → StandsAt w i m (Some step) → TellsAs s m.node m.mark step
+  pub tells : (i : ℕ) (m : Marked) (step : Step) → StandsAt w i m (Some step)
+      → TellsAs s m.node m.mark step
 
 -- All marks of chains are there, each with its least chain.
 pub record IsAll (s : Shown) (e : Node) (w : Trail) : Type 0 where
   pub beside : AreBeside w
-  pub each : (i : ℕ) (m : Marked) → slice_get w.marks i ≡ Some m → (ls : List Link) × ReadsOff w.steps.items i ls × IsLeastDown s e m ls
+  pub each : (i : ℕ) (m : Marked) → slice_get w.marks i ≡ Some m
+      → (ls : List Link) × ReadsOff w.steps.items i ls × IsLeastDown s e m ls
   pub every : (m : Marked) (ks : List Link) → Down s e m ks → Contains w.marks m
-  pub tells : (i : ℕ) (m : Marked) (step : Step) → StandsAt w i m (Some step) → TellsAs s m.node m.mark step
+  pub tells : (i : ℕ) (m : Marked) (step : Step) → StandsAt w i m (Some step)
+      → TellsAs s m.node m.mark step

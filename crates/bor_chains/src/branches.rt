@@ -2,7 +2,7 @@
 
 ghost use Rattle.std.specs.Prelude.{◌≡◌, ◌+◌, ◌++◌, ◌<◌, ◌≤◌, Bool, false, Contains, Some, None, OnOk, IfOk, IfSome, IfNone, length};
 ghost use Rattle.std.specs.List.{slice_get};
-ghost use Rattle.bor_chains.specs.Branches.{step_down, link_in, persons_by, persons_at, links_at, IsCount, AreCounts, AreNeeded, ArePersonsFrom, AreLinksFrom};
+ghost use Rattle.bor_chains.specs.Branches.{step_down, step_link, persons_by, persons_at, links_at, IsCount, AreCounts, AreNeeded, ArePersonsFrom, AreLinksFrom};
 
 use crate::trail::Step;
 use crate::tree::{EvidenceLink, EvidencePerson};
@@ -89,7 +89,7 @@ fn needed_of(alloc: Global, steps: &[Option<Step>]) -> Result<Vec<bool>, AllocEr
 
 // The link at a place, where there is one.
 fn link_at(alloc: Global, steps: &[Option<Step>], place: usize) -> Result<Option<Link>, AllocError>
-    ensures { IfOk result (λ link. link ≡ link_in (slice_get steps.now place)) }
+    ensures { IfOk result (λ link. link ≡ step_link (slice_get steps.now place)) }
 {
     match steps.get(place) {
         Some(Some(step)) => Ok(Some(step.link.copy(alloc)?)),

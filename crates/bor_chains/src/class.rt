@@ -14,7 +14,7 @@ ghost use Rattle.bor_records.specs.Links.Answers.{AreAliases, AreSame};
 ghost use Rattle.bor_chains.specs.Tables.{items_of};
 ghost use Rattle.bor_records.specs.Links.Signs.{sign_cmp, by_identifier, signs};
 ghost use Rattle.bor_chains.specs.Likeness.{AreUnder};
-ghost use Rattle.bor_chains.specs.Classes.{node_at, entity_in, place_in, Expands, Visits, AreAllSame};
+ghost use Rattle.bor_chains.specs.Classes.{listed_node, entity_in, place_in, Expands, Visits, AreAllSame};
 
 use bods_read::Identifier;
 use bor_records::links::{Node, OpenNode, Sign, once};
@@ -230,7 +230,7 @@ fn all_same(
 
 // The node at a place.
 fn copy_at(alloc: Global, nodes: &[OpenNode], place: usize) -> Result<Option<Node>, AllocError>
-    ensures { IfOk result (λ node. node ≡ node_at (slice_get nodes.now place)) }
+    ensures { IfOk result (λ node. node ≡ listed_node (slice_get nodes.now place)) }
 {
     match nodes.get(place) {
         Some(one) => Ok(Some(one.node.copy(alloc)?)),
@@ -241,7 +241,7 @@ fn copy_at(alloc: Global, nodes: &[OpenNode], place: usize) -> Result<Option<Nod
 // The nodes at these places.
 fn nodes_at(alloc: Global, nodes: &[OpenNode], places: &[usize]) -> Result<Vec<Node>, AllocError>
     ensures { IfOk result (λ out.
-        out.items ≡ filter_map (λ i. node_at (slice_get nodes.now i)) places.now) }
+        out.items ≡ filter_map (λ i. listed_node (slice_get nodes.now i)) places.now) }
 {
     let mut out = Vec::new(alloc);
     for place in places {

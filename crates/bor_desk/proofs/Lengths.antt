@@ -2,7 +2,7 @@
 use Rattle.std.proofs.Common.{◌≡◌, ℕ, suc, List, [], ◌∷◌, length, Option, Some, None, refl, ap, arith}
 use Rattle.bor_register.specs.Register.{Register}
 use Rattle.bor_desk.specs.declared.request.Request.{Request}
-use Rattle.bor_desk.specs.Runs.{Asked, exchange, answers, request_of, occasion_then, history, told_then, told_to}
+use Rattle.bor_desk.specs.Runs.{Asked, exchange, answers, agent_request, occasion_then, history, told_then, told_to}
 use Rattle.bor_desk.specs.Laws.{EachIsAnswered}
 
 answers-length : (r : Register) (run : List Asked) → length (answers r run) ≡ length run
@@ -13,7 +13,7 @@ answers-length r (a ∷ rest) = ap suc (answers-length (exchange r a).register r
 pub told_to-length : {T : Type 0} (name : List ℕ) (r : Register) (run : List Asked) (all : List T) → length all ≡ length run → length (told_to name r run all) ≡ length (history name r run)
 told_to-length name r [] all same = refl
 told_to-length name r (a ∷ rest) [] same = absurd (omega arith)
-told_to-length {T} name r (a ∷ rest) (told ∷ all) same = at (request_of name r a) (told_to-length name after rest all (omega arith))
+told_to-length {T} name r (a ∷ rest) (told ∷ all) same = at (agent_request name r a) (told_to-length name after rest all (omega arith))
   where
     after : Register
     after = (exchange r a).register

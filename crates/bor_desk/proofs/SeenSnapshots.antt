@@ -14,7 +14,7 @@ use Rattle.bods_read.specs.declared.statement.Statement.{Statement}
 use Rattle.bor_records.specs.declared.row.Row.{Row}
 use Rattle.bor_records.specs.declared.row.Entry.{Entry}
 use Rattle.bor_records.specs.Admission.{is_of, is_closed}
-use Rattle.bor_records.specs.Snapshot.{is_dated, latest, series, unless_closed, open_row, entry_of, records, snapshot}
+use Rattle.bor_records.specs.Snapshot.{is_dated, latest, record_rows, unless_closed, open_row, entry_of, records, snapshot}
 use Rattle.bor_records.specs.Links.ByKey.{rows_by}
 use Rattle.bor_register.specs.declared.filing.AcceptedFiling.{AcceptedFiling}
 use Rattle.bor_register.specs.declared.member.Member.{Member}
@@ -107,7 +107,7 @@ by-visible viewer day agent (m ∷ ms) h =
 
 -- ---- the rows of one declaration
 
-series-of : (declaration rec : List ℕ) (rows : List Row) → series declaration rec (of_declaration declaration rows) ≡ series declaration rec rows
+series-of : (declaration rec : List ℕ) (rows : List Row) → record_rows declaration rec (of_declaration declaration rows) ≡ record_rows declaration rec rows
 series-of declaration rec rows =
     filter-wider (λ r. is_of declaration rec r.statement) (λ row. is_same row.statement.declaration declaration)
     (λ r h. (and_parts (is_same r.statement.declaration declaration) (is_same r.statement.rec rec) h).0) rows
@@ -147,9 +147,9 @@ unless_closed-unnumbered (Some r) = at (is_closed r.status)
 open-unnumbered : (declaration : List ℕ) (day : ℤ) (rows : List Row) (rec : List ℕ) → open_row declaration day (map unnumbered rows) rec ≡ option_map unnumbered (open_row declaration day rows rec)
 open-unnumbered declaration day rows rec =
     ap (λ rs. option_and_then unless_closed (latest day rs)) (filter-unnumbered (λ r. is_of declaration rec r.statement) (λ r. refl) rows)
-    ∙ ap (λ rs. option_and_then unless_closed (last_or None rs)) (filter-unnumbered (is_dated day) (λ r. refl) (series declaration rec rows))
-    ∙ ap (option_and_then unless_closed) (last-unnumbered None (filter (is_dated day) (series declaration rec rows)))
-    ∙ unless_closed-unnumbered (latest day (series declaration rec rows))
+    ∙ ap (λ rs. option_and_then unless_closed (last_or None rs)) (filter-unnumbered (is_dated day) (λ r. refl) (record_rows declaration rec rows))
+    ∙ ap (option_and_then unless_closed) (last-unnumbered None (filter (is_dated day) (record_rows declaration rec rows)))
+    ∙ unless_closed-unnumbered (latest day (record_rows declaration rec rows))
 
 records-unnumbered : (declaration : List ℕ) (rows : List Row) → records declaration (map unnumbered rows) ≡ records declaration rows
 records-unnumbered declaration [] = refl

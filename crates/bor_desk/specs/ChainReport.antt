@@ -25,21 +25,26 @@ abbrev pub name_data : Option (List ℕ) → Data
 name_data None = null
 name_data (Some name) = string name
 
--- of a person the agent, the declaration, the record, the least number of links, and the name as a text of JSON
+-- of a person the agent, the declaration, the record, the least number of links, and the name as a
+-- text of JSON
 abbrev pub person_line : PersonLine → List ℕ
-person_line p = tabbed (codes "person") (p.node.agent ∷ p.node.declaration ∷ p.node.rec ∷ decimal p.links ∷ compact_text (name_data p.name) ∷ [])
+person_line p =
+    tabbed (codes "person") (p.node.agent ∷ p.node.declaration ∷ p.node.rec ∷ decimal p.links
+    ∷ compact_text (name_data p.name) ∷ [])
 
 abbrev pub person_lines : List PersonLine → List ℕ
 person_lines [] = []
 person_lines (p ∷ ps) = person_line p ++ person_lines ps
 
 abbrev pub entity_line : Node → List ℕ → List ℕ
-entity_line entity date = tabbed (codes "entity") (entity.agent ∷ entity.declaration ∷ entity.rec ∷ date ∷ [])
+entity_line entity date =
+    tabbed (codes "entity") (entity.agent ∷ entity.declaration ∷ entity.rec ∷ date ∷ [])
 
 abbrev pub count_line : ℕ → List ℕ
 count_line count = codes "persons " ++ decimal count ++ 10 ∷ []
 
--- of the entity the agent, the declaration, the record and the date; then the persons, and how many they are
+-- of the entity the agent, the declaration, the record and the date; then the persons, and how many
+-- they are
 abbrev pub report_lines : Node → List ℕ → List PersonLine → List ℕ
 report_lines entity date persons =
     entity_line entity date ++ person_lines persons ++ count_line (length persons)
@@ -60,7 +65,8 @@ key_part n = 9 ∷ n.agent ++ 9 ∷ n.declaration ++ 9 ∷ n.rec
 
 -- the line of a person up to the name
 abbrev pub person_part : Node → ℕ → Option (List ℕ) → List ℕ
-person_part n links name = codes "person" ++ key_part n ++ 9 ∷ decimal links ++ 9 ∷ compact_text (name_data name)
+person_part n links name =
+    codes "person" ++ key_part n ++ 9 ∷ decimal links ++ 9 ∷ compact_text (name_data name)
 
 -- of a person the line of a report, and the record of the first link
 abbrev pub evidenced_line : EvidencePerson → List ℕ
@@ -76,16 +82,20 @@ next_part None = 9 ∷ codes "last"
 next_part (Some n) = 9 ∷ codes "next" ++ key_part n
 
 abbrev pub link_line : EvidenceLink → List ℕ
-link_line x = codes "link" ++ key_part (link_record x.link) ++ next_part (option_map link_record x.next) ++ 10 ∷ []
+link_line x =
+    codes "link" ++ key_part (link_record x.link)
+    ++ next_part (option_map link_record x.next) ++ 10 ∷ []
 
 abbrev pub link_lines : List EvidenceLink → List ℕ
 link_lines [] = []
 link_lines (x ∷ xs) = link_line x ++ link_lines xs
 
--- of the entity the agent, the declaration, the record and the date; then the persons, the links of their chains, and how many the persons are
+-- of the entity the agent, the declaration, the record and the date; then the persons, the links of
+-- their chains, and how many the persons are
 abbrev pub evidence_lines : Node → List ℕ → Evidence → List ℕ
 evidence_lines entity date tree =
-    entity_line entity date ++ evidenced_lines tree.persons ++ link_lines tree.links ++ count_line (length tree.persons)
+    entity_line entity date ++ evidenced_lines tree.persons ++ link_lines tree.links
+    ++ count_line (length tree.persons)
 
 -- The text of the evidence of an entity.
 pub record IsEvidenceTextOn (shown : Shown) (entity : Node) (day : ℤ) (text : Text) : Type 0 where

@@ -1,5 +1,7 @@
--- The text of a check: what the lodging of a file in a new register is answered, and what is published then.
-use Rattle.std.specs.Prelude.{◌≡◌, IfOk, IfErr, ℕ, List, [], ◌++◌, length, nat_lt, None, Result, Ok, Err, ℤ, pos, codes, if◌then◌else◌}
+-- The text of a check: what the lodging of a file in a new register is answered, and what is
+-- published then.
+use Rattle.std.specs.Prelude.{◌≡◌, IfOk, IfErr, ℕ, List, [], ◌++◌, length, nat_lt, None, Result, Ok}
+use Rattle.std.specs.Prelude.{Err, ℤ, pos, codes, if◌then◌else◌}
 use Rattle.bor_register.specs.declared.fault.StoreFault.{StoreFault}
 use Rattle.bor_register.specs.declared.fault.StoreFault.TheVariants.{Memory}
 use Rattle.bor_register.specs.Register.{Register, empty_register, new_member, with_member}
@@ -13,7 +15,8 @@ use Rattle.bor_desk.specs.declared.refusal.DeskFault.{DeskFault}
 use Rattle.bor_desk.specs.declared.refusal.DeskFault.TheVariants.{Refused, Failed}
 use Rattle.bor_desk.specs.Limits.{file_limit}
 use Rattle.bor_desk.specs.Refusals.{of_lodging}
-use Rattle.bor_desk.specs.Texts.{answering, refusing, refused_text, outward_lines, accepted_line, refusal_line}
+use Rattle.bor_desk.specs.Texts.{answering, refusing, refused_text, outward_lines, accepted_line}
+use Rattle.bor_desk.specs.Texts.{refusal_line}
 
 -- 2000-01-01 in days since 1970-01-01
 abbrev pub check_day : ℤ
@@ -23,7 +26,8 @@ check_day = pos 10957
 abbrev pub check_register : Register
 check_register =
     let empty = empty_register (codes "check-registrar-0001") check_day in
-    record empty { members = with_member (new_member (codes "check") (codes "check-token-0001")) empty.members }
+    record empty
+    { members = with_member (new_member (codes "check") (codes "check-token-0001")) empty.members }
 
 -- the lodging of the file by that agent, due on that day
 abbrev pub check_step : List ℕ → Outcome (Result Lodged LodgeFault)
@@ -36,7 +40,8 @@ fault_text (Failed fault) = refusing []
 
 -- the text of an answer, and of the register after it
 abbrev pub answer_text : Result Lodged LodgeFault → Register → Text
-answer_text (Ok lodged) after = answering (accepted_line lodged ++ outward_lines (published after.day after.members))
+answer_text (Ok lodged) after =
+    answering (accepted_line lodged ++ outward_lines (published after.day after.members))
 answer_text (Err fault) after = fault_text (of_lodging fault)
 
 abbrev pub outcome_text : Outcome (Result Lodged LodgeFault) → Text
@@ -45,7 +50,8 @@ outcome_text o = answer_text o.answer o.register
 -- the text of `bor check`: a file that is too long is refused before anything else
 unfoldable pub check_report : List ℕ → Text
 check_report bytes =
-    if nat_lt file_limit (length bytes) then refusing (refusal_line (codes "BodyTooLarge") None None)
+    if nat_lt file_limit (length bytes)
+    then refusing (refusal_line (codes "BodyTooLarge") None None)
     else outcome_text (check_step bytes)
 
 -- ---- parts of the check, for clauses of private functions alone

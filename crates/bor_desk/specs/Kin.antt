@@ -1,4 +1,5 @@
--- The entities of a class by their signs, as the search for ways knows them; for clauses of private functions alone.
+-- The entities of a class by their signs, as the search for ways knows them; for clauses of private
+-- functions alone.
 use Rattle.std.specs.Prelude.{◌≡◌, ◌⊎◌, List, Contains, Some}
 use Rattle.bor_records.specs.declared.links.node.Node.{Node}
 use Rattle.bor_records.specs.declared.links.node.OpenNode.{OpenNode}
@@ -21,12 +22,16 @@ signs_in kin n = under node_cmp kin.signs n
 abbrev pub signed_in : Kin → Sign → List Node
 signed_in kin k = under sign_cmp kin.signed k
 
--- The lists of signs are right. Each of the nodes has all its signs listed, and each sign all of the nodes that have it, but for those that were found.
-pub record AreKin (s : Shown) (nodes : List Node) (IsFound : Node → Type 0) (kin : Kin) : Type 0 where
+-- The lists of signs are right. Each of the nodes has all its signs listed, and each sign all of
+-- the nodes that have it, but for those that were found.
+pub record AreKin (s : Shown) (nodes : List Node) (IsFound : Node → Type 0)
+    (kin : Kin) : Type 0 where
   pub of_node : (n : Node) (k : Sign) → Contains (signs_in kin n) k → HasSignAt s n k
   pub of_sign : (n : Node) (k : Sign) → Contains (signed_in kin k) n → HasSignAt s n k
-  pub each : (n : Node) (k : Sign) → Contains nodes n → HasSignAt s n k → Contains (signs_in kin n) k
-  pub every : (n : Node) (k : Sign) → Contains nodes n → HasSignAt s n k → Contains (signed_in kin k) n ⊎ IsFound n
+  pub each : (n : Node) (k : Sign) → Contains nodes n → HasSignAt s n k
+      → Contains (signs_in kin n) k
+  pub every : (n : Node) (k : Sign) → Contains nodes n → HasSignAt s n k
+      → Contains (signed_in kin k) n ⊎ IsFound n
 
 abbrev pub NoneFound : Node → Type 0
 NoneFound n = ⊥
@@ -37,10 +42,13 @@ pub record IsKinOf (s : Shown) (goal : Node) (IsFound : Node → Type 0) (kin : 
   pub same : AreSame s goal nodes
   pub told : AreKin s nodes IsFound kin
 
--- The nodes under these signs are taken to those that were taken before, and what isn't taken is left.
-pub record AreTaken (ks : List Sign) (old new : Sign → List Node) (was now : List Node) : Type 0 where
+-- The nodes under these signs are taken to those that were taken before, and what isn't taken is
+-- left.
+pub record AreTaken (ks : List Sign) (old new : Sign → List Node)
+    (was now : List Node) : Type 0 where
   pub kept : (n : Node) → Contains was n → Contains now n
-  pub each : (n : Node) → Contains now n → Contains was n ⊎ ((k : Sign) × Contains ks k × Contains (old k) n)
+  pub each : (n : Node) → Contains now n
+      → Contains was n ⊎ ((k : Sign) × Contains ks k × Contains (old k) n)
   pub every : (k : Sign) (n : Node) → Contains ks k → Contains (old k) n → Contains now n
   pub stays : (k : Sign) (n : Node) → Contains (new k) n → Contains (old k) n
   pub left : (k : Sign) (n : Node) → Contains (old k) n → Contains (new k) n ⊎ Contains now n

@@ -15,7 +15,8 @@ use Rattle.bor_desk.specs.declared.evidence.lines.RecordEvidence.{RecordEvidence
 use Rattle.bor_desk.specs.Evidence.{IsMentioned, record_evidence}
 
 -- exactly the records that stand in the evidence, each once, by agent, declaration and record
-pub record AreMentioned (entity : Node) (tree : Evidence) (links : List LinkEvidence) (nodes : List Node) : Type 0 where
+pub record AreMentioned (entity : Node) (tree : Evidence) (links : List LinkEvidence)
+    (nodes : List Node) : Type 0 where
   pub each : (n : Node) → Contains nodes n ↔ IsMentioned entity tree links n
   pub sorted : IsStrictlySortedBy reading_cmp nodes
 

@@ -19,14 +19,19 @@ use Rattle.bor_desk.specs.declared.reply.DeskReply.{DeskReply}
 use Rattle.bor_desk.specs.declared.reply.DeskReply.TheVariants as tell
 use Rattle.bor_desk.specs.declared.refusal.DeskFault.{DeskFault}
 use Rattle.bor_desk.specs.declared.refusal.DeskFault.TheVariants.{Refused, Failed}
-use Rattle.bor_desk.specs.Step.{Answer, exactly, report, evidence, refused, report_on, evidence_answer}
+use Rattle.bor_desk.specs.Step.{Answer, exactly, report, evidence, refused, report_on}
+use Rattle.bor_desk.specs.Step.{evidence_answer}
 use Rattle.bor_desk.specs.Evidence.{IsEntityEvidence}
 
 -- The reply has the answer: of a report it names exactly the persons that are joined to the entity.
 abbrev pub IsTold : Answer → DeskReply → Type 0
 IsTold (exactly wanted) reply = reply ≡ wanted
-IsTold (report entity day shown) reply = (persons : List PersonLine) × AreJoined shown entity persons × (reply ≡ tell.Chains entity day persons)
-IsTold (evidence entity day seen) reply = (told : EntityEvidence) × IsEntityEvidence seen entity day told × (reply ≡ tell.Evidence entity day told)
+IsTold (report entity day shown) reply =
+    (persons : List PersonLine) × AreJoined shown entity persons
+    × (reply ≡ tell.Chains entity day persons)
+IsTold (evidence entity day seen) reply =
+    (told : EntityEvidence) × IsEntityEvidence seen entity day told
+    × (reply ≡ tell.Evidence entity day told)
 
 -- the reply that a fault makes
 abbrev pub denial : DeskFault → DeskReply
@@ -42,22 +47,28 @@ fault_of reply = None
 abbrev pub IsAnswered : DeskReply → Answer → Type 0
 IsAnswered reply answer = ByStore (fault_of reply) (IsTold answer reply) (λ fault. Unit {0})
 
--- The registers of which an answer to the request is said: of a snapshot, those whose agents stand in order of their names, since where a name stood twice the rows would be those of the first that has it; of any other request, all.
+-- The registers of which an answer to the request is said: of a snapshot, those whose agents stand
+-- in order of their names, since where a name stood twice the rows would be those of the first that
+-- has it; of any other request, all.
 abbrev pub IsOrderedFor : Request → Register → Type 0
 IsOrderedFor (ask.Snapshot agent declaration date) r = IsOrdered r.members
 IsOrderedFor request r = Unit {0}
 
--- The step's register is shown; a reply that has a fault of the store leaves the register as it was.
+-- The step's register is shown; a reply that has a fault of the store leaves the register as it
+-- was.
 abbrev pub IsLeft : DeskReply → (Register → Type 0) → Register → Register → Type 0
 IsLeft reply shown r after = ByStore (fault_of reply) (shown after) (λ fault. shown r)
 
--- a reply that has a fault of the store has the right one, by whether the keep's count of faults moved; any other leaves the count
+-- a reply that has a fault of the store has the right one, by whether the keep's count of faults
+-- moved; any other leaves the count
 abbrev pub IsReplyAccounted : DeskReply → ℕ → ℕ → Type 0
-IsReplyAccounted reply before after = ByStore (fault_of reply) (after ≡ before) (IsFaultOf before after)
+IsReplyAccounted reply before after =
+    ByStore (fault_of reply) (after ≡ before) (IsFaultOf before after)
 
 -- such a fault is want of memory, or one that the keep may return, by whether the count moved
 abbrev pub TellsFault : (StoreFault → Type 0) → DeskReply → ℕ → ℕ → Type 0
-TellsFault may_tell reply before after = ByStore (fault_of reply) (Unit {0}) (IsTellable may_tell before after)
+TellsFault may_tell reply before after =
+    ByStore (fault_of reply) (Unit {0}) (IsTellable may_tell before after)
 
 -- P, where the reply is no fault of the store
 abbrev pub UnlessReplyFailed : DeskReply → Type 0 → Type 0
@@ -70,29 +81,40 @@ abbrev pub agent_of : Option Caller → Option (List ℕ)
 agent_of (Some (Agent name)) = Some name
 agent_of caller = None
 
--- The agent that is named beside a reply is the one that asks, if one does; beside a fault of the store none has to be named.
+-- The agent that is named beside a reply is the one that asks, if one does; beside a fault of the
+-- store none has to be named.
 abbrev pub IsNamed : DeskReply → Option (List ℕ) → Option (List ℕ) → Type 0
-IsNamed reply named asks = ByStore (fault_of reply) (named ≡ asks) (λ fault. IfSome named (λ name. asks ≡ Some name))
+IsNamed reply named asks =
+    ByStore (fault_of reply) (named ≡ asks) (λ fault. IfSome named (λ name. asks ≡ Some name))
 
 -- ---- parts of an answer, for clauses of private functions alone
 
--- the value that was found is right by what is shown, or the reason why none was is the answer to who stands behind an entity
-abbrev pub IsFoundOf : {P : Type 0} → (Shown → P → Type 0) → Result P DeskFault → Shown → Node → ℤ → Type 0
-IsFoundOf right (Ok found) shown entity day = (report_on shown entity day ≡ report entity day shown) × right shown found
+-- the value that was found is right by what is shown, or the reason why none was is the answer to
+-- who stands behind an entity
+abbrev pub IsFoundOf : {P : Type 0} → (Shown → P → Type 0) → Result P DeskFault → Shown
+    → Node → ℤ → Type 0
+IsFoundOf right (Ok found) shown entity day =
+    (report_on shown entity day ≡ report entity day shown) × right shown found
 IsFoundOf right (Err (Refused why)) shown entity day = report_on shown entity day ≡ refused why
 IsFoundOf right (Err (Failed fault)) shown entity day = Unit {0}
 
 -- the persons that were found, or why there is no report
-abbrev pub AreFound : {P : Type 0} → (P → List PersonLine) → Result P DeskFault → Shown → Node → ℤ → Type 0
-AreFound items made shown entity day = IsFoundOf (λ s persons. AreJoined s entity (items persons)) made shown entity day
+abbrev pub ArePersonsFound : {P : Type 0} → (P → List PersonLine) → Result P DeskFault → Shown
+    → Node → ℤ → Type 0
+ArePersonsFound items made shown entity day =
+    IsFoundOf (λ s persons. AreJoined s entity (items persons)) made shown entity day
 
 -- the tree that was found, or why there is none
 abbrev pub IsTreeFound : Result Evidence DeskFault → Shown → Node → ℤ → Type 0
-IsTreeFound made shown entity day = IsFoundOf (λ s tree. AreEvidenced s entity tree) made shown entity day
+IsTreeFound made shown entity day =
+    IsFoundOf (λ s tree. AreEvidenced s entity tree) made shown entity day
 
--- the evidence that was found, or why there is none, is that of the answer to why the persons behind an entity are named
+-- the evidence that was found, or why there is none, is that of the answer to why the persons
+-- behind an entity are named
 abbrev pub IsEvidenceFound : Result EntityEvidence DeskFault → List Row → Node → ℤ → Type 0
-IsEvidenceFound (Ok told) seen entity day = (evidence_answer seen entity day ≡ evidence entity day seen) × IsEntityEvidence seen entity day told
+IsEvidenceFound (Ok told) seen entity day =
+    (evidence_answer seen entity day ≡ evidence entity day seen)
+    × IsEntityEvidence seen entity day told
 IsEvidenceFound (Err (Refused why)) seen entity day = evidence_answer seen entity day ≡ refused why
 IsEvidenceFound (Err (Failed fault)) seen entity day = Unit {0}
 

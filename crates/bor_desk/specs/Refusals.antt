@@ -16,7 +16,12 @@ use Rattle.bor_desk.specs.declared.operations.fault.EnrolFault.TheVariants as en
 use Rattle.bor_chains.specs.declared.fault.ChainFault.{ChainFault}
 use Rattle.bor_chains.specs.declared.fault.ChainFault.TheVariants as chains
 use Rattle.bor_desk.specs.declared.refusal.Refusal.{Refusal}
-use Rattle.bor_desk.specs.declared.refusal.Refusal.TheVariants.{NoAgent, NotRegistrar, NotAgent, KeyReused, FilingsFull, DuePast, Read, StatementTwice, Record, NoSuchFiling, Published, HasSuccessor, NoEntity, DayBack, NameTaken, TokenTaken}
+use Rattle.bor_desk.specs.declared.refusal.Refusal.TheVariants.{NoAgent, NotRegistrar, NotAgent}
+use Rattle.bor_desk.specs.declared.refusal.Refusal.TheVariants.{KeyReused, FilingsFull, DuePast}
+use Rattle.bor_desk.specs.declared.refusal.Refusal.TheVariants.{Read, StatementTwice, Record}
+use Rattle.bor_desk.specs.declared.refusal.Refusal.TheVariants.{NoSuchFiling, Published}
+use Rattle.bor_desk.specs.declared.refusal.Refusal.TheVariants.{HasSuccessor, NoEntity, DayBack}
+use Rattle.bor_desk.specs.declared.refusal.Refusal.TheVariants.{NameTaken, TokenTaken}
 use Rattle.bor_desk.specs.declared.refusal.DeskFault.{DeskFault}
 use Rattle.bor_desk.specs.declared.refusal.DeskFault.TheVariants.{Refused, Failed}
 
@@ -78,10 +83,12 @@ of_enrolment enrols.NameTaken = Refused NameTaken
 of_enrolment enrols.TokenTaken = Refused TokenTaken
 of_enrolment (enrols.Store fault) = Failed fault
 
--- the refusal of a report on chains; a fault of the source becomes the store's fault that it is made into
+-- the refusal of a report on chains; a fault of the source becomes the store's fault that it is
+-- made into
 abbrev pub IsOfChains : {F : Type 0} → (F → StoreFault → Type 0) → ChainFault F → DeskFault → Type 0
 IsOfChains into chains.NoEntity given = given ≡ Refused NoEntity
-IsOfChains into (chains.Source f) given = (fault : StoreFault) × into f fault × (given ≡ Failed fault)
+IsOfChains into (chains.Source f) given =
+    (fault : StoreFault) × into f fault × (given ≡ Failed fault)
 IsOfChains into chains.Memory given = given ≡ Failed stores.Memory
 
 -- ---- for a clause of a private function alone

@@ -41,10 +41,11 @@ request_by name (Some Registrar) request = None
 request_by name (Some (Agent other)) request = if is_same other name then Some request else None
 
 -- the agent's request in an exchange; before its enrolment there is none
-abbrev pub request_of : List ℕ → Register → Asked → Option Request
-request_of name r a = request_by name (caller_of a.token r) a.request
+abbrev pub agent_request : List ℕ → Register → Asked → Option Request
+agent_request name r a = request_by name (caller_of a.token r) a.request
 
--- One of an agent's own exchanges: the register's day then, what the others had published, and the request.
+-- One of an agent's own exchanges: the register's day then, what the others had published, and the
+-- request.
 pub record Occasion : Type 0 where
   pub day : ℤ
   pub others : List Outward
@@ -58,7 +59,8 @@ occasion_then name r (Some request) rest =
 -- the agent's own exchanges in a run, in order
 abbrev pub history : List ℕ → Register → List Asked → List Occasion
 history name r [] = []
-history name r (a ∷ rest) = occasion_then name r (request_of name r a) (history name (exchange r a).register rest)
+history name r (a ∷ rest) =
+    occasion_then name r (agent_request name r a) (history name (exchange r a).register rest)
 
 abbrev pub told_then : {T : Type 0} → Option Request → T → List T → List T
 told_then None told rest = rest
@@ -68,7 +70,8 @@ told_then (Some request) told rest = told ∷ rest
 abbrev pub told_to : {T : Type 0} → List ℕ → Register → List Asked → List T → List T
 told_to name r [] all = []
 told_to name r (a ∷ rest) [] = []
-told_to name r (a ∷ rest) (told ∷ all) = told_then (request_of name r a) told (told_to name (exchange r a).register rest all)
+told_to name r (a ∷ rest) (told ∷ all) =
+    told_then (agent_request name r a) told (told_to name (exchange r a).register rest all)
 
 -- the answers in a run to the agent
 abbrev pub answers_to : List ℕ → Register → List Asked → List Answer
@@ -76,7 +79,8 @@ answers_to name r run = told_to name r run (answers r run)
 
 -- ---- the agent alone
 
--- The answers to an agent's own exchanges alone: each is the step's in the register that is made of the day, the agent's filings so far, and what the others had published then.
+-- The answers to an agent's own exchanges alone: each is the step's in the register that is made of
+-- the day, the agent's filings so far, and what the others had published then.
 abbrev pub solo : List ℕ → List AcceptedFiling → List Occasion → List Answer
 solo name own [] = []
 solo name own (e ∷ rest) =

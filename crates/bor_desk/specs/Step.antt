@@ -1,5 +1,6 @@
 -- The answer to each request, and the register after it (this register's own rules).
-use Rattle.std.specs.Prelude.{ℕ, ℤ, Bool, true, false, List, map, Option, Some, None, unwrap_or, Result, Ok, Err, if◌then◌else◌}
+use Rattle.std.specs.Prelude.{ℕ, ℤ, Bool, true, false, List, map, Option, Some, None, unwrap_or}
+use Rattle.std.specs.Prelude.{Result, Ok, Err, if◌then◌else◌}
 use Rattle.bor_records.specs.declared.row.Row.{Row}
 use Rattle.bor_records.specs.Snapshot.{snapshot}
 use Rattle.bor_records.specs.declared.links.node.Node.{Node}
@@ -20,12 +21,14 @@ use Rattle.bor_desk.specs.declared.request.Request.TheVariants as ask
 use Rattle.bor_desk.specs.declared.reply.DeskReply.{DeskReply}
 use Rattle.bor_desk.specs.declared.reply.DeskReply.TheVariants as tell
 use Rattle.bor_desk.specs.declared.refusal.Refusal.{Refusal}
-use Rattle.bor_desk.specs.declared.refusal.Refusal.TheVariants.{NoAgent, NotRegistrar, NotAgent, NoSuchFiling, NoEntity}
+use Rattle.bor_desk.specs.declared.refusal.Refusal.TheVariants.{NoAgent, NotRegistrar, NotAgent}
+use Rattle.bor_desk.specs.declared.refusal.Refusal.TheVariants.{NoSuchFiling, NoEntity}
 use Rattle.bor_desk.specs.declared.refusal.DeskFault.{DeskFault}
 use Rattle.bor_desk.specs.declared.refusal.DeskFault.TheVariants as faults
 use Rattle.bor_desk.specs.Refusals.{of_lodging, of_withdrawal, of_advance, of_enrolment}
 
--- An answer: exactly a reply, or the report on an entity on a day, by the nodes and links that the caller sees, or its evidence, by the rows that the caller sees.
+-- An answer: exactly a reply, or the report on an entity on a day, by the nodes and links that the
+-- caller sees, or its evidence, by the rows that the caller sees.
 pub data Answer : Type 0 where
   exactly : DeskReply → Answer
   report : Node → ℤ → Shown → Answer
@@ -51,12 +54,15 @@ abbrev pub file_answer : Option AcceptedFiling → Answer
 file_answer None = refused NoSuchFiling
 file_answer (Some f) = exactly (tell.File f.bytes)
 
--- the snapshot of the agent's declaration on a day; empty where there is no such agent or declaration
+-- the snapshot of the agent's declaration on a day; empty where there is no such agent or
+-- declaration
 abbrev pub snapshot_answer : List Row → List ℕ → List ℕ → ℤ → Answer
-snapshot_answer seen agent declaration day = exactly (tell.Snapshot day (snapshot declaration day (rows_by agent seen)))
+snapshot_answer seen agent declaration day =
+    exactly (tell.Snapshot day (snapshot declaration day (rows_by agent seen)))
 
 abbrev pub report_on : Shown → Node → ℤ → Answer
-report_on shown entity day = if is_entity_info (info_of shown entity) then report entity day shown else refused NoEntity
+report_on shown entity day =
+    if is_entity_info (info_of shown entity) then report entity day shown else refused NoEntity
 
 -- the report on an entity, by the statements that the caller sees, on a day
 abbrev pub chains_answer : List Row → Node → ℤ → Answer
@@ -64,7 +70,9 @@ chains_answer seen entity day = report_on (shown_of day seen) entity day
 
 -- the evidence of an entity, by the statements that the caller sees, on a day
 abbrev pub evidence_answer : List Row → Node → ℤ → Answer
-evidence_answer seen entity day = if is_entity_info (info_of (shown_of day seen) entity) then evidence entity day seen else refused NoEntity
+evidence_answer seen entity day =
+    if is_entity_info (info_of (shown_of day seen) entity) then evidence entity day seen
+    else refused NoEntity
 
 -- An absent date is the register's day.
 abbrev pub agent_answer : Sight → Request → Answer
@@ -73,7 +81,8 @@ agent_answer s (ask.Withdraw key) = told tell.Withdrawn of_withdrawal (withdrawa
 agent_answer s ask.Filings = exactly (tell.Filings (map (line_of s.day) s.own))
 agent_answer s (ask.File key) = file_answer (filing_keyed key s.own)
 agent_answer s ask.Published = exactly (tell.Published s.published)
-agent_answer s (ask.Snapshot agent declaration date) = snapshot_answer s.seen agent declaration (unwrap_or date s.day)
+agent_answer s (ask.Snapshot agent declaration date) =
+    snapshot_answer s.seen agent declaration (unwrap_or date s.day)
 agent_answer s (ask.Chains entity date) = chains_answer s.seen entity (unwrap_or date s.day)
 agent_answer s (ask.Evidence entity date) = evidence_answer s.seen entity (unwrap_or date s.day)
 agent_answer s (ask.Day date) = refused NotRegistrar
@@ -88,19 +97,25 @@ own_after s request = s.own
 abbrev pub agent_step : Register → List ℕ → Request → Outcome Answer
 agent_step r name request =
     let s = sight_of name r in
-    record { answer = agent_answer s request; register = record r { members = with_filings name (own_after s request) r.members } }
+    record {
+      answer = agent_answer s request;
+      register = record r
+          { members = with_filings name (own_after s request) r.members };
+    }
 
 -- ---- the answer to the registrar
 
 abbrev pub refuses : Register → Refusal → Outcome Answer
 refuses r why = record { answer = refused why; register = r }
 
-abbrev pub told_step : {A E : Type 0} → (A → DeskReply) → (E → DeskFault) → Outcome (Result A E) → Outcome Answer
+abbrev pub told_step : {A E : Type 0} → (A → DeskReply) → (E → DeskFault) → Outcome (Result A E)
+    → Outcome Answer
 told_step reply fault o = record { answer = told reply fault o.answer; register = o.register }
 
 abbrev pub registrar_step : Register → Request → Outcome Answer
 registrar_step r (ask.Day date) = told_step tell.Day of_advance (advance_step r date)
-registrar_step r (ask.Enrol name token) = told_step tell.Enrolled of_enrolment (enrol_step r name token)
+registrar_step r (ask.Enrol name token) =
+    told_step tell.Enrolled of_enrolment (enrol_step r name token)
 registrar_step r request = refuses r NotAgent
 
 -- ---- the step

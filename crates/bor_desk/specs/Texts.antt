@@ -34,7 +34,9 @@ settled_word (Some status) = status_word status
 
 -- of a statement its place, type, settled status, declaration and record
 abbrev pub statement_line : ℕ → Statement → List ℕ
-statement_line place s = tabbed (decimal place) (type_word (type_of s.details) ∷ settled_word s.status ∷ s.declaration ∷ s.rec ∷ [])
+statement_line place s =
+    tabbed (decimal place)
+    (type_word (type_of s.details) ∷ settled_word s.status ∷ s.declaration ∷ s.rec ∷ [])
 
 -- the statements of a filing, counted from this place
 abbrev pub statement_lines : ℕ → List Statement → List ℕ
@@ -50,7 +52,8 @@ outward_lines (o ∷ os) = statement_lines 1 o.statements ++ outward_lines os
 
 -- a filing that was accepted: its number and its state
 abbrev pub accepted_line : Lodged → List ℕ
-accepted_line lodged = codes "filing " ++ decimal lodged.number ++ 32 ∷ [] ++ state_word lodged.state ++ 10 ∷ []
+accepted_line lodged =
+    codes "filing " ++ decimal lodged.number ++ 32 ∷ [] ++ state_word lodged.state ++ 10 ∷ []
 
 abbrev pub place_part : Option ℕ → List ℕ
 place_part None = []
@@ -62,7 +65,9 @@ field_part (Some field) = codes " in " ++ field_word field
 
 -- a refusal by its name, with its place and its field where it has them
 abbrev pub refusal_line : List ℕ → Option ℕ → Option Field → List ℕ
-refusal_line name place field = codes "refused " ++ name ++ place_part place ++ field_part field ++ 10 ∷ []
+refusal_line name place field =
+    codes "refused " ++ name ++ place_part place ++ field_part field ++ 10 ∷ []
 
 abbrev pub refused_text : Refusal → Text
-refused_text why = refusing (refusal_line (refusal_name why) (refusal_place why) (refusal_field why))
+refused_text why =
+    refusing (refusal_line (refusal_name why) (refusal_place why) (refusal_field why))

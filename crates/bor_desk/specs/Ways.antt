@@ -1,5 +1,7 @@
--- The state of the search for the records by which entities are one; for clauses of private functions alone.
-use Rattle.std.specs.Prelude.{◌≡◌, ◌⊎◌, ◌↔◌, ◌+◌, ◌<◌, ◌≤◌, ℕ, List, Contains, IsTrue, Option, None, Some, IsSome, IfSome, length}
+-- The state of the search for the records by which entities are one; for clauses of private
+-- functions alone.
+use Rattle.std.specs.Prelude.{◌≡◌, ◌⊎◌, ◌↔◌, ◌+◌, ◌<◌, ◌≤◌, ℕ, List, Contains, IsTrue, Option, None}
+use Rattle.std.specs.Prelude.{Some, IsSome, IfSome, length}
 use Rattle.std.specs.List.{slice_get}
 use Rattle.std.specs.List.Sorted.{IsSorted}
 use Rattle.std.specs.BTreeMap.{get}
@@ -8,7 +10,7 @@ use Rattle.std.proofs.Common.{Vec, Global}
 use Rattle.bor_records.specs.declared.links.node.Node.{Node}
 use Rattle.bor_records.specs.Links.Nodes.{node_cmp}
 use Rattle.bor_records.specs.Links.Shown.{Shown}
-use Rattle.bor_records.specs.Links.Aliases.{Alias, Steps, Same}
+use Rattle.bor_records.specs.Links.Aliases.{Alias, IsAliasPath, Same}
 use Rattle.bor_chains.specs.declared.tree.EvidenceLink.{EvidenceLink}
 use Rattle.bor_desk.specs.Evidence.{goal_of}
 use Rattle.bor_desk.specs.Kin.{IsKinOf}
@@ -18,9 +20,9 @@ use Rattle.bor_desk.specs.declared.evidence.ways.Ways.{Ways}
 -- so many aliases lead from x to the goal, and no fewer do
 pub record IsAway (s : Shown) (goal x : Node) (count : ℕ) : Type 0 where
   pub through : List Node
-  pub steps : Steps s x through goal
+  pub steps : IsAliasPath s x through goal
   pub long : length through ≡ count
-  pub least : (cs : List Node) → Steps s x cs goal → count ≤ length cs
+  pub least : (cs : List Node) → IsAliasPath s x cs goal → count ≤ length cs
 
 -- y is the first of the aliases of x that are nearer to the goal
 pub record IsNearer (s : Shown) (goal x y : Node) : Type 0 where
@@ -41,9 +43,11 @@ abbrev pub IsNew : Followers → Followers → Node → Type 0
 IsNew old new x = (old x ≡ None) × IsSome (new x)
 
 -- All that was found stays, and each of the nodes that wasn't is found now, followed by this one.
-pub record AreAdded (node : Node) (nodes : List Node) (old new : Followers) (before now : List Node) : Type 0 where
+pub record AreAdded (node : Node) (nodes : List Node) (old new : Followers)
+    (before now : List Node) : Type 0 where
   pub stays : (x : Node) (next : Option Node) → old x ≡ Some next → new x ≡ Some next
-  pub each : (x : Node) (next : Option Node) → old x ≡ None → new x ≡ Some next → Contains nodes x × (next ≡ Some node)
+  pub each : (x : Node) (next : Option Node) → old x ≡ None → new x ≡ Some next
+      → Contains nodes x × (next ≡ Some node)
   pub every : (x : Node) → Contains nodes x → IsSome (new x)
   pub told : (x : Node) → Contains now x ↔ (Contains before x ⊎ IsNew old new x)
 
@@ -55,11 +59,15 @@ pub record IsFirstAlias (s : Shown) (level : List Node) (count : ℕ) (x y : Nod
   pub alias : Alias s y x
   pub first : (i : ℕ) (z : Node) → i < place → slice_get level i ≡ Some z → Alias s z x → ⊥
 
--- All that was found stays, and the aliases of the first so many of a level are found, each followed by the first of them.
-pub record AreFoundFrom (s : Shown) (level : List Node) (count : ℕ) (old new : Followers) (found : List Node) : Type 0 where
+-- All that was found stays, and the aliases of the first so many of a level are found, each
+-- followed by the first of them.
+pub record AreFoundFrom (s : Shown) (level : List Node) (count : ℕ) (old new : Followers)
+    (found : List Node) : Type 0 where
   pub stays : (x : Node) (next : Option Node) → old x ≡ Some next → new x ≡ Some next
-  pub each : (x : Node) (next : Option Node) → old x ≡ None → new x ≡ Some next → (y : Node) × (next ≡ Some y) × IsFirstAlias s level count x y
-  pub every : (i : ℕ) (y x : Node) → i < count → slice_get level i ≡ Some y → Alias s y x → IsSome (new x)
+  pub each : (x : Node) (next : Option Node) → old x ≡ None → new x ≡ Some next
+      → (y : Node) × (next ≡ Some y) × IsFirstAlias s level count x y
+  pub every : (i : ℕ) (y x : Node) → i < count → slice_get level i ≡ Some y → Alias s y x
+      → IsSome (new x)
   pub told : (x : Node) → Contains found x ↔ IsNew old new x
 
 -- each of a level is one with the goal, and found
@@ -68,12 +76,16 @@ AreOfClass s goal level after = (x : Node) → Contains level x → Same s x goa
 
 -- ---- after some levels
 
--- All that so many aliases or fewer lead to the goal from are found, each with the first that is nearer, and the last level has those of so many.
-pub record AreKnown (s : Shown) (goal : Node) (depth : ℕ) (after : Followers) (level : List Node) : Type 0 where
+-- All that so many aliases or fewer lead to the goal from are found, each with the first that is
+-- nearer, and the last level has those of so many.
+pub record AreKnown (s : Shown) (goal : Node) (depth : ℕ) (after : Followers)
+    (level : List Node) : Type 0 where
   pub goal_found : after goal ≡ Some None
   pub goal_alone : (x : Node) → after x ≡ Some None → x ≡ goal
-  pub each : (x y : Node) → after x ≡ Some (Some y) → (nearer : IsNearer s goal x y) × (nearer.count < depth)
-  pub every : (x : Node) (cs : List Node) → Steps s x cs goal → length cs ≤ depth → IsSome (after x)
+  pub each : (x y : Node) → after x ≡ Some (Some y)
+      → (nearer : IsNearer s goal x y) × (nearer.count < depth)
+  pub every : (x : Node) (cs : List Node) → IsAliasPath s x cs goal → length cs ≤ depth
+      → IsSome (after x)
   pub level_is : (x : Node) → Contains level x ↔ IsAway s goal x depth
   pub sorted : IsSorted node_cmp level
 
@@ -92,8 +104,10 @@ AreAll s goal ways = (x : Node) → Same s x goal → IsSome (get node_cmp ways.
 
 -- each goal has the ways to it
 abbrev pub AreGoals : Shown → Goals → Type 0
-AreGoals s goals = (goal : Node) (ways : Ways) → get node_cmp goals.ways goal ≡ Some ways → AreWaysTo s goal ways
+AreGoals s goals =
+    (goal : Node) (ways : Ways) → get node_cmp goals.ways goal ≡ Some ways → AreWaysTo s goal ways
 
 -- each link's subject is one with where the link leads
 abbrev pub AreLinked : Shown → Node → List EvidenceLink → Type 0
-AreLinked s entity links = (x : EvidenceLink) → Contains links x → Same s x.link.subject (goal_of entity x)
+AreLinked s entity links =
+    (x : EvidenceLink) → Contains links x → Same s x.link.subject (goal_of entity x)

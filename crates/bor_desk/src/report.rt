@@ -9,7 +9,7 @@ ghost use Rattle.bor_desk.specs.Operations.Sight.{seen_by};
 ghost use Rattle.bor_desk.specs.Operations.Outcomes.{UnlessFailed, IsAccounted, TellsFaultOf};
 ghost use Rattle.bor_desk.specs.Refusals.{failed};
 ghost use Rattle.bor_desk.specs.Step.{chains_answer};
-ghost use Rattle.bor_desk.specs.Outcomes.{AreFound};
+ghost use Rattle.bor_desk.specs.Outcomes.{ArePersonsFound};
 ghost use Rattle.bor_desk.specs.Texts.{answering};
 ghost use Rattle.bor_desk.specs.ChainReport.{name_data, count_line, entity_line, person_part, person_line, person_lines, report_lines, IsTextOf};
 
@@ -32,7 +32,7 @@ pub(crate) fn persons_seen<K: Keep>(
 ) -> Result<Vec<PersonLine>, DeskFault>
     ensures kept { Kept K.shows K.is_clean K.is_sound K.may_leave keep.old keep.new }
     ensures answer { Promised K.shows K.is_clean keep.old keep.new (λ r.
-        AreFound (λ persons. persons.items) result
+        ArePersonsFound (λ persons. persons.items) result
         (shown_of day (seen_by viewer.now r)) entity.now day) }
     ensures accounted { IsAccounted failed result (K.fault_count keep.old)
         (K.fault_count keep.new) }

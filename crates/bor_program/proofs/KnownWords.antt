@@ -7,14 +7,14 @@ use Rattle.bor_words.specs.declared.source.Source.{Source}
 use Rattle.bor_words.specs.declared.unread.Unread.{Unread}
 use Rattle.bor_words.specs.declared.unread.Unread.TheVariants.{Answered, NoRegistrar, TwoRegistrars, Unfit, UnfitToken}
 use Rattle.bor_words.specs.Asked.{IsCommand, IsWrong, MayAskForHelp, name_of}
-use Rattle.bor_words.specs.Unread.{IsFaultOf, kind_of_answer}
+use Rattle.bor_words.specs.Unread.{IsFaultOfWords, kind_of_answer}
 use Rattle.bor_words.specs.Values.{first_unfit, values_of}
 use Rattle.bor_words.specs.Words.{bor_app, entered_by}
 use Rattle.bor_program.specs.declared.failure.Failure.{Failure}
 use Rattle.bor_program.specs.declared.failure.Failure.TheVariants.{Unreadable, NoRegister, OtherVersion, Taken, Registered, NoToken, Memory, Store, Unlistening, Unwritable}
 use Rattle.bor_program.specs.declared.status.Status.{Status}
 use Rattle.bor_program.specs.declared.status.Status.TheVariants.{Done, Refused, Usage, Failed}
-use Rattle.bor_program.specs.Failures.{IsFailureOf, IsFailureOn, IsMetBy, IsMetOn, IsMetPrinting, IsOfPrinting, IsTold, LeavesOutput, failure_line}
+use Rattle.bor_program.specs.Failures.{IsFailureOf, IsFailureOn, IsMetBy, IsMetOn, IsMetPrinting, IsOfPrinting, IsFailureWritten, LeavesOutput, failure_line}
 use Rattle.bor_program.specs.Streams.{AppendsPart}
 use Rattle.bor_program.specs.Program.{exit_code}
 use Rattle.bor_program.specs.Words.{AsksForCheck, file_of}
@@ -23,7 +23,7 @@ no_value : {A : Type 0} (o : Option A) (x : A) → o ≡ None → o ≡ Some x �
 no_value o x e f = cc
 
 -- the answer to words that ask for a command is want of memory
-pub only_memory : (words : List (List ℕ)) (unread : Unread) → IsCommand words → IsFaultOf words unread → kind_of_answer unread ≡ OutOfMemory
+pub only_memory : (words : List (List ℕ)) (unread : Unread) → IsCommand words → IsFaultOfWords words unread → kind_of_answer unread ≡ OutOfMemory
 only_memory words (Answered error) asked (inl h) = h
 only_memory words (Answered error) asked (inr h) = let P : Kinds → Type 0 = IsAmong (kind_of error) in absurd (subst P asked.0 h)
 only_memory words (Unfit unfit) asked h = absurd (no_value (first_unfit (values_of (entered_by words))) unfit.word.now asked.1 h.1)
@@ -32,7 +32,7 @@ only_memory words NoRegistrar asked h = absurd (no_value (first_unfit (values_of
 only_memory words TwoRegistrars asked h = absurd (no_value (first_unfit (values_of (entered_by words))) (codes "registrar") asked.1 h.1)
 
 -- an answer that is neither want of memory nor help is a fault of the words
-pub wrong_words : (words : List (List ℕ)) (unread : Unread) → IsFaultOf words unread → kind_of_answer unread ≢ DisplayHelp
+pub wrong_words : (words : List (List ℕ)) (unread : Unread) → IsFaultOfWords words unread → kind_of_answer unread ≢ DisplayHelp
     → kind_of_answer unread ≢ OutOfMemory → IsWrong words
 wrong_words words (Answered error) (inl h) no_help memory_left = absurd (memory_left h)
 wrong_words words (Answered error) (inr h) no_help memory_left = inl (kind_of error, h, no_help)
@@ -42,7 +42,7 @@ wrong_words words NoRegistrar h no_help memory_left = inr (h.0, (codes "registra
 wrong_words words TwoRegistrars h no_help memory_left = inr (h.0, (codes "registrar", h.1))
 
 -- where help is the answer, the words may ask for it
-pub help_asked : (words : List (List ℕ)) (unread : Unread) → IsFaultOf words unread → kind_of_answer unread ≡ DisplayHelp → MayAskForHelp words
+pub help_asked : (words : List (List ℕ)) (unread : Unread) → IsFaultOfWords words unread → kind_of_answer unread ≡ DisplayHelp → MayAskForHelp words
 help_asked words (Answered error) (inl h) help = let bad : DisplayHelp ≡ OutOfMemory = sym help ∙ h in cc
 help_asked words (Answered error) (inr h) help = let P : ErrorKind → Type 0 = λ kind. IsAmong kind (fault_of bor_app words) in subst P help h
 help_asked words (Unfit unfit) h help = let bad : ValueValidation ≡ DisplayHelp = help in cc
@@ -124,6 +124,6 @@ met_by_words words before after last same failure h = record {
 
 -- a failure that was told is told as one of a wider kind
 pub told_as : (Of New : Failure → Type 0) (before after last : Option (List ℕ)) → ((failure : Failure) → Of failure → New failure)
-    → last ≡ after → IsTold Of before after → IsTold New before last
+    → last ≡ after → IsFailureWritten Of before after → IsFailureWritten New before last
 told_as Of New before after last wider e told =
     (told.0, wider told.0 told.1, subst (λ known. AppendsPart before known (failure_line told.0)) (sym e) told.2)

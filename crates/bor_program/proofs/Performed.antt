@@ -17,7 +17,7 @@ use Rattle.bor_words.specs.declared.serve.Serve.{Serve as Asked}
 use Rattle.bor_words.specs.declared.source.Source.{Source}
 use Rattle.bor_words.specs.Asked.{EntersCheck, IsAsked, IsCommand, name_of}
 use Rattle.bor_words.specs.Words.{Entered, entered_by, file_at}
-use Rattle.bor_program.specs.Performing.{Checks, EndsSettingUp, Exchanges, Inits, InitsOnceTold, IsDoneOrFailed, Known, Performs, Serves, TellsRefusal, migrated}
+use Rattle.bor_program.specs.Performing.{Checks, EndsSettingUp, Exchanges, Inits, InitsOnceTold, IsDoneOrFailed, Known, Performs, Serves, PrintsRefusal, migrated}
 use Rattle.bor_program.specs.declared.host.Origin.{Origin}
 use Rattle.bor_program.specs.declared.host.Origin.TheVariants.{Found, New}
 use Rattle.bor_program.specs.declared.registrar.Exchanging.{Exchanging}
@@ -120,7 +120,7 @@ unusual : (refused : Bool) → 2 ≡ report_status refused → ⊥
 unusual true e = absurd (omega (arith, e))
 unusual false e = absurd (omega (arith, e))
 
-text_refuses : (text : Text) (output printed : Known) → IsWrittenOrCutOff text output printed 1 → TellsRefusal output printed
+text_refuses : (text : Text) (output printed : Known) → IsWrittenOrCutOff text output printed 1 → PrintsRefusal output printed
 text_refuses text output printed (inl h) = inl (text, refuses text.refused h.told, h.text)
 text_refuses text output printed (inr h) = absurd (omega (arith, h.told))
 
@@ -160,7 +160,7 @@ no_two n (inl h) e = absurd (omega (arith, h, e))
 no_two n (inr h) e = absurd (omega (arith, h, e))
 
 sent_refusal : {M K Left : Type 0} (Reads : Bor Words → List ℕ → Type 0) (shows : K → Register → Type 0) (is_clean is_sound : K → Type 0) (may_leave : K → Left → Type 0) (left_shows : Left → Register → Type 0) (does : M → Deed K → M → Type 0) (begun ended : M) (asked : Exchanging) (output printed errors told : Known)
-    → Exchanges Reads shows is_clean is_sound may_leave left_shows does begun ended asked output printed errors told 1 → TellsRefusal output printed
+    → Exchanges Reads shows is_clean is_sound may_leave left_shows does begun ended asked output printed errors told 1 → PrintsRefusal output printed
 sent_refusal Reads shows is_clean is_sound may_leave left_shows does begun ended asked output printed errors told p = elim p.sent.1 [
   | inl h ↦ inr (p.sent.0, sym h.1, h.0)
   | inr h ↦ absurd (omega (arith, h.1))
@@ -174,7 +174,7 @@ sent_unusual Reads shows is_clean is_sound may_leave left_shows does begun ended
 ]
 
 one_refusal : {M K Left : Type 0} (Reads : ℕ → Bor Words → List ℕ → Type 0) (Hosts : Asked → K → K → ℕ → Type 0) (shows : K → Register → Type 0) (is_clean is_sound : K → Type 0) (may_leave : K → Left → Type 0) (left_shows : Left → Register → Type 0) (tells : K → StoreFault → K → Type 0) (does : M → Deed K → M → Type 0) (begun ended : M) (asked : Command) (input rest output printed errors told : Known)
-    → Performs Reads Hosts shows is_clean is_sound may_leave left_shows tells does begun ended asked input rest output printed errors told 1 → TellsRefusal output printed
+    → Performs Reads Hosts shows is_clean is_sound may_leave left_shows tells does begun ended asked input rest output printed errors told 1 → PrintsRefusal output printed
 one_refusal Reads Hosts shows is_clean is_sound may_leave left_shows tells does begun ended (Check source) input rest output printed errors told p = text_refuses _ output printed p.1.report.1
 one_refusal Reads Hosts shows is_clean is_sound may_leave left_shows tells does begun ended (Init asked) input rest output printed errors told p = absurd (no_one 1 (inits_end Reads _ _ _ _ _ asked _ _ _ _ _ p.1) refl)
 one_refusal Reads Hosts shows is_clean is_sound may_leave left_shows tells does begun ended (Exchange asked) input rest output printed errors told p = elim p.1 [
@@ -199,7 +199,7 @@ two_fault Reads Hosts shows is_clean is_sound may_leave left_shows tells does be
 
 -- status 1 stands for a refusal
 pub refusal : {M K Left : Type 0} (Reads : ℕ → Bor Words → List ℕ → Type 0) (Hosts : Asked → K → K → ℕ → Type 0) (shows : K → Register → Type 0) (is_clean is_sound : K → Type 0) (may_leave : K → Left → Type 0) (left_shows : Left → Register → Type 0) (tells : K → StoreFault → K → Type 0) (does : M → Deed K → M → Type 0) (begun ended : M) (asked : Command) (input rest output printed errors told : Known) (status : ℕ) → status ≡ 1
-    → Performs Reads Hosts shows is_clean is_sound may_leave left_shows tells does begun ended asked input rest output printed errors told status → TellsRefusal output printed
+    → Performs Reads Hosts shows is_clean is_sound may_leave left_shows tells does begun ended asked input rest output printed errors told status → PrintsRefusal output printed
 refusal Reads Hosts shows is_clean is_sound may_leave left_shows tells does begun ended asked input rest output printed errors told status e p =
     one_refusal Reads Hosts shows is_clean is_sound may_leave left_shows tells does begun ended asked input rest output printed errors told (subst (λ (n : ℕ). Performs Reads Hosts shows is_clean is_sound may_leave left_shows tells does begun ended asked input rest output printed errors told n) e p)
 

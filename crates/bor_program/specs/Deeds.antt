@@ -20,14 +20,19 @@ pub data Deed (K : Type 0) : Type 0 where
   -- none of these can be done, for this failure
   Fails : Bor Text → Failure → Deed K
 
--- How a register came to be open: it stood in the file, or one was set up, the new register of this registrar and day.
-abbrev pub ComesToBe : {K : Type 0} → (K → Register → Type 0) → (K → Type 0) → Bor Text → List ℕ → ℤ → K → Origin → (Deed K → Type 0) → Type 0
+-- How a register came to be open: it stood in the file, or one was set up, the new register of this
+-- registrar and day.
+abbrev pub ComesToBe : {K : Type 0} → (K → Register → Type 0) → (K → Type 0) → Bor Text → List ℕ → ℤ
+    → K → Origin → (Deed K → Type 0) → Type 0
 ComesToBe shows is_clean path registrar day register Found done = done (Opens path register)
 ComesToBe shows is_clean path registrar day register New done =
-    done (SetsUp path register) × (is_clean register → shows register (empty_register registrar day))
+    done (SetsUp path register)
+    × (is_clean register → shows register (empty_register registrar day))
 
--- A register comes to be open, and what is left of it is closed in the file of this name. Nothing else is done.
-pub record Visits {M K : Type 0} (does : M → Deed K → M → Type 0) (begun ended : M) (path : Bor Text) (Comes : (Deed K → Type 0) → Type 0) (left : K) : Type 0 where
+-- A register comes to be open, and what is left of it is closed in the file of this name. Nothing
+-- else is done.
+pub record Visits {M K : Type 0} (does : M → Deed K → M → Type 0) (begun ended : M)
+    (path : Bor Text) (Comes : (Deed K → Type 0) → Type 0) (left : K) : Type 0 where
   pub between : M
   pub comes : Comes (λ deed. does begun deed between)
   pub closes : does between (Closes path left) ended

@@ -2,12 +2,16 @@
 use Rattle.std.specs.Prelude.{◌≡◌, ◌⊎◌, ⊤, ℕ, List, [], ◌∷◌, ◌++◌, Option, codes, map}
 use Rattle.std.specs.Io.KnownBytes.{Appends, Keeps}
 use Rattle.bor_register.specs.declared.fault.StoreFault.{StoreFault}
-use Rattle.bor_register.specs.declared.fault.StoreFault.TheVariants.{Memory as WantOfMemory, Store as StoreFailed, Damaged}
+use Rattle.bor_register.specs.declared.fault.StoreFault.TheVariants.{Memory as WantOfMemory}
+use Rattle.bor_register.specs.declared.fault.StoreFault.TheVariants.{Store as StoreFailed, Damaged}
 use Rattle.bor_words.specs.declared.source.Source.{Source}
 use Rattle.bor_words.specs.declared.source.Source.TheVariants.{File}
 use Rattle.bor_words.specs.Asked.{name_of, source_text}
 use Rattle.bor_program.specs.declared.failure.Failure.{Failure}
-use Rattle.bor_program.specs.declared.failure.Failure.TheVariants.{Unreadable, NoRegister, OtherVersion, Taken, Registered, NoToken, Memory, Store, Unlistening, Unwritable}
+use Rattle.bor_program.specs.declared.failure.Failure.TheVariants.{Unreadable, NoRegister}
+use Rattle.bor_program.specs.declared.failure.Failure.TheVariants.{OtherVersion, Taken, Registered}
+use Rattle.bor_program.specs.declared.failure.Failure.TheVariants.{NoToken, Memory, Store}
+use Rattle.bor_program.specs.declared.failure.Failure.TheVariants.{Unlistening, Unwritable}
 use Rattle.bor_program.specs.Streams.{AppendsPart}
 use Rattle.bor_program.specs.Words.{AsksForCheck, file_of}
 use Rattle.clap.specs.Words.{Text}
@@ -19,14 +23,18 @@ abbrev pub joined : List (List ℕ) → List ℕ
 joined [] = []
 joined (text ∷ texts) = text ++ joined texts
 
--- the line that is printed of a failure, or nothing where it is standard output that can't be written
+-- the line that is printed of a failure, or nothing where it is standard output that can't be
+-- written
 abbrev pub failure_line : Failure → List ℕ
 failure_line (Unreadable source) = codes "bor: cannot read " ++ source_text source ++ 10 ∷ []
 failure_line (NoRegister path) = codes "bor: no register in " ++ path.now ++ 10 ∷ []
 failure_line (OtherVersion path version) =
-    codes "bor: register of version " ++ signed_decimal version ++ codes " in " ++ path.now ++ 10 ∷ []
-failure_line (Taken path) = codes "bor: " ++ (path.now ++ (codes " is not free for a register" ++ 10 ∷ []))
-failure_line (Registered path) = codes "bor: a register is in " ++ (path.now ++ (codes " already" ++ 10 ∷ []))
+    codes "bor: register of version " ++ signed_decimal version ++ codes " in "
+    ++ path.now ++ 10 ∷ []
+failure_line (Taken path) =
+    codes "bor: " ++ (path.now ++ (codes " is not free for a register" ++ 10 ∷ []))
+failure_line (Registered path) =
+    codes "bor: a register is in " ++ (path.now ++ (codes " already" ++ 10 ∷ []))
 failure_line (NoToken name) = codes "bor: no token in " ++ name.now ++ 10 ∷ []
 failure_line Memory = codes "bor: out of memory" ++ 10 ∷ []
 failure_line Store = codes "bor: store failed" ++ 10 ∷ []
@@ -71,7 +79,8 @@ IsOfPrinting Memory = ⊤
 IsOfPrinting Unwritable = ⊤
 IsOfPrinting failure = ⊥
 
--- the words ask for a check, and reading of the file that they name failed; or memory was wanting, or standard output can't be written
+-- the words ask for a check, and reading of the file that they name failed; or memory was wanting,
+-- or standard output can't be written
 abbrev pub IsFailureOf : List Text → Failure → Type 0
 IsFailureOf words (Unreadable unread) = AsksForCheck words × (name_of unread ≡ file_of words)
 IsFailureOf words Memory = ⊤
@@ -84,7 +93,8 @@ LeavesOutput before after Unwritable = ⊤
 LeavesOutput before after failure = Keeps before after
 
 -- a failure of a check of this source was met, and no other
-pub record IsMetOn (source : Source) (before after : Option (List ℕ)) (failure : Failure) : Type 0 where
+pub record IsMetOn (source : Source) (before after : Option (List ℕ))
+    (failure : Failure) : Type 0 where
   pub cause : IsFailureOn source failure
   pub output : LeavesOutput before after failure
 
@@ -94,14 +104,18 @@ pub record IsMetPrinting (before after : Option (List ℕ)) (failure : Failure) 
   pub output : LeavesOutput before after failure
 
 -- a failure of a check that the words ask for, or of printing a text, was met, and no other
-pub record IsMetBy (words : List Text) (before after : Option (List ℕ)) (failure : Failure) : Type 0 where
+pub record IsMetBy (words : List Text) (before after : Option (List ℕ))
+    (failure : Failure) : Type 0 where
   pub cause : IsFailureOf words failure
   pub output : LeavesOutput before after failure
 
--- a register that is open returned a fault, before anything was written, and the failure is the program's for it; or standard output can't be written
-abbrev pub IsMetOnKeep : (StoreFault → Type 0) → Option (List ℕ) → Option (List ℕ) → Failure → Type 0
+-- a register that is open returned a fault, before anything was written, and the failure is the
+-- program's for it; or standard output can't be written
+abbrev pub IsMetOnKeep : (StoreFault → Type 0) → Option (List ℕ) → Option (List ℕ)
+    → Failure → Type 0
 IsMetOnKeep Told before after failure =
-    ((fault : StoreFault) × Told fault × (failure ≡ failure_of fault) × Keeps before after) ⊎ (failure ≡ Unwritable)
+    ((fault : StoreFault) × Told fault × (failure ≡ failure_of fault) × Keeps before after)
+    ⊎ (failure ≡ Unwritable)
 
 -- the port can't be listened on, memory was wanting, or standard output can't be written
 abbrev pub IsOfListening : Failure → Type 0
@@ -115,14 +129,17 @@ pub record IsMetListening (before after : Option (List ℕ)) (failure : Failure)
   pub cause : IsOfListening failure
   pub output : LeavesOutput before after failure
 
--- a failure of opening or moving the register in the file of this name, of its store, or of standard output, and no other was met
-pub record IsMetIn (path : Bor Text) (before after : Option (List ℕ)) (failure : Failure) : Type 0 where
+-- a failure of opening or moving the register in the file of this name, of its store, or of
+-- standard output, and no other was met
+pub record IsMetIn (path : Bor Text) (before after : Option (List ℕ))
+    (failure : Failure) : Type 0 where
   pub cause : IsOpeningOf path failure ⊎ (failure ≡ Unwritable)
   pub output : LeavesOutput before after failure
 
 -- the front of such a failure's line was written: all of it, some or nothing, and nothing else
-abbrev pub IsTold : (Failure → Type 0) → Option (List ℕ) → Option (List ℕ) → Type 0
-IsTold Of before after = (failure : Failure) × Of failure × AppendsPart before after (failure_line failure)
+abbrev pub IsFailureWritten : (Failure → Type 0) → Option (List ℕ) → Option (List ℕ) → Type 0
+IsFailureWritten Of before after =
+    (failure : Failure) × Of failure × AppendsPart before after (failure_line failure)
 
 -- ---- files that can't be read
 
@@ -134,13 +151,16 @@ unread_line file = failure_line (Unreadable (File file))
 abbrev pub AreFronts : List (List ℕ) → List ℕ → Type 0
 AreFronts [] bytes = bytes ≡ []
 AreFronts (text ∷ texts) bytes =
-    (front : List ℕ) × (left : List ℕ) × (rest : List ℕ) × (text ≡ front ++ left) × (bytes ≡ front ++ rest) × AreFronts texts rest
+    (front : List ℕ) × (left : List ℕ) × (rest : List ℕ) × (text ≡ front ++ left)
+    × (bytes ≡ front ++ rest) × AreFronts texts rest
 
 -- a front of the line of each file was written, in their order, and nothing else
 abbrev pub TellsUnread : List (Bor Text) → Option (List ℕ) → Option (List ℕ) → Type 0
-TellsUnread files before after = (lines : List ℕ) × AreFronts (map unread_line files) lines × Appends before after lines
+TellsUnread files before after =
+    (lines : List ℕ) × AreFronts (map unread_line files) lines × Appends before after lines
 
 -- the same, and then a front of the line of a failure of printing that was met
 abbrev pub TellsFiles : List (Bor Text) → (output printed before after : Option (List ℕ)) → Type 0
 TellsFiles files output printed before after =
-    (between : Option (List ℕ)) × TellsUnread files before between × IsTold (IsMetPrinting output printed) between after
+    (between : Option (List ℕ)) × TellsUnread files before between
+    × IsFailureWritten (IsMetPrinting output printed) between after

@@ -1,5 +1,6 @@
 -- The lines of a server's log, each for a request that was answered.
-use Rattle.std.specs.Prelude.{◌≡◌, ◌⊎◌, ◌+◌, ◌/◌, ◌%◌, ◌++◌, ℕ, List, [], ◌∷◌, length, Option, Some, None, codes, decimal}
+use Rattle.std.specs.Prelude.{◌≡◌, ◌⊎◌, ◌+◌, ◌/◌, ◌%◌, ◌++◌, ℕ, List, [], ◌∷◌, length, Option, Some}
+use Rattle.std.specs.Prelude.{None, codes, decimal}
 use Rattle.std.specs.Borrow.{Bor}
 use Rattle.std.specs.Option.{option_map_or}
 use Rattle.bor_terms.specs.Day.{day_text}
@@ -28,7 +29,8 @@ abbrev pub asked_at : Option Path → List ℕ → Asked
 asked_at None method = asked.Nothing
 asked_at (Some path) method = option_map_or asked.Route (route_at path method) (asked.Path path)
 
--- the request of the first line of an input: a method, a space, a target up to its question mark, a space
+-- the request of the first line of an input: a method, a space, a target up to its question mark, a
+-- space
 unfoldable pub asked_of : List ℕ → Asked
 asked_of input =
     let first = before 10 input in
@@ -76,8 +78,11 @@ asked_path_word asked.Nothing = untold
 
 -- ---- notes
 
--- A note of a request that had this reply: what it asks for, and the reply's status and bytes. The agent is the one that has the token which the request spells, in the register as it was, and none where no agent has it or no request is spelled; with 503 it may be none.
-pub record IsNoteOf (promised : (Register → Type 0) → Type 0) (request : List ℕ) (out : Outgoing) (note : Note) : Type 0 where
+-- A note of a request that had this reply: what it asks for, and the reply's status and bytes. The
+-- agent is the one that has the token which the request spells, in the register as it was, and none
+-- where no agent has it or no request is spelled; with 503 it may be none.
+pub record IsNoteOf (promised : (Register → Type 0) → Type 0) (request : List ℕ) (out : Outgoing)
+    (note : Note) : Type 0 where
   pub asked : note.asked ≡ asked_of request
   pub status : note.status ≡ status_out out
   pub bytes : note.bytes ≡ length (bytes_out out)
@@ -95,7 +100,8 @@ pair number = (48 + number / 10 % 10) ∷ (48 + number % 10) ∷ []
 
 -- so many seconds after midnight, as hours, minutes and seconds
 abbrev pub clock_text : ℕ → List ℕ
-clock_text second = pair (second / 3600) ++ codes ":" ++ pair (second / 60 % 60) ++ codes ":" ++ pair (second % 60)
+clock_text second =
+    pair (second / 3600) ++ codes ":" ++ pair (second / 60 % 60) ++ codes ":" ++ pair (second % 60)
 
 -- day and time in UTC, as ISO 8601 has them
 abbrev pub moment_text : Moment → List ℕ
@@ -107,7 +113,8 @@ abbrev pub asked_text : Asked → List ℕ
 asked_text asked = method_word asked ++ codes " " ++ asked_path_word asked
 
 abbrev pub numbers_text : ℕ → ℕ → ℕ → List ℕ
-numbers_text status bytes millis = decimal status ++ codes " " ++ decimal bytes ++ codes " " ++ decimal millis
+numbers_text status bytes millis =
+    decimal status ++ codes " " ++ decimal bytes ++ codes " " ++ decimal millis
 
 abbrev pub agent_text : Option (Bor (Text NameForm)) → List ℕ
 agent_text agent = option_map_or (λ name. name.now) agent untold
@@ -115,5 +122,6 @@ agent_text agent = option_map_or (λ name. name.now) agent untold
 -- when, what was asked for, the reply's status and bytes, milliseconds, and the agent
 abbrev pub entry_line : Entry → List ℕ
 entry_line entry =
-    moment_text entry.at ++ codes " " ++ asked_text entry.asked ++ codes " " ++ numbers_text entry.status entry.bytes entry.millis
+    moment_text entry.at ++ codes " " ++ asked_text entry.asked ++ codes " "
+    ++ numbers_text entry.status entry.bytes entry.millis
     ++ codes " " ++ agent_text entry.agent ++ codes "\n"

@@ -1,5 +1,6 @@
 -- The program's output, and how it ends.
-use Rattle.std.specs.Prelude.{◌≡◌, ℕ, List, Bool, true, Option, Result, MatchResult, ◌⊎◌, if◌then◌else◌, is_err, ⊤}
+use Rattle.std.specs.Prelude.{◌≡◌, ℕ, List, Bool, true, Option, Result, MatchResult, ◌⊎◌}
+use Rattle.std.specs.Prelude.{if◌then◌else◌, is_err, ⊤}
 use Rattle.std.specs.Borrow.{Bor}
 use Rattle.std.specs.Io.KnownBytes.{Appends, Keeps}
 use Rattle.clap.specs.Words.{Text as Words}
@@ -34,21 +35,27 @@ pub record IsCutOff (wanted : Text) (before after : Option (List ℕ)) (status :
 
 -- the text was written, or the run failed on the way
 abbrev pub IsWrittenOrCutOff : Text → Option (List ℕ) → Option (List ℕ) → ℕ → Type 0
-IsWrittenOrCutOff text before after status = IsWritten text before after status ⊎ IsCutOff text before after status
+IsWrittenOrCutOff text before after status =
+    IsWritten text before after status ⊎ IsCutOff text before after status
 
 -- the text was written, with the end's status; where the end is a fault, a front of it was
-abbrev pub EndsText : {F : Type 0} → Text → Option (List ℕ) → Option (List ℕ) → Result Status F → Type 0
-EndsText text before after end = MatchResult end (λ status. IsWritten text before after (exit_code status))
+abbrev pub EndsText : {F : Type 0} → Text → Option (List ℕ) → Option (List ℕ)
+    → Result Status F → Type 0
+EndsText text before after end =
+    MatchResult end (λ status. IsWritten text before after (exit_code status))
     (λ _. AppendsPart before after text.bytes)
 
 -- ---- the report on a file
 
 -- the report on these bytes was written, or the run failed on the way
 abbrev pub IsReportedOrCutOff : List ℕ → Option (List ℕ) → Option (List ℕ) → ℕ → Type 0
-IsReportedOrCutOff bytes before after status = IsWrittenOrCutOff (check_report bytes) before after status
+IsReportedOrCutOff bytes before after status =
+    IsWrittenOrCutOff (check_report bytes) before after status
 
--- the report on these bytes was written, with the end's status; where the end is a fault, a front of it was
-abbrev pub EndsReport : {F : Type 0} → List ℕ → Option (List ℕ) → Option (List ℕ) → Result Status F → Type 0
+-- the report on these bytes was written, with the end's status; where the end is a fault, a front
+-- of it was
+abbrev pub EndsReport : {F : Type 0} → List ℕ → Option (List ℕ) → Option (List ℕ)
+    → Result Status F → Type 0
 EndsReport bytes before after end = EndsText (check_report bytes) before after end
 
 -- ---- which file it is of
@@ -58,14 +65,17 @@ abbrev pub IfFile : (Bor Words → Type 0) → Source → Type 0
 IfFile P StandardInput = ⊤
 IfFile P (File name) = P name
 
--- the report on bytes that were read so was written, or the run failed on the way; or it failed before anything was written
+-- the report on bytes that were read so was written, or the run failed on the way; or it failed
+-- before anything was written
 abbrev pub IsReportedOf : (List ℕ → Type 0) → Option (List ℕ) → Option (List ℕ) → ℕ → Type 0
 IsReportedOf Reads before after status =
     ((bytes : List ℕ) × Reads bytes × IsReportedOrCutOff bytes before after status)
     ⊎ (Keeps before after × (status ≡ 3))
 
--- the report on bytes that were read so was written, with the end's status; where the end is a fault, a front of it was, or nothing
-abbrev pub EndsReportOf : {F : Type 0} → (List ℕ → Type 0) → Option (List ℕ) → Option (List ℕ) → Result Status F → Type 0
+-- the report on bytes that were read so was written, with the end's status; where the end is a
+-- fault, a front of it was, or nothing
+abbrev pub EndsReportOf : {F : Type 0} → (List ℕ → Type 0) → Option (List ℕ) → Option (List ℕ)
+    → Result Status F → Type 0
 EndsReportOf Reads before after end =
     ((bytes : List ℕ) × Reads bytes × EndsReport bytes before after end)
     ⊎ (Keeps before after × (is_err end ≡ true))

@@ -15,19 +15,27 @@ use Rattle.bor_program.specs.Splitting.{before}
 abbrev pub first_line : List ℕ → List ℕ
 first_line bytes = before 13 (before 10 bytes)
 
--- as many bytes are read of the file that has it: more than the longest token and the end of its line
+-- as many bytes are read of the file that has it: more than the longest token and the end of its
+-- line
 abbrev pub front_limit : ℕ
 front_limit = 128
 
--- the words give this token: it is the one that they have, or the first line of the file that they name
-abbrev pub IsToldBy : (ℕ → Bor Text → List ℕ → Type 0) → RegistrarSource → List ℕ → Type 0
-IsToldBy Reads (source.Token token) told = told ≡ token
-IsToldBy Reads (source.File name) told = (bytes : List ℕ) × Reads front_limit name bytes × (text_in is_token (first_line bytes) ≡ Some told)
+-- the words give this token: it is the one that they have, or the first line of the file that they
+-- name
+abbrev pub IsTokenOf : (ℕ → Bor Text → List ℕ → Type 0) → RegistrarSource → List ℕ → Type 0
+IsTokenOf Reads (source.Token token) told = told ≡ token
+IsTokenOf Reads (source.File name) told =
+    (bytes : List ℕ) × Reads front_limit name bytes
+    × (text_in is_token (first_line bytes) ≡ Some told)
 
--- the file that they name can't be read, or its first line is no token, or memory was wanting for it
+-- the file that they name can't be read, or its first line is no token, or memory was wanting for
+-- it
 abbrev pub IsUntold : (ℕ → Bor Text → List ℕ → Type 0) → RegistrarSource → Failure → Type 0
 IsUntold Reads (source.Token token) failure = ⊥
 IsUntold Reads (source.File name) (Unreadable unread) = unread ≡ File name
-IsUntold Reads (source.File name) (NoToken file) = (file ≡ name) × ((bytes : List ℕ) × Reads front_limit name bytes × (text_in is_token (first_line bytes) ≡ None))
+IsUntold Reads (source.File name) (NoToken file) =
+    (file ≡ name)
+    × ((bytes : List ℕ) × Reads front_limit name bytes
+    × (text_in is_token (first_line bytes) ≡ None))
 IsUntold Reads (source.File name) Memory = ⊤
 IsUntold Reads (source.File name) failure = ⊥

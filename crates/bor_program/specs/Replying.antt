@@ -1,5 +1,6 @@
 -- Which replies `bor exchange` prints, and how it ends.
-use Rattle.std.specs.Prelude.{◌≡◌, ◌≤◌, ◌⊎◌, ℕ, List, [], ◌∷◌, ◌++◌, Bool, Option, Result, MatchResult, if◌then◌else◌, false, length, max, nat_le, slice_get}
+use Rattle.std.specs.Prelude.{◌≡◌, ◌≤◌, ◌⊎◌, ℕ, List, [], ◌∷◌, ◌++◌, Bool, Option, Result}
+use Rattle.std.specs.Prelude.{MatchResult, if◌then◌else◌, false, length, max, nat_le, slice_get}
 use Rattle.std.specs.Option.{option_map_or}
 use Rattle.std.specs.Borrow.{Bor}
 use Rattle.std.specs.Io.KnownBytes.{Appends, Keeps}
@@ -28,7 +29,8 @@ sent (reply ∷ replies) = sent_as reply ++ sent replies
 
 -- ---- how it ends
 
--- the status code in the first line, behind `HTTP/1.1 `, begins with a 4 or a greater digit: it is 400 or more
+-- the status code in the first line, behind `HTTP/1.1 `, begins with a 4 or a greater digit: it is
+-- 400 or more
 abbrev pub is_refusal : List ℕ → Bool
 is_refusal bytes = option_map_or (λ digit. nat_le 52 digit) (slice_get bytes 9) false
 
@@ -41,7 +43,8 @@ abbrev pub replies_status : List Reply → ℕ
 replies_status [] = 0
 replies_status (reply ∷ replies) = max (reply_status reply) (replies_status replies)
 
--- the replies were written in order, and the exit status is the greatest that one asks for; or the run failed, and a front of them was written
+-- the replies were written in order, and the exit status is the greatest that one asks for; or the
+-- run failed, and a front of them was written
 abbrev pub IsSentOrCutOff : List Reply → Option (List ℕ) → Option (List ℕ) → ℕ → Type 0
 IsSentOrCutOff replies before after status =
     (Appends before after (sent replies) × (status ≡ replies_status replies))
@@ -49,8 +52,11 @@ IsSentOrCutOff replies before after status =
 
 -- ---- which replies they are
 
--- The replies to these inputs from this register on: one for each, and without what was not served, those of the run over what the others spell. What each agent receives follows from its own exchanges alone, and a report with status 200 names exactly the joined.
-pub record AreRepliesTo (r : Register) (inputs : List (List ℕ)) (replies : List Reply) : Type 0 where
+-- The replies to these inputs from this register on: one for each, and without what was not served,
+-- those of the run over what the others spell. What each agent receives follows from its own
+-- exchanges alone, and a report with status 200 names exactly the joined.
+pub record AreRepliesTo (r : Register) (inputs : List (List ℕ))
+    (replies : List Reply) : Type 0 where
   pub count : length replies ≡ length inputs
   pub spelled : List Spelled
   pub spells : AreSpelled (served inputs replies) spelled
@@ -59,26 +65,41 @@ pub record AreRepliesTo (r : Register) (inputs : List (List ℕ)) (replies : Lis
   pub reports : AreReports r spelled (full replies)
 
 -- The same, and the register that the run leaves is shown.
-pub record AreRepliesLeaving (Shown : Register → Type 0) (r : Register) (inputs : List (List ℕ)) (replies : List Reply) : Type 0 where
+pub record AreRepliesLeaving (Shown : Register → Type 0) (r : Register) (inputs : List (List ℕ))
+    (replies : List Reply) : Type 0 where
   pub replies_to : AreRepliesTo r inputs replies
   pub left : Shown (register_left r replies_to.spelled)
 
--- Of a register that was opened and what is left of it, which ends clean only if it began clean: each legal register that it showed has these replies to these inputs, and what is left shows the register after them. Whatever becomes of it, as where its store shuts, the replies are those of exchanges in turn, and up to each request that was answered these are a run.
-pub record AreAnswers {K Left : Type 0} (shows : K → Register → Type 0) (is_clean is_sound : K → Type 0) (may_leave : K → Left → Type 0) (left_shows : Left → Register → Type 0) (opened left : K) (inputs : List (List ℕ)) (replies : List Reply) : Type 0 where
+-- Of a register that was opened and what is left of it, which ends clean only if it began clean:
+-- each legal register that it showed has these replies to these inputs, and what is left shows the
+-- register after them. Whatever becomes of it, as where its store shuts, the replies are those of
+-- exchanges in turn, and up to each request that was answered these are a run.
+pub record AreAnswers {K Left : Type 0} (shows : K → Register → Type 0)
+    (is_clean is_sound : K → Type 0) (may_leave : K → Left → Type 0)
+    (left_shows : Left → Register → Type 0) (opened left : K) (inputs : List (List ℕ))
+    (replies : List Reply) : Type 0 where
   pub began : is_clean left → is_clean opened
-  pub answers : Promised shows is_clean opened left (λ r. IsLegal r → AreRepliesLeaving (shows left) r inputs replies)
+  pub answers : Promised shows is_clean opened left
+      (λ r. IsLegal r → AreRepliesLeaving (shows left) r inputs replies)
   pub in_turn : InTurn shows is_clean is_sound may_leave left_shows opened left inputs replies
 
 -- ---- how they are sent
 
--- such replies to these inputs were sent; or it failed, and a front of such was written, or none was answered and nothing written
-abbrev pub EndsSending : {F : Type 0} → (List (List ℕ) → List Reply → Type 0) → List (List ℕ) → Option (List ℕ) → Option (List ℕ) → Result Status F → Type 0
+-- such replies to these inputs were sent; or it failed, and a front of such was written, or none
+-- was answered and nothing written
+abbrev pub EndsSending : {F : Type 0} → (List (List ℕ) → List Reply → Type 0) → List (List ℕ)
+    → Option (List ℕ) → Option (List ℕ) → Result Status F → Type 0
 EndsSending Suit inputs before after end = MatchResult end
-    (λ status. (replies : List Reply) × Suit inputs replies × Appends before after (sent replies) × (exit_code status ≡ replies_status replies))
-    (λ _. ((replies : List Reply) × Suit inputs replies × AppendsPart before after (sent replies)) ⊎ (Suit [] [] × Keeps before after))
+    (λ status. (replies : List Reply) × Suit inputs replies × Appends before after (sent replies)
+    × (exit_code status ≡ replies_status replies))
+    (λ _. ((replies : List Reply) × Suit inputs replies × AppendsPart before after (sent replies))
+    ⊎ (Suit [] [] × Keeps before after))
 
--- such replies to what was read of files of these names were sent, and of each of them where the run doesn't fail; or it failed, and a front of such was written
-abbrev pub EndsFiles : (List (List ℕ) → List Reply → Type 0) → (Bor Text → List ℕ → Type 0) → List (Bor Text) → Option (List ℕ) → Option (List ℕ) → ℕ → Type 0
+-- such replies to what was read of files of these names were sent, and of each of them where the
+-- run doesn't fail; or it failed, and a front of such was written
+abbrev pub EndsFiles : (List (List ℕ) → List Reply → Type 0) → (Bor Text → List ℕ → Type 0)
+    → List (Bor Text) → Option (List ℕ) → Option (List ℕ) → ℕ → Type 0
 EndsFiles Suit Reads names before after status =
-    (inputs : List (List ℕ)) × AreReadOf Reads names inputs × (status ≤ 1 → length inputs ≡ length names)
+    (inputs : List (List ℕ)) × AreReadOf Reads names inputs
+    × (status ≤ 1 → length inputs ≡ length names)
     × ((replies : List Reply) × Suit inputs replies × IsSentOrCutOff replies before after status)

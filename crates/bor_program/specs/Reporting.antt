@@ -1,5 +1,6 @@
 -- The text that `bor report` prints.
-use Rattle.std.specs.Prelude.{◌⊎◌, ℤ, ℕ, List, Option, Some, None, Result, MatchResult, if◌then◌else◌}
+use Rattle.std.specs.Prelude.{◌⊎◌, ℤ, ℕ, List, Option, Some, None, Result, MatchResult}
+use Rattle.std.specs.Prelude.{if◌then◌else◌}
 use Rattle.std.specs.Io.KnownBytes.{Keeps}
 use Rattle.bor_records.specs.Promises.{Promised}
 use Rattle.bor_records.specs.declared.links.node.Node.{Node}
@@ -33,12 +34,16 @@ report_answer asked r =
 abbrev pub IsReportOf : Report → Register → Text → Type 0
 IsReportOf asked r text = IsTextOf (report_answer asked r) text
 
--- of a register that was opened and what is left of it: the text says it of each register that was shown
-abbrev pub IsToldOf : {K : Type 0} → (K → Register → Type 0) → (K → Type 0) → K → K → Report → Text → Type 0
-IsToldOf shows is_clean opened left asked text = Promised shows is_clean opened left (λ r. IsReportOf asked r text)
+-- of a register that was opened and what is left of it: the text says it of each register that was
+-- shown
+abbrev pub IsToldOf : {K : Type 0} → (K → Register → Type 0) → (K → Type 0) → K → K
+    → Report → Text → Type 0
+IsToldOf shows is_clean opened left asked text =
+    Promised shows is_clean opened left (λ r. IsReportOf asked r text)
 
 -- a text was written of which P holds; or it failed, and a front of such was written, or nothing
-abbrev pub EndsTelling : {F : Type 0} → (Text → Type 0) → Option (List ℕ) → Option (List ℕ) → Result Status F → Type 0
+abbrev pub EndsTelling : {F : Type 0} → (Text → Type 0) → Option (List ℕ) → Option (List ℕ)
+    → Result Status F → Type 0
 EndsTelling P before after end = MatchResult end
     (λ status. (text : Text) × P text × IsWritten text before after (exit_code status))
     (λ _. ((text : Text) × P text × AppendsPart before after text.bytes) ⊎ Keeps before after)

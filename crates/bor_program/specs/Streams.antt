@@ -17,8 +17,10 @@ TakesPart before after = IfSome before (λ bytes. Consumes before after (part_re
 
 -- of known bytes no more was read than that part
 abbrev pub TakesAtMostPart : Option (List ℕ) → Option (List ℕ) → Type 0
-TakesAtMostPart before after = (front : List ℕ) × (length front ≤ part_limit) × Consumes before after front
+TakesAtMostPart before after =
+    (front : List ℕ) × (length front ≤ part_limit) × Consumes before after front
 
 -- the front of these bytes was written: all, some or none of them
 abbrev pub AppendsPart : Option (List ℕ) → Option (List ℕ) → List ℕ → Type 0
-AppendsPart before after bytes = (front : List ℕ) × (rest : List ℕ) × (bytes ≡ front ++ rest) × Appends before after front
+AppendsPart before after bytes =
+    (front : List ℕ) × (rest : List ℕ) × (bytes ≡ front ++ rest) × Appends before after front

@@ -8,10 +8,10 @@ ghost use Rattle.bor_words.specs.Unread.{kind_of_answer};
 ghost use Rattle.bor_words.specs.Words.{entered_by};
 ghost use Rattle.bor_words.specs.declared.command.Command.{Command as Asked};
 ghost use Rattle.bor_program.specs.Connections.Streams.{IsOf};
-ghost use Rattle.bor_program.specs.Failures.{IsMetBy, IsMetOn, IsMetPrinting, IsTold, IsWantOfMemory};
+ghost use Rattle.bor_program.specs.Failures.{IsMetBy, IsMetOn, IsMetPrinting, IsFailureWritten, IsWantOfMemory};
 ghost use Rattle.bor_program.specs.Hosting.{IsHosted};
 ghost use Rattle.bor_program.specs.Inputs.{IsReadOf};
-ghost use Rattle.bor_program.specs.Performing.{Checks, Performs, TellsRefusal};
+ghost use Rattle.bor_program.specs.Performing.{Checks, Performs, PrintsRefusal};
 ghost use Rattle.bor_program.specs.Program.{EndsReport, EndsReportOf, IfFile, IsReportedOf, IsReportedOrCutOff, exit_code};
 ghost use Rattle.bor_program.specs.Streams.{AppendsPart, TakesAtMostPart, TakesPart, part_limit, part_read};
 ghost use Rattle.bor_program.specs.Words.{AsksForCheck, ChecksInput, file_of};
@@ -56,7 +56,7 @@ where
     // wanting, which its line says.
     ensures performed { IsCommand (map S.text words.now) → ((result ≡ 3) × (host.new ≡ host.old)
         × Keeps (O.contents output.old) (O.contents output.new)
-        × IsTold IsWantOfMemory (E.contents errors.old) (E.contents errors.new))
+        × IsFailureWritten IsWantOfMemory (E.contents errors.old) (E.contents errors.new))
         ⊎ ((asked : Asked) × IsAsked (entered_by (map S.text words.now)) asked
         × Performs (IsReadOf (R.opens rt.now) R.File.remaining)
         (IsHosted H.Register.shows H.Register.is_clean H.Register.is_sound H.Register.may_leave
@@ -102,7 +102,7 @@ where
 
     // Whatever the words, status 1 stands for a refusal that was written,
     ensures refused { result ≡ 1 → IsCommand (map S.text words.now)
-        × TellsRefusal (O.contents output.old) (O.contents output.new) }
+        × PrintsRefusal (O.contents output.old) (O.contents output.new) }
 
     // status 0 for a command, or for help that was written whole,
     ensures done { result ≡ 0
@@ -129,7 +129,7 @@ where
     // failure that was met: all of it, some or nothing.
     ensures told { AsksForCheck (map S.text words.now) ⊎ (¬ IsCommand (map S.text words.now))
         → result ≡ 3
-        → IsTold (IsMetBy (map S.text words.now) (O.contents output.old) (O.contents output.new))
+        → IsFailureWritten (IsMetBy (map S.text words.now) (O.contents output.old) (O.contents output.new))
         (E.contents errors.old) (E.contents errors.new) }
 {
     let status = match Command::read(rt.alloc(), words) {
@@ -197,7 +197,7 @@ fn check_told<R: NamedFiles + AllocGlobal, H: Registers, I: Read, O: Output, E: 
     ensures flushed { exit_code result ≤ 1 → O.is_flushed output.new }
     ensures silent { exit_code result ≤ 1 → Keeps (E.contents errors.old) (E.contents errors.new) }
     ensures told { exit_code result ≡ 3
-        → IsTold (IsMetOn source.entry (O.contents output.old) (O.contents output.new))
+        → IsFailureWritten (IsMetOn source.entry (O.contents output.old) (O.contents output.new))
         (E.contents errors.old) (E.contents errors.new) }
 {
     match check_source(rt, host, source, input, output) {
@@ -271,7 +271,7 @@ fn answer<O: Output, E: Write>(
     errors: &mut E,
 ) -> Status
     ensures memory { kind_of_answer unread.entry ≡ ErrorKind.OutOfMemory → (result ≡ Status.Failed)
-        × IsTold IsWantOfMemory (E.contents errors.old) (E.contents errors.new) }
+        × IsFailureWritten IsWantOfMemory (E.contents errors.old) (E.contents errors.new) }
     ensures never { result ≢ Status.Refused }
     ensures done { result ≡ Status.Done → (kind_of_answer unread.entry ≡ ErrorKind.DisplayHelp)
         × Appends (O.contents output.old) (O.contents output.new) help.now }
@@ -283,7 +283,7 @@ fn answer<O: Output, E: Write>(
     ensures wrong { result ≡ Status.Usage → (kind_of_answer unread.entry ≢ ErrorKind.DisplayHelp)
         × (kind_of_answer unread.entry ≢ ErrorKind.OutOfMemory) }
     ensures told { result ≡ Status.Failed
-        → IsTold (IsMetPrinting (O.contents output.old) (O.contents output.new))
+        → IsFailureWritten (IsMetPrinting (O.contents output.old) (O.contents output.new))
         (E.contents errors.old) (E.contents errors.new) }
 {
     match unread.kind() {

@@ -4,7 +4,7 @@ ghost use Rattle.std.specs.Prelude.{◌≡◌, IfErr, IfOk};
 ghost use Rattle.bor_terms.specs.Texts.{is_token};
 ghost use Rattle.bor_wire.specs.Spelling.Parts.{text_in};
 ghost use Rattle.bor_program.specs.Inputs.{IsReadOf};
-ghost use Rattle.bor_program.specs.Registrars.{IsToldBy, IsUntold, first_line, front_limit};
+ghost use Rattle.bor_program.specs.Registrars.{IsTokenOf, IsUntold, first_line, front_limit};
 
 use crate::failure::Failure;
 use crate::host::NamedFiles;
@@ -40,7 +40,7 @@ pub fn token_told<'a, R: NamedFiles + AllocGlobal>(
     source: RegistrarSource<'a>,
 ) -> Result<Token, Failure<'a>>
     ensures ok { IfOk result
-        (IsToldBy (IsReadOf (R.opens rt.now) R.File.remaining) source.entry) }
+        (IsTokenOf (IsReadOf (R.opens rt.now) R.File.remaining) source.entry) }
     ensures err { IfErr result
         (IsUntold (IsReadOf (R.opens rt.now) R.File.remaining) source.entry) }
 {
@@ -55,7 +55,7 @@ fn token_in_file<'a, R: NamedFiles + AllocGlobal>(
     rt: &R,
     name: &'a str,
 ) -> Result<Token, Failure<'a>>
-    ensures ok { IfOk result (IsToldBy (IsReadOf (R.opens rt.now) R.File.remaining)
+    ensures ok { IfOk result (IsTokenOf (IsReadOf (R.opens rt.now) R.File.remaining)
         (RegistrarSource.File name.entry)) }
     ensures err { IfErr result (IsUntold (IsReadOf (R.opens rt.now) R.File.remaining)
         (RegistrarSource.File name.entry)) }

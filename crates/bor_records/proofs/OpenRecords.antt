@@ -25,7 +25,7 @@ use Rattle.bor_terms.proofs.Texts.{same_is, same_sym}
 use Rattle.bor_records.specs.declared.row.Row.{Row}
 use Rattle.bor_records.specs.declared.row.Entry.{Entry}
 use Rattle.bor_records.specs.Admission.{is_of, is_closed}
-use Rattle.bor_records.specs.Snapshot.{is_dated, latest, series, unless_closed, open_row, entry_of, records, snapshot, IsSnapshot, SnapshotIsDetermined}
+use Rattle.bor_records.specs.Snapshot.{is_dated, latest, record_rows, unless_closed, open_row, entry_of, records, snapshot, IsSnapshot, SnapshotIsDetermined}
 use Rattle.bor_records.specs.Found.{found_at}
 use Rattle.bor_records.proofs.Identifiers.{by_bytes, has, GoesUp, same_given, goes_up-insert, has-insert}
 use Rattle.bor_records.proofs.Lists.{all_map, none_pass, here, there}
@@ -100,7 +100,7 @@ not_closed (Some x) r h = at (is_closed x.status) h
 pub open_row-rec : (declaration : List ℕ) (day : ℤ) (rows : List Row) (q : List ℕ) (r : Row) → open_row declaration day rows q ≡ Some r → r.statement.rec ≡ q
 open_row-rec declaration day rows q r h =
     let of = of_record declaration q in
-    let is : of r ≡ true = last_holds (λ x. of x ≡ true) (filter (is_dated day) (filter of rows)) None r (λ x e. absurd cc) (filter_holds (λ x. of x ≡ true) (is_dated day) (filter of rows) (filter_gives of rows)) (not_closed (latest day (series declaration q rows)) r h) in
+    let is : of r ≡ true = last_holds (λ x. of x ≡ true) (filter (is_dated day) (filter of rows)) None r (λ x e. absurd cc) (filter_holds (λ x. of x ≡ true) (is_dated day) (filter of rows) (filter_gives of rows)) (not_closed (latest day (record_rows declaration q rows)) r h) in
     same_is r.statement.rec q (and_parts (is_same r.statement.declaration declaration) (is_same r.statement.rec q) is).1
 
 -- ---- what is shown of a list of identifiers
@@ -139,7 +139,7 @@ given_of {Y} h (e ∷ fs) s =
     later q l = ap (λ (o : Ordering). option_and_then h (cond (is_eq o) (Some e.1) (at_key q fs))) (nat_list_cmp_total.antisymm q e.0 ∙ ap ordering_reverse l)
 
 -- a snapshot from the latest rows by their records' identifiers
-snapshot-from : (declaration : List ℕ) (day : ℤ) (rows : List Row) (fs : Found) → GoesUp (keys fs) → ((q : List ℕ) → at_key q fs ≡ latest day (series declaration q rows))
+snapshot-from : (declaration : List ℕ) (day : ℤ) (rows : List Row) (fs : Found) → GoesUp (keys fs) → ((q : List ℕ) → at_key q fs ≡ latest day (record_rows declaration q rows))
     → map entry_of (filter_map unless_closed (values fs)) ≡ snapshot declaration day rows
 snapshot-from declaration day rows fs s h =
     ap (map entry_of) (given_of unless_closed fs s ∙ same_on _ _ (keys fs) (all_are _ (keys fs) (λ q. ap (option_and_then unless_closed) (h q)))
@@ -150,7 +150,7 @@ snapshot-from declaration day rows fs s h =
     some_before (Some r) e = refl
 
     in_keys : (q : List ℕ) → is_some (open_row declaration day rows q) ≡ true → has q (keys fs) ≡ true
-    in_keys q e = sym (is_some-lookup (eq_by_cmp (slice_cmp nat_cmp) q) fs) ∙ ap is_some (h q) ∙ some_before (latest day (series declaration q rows)) e
+    in_keys q e = sym (is_some-lookup (eq_by_cmp (slice_cmp nat_cmp) q) fs) ∙ ap is_some (h q) ∙ some_before (latest day (record_rows declaration q rows)) e
 
 -- ---- a map of references
 
@@ -194,7 +194,7 @@ shown rows = map entry_of (filter_map unless_closed (map row_at rows))
 
 -- the snapshot from a map of the latest rows
 pub snapshot-found : (declaration : List ℕ) (day : ℤ) (rows : List Row) (found : BTreeMap (Bor (List ℕ)) (Bor Row)) → tree.IsOrdered (λ (x y : Bor (List ℕ)). slice_cmp nat_cmp x.now y.now) found
-    → ((q : List ℕ) → found_at found q ≡ latest day (series declaration q rows)) → shown (tree.values found) ≡ snapshot declaration day rows
+    → ((q : List ℕ) → found_at found q ≡ latest day (record_rows declaration q rows)) → shown (tree.values found) ≡ snapshot declaration day rows
 snapshot-found declaration day rows found s h =
     ap (λ rs. map entry_of (filter_map unless_closed rs)) (sym (values-plain found.entries))
     ∙ snapshot-from declaration day rows (plain found.entries) (goes_up-plain found.entries s) (λ q. at_key-plain q found.entries ∙ h q)

@@ -10,7 +10,7 @@ use Rattle.std.specs.Option.{option_or}
 use Rattle.std.proofs.lemmas.List.Elements.{filter-append}
 use Rattle.bor_records.specs.declared.row.Row.{Row}
 use Rattle.bor_records.specs.Admission.{is_of}
-use Rattle.bor_records.specs.Snapshot.{is_dated, latest, latest_place, series}
+use Rattle.bor_records.specs.Snapshot.{is_dated, latest, latest_place, record_rows}
 
 pub last_or-push : {X : Type 0} (o : Option X) (xs : List X) (x : X) → last_or o (xs ++ x ∷ []) ≡ Some x
 last_or-push o [] x = refl
@@ -52,9 +52,9 @@ latest_place_more day rows i r h e =
 
 -- the latest of a record among one row more
 pub latest_series_more : (day : ℤ) (declaration rec : List ℕ) (rows : List Row) (i : ℕ) (r : Row) → i < length rows → r ≡ get_or rows i r
-    → latest day (series declaration rec (take (i + 1) rows))
-    ≡ if is_of declaration rec r.statement && is_dated day r then Some r else latest day (series declaration rec (take i rows))
-latest_series_more day declaration rec rows i r h e = ap (λ xs. latest day (series declaration rec xs)) (more rows i r h e) ∙ ap (latest day) (filter-append of (take i rows) (r ∷ [])) ∙ at (of r)
+    → latest day (record_rows declaration rec (take (i + 1) rows))
+    ≡ if is_of declaration rec r.statement && is_dated day r then Some r else latest day (record_rows declaration rec (take i rows))
+latest_series_more day declaration rec rows i r h e = ap (λ xs. latest day (record_rows declaration rec xs)) (more rows i r h e) ∙ ap (latest day) (filter-append of (take i rows) (r ∷ [])) ∙ at (of r)
   where
     of : Row → Bool
     of x = is_of declaration rec x.statement

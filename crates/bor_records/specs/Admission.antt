@@ -1,5 +1,8 @@
--- Which statement may follow which: what refuses a statement of a record, and what its status is settled as (this register's profile of BODS 0.4, recordStatus).
-use Rattle.std.specs.Prelude.{ℕ, ℤ, int_lt, List, [], ◌∷◌, ◌++◌, Bool, true, false, not, ◌&&◌, Option, Some, None, is_some, is_none, option_map, unwrap_or, Result, Ok, Err, if◌then◌else◌}
+-- Which statement may follow which: what refuses a statement of a record, and what its status is
+-- settled as (this register's profile of BODS 0.4, recordStatus).
+use Rattle.std.specs.Prelude.{ℕ, ℤ, int_lt, List, [], ◌∷◌, ◌++◌, Bool, true, false, not, ◌&&◌}
+use Rattle.std.specs.Prelude.{Option, Some, None, is_some, is_none, option_map, unwrap_or, Result}
+use Rattle.std.specs.Prelude.{Ok, Err, if◌then◌else◌}
 use Rattle.std.specs.List.{filter, last_or}
 use Rattle.bor_terms.specs.Texts.{is_same}
 use Rattle.bods_read.specs.declared.statement.Statement.{Statement}
@@ -10,7 +13,9 @@ use Rattle.bods_read.specs.declared.statement.Status.TheVariants.{New, Updated, 
 use Rattle.bods_read.specs.Words.{type_of}
 use Rattle.bor_records.specs.declared.admission.Last.{Last}
 use Rattle.bor_records.specs.declared.fault.RecordFault.{RecordFault}
-use Rattle.bor_records.specs.declared.fault.RecordFault.TheVariants.{TypeChanged, RecordExists, RecordUnknown, RecordClosed, DateBack, DueBeforeRecord}
+use Rattle.bor_records.specs.declared.fault.RecordFault.TheVariants.{TypeChanged, RecordExists}
+use Rattle.bor_records.specs.declared.fault.RecordFault.TheVariants.{RecordUnknown, RecordClosed}
+use Rattle.bor_records.specs.declared.fault.RecordFault.TheVariants.{DateBack, DueBeforeRecord}
 
 -- ---- the last live statement of a record
 
@@ -24,16 +29,24 @@ abbrev pub is_of : List ℕ → List ℕ → Statement → Bool
 is_of declaration rec s = is_same s.declaration declaration && is_same s.rec rec
 
 -- the settled status; a live statement gives one
-abbrev pub status_of : Statement → Status
-status_of s = unwrap_or s.status New
+abbrev pub stated_status : Statement → Status
+stated_status s = unwrap_or s.status New
 
 -- a live statement, as far as the rules ask
 abbrev pub known_of : Live → Last
-known_of l = record { kind = type_of l.statement.details; status = status_of l.statement; day = l.statement.day; due = l.due }
+known_of l =
+    record {
+      kind = type_of l.statement.details;
+      status = stated_status l.statement;
+      day = l.statement.day;
+      due = l.due;
+    }
 
--- the last one of the record among an agent's live statements, as far as the rules ask, where there is one
+-- the last one of the record among an agent's live statements, as far as the rules ask, where there
+-- is one
 abbrev pub last_of : List ℕ → List ℕ → List Live → Option Last
-last_of declaration rec live = option_map known_of (last_or None (filter (λ l. is_of declaration rec l.statement) live))
+last_of declaration rec live =
+    option_map known_of (last_or None (filter (λ l. is_of declaration rec l.statement) live))
 
 -- ---- the refusals of a statement
 
@@ -67,7 +80,8 @@ has_last test (Some last) = test last
 abbrev pub line : {F : Type 0} → Bool → F → List F
 line holds fault = if holds then fault ∷ [] else []
 
--- all that refuses a statement due on a day, by what is known of its record's last live statement; no line stops another
+-- all that refuses a statement due on a day, by what is known of its record's last live statement;
+-- no line stops another
 abbrev pub refusals : Option Last → Statement → ℤ → List RecordFault
 refusals last s due =
     line (has_last (λ l. not (is_type l.kind (type_of s.details))) last) TypeChanged
@@ -79,7 +93,8 @@ refusals last s due =
 
 -- ---- settled statuses
 
--- the status that the statement gives; one left out is new for the first statement of a record, and updated for a later one
+-- the status that the statement gives; one left out is new for the first statement of a record, and
+-- updated for a later one
 abbrev pub settled_status : Option Last → Option Status → Status
 settled_status last (Some status) = status
 settled_status None None = New

@@ -9,4 +9,6 @@ use Rattle.bor_records.specs.declared.row.Row.{Row}
 
 -- the row that the map has at an identifier
 abbrev pub found_at : BTreeMap (Bor (List ℕ)) (Bor Row) → List ℕ → Option Row
-found_at found rec = option_map (λ (r : Bor Row). r.now) (tree.get_by (λ (k : Bor (List ℕ)). slice_cmp nat_cmp rec k.now) found)
+found_at found rec =
+    option_map (λ (r : Bor Row). r.now)
+    (tree.get_by (λ (k : Bor (List ℕ)). slice_cmp nat_cmp rec k.now) found)

@@ -12,7 +12,8 @@ use Rattle.bor_records.specs.Snapshot.{is_dated}
 -- by record, then declaration, then agent, byte by byte
 abbrev pub series_cmp : Series → Series → Ordering
 series_cmp a b =
-    ordering_then (slice_cmp nat_cmp a.rec.now b.rec.now) (ordering_then (slice_cmp nat_cmp a.declaration.now b.declaration.now) (slice_cmp nat_cmp a.agent.now b.agent.now))
+    ordering_then (slice_cmp nat_cmp a.rec.now b.rec.now) (ordering_then (slice_cmp nat_cmp
+    a.declaration.now b.declaration.now) (slice_cmp nat_cmp a.agent.now b.agent.now))
 
 -- The series that the row's statement is of.
 pub record IsOf (series : Series) (r : Row) : Type 0 where
@@ -22,7 +23,10 @@ pub record IsOf (series : Series) (r : Row) : Type 0 where
 
 -- the row is of the series
 abbrev pub is_in : Series → Row → Bool
-is_in series r = is_same r.agent series.agent.now && (is_same r.statement.declaration series.declaration.now && is_same r.statement.rec series.rec.now)
+is_in series r =
+    is_same r.agent series.agent.now
+    && (is_same r.statement.declaration series.declaration.now
+    && is_same r.statement.rec series.rec.now)
 
 -- whether a row that is dated is of the series
 abbrev pub has_dated : ℤ → Series → List Row → Bool

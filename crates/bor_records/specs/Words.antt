@@ -1,7 +1,9 @@
 -- The names of the refusals.
 use Rattle.std.specs.Prelude.{ℕ, List, codes}
 use Rattle.bor_records.specs.declared.fault.RecordFault.{RecordFault}
-use Rattle.bor_records.specs.declared.fault.RecordFault.TheVariants.{TypeChanged, RecordExists, RecordUnknown, RecordClosed, DateBack, DueBeforeRecord}
+use Rattle.bor_records.specs.declared.fault.RecordFault.TheVariants.{TypeChanged, RecordExists}
+use Rattle.bor_records.specs.declared.fault.RecordFault.TheVariants.{RecordUnknown, RecordClosed}
+use Rattle.bor_records.specs.declared.fault.RecordFault.TheVariants.{DateBack, DueBeforeRecord}
 
 -- the name that is shown for a refusal
 unfoldable pub fault_name : RecordFault → List ℕ

@@ -3,7 +3,7 @@
 ghost use Rattle.std.specs.Prelude.{◌≡◌, ◌&&◌, ℕ, List, IfOk};
 ghost use Rattle.bor_terms.specs.Texts.{is_same};
 ghost use Rattle.bor_records.specs.Found.{found_at};
-ghost use Rattle.bor_records.specs.Snapshot.{is_dated, latest, series, entry_of, snapshot};
+ghost use Rattle.bor_records.specs.Snapshot.{is_dated, latest, record_rows, entry_of, snapshot};
 
 use crate::dated::is_dated;
 use crate::row::{Entry, Row};
@@ -27,7 +27,7 @@ fn latest_rows<'a>(
     day: Day,
 ) -> Result<BTreeMap<&'a str, &'a Row>, AllocError>
     ensures { IfOk result (λ found. (rec : List ℕ) →
-        found_at found rec ≡ latest day (series declaration.now rec rows.now)) }
+        found_at found rec ≡ latest day (record_rows declaration.now rec rows.now)) }
 {
     let mut found = BTreeMap::new(alloc);
     for row in rows {

@@ -3,10 +3,12 @@ use Rattle.std.specs.Prelude.{◌≡◌, ◌<◌, ◌++◌, ◌∷◌, [], ℕ, 
 use Rattle.bods_read.specs.declared.statement.Statement.{Statement}
 use Rattle.bor_register.specs.Limits.{filings_limit}
 use Rattle.bor_register.specs.Live.{AreNew, accepted, live_of}
-use Rattle.bor_register.specs.Register.{Register, filing_keyed, filings_of, is_enrolled, is_taken, new_member, with_filings, with_member}
+use Rattle.bor_register.specs.Register.{Register, filing_keyed, filings_of, is_enrolled, is_taken}
+use Rattle.bor_register.specs.Register.{new_member, with_filings, with_member}
 use Rattle.bor_register.specs.Withdrawal.{with_withdrawn}
 
--- The agent is enrolled, has room for one more filing and none under the key, and its live statements leave room for these.
+-- The agent is enrolled, has room for one more filing and none under the key, and its live
+-- statements leave room for these.
 pub record MayFile (agent key : List ℕ) (statements : List Statement) (r : Register) : Type 0 where
   pub enrolled : is_enrolled agent r.members ≡ true
   pub room : length (filings_of agent r.members) < filings_limit
@@ -22,11 +24,14 @@ pub record MayEnrol (agent token : List ℕ) (r : Register) : Type 0 where
 abbrev pub with_filing : List ℕ → List ℕ → ℤ → List ℕ → List Statement → Register → Register
 with_filing agent key due bytes statements r =
     let own = filings_of agent r.members in
-    record r { members = with_filings agent (own ++ accepted own key due bytes statements ∷ []) r.members }
+    record r
+    { members = with_filings agent (own ++ accepted own key due bytes statements ∷ []) r.members }
 
 -- the register with the filing withdrawn
 abbrev pub with_withdrawal : List ℕ → ℕ → Register → Register
-with_withdrawal agent number r = record r { members = with_filings agent (with_withdrawn number (filings_of agent r.members)) r.members }
+with_withdrawal agent number r =
+    record r
+    { members = with_filings agent (with_withdrawn number (filings_of agent r.members)) r.members }
 
 -- the register with one agent more
 abbrev pub with_agent : List ℕ → List ℕ → Register → Register

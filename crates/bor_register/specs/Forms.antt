@@ -1,4 +1,5 @@
--- The forms that the values of a register have: what their types ask for. What a store returns is checked against them.
+-- The forms that the values of a register have: what their types ask for. What a store returns is
+-- checked against them.
 use Rattle.std.specs.Prelude.{◌≡◌, ◌<◌, ◌^◌, All, true}
 use Rattle.bor_terms.specs.Day.{IsDay}
 use Rattle.bor_terms.specs.Texts.{is_agent_name, is_lodge_key, is_token}

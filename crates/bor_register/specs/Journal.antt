@@ -1,5 +1,7 @@
--- A register as one list of filings in order of acceptance, and the form that forgets the order between agents.
-use Rattle.std.specs.Prelude.{◌≡◌, ◌↔◌, ℕ, ℤ, List, [], ◌∷◌, Option, Some, None, IsSome, if◌then◌else◌}
+-- A register as one list of filings in order of acceptance, and the form that forgets the order
+-- between agents.
+use Rattle.std.specs.Prelude.{◌≡◌, ◌↔◌, ℕ, ℤ, List, [], ◌∷◌, Option, Some, None, IsSome}
+use Rattle.std.specs.Prelude.{if◌then◌else◌}
 use Rattle.bor_terms.specs.Texts.{is_same}
 use Rattle.bor_register.specs.declared.member.Member.{Member}
 use Rattle.bor_register.specs.declared.filing.AcceptedFiling.{AcceptedFiling}
@@ -30,16 +32,19 @@ token_of name (a ∷ rest) = if is_same a.name name then Some a.token else token
 -- the agent's filings, in order
 abbrev pub entries_of : List ℕ → List JournalEntry → List AcceptedFiling
 entries_of name [] = []
-entries_of name (e ∷ rest) = if is_same e.agent name then e.filing ∷ entries_of name rest else entries_of name rest
+entries_of name (e ∷ rest) =
+    if is_same e.agent name then e.filing ∷ entries_of name rest else entries_of name rest
 
 abbrev pub members_from : List Agent → List JournalEntry → List Member
 members_from [] entries = []
 members_from (a ∷ rest) entries =
-    with_member (record { name = a.name; token = a.token; filings = entries_of a.name entries }) (members_from rest entries)
+    with_member (record { name = a.name; token = a.token; filings = entries_of a.name entries })
+    (members_from rest entries)
 
 -- the register that a journal stands for
 abbrev pub register_of : Journal → Register
-register_of j = record { day = j.day; registrar = j.registrar; members = members_from j.agents j.entries }
+register_of j =
+    record { day = j.day; registrar = j.registrar; members = members_from j.agents j.entries }
 
 -- no name comes twice
 abbrev pub AreNamedOnce : List Agent → Type 0
@@ -56,7 +61,8 @@ pub record IsInOrder (j : Journal) : Type 0 where
   pub named : AreNamedOnce j.agents
   pub enrolled : AreOfAgents j.agents j.entries
 
--- Two journals with one day and the same tokens, and with each agent's filings in the same order; the order between agents doesn't count.
+-- Two journals with one day and the same tokens, and with each agent's filings in the same order;
+-- the order between agents doesn't count.
 pub record AreAlike (j k : Journal) : Type 0 where
   pub day : j.day ≡ k.day
   pub registrar : j.registrar ≡ k.registrar
@@ -71,4 +77,5 @@ OrderBetweenAgentsIsForgotten =
 -- A register has each agent's filings of its journal, in their order.
 abbrev pub FilingsStayInOrder : Type 0
 FilingsStayInOrder =
-    (j : Journal) → IsInOrder j → (name : List ℕ) → filings_of name (register_of j).members ≡ entries_of name j.entries
+    (j : Journal) → IsInOrder j → (name : List ℕ)
+    → filings_of name (register_of j).members ≡ entries_of name j.entries

@@ -1,5 +1,6 @@
 -- The published filings, and their outward forms, which all see (this register's own rules).
-use Rattle.std.specs.Prelude.{ℕ, ℤ, int_le, List, [], ◌∷◌, ◌++◌, map, filter, Bool, false, not, ◌&&◌, Option, Some, None, codes, if◌then◌else◌}
+use Rattle.std.specs.Prelude.{ℕ, ℤ, int_le, List, [], ◌∷◌, ◌++◌, map, filter, Bool, false, not}
+use Rattle.std.specs.Prelude.{◌&&◌, Option, Some, None, codes, if◌then◌else◌}
 use Rattle.bor_terms.specs.Texts.{is_same}
 use Rattle.bor_register.specs.declared.member.Member.{Member}
 use Rattle.bor_register.specs.declared.filing.AcceptedFiling.{AcceptedFiling}

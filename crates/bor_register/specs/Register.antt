@@ -1,5 +1,8 @@
--- A register (this register's own rules): its day, the registrar's token, and its agents in the order of their names, each with its token and its filings in order of acceptance. An order between the filings of two agents is not in it, so nobody can see one.
-use Rattle.std.specs.Prelude.{◌≡◌, ℕ, ℤ, List, [], ◌∷◌, ◌||◌, Bool, true, false, Option, Some, None, option_map, if◌then◌else◌}
+-- A register (this register's own rules): its day, the registrar's token, and its agents in the
+-- order of their names, each with its token and its filings in order of acceptance. An order
+-- between the filings of two agents is not in it, so nobody can see one.
+use Rattle.std.specs.Prelude.{◌≡◌, ℕ, ℤ, List, [], ◌∷◌, ◌||◌, Bool, true, false, Option, Some, None}
+use Rattle.std.specs.Prelude.{option_map, if◌then◌else◌}
 use Rattle.bor_terms.specs.Texts.{is_same, is_below}
 use Rattle.bor_register.specs.declared.member.Member.{Member}
 use Rattle.bor_register.specs.declared.filing.AcceptedFiling.{AcceptedFiling}
@@ -36,7 +39,9 @@ agent_with token (m ∷ ms) = if is_same m.token token then Some m.name else age
 
 -- who has the token: the registrar or an agent
 abbrev pub caller_of : List ℕ → Register → Option Caller
-caller_of token r = if is_same r.registrar token then Some Registrar else option_map Agent (agent_with token r.members)
+caller_of token r =
+    if is_same r.registrar token then Some Registrar
+    else option_map Agent (agent_with token r.members)
 
 -- the agent's filings; none where there is no such agent
 abbrev pub filings_of : List ℕ → List Member → List AcceptedFiling
@@ -47,7 +52,8 @@ filings_of name (m ∷ ms) = if is_same m.name name then m.filings else filings_
 abbrev pub with_filings : List ℕ → List AcceptedFiling → List Member → List Member
 with_filings name filings [] = []
 with_filings name filings (m ∷ ms) =
-    if is_same m.name name then record m { filings = filings } ∷ ms else m ∷ with_filings name filings ms
+    if is_same m.name name then record m { filings = filings } ∷ ms
+    else m ∷ with_filings name filings ms
 
 -- an agent that is new to the register
 abbrev pub new_member : List ℕ → List ℕ → Member

@@ -1,9 +1,10 @@
 -- The rows of statements that a viewer sees: of its own live filings, and of all published ones.
-use Rattle.std.specs.Prelude.{ℕ, ◌+◌, ℤ, List, [], ◌∷◌, ◌++◌, filter, Option, None, Some, Bool, true, not, if◌then◌else◌}
+use Rattle.std.specs.Prelude.{ℕ, ◌+◌, ℤ, List, [], ◌∷◌, ◌++◌, filter, Option, None, Some, Bool}
+use Rattle.std.specs.Prelude.{true, not, if◌then◌else◌}
 use Rattle.bor_terms.specs.Texts.{is_same}
 use Rattle.bods_read.specs.declared.statement.Statement.{Statement}
 use Rattle.bor_records.specs.declared.row.Row.{Row}
-use Rattle.bor_records.specs.Admission.{status_of}
+use Rattle.bor_records.specs.Admission.{stated_status}
 use Rattle.bor_register.specs.declared.filing.AcceptedFiling.{AcceptedFiling}
 use Rattle.bor_register.specs.declared.member.Member.{Member}
 use Rattle.bor_register.specs.Publication.{is_published}
@@ -14,12 +15,14 @@ is_visible viewer day name f = if is_same viewer name then not f.withdrawn else 
 
 -- the row of a statement of a filing
 abbrev pub row_of : List ℕ → ℕ → ℕ → Statement → Row
-row_of name number place s = record { agent = name; filing = number; place = place; status = status_of s; statement = s }
+row_of name number place s =
+    record { agent = name; filing = number; place = place; status = stated_status s; statement = s }
 
 -- the rows of a filing's statements, counted from this place
 abbrev pub rows_from : List ℕ → ℕ → ℕ → List Statement → List Row
 rows_from name number place [] = []
-rows_from name number place (s ∷ ss) = row_of name number place s ∷ rows_from name number (place + 1) ss
+rows_from name number place (s ∷ ss) =
+    row_of name number place s ∷ rows_from name number (place + 1) ss
 
 -- of these rows those of a declaration
 abbrev pub of_declaration : List ℕ → List Row → List Row

@@ -15,4 +15,6 @@ seen_at viewer day r = shown_of day (visible viewer r.day r.members)
 -- The rows of a series that a viewer sees are those of its agent's filings.
 abbrev pub SeriesIsOfOneAgent : Type 0
 SeriesIsOfOneAgent =
-    (viewer : List ℕ) (day : ℤ) (n : Node) (ms : List Member) → IsOrdered ms → series n (visible viewer day ms) ≡ series n (visible_in viewer day n.agent (filings_of n.agent ms))
+    (viewer : List ℕ) (day : ℤ) (n : Node) (ms : List Member) → IsOrdered ms
+    → series n (visible viewer day ms)
+    ≡ series n (visible_in viewer day n.agent (filings_of n.agent ms))

@@ -1,13 +1,13 @@
 //! How much a register holds.
 
 ghost use Rattle.std.specs.Prelude.{◌≡◌, min};
-ghost use Rattle.bor_register.specs.Held.{statement_count, statements_in};
+ghost use Rattle.bor_register.specs.Held.{statement_count, statement_total};
 
 use crate::filing::AcceptedFiling;
 use crate::member::Member;
 
 fn statements_in(filings: &[AcceptedFiling]) -> usize
-    ensures { result ≡ min (statements_in filings.now) usize.MAX }
+    ensures { result ≡ min (statement_total filings.now) usize.MAX }
 {
     let mut count = 0usize;
     for filing in filings {

@@ -94,9 +94,12 @@ versions_same old new rows same up h =
     (h.0, it, go h.0.returning refl h.2)
   where
     go : (o : Option Returning) → h.0.returning ≡ o → ShowsRows old old version_text h.0 (timed [] h.0.formats h.1.now) rows o → ShowsRows new new version_text h.0 (timed [] h.0.formats h.1.now) rows o
-    go None e k =
-        (k.0, subst (λ (db : Database). IsSourceOf (reads_listing db.schema version_text) db k.0) (sym same) k.1, k.2,
-        (record { was_open = up; is_open = up; now_is = refl; committed_is = refl; mode = refl }, record { changes = refl; last_rowid = refl }, refl))
+    go None e k = (
+      k.0,
+      subst (λ (db : Database). IsSourceOf (reads_listing db.schema version_text) db k.0) (sym same) k.1,
+      k.2,
+      (record { was_open = up; is_open = up; now_is = refl; committed_is = refl; mode = refl }, record { changes = refl; last_rowid = refl }, refl),
+    )
     go (Some what) e k = absurd (version_asks old.now.schema (subst Returns (sym h.1.is) (rw e refl)))
 
 -- the one row of a version tells it

@@ -9,7 +9,7 @@ use Rattle.bor_store_sql.specs.declared.rows.places.At.{At}
 use Rattle.bor_store_sql.specs.declared.rows.typed.InterestRow.{InterestRow}
 use Rattle.bor_store_sql.specs.declared.rows.typed.PeriodRow.{PeriodRow}
 use Rattle.bor_store_sql.specs.Fitting.{standing}
-use Rattle.bor_store.specs.Migrating.{days_of}
+use Rattle.bor_store.specs.Migrating.{interest_days}
 
 -- ---- one interest
 
@@ -67,7 +67,7 @@ abbrev pub days_at : List ℕ → ℕ → ℕ → Statement → List PeriodRow
 days_at agent filing place s = flat_map period_rows (interest_rows (standing agent filing place s))
 
 pub statement_gathered : (agent : List ℕ) (filing : ℕ) (before so_far after : List PeriodRow) (i n : ℕ) (xs : List Statement) (x : Statement) → i < length xs → x ≡ get_or xs i x → n ≡ i + 1
-    → so_far ≡ before ++ days_of (placed_from agent filing 1 (take i xs))
+    → so_far ≡ before ++ interest_days (placed_from agent filing 1 (take i xs))
     → after ≡ so_far ++ days_at agent filing n x
-    → after ≡ before ++ days_of (placed_from agent filing 1 (take (i + 1) xs))
-statement_gathered agent filing = gathered_on (days_at agent filing) (λ n ss. days_of (placed_from agent filing n ss)) (λ n. refl) (λ n x xs. refl)
+    → after ≡ before ++ interest_days (placed_from agent filing 1 (take (i + 1) xs))
+statement_gathered agent filing = gathered_on (days_at agent filing) (λ n ss. interest_days (placed_from agent filing n ss)) (λ n. refl) (λ n x xs. refl)

@@ -8,7 +8,7 @@ use Rattle.sqlite.specs.State.{State}
 use Rattle.bor_store.specs.declared.open_fault.OpenFault.{OpenFault}
 use Rattle.bor_store.specs.declared.open_fault.OpenFault.TheVariants as faults
 use Rattle.sqlite.specs.declared.error.Error.{Error}
-use Rattle.bor_store.specs.Opening.{IsFailure, IsJudged, IsRegister, Judges, RefusesFirst, fault_of, has_all, version_in, wants_memory}
+use Rattle.bor_store.specs.Opening.{IsFailure, IsJudged, IsRegister, Judges, RefusesFirst, open_fault_of, has_all, version_in, wants_memory}
 use Rattle.bor_store.proofs.Adopting.{versions_same}
 
 told_memory : (is : Bool) → IsFailure (if is then faults.Memory else faults.Store)
@@ -16,7 +16,7 @@ told_memory true = inl refl
 told_memory false = inr refl
 
 -- an error of the store is told as want of memory or a store that failed
-pub fault_fails : (error : Error) → IsFailure (fault_of error)
+pub fault_fails : (error : Error) → IsFailure (open_fault_of error)
 fault_fails error = told_memory (wants_memory error)
 
 -- rows that tell a version are not read for want of memory alone

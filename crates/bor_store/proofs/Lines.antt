@@ -20,7 +20,7 @@ use Rattle.bor_store_sql.specs.declared.rows.typed.PeriodRow.{PeriodRow}
 use Rattle.bor_store_sql.specs.Selected.{numbered}
 use Rattle.bor_store_sql.proofs.Members.{apart_names}
 use Rattle.bor_store_reads.specs.declared.fault.ReadError.{ReadError}
-use Rattle.bor_store.specs.Migrating.{FileSays, FilesSay, FilingSays, FoundSays, GathersAll, LineSays, LinesSay, OwnSay, UnlessWithdrawn, days_of, filed_at}
+use Rattle.bor_store.specs.Migrating.{FileSays, FilesSay, FilingSays, FoundSays, GathersAll, LineSays, LinesSay, OwnSay, UnlessWithdrawn, interest_days, filed_at}
 
 -- ---- one line after the other
 
@@ -124,7 +124,7 @@ read_once r a b h k = cc
 
 file_once : (agent : List ℕ) (number : ℕ) (f : AcceptedFiling) (ps qs : List PeriodRow) → FileSays agent number f ps → FileSays agent number f qs → ps ≡ qs
 file_once agent number f ps qs h k =
-    h.are ∙ ap (λ ss. days_of (placed_from agent number 1 ss)) (read_once (reading f.bytes) h.said k.said h.read k.read) ∙ sym k.are
+    h.are ∙ ap (λ ss. interest_days (placed_from agent number 1 ss)) (read_once (reading f.bytes) h.said k.said h.read k.read) ∙ sym k.are
 
 filing_once : (agent : List ℕ) (f : AcceptedFiling) (ps qs : List PeriodRow) → FilingSays agent f ps → FilingSays agent f qs → ps ≡ qs
 filing_once agent f ps qs = go f.withdrawn

@@ -14,7 +14,7 @@ use Rattle.bor_store_sql.specs.Fitting.{Fit}
 use Rattle.bor_store_reads.specs.Answering.{IsNoDamage}
 use Rattle.bor_store_reads.specs.declared.fault.ReadError.{ReadError}
 use Rattle.bor_store_reads.specs.declared.fault.ReadError.TheVariants as errors
-use Rattle.bor_store.specs.Migrating.{FileSays, FoundSays, Gathers, LineSays, UnlessWithdrawn, days_of, filed_at}
+use Rattle.bor_store.specs.Migrating.{FileSays, FoundSays, Gathers, LineSays, UnlessWithdrawn, interest_days, filed_at}
 use Rattle.bor_store.proofs.Lines.{read_once}
 
 -- ---- one file
@@ -35,9 +35,9 @@ module _ (agent : List ℕ) (number : ℕ) (f : AcceptedFiling) (bytes : List �
   misfit X said read none = λ damaged days says. none (subst (λ ss. Fit agent number 1 ss f.statements) (read_once (reading f.bytes) says.said said says.read (ap reading same ∙ read)) says.fit)
 
   -- the days of what it is read to are added
-  pub file_added : {X : Type 0} (said : List Statement) (result : Result X ReadError) → reading bytes ≡ Ok said → Fit agent number 1 said f.statements → OnOk result (after ≡ before ++ days_of (placed_from agent number 1 said)) → IfErr result IsNoDamage
+  pub file_added : {X : Type 0} (said : List Statement) (result : Result X ReadError) → reading bytes ≡ Ok said → Fit agent number 1 said f.statements → OnOk result (after ≡ before ++ interest_days (placed_from agent number 1 said)) → IfErr result IsNoDamage
       → Gathers (FileSays agent number f) before after result
-  file_added said (Ok x) read fit added failed = (days_of (placed_from agent number 1 said), record { said = said; read = ap reading same ∙ read; fit = fit; are = refl }, added)
+  file_added said (Ok x) read fit added failed = (interest_days (placed_from agent number 1 said), record { said = said; read = ap reading same ∙ read; fit = fit; are = refl }, added)
   file_added said (Err error) read fit added failed = λ damaged days says. failed damaged
 
 -- ---- one line

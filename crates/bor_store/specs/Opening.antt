@@ -1,5 +1,7 @@
 -- The tables that are taken for a register, and the registers that files hold.
-use Rattle.std.specs.Prelude.{◌≡◌, ◌≢◌, ◌⊎◌, ℕ, ℤ, Bool, true, false, if◌then◌else◌, ◌||◌, ◌&&◌, List, [], ◌∷◌, map, is_some, codes, Option, Some, None, Result, Ok, Err, IsErrAnd, IsTrue}
+use Rattle.std.specs.Prelude.{◌≡◌, ◌≢◌, ◌⊎◌, ℕ, ℤ, Bool, true, false, if◌then◌else◌, ◌||◌, ◌&&◌}
+use Rattle.std.specs.Prelude.{List, [], ◌∷◌, map, is_some, codes, Option, Some, None, Result, Ok}
+use Rattle.std.specs.Prelude.{Err, IsErrAnd, IsTrue}
 use Rattle.std.specs.List.{list_any, list_all}
 use Rattle.sqlite.specs.Held.{Held, state}
 use Rattle.sqlite.specs.Order.{Row, column}
@@ -41,8 +43,8 @@ wants_memory (SqliteFailure OutOfMemory) = true
 wants_memory _ = false
 
 -- the fault of an error of the store: want of memory, and of each other one a store that failed
-abbrev pub fault_of : Error → OpenFault
-fault_of error = if wants_memory error then faults.Memory else faults.Store
+abbrev pub open_fault_of : Error → OpenFault
+open_fault_of error = if wants_memory error then faults.Memory else faults.Store
 
 -- ---- taking tables for a register
 
@@ -52,7 +54,8 @@ has_columns table columns = list_all (λ column. is_some (column_named table col
 
 -- there is a table of this name with all these columns
 abbrev pub has_table : Schema → List ℕ → List (List ℕ) → Bool
-has_table schema name columns = list_any (λ table. same_name table.name name && has_columns table columns) schema.tables
+has_table schema name columns =
+    list_any (λ table. same_name table.name name && has_columns table columns) schema.tables
 
 -- there are the columns that have a version
 abbrev pub is_versioned : Schema → Bool
@@ -60,7 +63,8 @@ is_versioned schema = has_table schema (codes "register") (codes "one" ∷ codes
 
 -- there are tables of the names of these, with all their columns
 abbrev pub has_tables : Schema → List Table → Bool
-has_tables schema tables = list_all (λ wanted. has_table schema wanted.name (map (λ c. c.name) wanted.columns)) tables
+has_tables schema tables =
+    list_all (λ wanted. has_table schema wanted.name (map (λ c. c.name) wanted.columns)) tables
 
 -- there are all tables of a register, with all their columns
 abbrev pub has_all : Schema → Bool
@@ -72,9 +76,12 @@ has_first schema = has_tables schema first_schema.tables
 
 -- a table, an index or a view has the name, but for the case of ASCII letters
 abbrev pub is_used : Schema → List ℕ → Bool
-is_used schema name = is_some (table_named schema name) || (is_some (index_named schema name) || is_some (view_named schema name))
+is_used schema name =
+    is_some (table_named schema name)
+    || (is_some (index_named schema name) || is_some (view_named schema name))
 
--- a table, an index or a view has the name of the table that version 2 has beside those of version 1
+-- a table, an index or a view has the name of the table that version 2 has beside those of version
+-- 1
 abbrev pub is_period_used : Schema → Bool
 is_period_used schema = is_used schema period_table.name
 
@@ -98,24 +105,30 @@ version_in [] = None
 version_in (row ∷ []) = whole_number (column row 0)
 version_in (row ∷ other ∷ more) = None
 
--- the answer where the rows of the versions are these: tables of version 2 are taken, with all of their columns, and no others
+-- the answer where the rows of the versions are these: tables of version 2 are taken, with all of
+-- their columns, and no others
 abbrev pub Judges : {X : Type 0} → Schema → List Row → Result X OpenFault → Type 0
 Judges schema rows (Ok x) = (version_in rows ≡ Some tables_version) × IsTrue (has_all schema)
 Judges schema rows (Err (faults.OtherVersion n)) = (version_in rows ≡ Some n) × (n ≢ tables_version)
-Judges schema rows (Err faults.NoRegister) = (version_in rows ≡ None) ⊎ ((version_in rows ≡ Some tables_version) × (has_all schema ≡ false))
+Judges schema rows (Err faults.NoRegister) =
+    (version_in rows ≡ None) ⊎ ((version_in rows ≡ Some tables_version) × (has_all schema ≡ false))
 Judges schema rows (Err _) = ⊥
 
--- An answer on a connection's tables: memory is wanting or the store failed, or there is no version to ask for, or it is what the rows of the versions make it.
-abbrev pub IsToldBy : {X : Type 0} → (Schema → List Row → Result X OpenFault → Type 0) → State → Result X OpenFault → Type 0
+-- An answer on a connection's tables: memory is wanting or the store failed, or there is no version
+-- to ask for, or it is what the rows of the versions make it.
+abbrev pub IsToldBy : {X : Type 0} → (Schema → List Row → Result X OpenFault → Type 0) → State
+    → Result X OpenFault → Type 0
 IsToldBy tells s result =
     IsErrAnd result IsFailure
-    ⊎ (((is_versioned s.now.schema ≡ false) × (result ≡ Err faults.NoRegister)) ⊎ ((rows : List Row) × AreVersions s rows × tells s.now.schema rows result))
+    ⊎ (((is_versioned s.now.schema ≡ false) × (result ≡ Err faults.NoRegister))
+    ⊎ ((rows : List Row) × AreVersions s rows × tells s.now.schema rows result))
 
 -- the answer of whether a connection has a register
 abbrev pub IsJudged : {X : Type 0} → State → Result X OpenFault → Type 0
 IsJudged s result = IsToldBy (λ schema rows answer. Judges schema rows answer) s result
 
--- The tables of a connection are a register's: SQL gives one version, it is that of these tables, and no table and no column is missing.
+-- The tables of a connection are a register's: SQL gives one version, it is that of these tables,
+-- and no table and no column is missing.
 pub record IsRegister (s : State) : Type 0 where
   pub rows : List Row
   pub versions : AreVersions s rows
@@ -124,27 +137,35 @@ pub record IsRegister (s : State) : Type 0 where
 
 -- tables of version 1 are refused as such, or memory is wanting or the store failed
 abbrev pub RefusesFirst : {X : Type 0} → Result X OpenFault → Type 0
-RefusesFirst result = IsErrAnd result (λ fault. IsFailure fault ⊎ (fault ≡ faults.OtherVersion first_version))
+RefusesFirst result =
+    IsErrAnd result (λ fault. IsFailure fault ⊎ (fault ≡ faults.OtherVersion first_version))
 
 -- ---- the contents of files
 
--- Two files, a database and its log, hold a register: they recover to trees that are a sound database of its tables, with its rows.
+-- Two files, a database and its log, hold a register: they recover to trees that are a sound
+-- database of its tables, with its rows.
 pub record HoldsRegister (image : Image) (r : Register) : Type 0 where
   pub trees : Trees
   pub holds : ∥ HoldsDatabase image trees ∥₁
   pub stands : Stands r trees
 
--- A connection to them that is new, and shows what they recover to, and each register that they hold.
+-- A connection to them that is new, and shows what they recover to, and each register that they
+-- hold.
 pub record IsConnected (image : Image) (s : State) : Type 0 where
   pub opens : Opens s
   pub found : FindsIn image s
   pub shows : (r : Register) → HoldsRegister image r → ShowsIn r s
 
--- The result of closing a connection: two files that hold each register that it showed, as they read and after a crash, on a disk that returned what was written; or the error that the store returns.
-abbrev pub IsClosing : {D : Type 0} {g : Disk D} → Held (FileStore D g) → Result (Files D) Error → Type 0
+-- The result of closing a connection: two files that hold each register that it showed, as they
+-- read and after a crash, on a disk that returned what was written; or the error that the store
+-- returns.
+abbrev pub IsClosing : {D : Type 0} {g : Disk D} → Held (FileStore D g)
+    → Result (Files D) Error → Type 0
 IsClosing {D} {g} c (Ok files) =
-    AreClean g files.log files.db → (r : Register) → ShowsIn r (file_state c) → (image : Image) → outcomes g files.log files.db image → HoldsRegister image r
-IsClosing {D} {g} c (Err e) = (last : FileStore D g) × IsClosed c last × (IsUnharmed (view last) → FailsToClose c last e)
+    AreClean g files.log files.db → (r : Register) → ShowsIn r (file_state c) → (image : Image)
+    → outcomes g files.log files.db image → HoldsRegister image r
+IsClosing {D} {g} c (Err e) =
+    (last : FileStore D g) × IsClosed c last × (IsUnharmed (view last) → FailsToClose c last e)
 
 -- the disk of each such store returns what was written, as that of a store in memory does
 abbrev pub IsFaithful : {S : Type 0} → Ghosts S → Type 0

@@ -12,7 +12,14 @@ use Rattle.bor_register.specs.Register.{Register}
 use Rattle.bor_store_sql.specs.Shown.{Stands}
 use Rattle.bor_store.specs.Opening.{HoldsRegister}
 
--- Two files that a stop may leave of a connection, of which holds what `sqlite` keeps true of each, on a disk that has returned what was written: they have trees that `may_leave` names, and hold each register for which these stand.
+-- Two files that a stop may leave of a connection, of which holds what `sqlite` keeps true of each,
+-- on a disk that has returned what was written: they have trees that `may_leave` names, and hold
+-- each register for which these stand.
 abbrev pub StopsLeaveRegisters : {D : Type 0} → Disk D → Type 0
-StopsLeaveRegisters {D} g = (c : Held (FileStore D g)) → IsKept (view c.store) (recovers c.store) c.schema c.saved c.in_transaction → HasCleanDisk (file_state c) →
-    (image : Image) → (state c.store).may_leave image → ∥ ((trees : Trees) × (file_state c).may_leave trees × ((r : Register) → Stands r trees → HoldsRegister image r)) ∥₁
+StopsLeaveRegisters {D} g =
+    (c : Held (FileStore D g))
+    → IsKept (view c.store) (recovers c.store) c.schema c.saved c.in_transaction
+    → HasCleanDisk (file_state c) →
+    (image : Image) → (state c.store).may_leave image
+    → ∥ ((trees : Trees) × (file_state c).may_leave trees
+    × ((r : Register) → Stands r trees → HoldsRegister image r)) ∥₁

@@ -5,7 +5,7 @@ ghost use Rattle.std.specs.List.{flat_map};
 ghost use Rattle.bor_store_sql.specs.Rows.Placed.{interest_rows, period_rows, placed_from};
 ghost use Rattle.bor_store_sql.specs.Fitting.{standing};
 ghost use Rattle.bor_store_reads.specs.Answering.{IsNoDamage};
-ghost use Rattle.bor_store.specs.Migrating.{days_of};
+ghost use Rattle.bor_store.specs.Migrating.{interest_days};
 
 use bods_read::{Interest, Statement};
 use bor_store_reads::ReadError;
@@ -79,7 +79,7 @@ pub(crate) fn add_days(
     statements: &[Statement],
 ) -> Result<(), ReadError>
     ensures added { OnOk result (rows.new.items
-        ≡ rows.old.items ++ days_of (placed_from agent.now filing 1 statements.now)) }
+        ≡ rows.old.items ++ interest_days (placed_from agent.now filing 1 statements.now)) }
     ensures failed { IfErr result IsNoDamage }
 {
     let mut place = 0;

@@ -1,7 +1,7 @@
 //! Why a store holds no register that can be used.
 
 ghost use Rattle.std.specs.Prelude.{◌≡◌};
-ghost use Rattle.bor_store.specs.Opening.{fault_of};
+ghost use Rattle.bor_store.specs.Opening.{open_fault_of};
 ghost use Rattle.bor_store.specs.declared.open_fault.OpenFault.TheVariants as faults;
 
 use bor_store_reads::ReadError;
@@ -47,7 +47,7 @@ impl From<AllocError> for OpenFault {
 }
 
 impl From<Error> for OpenFault {
-    ghost from_gives = { λ error fault. fault ≡ fault_of error };
+    ghost from_gives = { λ error fault. fault ≡ open_fault_of error };
 
     fn from(error: Error) -> Self {
         match error {

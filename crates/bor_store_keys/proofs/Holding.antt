@@ -16,10 +16,10 @@ use Rattle.bor_store_reads.proofs.Found.{still_shows}
 use Rattle.bor_store_keys.specs.declared.found.FilingKey.{FilingKey}
 use Rattle.bor_store_keys.specs.declared.found.Found.{Found}
 use Rattle.bor_store_keys.specs.declared.found.PlaceKey.{PlaceKey}
-use Rattle.bor_store_keys.specs.Finding.{AreOf, AreFound, Holds, filing_cmp, place_cmp}
+use Rattle.bor_store_keys.specs.Finding.{AreOf, IsCurrent, Holds, filing_cmp, place_cmp}
 
 -- a read leaves it
-pub still_found : (found : Option Found) (old new : State) → ReadsOnly old new → AreFound old found → AreFound new found
+pub still_found : (found : Option Found) (old new : State) → ReadsOnly old new → IsCurrent old found → IsCurrent new found
 still_found None old new reads h = tt
 still_found (Some f) old new reads h = λ clean r shows. h (reads.began clean) r (still_shows r new old (sym (reads.kept clean)) shows)
 
@@ -40,8 +40,8 @@ read_listed state_of {old} {read} {left} {result} reads up same answer = record 
 }
 
 -- what was found is what is told of each register that is shown
-pub of_found : (found : Option Found) (f : Found) (s t : State) → s ≡ t → found ≡ Some f → AreFound s found → Holds t (λ r. AreOf r f)
-of_found found f s t same is h = subst (λ o. AreFound t o) is (subst (λ u. AreFound u found) same h)
+pub of_found : (found : Option Found) (f : Found) (s t : State) → s ≡ t → found ≡ Some f → IsCurrent s found → Holds t (λ r. AreOf r f)
+of_found found f s t same is h = subst (λ o. IsCurrent t o) is (subst (λ u. IsCurrent u found) same h)
 
 -- ---- a map with one more key
 

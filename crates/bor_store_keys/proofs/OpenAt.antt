@@ -7,7 +7,7 @@ use Rattle.std.proofs.lemmas.List.Elements.{filter-append}
 use Rattle.sqlite_keyed.proofs.ListLemmas.{filter-map}
 use Rattle.bor_records.specs.declared.row.Row.{Row}
 use Rattle.bor_records.proofs.Lists.{last_or-append}
-use Rattle.bor_records.specs.Admission.{is_closed, status_of}
+use Rattle.bor_records.specs.Admission.{is_closed, stated_status}
 use Rattle.bor_records.specs.Snapshot.{is_dated, latest, unless_closed as row_unless_closed}
 use Rattle.bor_records.specs.declared.links.node.Node.{Node}
 use Rattle.bor_records.specs.Links.Series.{open_at, series}
@@ -23,7 +23,7 @@ use Rattle.bor_store_sql.proofs.OnRows.BySeries.{last_map}
 use Rattle.bor_store_sql.proofs.OnRows.SeenPlaced.{filters_swap}
 use Rattle.bor_store_sql.proofs.Picking.{filter_both}
 use Rattle.bor_store_keys.specs.declared.view.View.{View}
-use Rattle.bor_store_keys.specs.Latest.{bare_row, is_told, unless_closed}
+use Rattle.bor_store_keys.specs.Latest.{bare_row, is_row_seen, stored_unless_closed}
 use Rattle.bor_store_keys.specs.Viewed.{rows_seen}
 use Rattle.bor_store_keys.proofs.SeriesSeen.{series_seen, Stands, stands}
 
@@ -57,27 +57,27 @@ module _ (view : View) (n : Node) (r : Register) (stored : IsStored r) where
       ∙ ap (last_or None) (filter-map (is_dated view.day) row_placed ps)
       ∙ last_map row_placed None (filter (λ p. int_le p.statement.day view.day) ps)
 
-  told_is : last_or None (filter (is_told view n.agent (filings_of n.agent r.members)) (map bare (in_series n.declaration n.rec (placed_of n.agent r)))) ≡ option_map bare last_one
+  told_is : last_or None (filter (is_row_seen view n.agent (filings_of n.agent r.members)) (map bare (in_series n.declaration n.rec (placed_of n.agent r)))) ≡ option_map bare last_one
   unfolding last_one
   told_is =
-      let told : StatementRow → Bool = is_told view n.agent (filings_of n.agent r.members) in
+      let told : StatementRow → Bool = is_row_seen view n.agent (filings_of n.agent r.members) in
       let ps : List Placed = in_series n.declaration n.rec (placed_of n.agent r) in
       ap (last_or None) (filter-map told bare ps)
       ∙ last_map bare None (filter (λ p. told (bare p)) ps)
       ∙ ap (λ l. option_map bare (last_or None l)) (filter_and (λ (p : Placed). int_le p.statement.day view.day) (is_seen view.viewer view.today n.agent (filings_of n.agent r.members)) ps)
 
-  closed_alike : (o : Option Placed) → option_and_then unless_closed (option_map bare o) ≡ option_map bare_row (option_and_then row_unless_closed (option_map row_placed o))
+  closed_alike : (o : Option Placed) → option_and_then stored_unless_closed (option_map bare o) ≡ option_map bare_row (option_and_then row_unless_closed (option_map row_placed o))
   closed_alike None = refl
-  closed_alike (Some p) = go (is_closed (status_of p.statement))
+  closed_alike (Some p) = go (is_closed (stated_status p.statement))
     where
       go : (b : Bool) → (if b then None else Some (bare p)) ≡ option_map bare_row (if b then None else Some (row_placed p))
       go true = refl
       go false = refl
 
   -- where the latest isn't closed
-  pub opened : option_and_then unless_closed (last_or None (filter (is_told view n.agent (filings_of n.agent r.members)) (map bare (in_series n.declaration n.rec (placed_of n.agent r)))))
+  pub opened : option_and_then stored_unless_closed (last_or None (filter (is_row_seen view n.agent (filings_of n.agent r.members)) (map bare (in_series n.declaration n.rec (placed_of n.agent r)))))
       ≡ option_map bare_row (open_at view.day n (rows_seen view r))
-  opened = ap (option_and_then unless_closed) told_is ∙ closed_alike last_one ∙ ap (λ o. option_map bare_row (option_and_then row_unless_closed o)) (sym latest_is)
+  opened = ap (option_and_then stored_unless_closed) told_is ∙ closed_alike last_one ∙ ap (λ o. option_map bare_row (option_and_then row_unless_closed o)) (sym latest_is)
 
   -- an open row stands somewhere
   pub opened_stands : (row : Row) → open_at view.day n (rows_seen view r) ≡ Some row → Stands r row

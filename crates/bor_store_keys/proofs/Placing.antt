@@ -9,7 +9,7 @@ use Rattle.bor_store_sql.specs.declared.rows.places.At.{At}
 use Rattle.bor_store_sql.specs.declared.rows.typed.Placed.{Placed}
 use Rattle.bor_store_sql.specs.Rows.Stored.{IsStored}
 use Rattle.bor_store_keys.specs.declared.view.View.{View}
-use Rattle.bor_store_keys.specs.Recorded.{record_of}
+use Rattle.bor_store_keys.specs.Recorded.{placed_record}
 use Rattle.bor_store_keys.specs.Signed.{record_standing}
 use Rattle.bor_store_keys.specs.Viewed.{rows_seen}
 use Rattle.bor_store_keys.proofs.SeriesSeen.{Stands}
@@ -22,5 +22,5 @@ pub placed_there : (view : View) (n : Node) (r : Register) → IsStored r → (r
 placed_there view n r stored row e =
     let s : Stands r row = opened_stands view n r stored row e in
     ap (λ (x : Row). record_standing r.members (at_of x)) s.is
-    ∙ ap (λ (ps : List Placed). option_map record_of (slice_get ps 0)) s.alone
+    ∙ ap (λ (ps : List Placed). option_map placed_record (slice_get ps 0)) s.alone
     ∙ ap Some (sym (ap series_of s.is) ∙ (open_at_in view.day n (rows_seen view r) row e).1)

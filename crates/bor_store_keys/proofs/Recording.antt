@@ -17,7 +17,7 @@ use Rattle.bor_store_sql.specs.declared.rows.typed.StatementRow.{StatementRow}
 use Rattle.bor_store_sql.specs.Rows.Placed.{bare}
 use Rattle.bor_store_sql.specs.Rows.Stored.{IsStored}
 use Rattle.bor_store_sql.specs.Selected.{names_subject, placed_of, with_subject}
-use Rattle.bor_store_keys.specs.Recorded.{CoverRecords, record_at, record_of}
+use Rattle.bor_store_keys.specs.Recorded.{CoverRecords, record_at, placed_record}
 use Rattle.bor_store_keys.proofs.SeriesSeen.{Stands, stands}
 
 module _ (r : Register) (row : Row) where
@@ -32,7 +32,7 @@ module _ (r : Register) (row : Row) where
 -- records that are made row by row, and then taken once each
 pub records_cover : (ps : List Placed) (rows : List StatementRow) (made nodes : List Node) → rows ≡ map bare ps → made ≡ map record_at rows → ((n : Node) → Contains nodes n ↔ Contains made n) → CoverRecords ps nodes
 records_cover ps rows made nodes is made_is same p h =
-    (same (record_of p)).1 (subst (λ (ns : List Node). Contains ns (record_of p)) (sym (made_is ∙ ap (map record_at) is)) (Contains-map record_at (map bare ps) (bare p) (Contains-map bare ps p h)))
+    (same (placed_record p)).1 (subst (λ (ns : List Node). Contains ns (placed_record p)) (sym (made_is ∙ ap (map record_at) is)) (Contains-map record_at (map bare ps) (bare p) (Contains-map bare ps p h)))
 
 names_alike : (rec : List ℕ) (d : Details) → names rec d ≡ names_subject rec d
 names_alike rec (details.Entity kind name identifiers) = refl

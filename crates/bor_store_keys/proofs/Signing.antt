@@ -29,7 +29,7 @@ use Rattle.bor_store_sql.specs.Rows.Stored.{IsStored}
 use Rattle.bor_store_sql.proofs.OnRows.Apart.{all_apart}
 use Rattle.bor_store_sql.specs.Selected.{identified_by, in_record, placed_of}
 use Rattle.bor_store_sql.proofs.Alone.{IsAlone, each_alone, own_placed}
-use Rattle.bor_store_keys.specs.Recorded.{CoverRecords, record_at, record_of}
+use Rattle.bor_store_keys.specs.Recorded.{CoverRecords, record_at, placed_record}
 use Rattle.bor_chains.specs.Alike.{CoverSign}
 use Rattle.bor_store_keys.specs.Signed.{record_standing, with_identifier, with_sign}
 use Rattle.bor_store_keys.specs.Viewed.{rows_seen}
@@ -40,11 +40,11 @@ use Rattle.bor_store_keys.proofs.SeriesSeen.{Stands, stands}
 -- ---- records by an identifier
 
 -- the record of a statement, by its row
-pub standing_found : (o : Option Placed) (row : StatementRow) → Some row ≡ option_map bare o → Some (record_at row) ≡ option_map record_of o
+pub standing_found : (o : Option Placed) (row : StatementRow) → Some row ≡ option_map bare o → Some (record_at row) ≡ option_map placed_record o
 standing_found None row e = let no : Some row ≡ None = e in absurd cc
 standing_found (Some p) row e = ap (λ (x : StatementRow). Some (record_at x)) (same_Some row (bare p) e)
 
-pub standing_none : (o : Option Placed) → None ≡ option_map bare o → None ≡ option_map record_of o
+pub standing_none : (o : Option Placed) → None ≡ option_map bare o → None ≡ option_map placed_record o
 standing_none None e = refl
 standing_none (Some p) e = let no : None ≡ Some (bare p) = e in absurd cc
 
@@ -74,17 +74,17 @@ identified_cover r stored scheme id rows made nodes is made_is same p h =
     let j = identifier_there p.at 1 (identifiers_of p.statement.details) i.0 i.1 in
     let found = Contains-filter (λ (row : IdentifierRow). fits row.identifier) (flat_map identifier_rows (placed r.members)) j.0 (flat_there identifier_rows (placed r.members) p j.0 own.0 j.1) (ap fits j.2 ∙ i.2) in
     let alone : IsAlone (placed r.members) p = All-contains (IsAlone (placed r.members)) (placed r.members) p (each_alone (placed r.members) (all_apart r.members stored.ordered stored.numbered)) own.0 in
-    let stands_there : record_standing r.members (j.0).at ≡ Some (record_of p) = ap (record_standing r.members) j.3 ∙ ap (λ (ps : List Placed). option_map record_of (slice_get ps 0)) alone in
-    (same (record_of p)).1 (subst (λ (ns : List Node). Contains ns (record_of p)) (sym (made_is ∙ ap (filter_map (λ (row : IdentifierRow). record_standing r.members row.at)) is))
-    (Contains-filter_map (λ (row : IdentifierRow). record_standing r.members row.at) (identified_by scheme id r.members) j.0 (record_of p) found stands_there))
+    let stands_there : record_standing r.members (j.0).at ≡ Some (placed_record p) = ap (record_standing r.members) j.3 ∙ ap (λ (ps : List Placed). option_map placed_record (slice_get ps 0)) alone in
+    (same (placed_record p)).1 (subst (λ (ns : List Node). Contains ns (placed_record p)) (sym (made_is ∙ ap (filter_map (λ (row : IdentifierRow). record_standing r.members row.at)) is))
+    (Contains-filter_map (λ (row : IdentifierRow). record_standing r.members row.at) (identified_by scheme id r.members) j.0 (placed_record p) found stands_there))
 
 -- ---- what has a sign is found by it
 
 -- the node of a statement, and its identifiers
-node_parts : (p : Placed) (x : OpenNode) → node_in (row_placed p) ≡ Some x → (record_of p ≡ x.node) × (identifiers_of p.statement.details ≡ x.identifiers)
+node_parts : (p : Placed) (x : OpenNode) → node_in (row_placed p) ≡ Some x → (placed_record p ≡ x.node) × (identifiers_of p.statement.details ≡ x.identifiers)
 node_parts p x e = go p.statement.details e
   where
-    go : (d : Details) → node_in (row_placed (record p { statement = record p.statement { details = d } })) ≡ Some x → (record_of p ≡ x.node) × (identifiers_of d ≡ x.identifiers)
+    go : (d : Details) → node_in (row_placed (record p { statement = record p.statement { details = d } })) ≡ Some x → (placed_record p ≡ x.node) × (identifiers_of d ≡ x.identifiers)
     go (details.Entity kind name identifiers) h = let q = same_Some _ x h in (ap (λ (y : OpenNode). y.node) q, ap (λ (y : OpenNode). y.identifiers) q)
     go (details.Person kind name) h = let q = same_Some _ x h in (ap (λ (y : OpenNode). y.node) q, ap (λ (y : OpenNode). y.identifiers) q)
     go (details.Relationship subject party interests) h = let no : None ≡ Some x = h in absurd cc
@@ -103,7 +103,7 @@ module _ (view : View) (r : Register) (stored : IsStored r) (k : Sign) (row : Ro
   stand = stands view.viewer view.today r stored row at
 
   module _ (s : Stands r row) where
-    parts : (record_of s.at ≡ x.node) × (identifiers_of (s.at).statement.details ≡ x.identifiers)
+    parts : (placed_record s.at ≡ x.node) × (identifiers_of (s.at).statement.details ≡ x.identifiers)
     parts = node_parts s.at x (ap node_in (sym s.is) ∙ is)
 
     by_record_there : by_record x.node ≡ k → Contains (with_sign k r) s.at

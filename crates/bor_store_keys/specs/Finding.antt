@@ -23,18 +23,25 @@ filing_cmp a b = ordering_then (nat_cmp a.number b.number) (text_cmp a.agent b.a
 
 -- by filing, place and agent
 abbrev pub place_cmp : PlaceKey → PlaceKey → Ordering
-place_cmp a b = ordering_then (nat_cmp a.filing b.filing) (ordering_then (nat_cmp a.place b.place) (text_cmp a.agent b.agent))
+place_cmp a b =
+    ordering_then (nat_cmp a.filing b.filing)
+    (ordering_then (nat_cmp a.place b.place) (text_cmp a.agent b.agent))
 
 -- of each of the records the live statement at the place is one
-abbrev pub ArePlaces : Register → BTreeMap PlaceKey Node → Type 0
-ArePlaces r places = (k : PlaceKey) (n : Node) → get place_cmp places k ≡ Some n → record_standing r.members (record { agent = k.agent; filing = k.filing; place = k.place }) ≡ Some n
+abbrev pub AreRecordsAt : Register → BTreeMap PlaceKey Node → Type 0
+AreRecordsAt r places =
+    (k : PlaceKey) (n : Node) → get place_cmp places k ≡ Some n
+    → record_standing r.members (record { agent = k.agent; filing = k.filing; place = k.place })
+    ≡ Some n
 
 -- the answers that were found are those of the register
 pub record AreOf (r : Register) (f : Found) : Type 0 where
   pub today : f.view.today ≡ r.day
-  pub filings : (k : FilingKey) (seen : Bool) → get filing_cmp f.filings k ≡ Some seen → seen ≡ is_number_seen f.view.viewer f.view.today k.agent (filings_of k.agent r.members) k.number
-  pub rows : (n : Node) (row : Option Row) → get node_cmp f.rows n ≡ Some row → row ≡ open_at f.view.day n (rows_seen f.view r)
-  pub places : ArePlaces r f.places
+  pub filings : (k : FilingKey) (seen : Bool) → get filing_cmp f.filings k ≡ Some seen → seen
+      ≡ is_number_seen f.view.viewer f.view.today k.agent (filings_of k.agent r.members) k.number
+  pub rows : (n : Node) (row : Option Row) → get node_cmp f.rows n ≡ Some row
+      → row ≡ open_at f.view.day n (rows_seen f.view r)
+  pub places : AreRecordsAt r f.places
   pub lists : IfSome f.lists (λ l. l.shown ≡ seen f.view r)
 
 -- where the connection is clean, this holds of each register that it shows
@@ -42,6 +49,6 @@ abbrev pub Holds : State → (Register → Type 0) → Type 0
 Holds s P = IsClean s → (r : Register) → ShowsIn r s → P r
 
 -- the answers that were found, if any, are those of the register that the connection shows
-abbrev pub AreFound : State → Option Found → Type 0
-AreFound s None = Unit {0}
-AreFound s (Some f) = Holds s (λ r. AreOf r f)
+abbrev pub IsCurrent : State → Option Found → Type 0
+IsCurrent s None = Unit {0}
+IsCurrent s (Some f) = Holds s (λ r. AreOf r f)

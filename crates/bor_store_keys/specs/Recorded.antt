@@ -6,8 +6,8 @@ use Rattle.bor_store_sql.specs.declared.rows.typed.Placed.{Placed}
 use Rattle.bor_store_sql.specs.declared.rows.typed.StatementRow.{StatementRow}
 
 -- the record that a statement is of
-abbrev pub record_of : Placed → Node
-record_of p = stated p.at.agent p.statement
+abbrev pub placed_record : Placed → Node
+placed_record p = stated p.at.agent p.statement
 
 -- the same, by the statement's row
 abbrev pub record_at : StatementRow → Node
@@ -15,4 +15,4 @@ record_at row = record { agent = row.at.agent; declaration = row.declaration; re
 
 -- among the nodes are the records of all these statements
 abbrev pub CoverRecords : List Placed → List Node → Type 0
-CoverRecords ps nodes = (p : Placed) → Contains ps p → Contains nodes (record_of p)
+CoverRecords ps nodes = (p : Placed) → Contains ps p → Contains nodes (placed_record p)

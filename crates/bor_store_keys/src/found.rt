@@ -11,7 +11,7 @@ ghost use Rattle.bor_store_reads.specs.Asking.{is_number_seen};
 ghost use Rattle.bor_store_sql.specs.Rows.Stored.{IsStored};
 ghost use Rattle.bor_records.specs.declared.links.node.Node.{Node};
 ghost use Rattle.bor_store_keys.specs.declared.view.View.{View};
-ghost use Rattle.bor_store_keys.specs.Finding.{AreOf, ArePlaces};
+ghost use Rattle.bor_store_keys.specs.Finding.{AreOf, AreRecordsAt};
 ghost use Rattle.bor_store_keys.specs.Signed.{record_standing};
 ghost use Rattle.bor_store_keys.specs.Viewed.{rows_seen, seen};
 
@@ -246,8 +246,8 @@ fn put_place(
     node: &Node,
     row: &Option<Row>,
 ) -> Result<(), AllocError>
-    ensures { OnOk result ((r : Register) (view : View) → IsStored r → ArePlaces r places.old
-        → row.now ≡ open_at view.day node.now (rows_seen view r) → ArePlaces r places.new) }
+    ensures { OnOk result ((r : Register) (view : View) → IsStored r → AreRecordsAt r places.old
+        → row.now ≡ open_at view.day node.now (rows_seen view r) → AreRecordsAt r places.new) }
 {
     match row {
         Some(row) => {

@@ -6,7 +6,7 @@ ghost use Rattle.sqlite.specs.Held.{state};
 ghost use Rattle.bor_records.specs.Links.Series.{open_at};
 ghost use Rattle.bor_register.specs.Register.{filings_of};
 ghost use Rattle.bor_store_reads.specs.Answering.{ReadsAs};
-ghost use Rattle.bor_store_keys.specs.Latest.{bare_row, is_told, unless_closed};
+ghost use Rattle.bor_store_keys.specs.Latest.{bare_row, is_row_seen, stored_unless_closed};
 ghost use Rattle.bor_store_keys.specs.Viewed.{rows_seen};
 
 use crate::lookup::Lookup;
@@ -30,7 +30,7 @@ fn is_told<S: Alter + Drop>(
 ) -> Result<bool, ReadError>
     requires { lookup.old.in_transaction ≡ false }
     ensures { ReadsAs (state S.Store lookup.old) (state S.Store lookup.new) result (λ r told.
-        told ≡ is_told view.now agent.now (filings_of agent.now r.members) row.now) }
+        told ≡ is_row_seen view.now agent.now (filings_of agent.now r.members) row.now) }
 {
     if view.day < row.day {
         return Ok(false);
@@ -49,7 +49,7 @@ fn last_told<S: Alter + Drop>(
     requires { lookup.old.in_transaction ≡ false }
     ensures { ReadsAs (state S.Store lookup.old) (state S.Store lookup.new) result (λ r last.
         last ≡ last_or None
-        (filter (is_told view.now agent.now (filings_of agent.now r.members)) rows.items)) }
+        (filter (is_row_seen view.now agent.now (filings_of agent.now r.members)) rows.items)) }
 {
     while let Some(row) = rows.pop() {
         if is_told(lookup, alloc, view, agent, &row)? {
@@ -60,7 +60,7 @@ fn last_told<S: Alter + Drop>(
 }
 
 fn unless_closed(row: StatementRow) -> Option<StatementRow>
-    ensures { result ≡ unless_closed row }
+    ensures { result ≡ stored_unless_closed row }
 {
     if row.status == Some(Status::Closed) {
         None

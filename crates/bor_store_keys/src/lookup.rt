@@ -54,12 +54,12 @@ impl<S: Alter + Drop> Model for Lookup<S> {
     ghost coded = { held_code S.code };
 
     ghost use Rattle.sqlite.specs.Held.{state};
-    ghost use Rattle.bor_store_keys.specs.Finding.{AreFound};
+    ghost use Rattle.bor_store_keys.specs.Finding.{IsCurrent};
 
     ghost view = { λ l. l.conn };
 
     // The answers that were found are of the register that the connection shows.
-    ghost invariant = { λ l. AreFound (state S.Store l.conn) l.found };
+    ghost invariant = { λ l. IsCurrent (state S.Store l.conn) l.found };
 }
 
 impl<S: Alter + Drop> Lookup<S> {

@@ -20,8 +20,9 @@ abbrev pub of_row : RowFault → ReadError
 of_row row_faults.Memory = errors.Memory
 of_row row_faults.Damaged = errors.Damaged
 
--- Reading changes nothing: no transaction is left open; a disk that has returned what was written had done so before, and
--- a stop leaves nothing that one before might not have left; a connection that ends clean began clean, and what was written stays as it was.
+-- Reading changes nothing: no transaction is left open; a disk that has returned what was written
+-- had done so before, and a stop leaves nothing that one before might not have left; a connection
+-- that ends clean began clean, and what was written stays as it was.
 pub record ReadsOnly (old new : State) : Type 0 where
   pub mode : new.in_transaction ≡ false
   pub clean : HasCleanDisk new → HasCleanDisk old
@@ -29,12 +30,17 @@ pub record ReadsOnly (old new : State) : Type 0 where
   pub began : IsClean new → IsClean old
   pub kept : IsClean new → new.committed ≡ old.committed
 
--- Where the connection ended clean and showed a register, this holds of an answer, and no error is of damage.
-abbrev pub Answers : {X : Type 0} → State → State → Result X ReadError → (Register → X → Type 0) → Type 0
-Answers old new result P = IsClean new → (r : Register) → ShowsIn r old → MatchResult result (P r) IsNoDamage
+-- Where the connection ended clean and showed a register, this holds of an answer, and no error is
+-- of damage.
+abbrev pub Answers : {X : Type 0} → State → State → Result X ReadError
+    → (Register → X → Type 0) → Type 0
+Answers old new result P =
+    IsClean new → (r : Register) → ShowsIn r old → MatchResult result (P r) IsNoDamage
 
--- A read: it changes nothing, and this holds of what it answers of the register that is shown. Where it answers, a connection that was open is open, if its disk has returned what was written.
-pub record ReadsAs {X : Type 0} (old new : State) (result : Result X ReadError) (P : Register → X → Type 0) : Type 0 where
+-- A read: it changes nothing, and this holds of what it answers of the register that is shown.
+-- Where it answers, a connection that was open is open, if its disk has returned what was written.
+pub record ReadsAs {X : Type 0} (old new : State) (result : Result X ReadError)
+    (P : Register → X → Type 0) : Type 0 where
   pub reads : ReadsOnly old new
   pub up : IfOk result (λ x. StaysUp old new)
   pub answer : Answers old new result P

@@ -14,13 +14,15 @@ use Rattle.bor_store_reads.specs.declared.known.Known.{Known}
 
 -- the viewer sees the filing with this number among these of the agent
 abbrev pub is_number_seen : List ℕ → ℤ → List ℕ → List AcceptedFiling → ℕ → Bool
-is_number_seen viewer day agent filings number = list_any (λ f. f.number == number && is_visible viewer day agent f) filings
+is_number_seen viewer day agent filings number =
+    list_any (λ f. f.number == number && is_visible viewer day agent f) filings
 
 -- ---- for clauses of private functions alone
 
 -- the data that is known of a filing is right
 abbrev pub IsKnown : List ℕ → ℤ → List ℕ → List AcceptedFiling → Known → Type 0
-IsKnown viewer day agent filings known = known.seen ≡ is_number_seen viewer day agent filings known.number
+IsKnown viewer day agent filings known =
+    known.seen ≡ is_number_seen viewer day agent filings known.number
 
 -- the interests of a statement of this part at this place: a relationship alone has any
 abbrev pub part_interests : Part → At → List Member → List InterestRow

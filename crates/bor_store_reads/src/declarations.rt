@@ -5,7 +5,7 @@ ghost use Rattle.std.specs.List.{flat_map};
 ghost use Rattle.sqlite.specs.Held.{state};
 ghost use Rattle.bor_register.specs.Register.{filings_of};
 ghost use Rattle.bor_register.specs.Rows.{rows_of};
-ghost use Rattle.bor_store_sql.specs.Rows.Placed.{bare, line_of, period_rows};
+ghost use Rattle.bor_store_sql.specs.Rows.Placed.{bare, interest_line, period_rows};
 ghost use Rattle.bor_store_sql.specs.Rows.Seen.{is_seen, row_placed};
 ghost use Rattle.bor_store_sql.specs.Selected.{identifiers_at, in_declaration, interests_at, placed_of};
 ghost use Rattle.bor_store_reads.specs.Answering.{IsNoDamage, ReadsAs};
@@ -53,7 +53,7 @@ fn lines_of_one<S: Alter>(
 ) -> Result<Vec<InterestLine>, ReadError>
     requires { conn.old.in_transaction ≡ false }
     ensures { ReadsAs (state S.Store conn.old) (state S.Store conn.new) result (λ r rows.
-        rows.items ≡ map line_of (interests_at at.now r.members)) }
+        rows.items ≡ map interest_line (interests_at at.now r.members)) }
 {
     all_values(
         alloc,

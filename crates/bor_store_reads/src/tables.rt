@@ -4,7 +4,7 @@
 ghost use Rattle.std.specs.Prelude.{◌≡◌, ◌<◌, false, IfOk, MatchOption, length, map, nat_le, not};
 ghost use Rattle.std.specs.List.{flat_map};
 ghost use Rattle.sqlite.specs.Held.{state};
-ghost use Rattle.bor_store_sql.specs.Rows.Placed.{agent_row, bare, filing_lines, identifier_rows, interest_rows, line_of, period_rows, placed};
+ghost use Rattle.bor_store_sql.specs.Rows.Placed.{agent_row, bare, filing_lines, identifier_rows, interest_rows, interest_line, period_rows, placed};
 ghost use Rattle.bor_register.specs.Bare.{without_files};
 ghost use Rattle.bor_store_sql.specs.Shown.{IsUp};
 ghost use Rattle.bor_store_reads.specs.Answering.{ReadsAs};
@@ -73,7 +73,7 @@ fn interest_lines<S: Alter>(
 ) -> Result<Vec<InterestLine>, ReadError>
     requires { conn.old.in_transaction ≡ false }
     ensures { ReadsAs (state S.Store conn.old) (state S.Store conn.new) result (λ r rows.
-        rows.items ≡ map line_of (flat_map interest_rows (placed r.members))) }
+        rows.items ≡ map interest_line (flat_map interest_rows (placed r.members))) }
 {
     all_values(alloc, all_interests(conn))
 }

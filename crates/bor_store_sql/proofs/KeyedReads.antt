@@ -11,13 +11,13 @@ use Rattle.bor_register.specs.Publication.{filing_shown}
 use Rattle.bor_store_sql.specs.Texts.Queries.{agent_by_name_text, agent_by_token_text, filing_by_key_text, line_by_key_text, line_by_number_text, same_bytes_text, filings_of_agent_text, last_filing_text, last_of_series_text, statement_by_id_text, statements_of_filing_text, statements_of_declaration_text, interests_of_statement_text, identifiers_of_statement_text, statements_of_series_text, statements_of_record_text, statements_of_subject_text, statement_by_place_text, identifiers_by_id_text}
 use Rattle.bor_store_sql.specs.Rows.Placed.{bare, filing_row}
 use Rattle.bor_store_sql.specs.Rows.Encoding.{truth, agent_columns, line_columns, shown_columns, statement_columns, interest_columns, identifier_columns}
-use Rattle.bor_store_sql.specs.Selected.{named, with_token, keyed, numbered, last, placed_of, in_filing, in_declaration, in_series, identified, interests_at, identifiers_at, place_columns, in_record, with_subject, standing_at, identified_by}
+use Rattle.bor_store_sql.specs.Selected.{members_named, with_token, keyed, numbered, last, placed_of, in_filing, in_declaration, in_series, identified, interests_at, identifiers_at, place_columns, in_record, with_subject, standing_at, identified_by}
 use Rattle.bor_store_sql.specs.Found.{Asked, Finds}
 use Rattle.bor_store_sql.proofs.Finding.{finds}
 use Rattle.bor_store_sql.proofs.Selecting.{agent_by_name_found, agent_by_token_found, filing_by_key_found, line_by_key_found, line_by_number_found, same_bytes_found, filings_of_agent_found, last_filing_found, last_of_series_found, statement_by_id_found, statements_of_filing_found, statements_of_declaration_found, interests_of_statement_found, identifiers_of_statement_found, statements_of_series_found, statements_of_record_found, statements_of_subject_found, statement_by_place_found, identifiers_by_id_found}
 
-pub agent_by_name_finds : (name : List ℕ) (old new : State) (result : Result (Vec Row Global) Error) → Asked agent_by_name_text (Text name ∷ []) old new result → Finds old new result (λ r. map agent_columns (named name r.members))
-agent_by_name_finds name old new result asked = finds agent_by_name_text (Text name ∷ []) (Text name ∷ []) (λ r. map agent_columns (named name r.members)) old new result asked refl (λ r rows shows h. agent_by_name_found r old new shows rows name h)
+pub agent_by_name_finds : (name : List ℕ) (old new : State) (result : Result (Vec Row Global) Error) → Asked agent_by_name_text (Text name ∷ []) old new result → Finds old new result (λ r. map agent_columns (members_named name r.members))
+agent_by_name_finds name old new result asked = finds agent_by_name_text (Text name ∷ []) (Text name ∷ []) (λ r. map agent_columns (members_named name r.members)) old new result asked refl (λ r rows shows h. agent_by_name_found r old new shows rows name h)
 
 pub agent_by_token_finds : (token : List ℕ) (old new : State) (result : Result (Vec Row Global) Error) → Asked agent_by_token_text (Text token ∷ []) old new result → Finds old new result (λ r. map agent_columns (with_token token r.members))
 agent_by_token_finds token old new result asked = finds agent_by_token_text (Text token ∷ []) (Text token ∷ []) (λ r. map agent_columns (with_token token r.members)) old new result asked refl (λ r rows shows h. agent_by_token_found r old new shows rows token h)

@@ -19,7 +19,7 @@ use Rattle.bor_register.specs.declared.filing.AcceptedFiling.{AcceptedFiling}
 use Rattle.bor_register.specs.declared.member.Member.{Member}
 use Rattle.bor_store_sql.specs.Kept.{AreRows, Keeps}
 use Rattle.bor_store_sql.specs.Rows.Encoding.{agent_columns, contents, filing_columns, filing_rows, identifier_columns, interest_columns, interest_line_columns, period_columns, register_columns, statement_columns}
-use Rattle.bor_store_sql.specs.Rows.Placed.{agent_row, bare, identifier_rows, interest_rows, line_of, period_rows, placed, register_row}
+use Rattle.bor_store_sql.specs.Rows.Placed.{agent_row, bare, identifier_rows, interest_rows, interest_line, period_rows, placed, register_row}
 use Rattle.bor_store_sql.specs.Rows.Stored.{IsStored}
 use Rattle.bor_store_sql.specs.Shown.{Has, ShowsIn}
 use Rattle.bor_store_sql.specs.declared.rows.typed.InterestRow.{InterestRow}
@@ -76,7 +76,7 @@ rows_of ms = go (placed ms)
     go [] = refl
     go (p ∷ ps) = ap (λ l. statement_columns (bare p) ∷ l) (go ps)
 
-lines_are : (is : List InterestRow) → map interest_columns is ≡ map interest_line_columns (map line_of is)
+lines_are : (is : List InterestRow) → map interest_columns is ≡ map interest_line_columns (map interest_line is)
 lines_are [] = refl
 lines_are (i ∷ is) = ap (λ l. interest_columns i ∷ l) (lines_are is)
 
@@ -118,9 +118,9 @@ module _ (r q : Register) (db : Database) (stored : IsStored r) (stored_too : Is
       subst (IsAscending (IsLower (up ∷ up ∷ up ∷ up ∷ []))) (map-flat_map interest_columns interest_rows (placed s.members))
       (ascending-map (IsLower (up ∷ up ∷ up ∷ up ∷ [])) interest_columns (all_interests s.members) (interest_rows_rise s.members is.ordered is.numbered))
 
-  lines : map line_of (all_interests r.members) ≡ map line_of (all_interests q.members)
+  lines : map interest_line (all_interests r.members) ≡ map interest_line (all_interests q.members)
   lines =
-      same_values interest_line_columns line_in line_back (map line_of (all_interests r.members)) (map line_of (all_interests q.members))
+      same_values interest_line_columns line_in line_back (map interest_line (all_interests r.members)) (map interest_line (all_interests q.members))
       (sym (lines_are (all_interests r.members)) ∙ map-flat_map interest_columns interest_rows (placed r.members)
       ∙ same_rows (up ∷ up ∷ up ∷ up ∷ []) (contents r).interests (contents q).interests (db.trees 11) (interests_up r stored) (interests_up q stored_too) has.interests has_too.interests
       ∙ sym (map-flat_map interest_columns interest_rows (placed q.members)) ∙ lines_are (all_interests q.members))

@@ -27,7 +27,7 @@ use Rattle.bor_store_sql.specs.declared.rows.places.At.{At}
 use Rattle.bor_store_sql.specs.declared.rows.typed.InterestRow.{InterestRow}
 use Rattle.bor_store_sql.specs.declared.rows.typed.PeriodRow.{PeriodRow}
 use Rattle.bor_store_sql.specs.declared.rows.typed.Placed.{Placed}
-use Rattle.bor_store_sql.specs.Changing.{days_of, passes}
+use Rattle.bor_store_sql.specs.Changing.{days_of, row_passes}
 use Rattle.bor_store_sql.specs.Found.{Asked, Finds, IsQuery}
 use Rattle.bor_store_sql.specs.Selected.{interests_at, numbered}
 use Rattle.bor_store_sql.specs.Shown.{ShowsIn}
@@ -99,9 +99,9 @@ in_turn p q (x ∷ xs) = go (p x) (q x) refl refl (in_turn p q xs)
     go false false e f more = rw (e, f) more
 
 module _ (r : Register) (old new : State) (shows : ShowsIn r old) (rows : List Row) where
-  from_periods : (text : List ℕ) (params : Row) (names : List (List ℕ)) (tests project : List Term) (h : Shows text params old new rows) (p : InterestRow → Bool) → ((i : InterestRow) → passes tests params (day_columns i) ≡ p i)
+  from_periods : (text : List ℕ) (params : Row) (names : List (List ℕ)) (tests project : List Term) (h : Shows text params old new rows) (p : InterestRow → Bool) → ((i : InterestRow) → row_passes tests params (day_columns i) ≡ p i)
       → Asks text (shows_rows (table_query 19 tests project (rising 1 ∷ rising 2 ∷ rising 3 ∷ rising 4 ∷ [])) names)
-      → ((id : ℕ) (x : Row) → keeps 19 tests params (Int (pos id) ∷ x) ≡ passes tests params x)
+      → ((id : ℕ) (x : Row) → keeps 19 tests params (Int (pos id) ∷ x) ≡ row_passes tests params x)
       → ((id : ℕ) (x : Row) → output (table_query 19 tests project (rising 1 ∷ rising 2 ∷ rising 3 ∷ rising 4 ∷ [])) (env 19 tests params (Int (pos id) ∷ x)) ≡ output (table_query 19 tests project (rising 1 ∷ rising 2 ∷ rising 3 ∷ rising 4 ∷ [])) (params ∷ (Null ∷ x) ∷ []))
       → ((i : InterestRow) → (output (table_query 19 tests project (rising 1 ∷ rising 2 ∷ rising 3 ∷ rising 4 ∷ [])) (params ∷ (Null ∷ day_columns i) ∷ [])).1 ≡ day_columns i)
       → rows ≡ map day_columns (filter p (filter is_said (all_interests r.members)))

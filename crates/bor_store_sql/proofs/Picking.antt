@@ -16,7 +16,7 @@ use Rattle.sqlite_keyed.proofs.ListLemmas.{map-map, map_same, filter-map, filter
 use Rattle.sqlite_keyed.proofs.SortLemmas.{sorted_unique}
 use Rattle.bor_store_sql.specs.Texts.Queries.{table_query, first_query, later_query}
 use Rattle.bor_store_sql.specs.Kept.{Keeps}
-use Rattle.bor_store_sql.specs.Changing.{passes}
+use Rattle.bor_store_sql.specs.Changing.{row_passes}
 use Rattle.bor_store_sql.proofs.Selects.{env, keeps}
 use Rattle.bor_store_sql.proofs.Tables.{selected, come_first, come_later}
 
@@ -56,14 +56,14 @@ as_many v (x ∷ xs) (y ∷ ys) e h k = ap₂ (λ z l. z ∷ l) (k.0 ∙ sym h.0
 same_items : {X : Type 0} (v : X) (xs ys : List X) → AllByRecursion (λ x. x ≡ v) xs → IsPermutation xs ys → ys ≡ xs
 same_items v xs ys h same = as_many v xs ys (length_permutation xs ys same) h (recursion_from_All (λ y. y ≡ v) ys (All-permutation (λ y. y ≡ v) xs ys same (All-from_recursion (λ x. x ≡ v) xs h)))
 
-module _ (t : ℕ) (low : nat_le (2 ^ 31) t ≡ false) (tests : List Term) (params : Row) (project : List Term) (order : List (Term × Key)) (same_test : (id : ℕ) (x : Row) → keeps t tests params (Int (pos id) ∷ x) ≡ passes tests params x) where
+module _ (t : ℕ) (low : nat_le (2 ^ 31) t ≡ false) (tests : List Term) (params : Row) (project : List Term) (order : List (Term × Key)) (same_test : (id : ℕ) (x : Row) → keeps t tests params (Int (pos id) ∷ x) ≡ row_passes tests params x) where
   -- what a query shows of a row, whatever its rowid
   abbrev pub shown_as : Query → Row → Output
   shown_as q x = output q (params ∷ (Null ∷ x) ∷ [])
 
-  module _ {T : Type 0} (columns : T → Row) (out : T → Row) (p : T → Bool) (same : (x : T) → passes tests params (columns x) ≡ p x) (items : List T) (db : Trees) (xs rows : List Row) (are : xs ≡ map columns items) (kept : Keeps xs (db t)) where
-    passed : filter (passes tests params) xs ≡ map columns (filter p items)
-    passed = ap (filter (passes tests params)) are ∙ filter-map (passes tests params) columns items ∙ ap (map columns) (filter_same (λ x. passes tests params (columns x)) p same items)
+  module _ {T : Type 0} (columns : T → Row) (out : T → Row) (p : T → Bool) (same : (x : T) → row_passes tests params (columns x) ≡ p x) (items : List T) (db : Trees) (xs rows : List Row) (are : xs ≡ map columns items) (kept : Keeps xs (db t)) where
+    passed : filter (row_passes tests params) xs ≡ map columns (filter p items)
+    passed = ap (filter (row_passes tests params)) are ∙ filter-map (row_passes tests params) columns items ∙ ap (map columns) (filter_same (λ x. row_passes tests params (columns x)) p same items)
 
     module _ (same_out : (id : ℕ) (x : Row) → output (table_query t tests project order) (env t tests params (Int (pos id) ∷ x)) ≡ shown_as (table_query t tests project order) x)
         (same_shown : (x : T) → (shown_as (table_query t tests project order) (columns x)).1 ≡ out x) where
@@ -76,7 +76,7 @@ module _ (t : ℕ) (low : nat_le (2 ^ 31) t ≡ false) (tests : List Term) (para
       picked_rows a R lower up =
           let rises : IsAscending (λ x y. output_cmp asked (shown_as asked x) (shown_as asked y) ≡ Less) (map columns (filter p items)) =
           ascending-map (λ x y. output_cmp asked (shown_as asked x) (shown_as asked y) ≡ Less) columns (filter p items) (ascending_weaker R (λ x y. output_cmp asked (shown_as asked (columns x)) (shown_as asked (columns y)) ≡ Less) lower (filter p items) up) in
-          let found = selected t low tests params (passes tests params) same_test project order (shown_as asked) same_out db xs rows kept a (subst (IsAscending (λ x y. output_cmp asked (shown_as asked x) (shown_as asked y) ≡ Less)) (sym passed) rises) in
+          let found = selected t low tests params (row_passes tests params) same_test project order (shown_as asked) same_out db xs rows kept a (subst (IsAscending (λ x y. output_cmp asked (shown_as asked x) (shown_as asked y) ≡ Less)) (sym passed) rises) in
           found ∙ ap (map (λ x. (shown_as asked x).1)) passed ∙ map-map (λ x. (shown_as asked x).1) columns (filter p items) ∙ map_same (λ x. (shown_as asked (columns x)).1) out same_shown (filter p items)
 
     module _ (same_out : (id : ℕ) (x : Row) → output (first_query t tests project order) (env t tests params (Int (pos id) ∷ x)) ≡ shown_as (first_query t tests project order) x)
@@ -91,8 +91,8 @@ module _ (t : ℕ) (low : nat_le (2 ^ 31) t ≡ false) (tests : List Term) (para
           let ys = filter p items in
           let Lower : T → T → Type 0 = λ x y. output_cmp asked_first (shown_as asked_first (columns x)) (shown_as asked_first (columns y)) ≡ Less in
           let falls : IsAscending Lower (reverse ys) = turned (λ x y. Lower y x) ys (ascending_weaker R (λ x y. Lower y x) lower ys up) in
-          let it = come_first t low tests params (passes tests params) same_test project order (shown_as asked_first) same_out db xs rows kept a in
-          let outs : map (shown_as asked_first) (filter (passes tests params) xs) ≡ map (λ x. shown_as asked_first (columns x)) ys = ap (map (shown_as asked_first)) passed ∙ map-map (shown_as asked_first) columns ys in
+          let it = come_first t low tests params (row_passes tests params) same_test project order (shown_as asked_first) same_out db xs rows kept a in
+          let outs : map (shown_as asked_first) (filter (row_passes tests params) xs) ≡ map (λ x. shown_as asked_first (columns x)) ys = ap (map (shown_as asked_first)) passed ∙ map-map (shown_as asked_first) columns ys in
           let perm : IsPermutation (map (λ x. shown_as asked_first (columns x)) (reverse ys)) it.0 =
           IsPermutation-trans _ _ _ (IsPermutation-map (λ x. shown_as asked_first (columns x)) _ _ (IsPermutation-sym _ _ (IsPermutation-reverse ys))) (subst (λ l. IsPermutation l it.0) outs it.1) in
           let one : it.0 ≡ map (λ x. shown_as asked_first (columns x)) (reverse ys) =
@@ -113,9 +113,9 @@ module _ (t : ℕ) (low : nat_le (2 ^ 31) t ≡ false) (tests : List Term) (para
       pub picked_later : IsAnswer asked_later (overlay db []) params rows → (v : Row) → AllByRecursion (λ x. out x ≡ v) (filter p items) → rows ≡ map out (take 1 (drop count (filter p items)))
       picked_later a v each =
           let ys = filter p items in
-          let it = come_later t low tests params (passes tests params) same_test project parameter (shown_as asked_later) same_out count counted db xs rows kept a in
-          let shown : map (λ (o : Output). o.1) (map (shown_as asked_later) (filter (passes tests params) xs)) ≡ map out ys =
-          map-map (λ (o : Output). o.1) (shown_as asked_later) (filter (passes tests params) xs) ∙ ap (map (λ x. (shown_as asked_later x).1)) passed
+          let it = come_later t low tests params (row_passes tests params) same_test project parameter (shown_as asked_later) same_out count counted db xs rows kept a in
+          let shown : map (λ (o : Output). o.1) (map (shown_as asked_later) (filter (row_passes tests params) xs)) ≡ map out ys =
+          map-map (λ (o : Output). o.1) (shown_as asked_later) (filter (row_passes tests params) xs) ∙ ap (map (λ x. (shown_as asked_later x).1)) passed
           ∙ map-map (λ x. (shown_as asked_later x).1) columns ys ∙ map_same (λ x. (shown_as asked_later (columns x)).1) out same_shown ys in
           let perm : IsPermutation (map out ys) (map (λ (o : Output). o.1) it.0) =
           subst (λ l. IsPermutation l (map (λ (o : Output). o.1) it.0)) shown (IsPermutation-map (λ (o : Output). o.1) _ it.0 it.1) in

@@ -36,8 +36,8 @@ use Rattle.bor_store_sql.specs.declared.rows.typed.InterestRow.{InterestRow}
 use Rattle.bor_store_sql.specs.declared.rows.typed.IdentifierRow.{IdentifierRow}
 use Rattle.bor_store_sql.specs.Rows.Placed.{same_place, bare, filing_row, filing_lines, placed, placed_by, interest_rows, identifier_rows, interests_from, identifiers_from, interests_of, identifiers_of}
 use Rattle.bor_store_sql.specs.Rows.Encoding.{truth, register_columns, agent_columns, filing_rows, line_columns, shown_columns, statement_columns, interest_columns, identifier_columns}
-use Rattle.bor_store_sql.specs.Selected.{named, with_token, keyed, numbered, last, placed_of, in_filing, in_declaration, in_series, identified, interests_at, identifiers_at, place_columns, in_record, names_subject, with_subject, standing_at, identified_by}
-use Rattle.bor_store_sql.specs.Changing.{passes}
+use Rattle.bor_store_sql.specs.Selected.{members_named, with_token, keyed, numbered, last, placed_of, in_filing, in_declaration, in_series, identified, interests_at, identifiers_at, place_columns, in_record, names_subject, with_subject, standing_at, identified_by}
+use Rattle.bor_store_sql.specs.Changing.{row_passes}
 use Rattle.bor_store_sql.specs.Shown.{ShowsIn}
 use Rattle.bor_store_sql.proofs.Finding.{Shows, answers, has_now}
 use Rattle.bor_store_sql.proofs.FromTables.{from_agents, from_filings, from_statements, from_interests, from_identifiers, statement_shown, interest_shown}
@@ -66,11 +66,11 @@ null_test : (a : List ℕ) → is_true (binary (Compare Eq Binary) Null (Text a)
 unfolding binary
 null_test a = refl
 
-subject_test : (agent declaration rec : List ℕ) (q : Placed) → passes statements_of_subject_query.filter (Text agent ∷ Text declaration ∷ Text rec ∷ []) (statement_columns (bare q))
+subject_test : (agent declaration rec : List ℕ) (q : Placed) → row_passes statements_of_subject_query.filter (Text agent ∷ Text declaration ∷ Text rec ∷ []) (statement_columns (bare q))
     ≡ (is_same q.at.agent agent && (is_same q.statement.declaration declaration && names_subject rec q.statement.details))
 subject_test agent declaration rec q = go q.statement.details
   where
-    go : (d : Details) → passes statements_of_subject_query.filter (Text agent ∷ Text declaration ∷ Text rec ∷ []) (statement_columns (bare (record q { statement = record q.statement { details = d } })))
+    go : (d : Details) → row_passes statements_of_subject_query.filter (Text agent ∷ Text declaration ∷ Text rec ∷ []) (statement_columns (bare (record q { statement = record q.statement { details = d } })))
         ≡ (is_same q.at.agent agent && (is_same q.statement.declaration declaration && names_subject rec d))
     go (details.Entity kind name identifiers) = ap₂ (λ x y. x && y) (text_test q.at.agent agent) (ap₂ (λ x y. x && y) (text_test q.statement.declaration declaration) (and-true _ ∙ null_test rec))
     go (details.Person kind name) = ap₂ (λ x y. x && y) (text_test q.at.agent agent) (ap₂ (λ x y. x && y) (text_test q.statement.declaration declaration) (and-true _ ∙ null_test rec))
@@ -204,7 +204,7 @@ module _ (r : Register) (old new : State) (shows : ShowsIn r old) (rows : List R
       (answers r old new shows h.0 more_statements_text (Int (pos count) ∷ []) more_statements_query _ more_statements_is rows h.1) (Int (pos 1) ∷ []) (all_one (filter (λ p. true) (placed r.members)))
       ∙ ap (λ l. map out (take 1 (drop count l))) (all_pass (placed r.members))
 
-  pub agent_by_name_found : (name : List ℕ) → Shows agent_by_name_text (Text name ∷ []) old new rows → rows ≡ map agent_columns (named name r.members)
+  pub agent_by_name_found : (name : List ℕ) → Shows agent_by_name_text (Text name ∷ []) old new rows → rows ≡ map agent_columns (members_named name r.members)
   agent_by_name_found name h =
       from_agents r old new shows rows agent_by_name_text (Text name ∷ []) _ agent_by_name_query.filter agent_by_name_query.project h (λ m. is_same m.name name) (λ m. and-true _ ∙ text_test m.name name) agent_by_name_is (λ id x. refl) (λ id x. refl) (λ m. refl)
 

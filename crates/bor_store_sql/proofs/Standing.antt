@@ -16,7 +16,7 @@ use Rattle.sqlite_schema.specs.Names.{same_name}
 use Rattle.sqlite_schema.specs.declared.schema.Index.{Index}
 use Rattle.sqlite_keyed.proofs.ListLemmas.{all-append}
 use Rattle.bor_register.specs.Register.{Register}
-use Rattle.bor_store_sql.specs.Beside.{Adds, AddsIndexes, HasIndex, HasMore, HasIndexes, HasTable, HasTables, HasTheirTables, IsIndexMade, IsMade, IsOver, MakesOnly, SetsUp, SetsUpIn, Spares, details, four_indexes, lists, tables_of}
+use Rattle.bor_store_sql.specs.Beside.{Adds, AddsIndexes, HasIndex, HasMore, HasIndexes, HasTable, HasTables, HasTheirTables, IsIndexMade, IsMade, IsIndexOver, MakesOnly, SetsUp, SetsUpIn, Spares, details, four_indexes, lists, tables_of}
 use Rattle.bor_store_sql.specs.Kept.{Keeps}
 use Rattle.bor_store_sql.proofs.Unread.{unread_all}
 use Rattle.sqlite.specs.Order.{Row}
@@ -158,7 +158,7 @@ module _ (old mid new : Database) (one : Spares old mid) (two : Spares mid new) 
     ]
   ]
 
-  over_still : (table : Table) (index i : Index) → IsOver mid.schema table index i → IsOver new.schema table index i
+  over_still : (table : Table) (index i : Index) → IsIndexOver mid.schema table index i → IsIndexOver new.schema table index i
   over_still table index i is = (
     is.0,
     is.1,

@@ -1,5 +1,6 @@
 -- The database after setting up, whatever stands in it.
-use Rattle.std.specs.Prelude.{◌≡◌, ◌≢◌, ◌≤◌, ◌+◌, ◌%◌, ◌==◌, ◌⊎◌, Bool, IsTrue, ℕ, filter, length, map, List, [], ◌∷◌, ◌++◌, slice_get, Some}
+use Rattle.std.specs.Prelude.{◌≡◌, ◌≢◌, ◌≤◌, ◌+◌, ◌%◌, ◌==◌, ◌⊎◌, Bool, IsTrue, ℕ, filter, length}
+use Rattle.std.specs.Prelude.{map, List, [], ◌∷◌, ◌++◌, slice_get, Some}
 use Rattle.std.specs.List.{AllByRecursion, list_any}
 use Rattle.sqlite.specs.Change.{next_tree, KeepsRows}
 use Rattle.sqlite.specs.Does.{sequence_text}
@@ -17,29 +18,39 @@ use Rattle.sqlite_trees.specs.Objects.{catalog_tree, number_in, row_for, version
 use Rattle.bor_register.specs.Register.{Register}
 use Rattle.bor_store_sql.specs.Kept.{Keeps}
 use Rattle.bor_store_sql.specs.Rows.Encoding.{Contents, contents}
-use Rattle.bor_store_sql.specs.Texts.Tables.{agent_table, filing_table, identifier_index, identifier_table, interest_table, line_index, period_table, record_index, register_table, statement_table, subject_index}
+use Rattle.bor_store_sql.specs.Texts.Tables.{agent_table, filing_table, identifier_index}
+use Rattle.bor_store_sql.specs.Texts.Tables.{identifier_table, interest_table, line_index}
+use Rattle.bor_store_sql.specs.Texts.Tables.{period_table, record_index, register_table}
+use Rattle.bor_store_sql.specs.Texts.Tables.{statement_table, subject_index}
 
 -- ---- the tables that stood there
 
 -- a list has more at its end, all in trees from a number on
 abbrev pub HasMore : {X : Type 0} → (X → ℕ) → ℕ → List X → List X → Type 0
-HasMore {X} tree low old new = (more : List X) × (new ≡ old ++ more) × AllByRecursion (λ x. low ≤ tree x) more
+HasMore {X} tree low old new =
+    (more : List X) × (new ≡ old ++ more) × AllByRecursion (λ x. low ≤ tree x) more
 
--- Each table, index and view of a database stands in another, at its place with the same columns and keys, and each table has the same rows. Further tables and indexes have trees past those that were used; no view is added.
+-- Each table, index and view of a database stands in another, at its place with the same columns
+-- and keys, and each table has the same rows. Further tables and indexes have trees past those that
+-- were used; no view is added.
 pub record Spares (old new : Database) : Type 0 where
-  pub tables : HasMore (λ (t : Table). t.tree) (next_tree old.schema) old.schema.tables new.schema.tables
-  pub indexes : HasMore (λ (i : Index). i.tree) (next_tree old.schema) old.schema.indexes new.schema.indexes
+  pub tables : HasMore (λ (t : Table). t.tree)
+      (next_tree old.schema) old.schema.tables new.schema.tables
+  pub indexes : HasMore (λ (i : Index). i.tree)
+      (next_tree old.schema) old.schema.indexes new.schema.indexes
   pub views : new.schema.views ≡ old.schema.views
   pub rows : KeepsRows old.schema.tables old.trees new.trees
 
--- the tree is listed as one that is frozen, since SQL here doesn't read it, and no table, no index and at most one view has it
+-- the tree is listed as one that is frozen, since SQL here doesn't read it, and no table, no index
+-- and at most one view has it
 pub record IsUnread (db : Database) (tree : ℕ) : Type 0 where
   pub frozen : 4 ≤ number_in (column (row_for (db.trees catalog_tree) tree) 5) % 8
   pub no_table : AllByRecursion (λ t. t.tree ≢ tree) db.schema.tables
   pub no_index : AllByRecursion (λ i. i.tree ≢ tree) db.schema.indexes
   pub alone : length (filter (λ v. v.tree == tree) db.schema.views) ≤ 1
 
--- All that SQL here doesn't read stays as it was: it is listed as before, as triggers are, its trees have the same rows, and the user version is the same.
+-- All that SQL here doesn't read stays as it was: it is listed as before, as triggers are, its
+-- trees have the same rows, and the user version is the same.
 pub record SparesUnread (old new : Database) : Type 0 where
   pub listed : KeepsForeign (old.trees catalog_tree) (new.trees catalog_tree)
   pub rows : (tree : ℕ) → IsUnread old tree → new.trees tree ≡ old.trees tree
@@ -57,7 +68,8 @@ pub record HasTable (db : Database) (table : Table) (tree : ℕ) (rows : List Ro
 -- there are these tables with these rows, at trees that rise from a number on
 abbrev pub HasTables : ℕ → List (Table × List Row) → Database → Type 0
 HasTables low [] db = Unit {0}
-HasTables low (it ∷ more) db = (tree : ℕ) × (low ≤ tree) × HasTable db it.0 tree it.1 × HasTables (tree + 1) more db
+HasTables low (it ∷ more) db =
+    (tree : ℕ) × (low ≤ tree) × HasTable db it.0 tree it.1 × HasTables (tree + 1) more db
 
 -- the index of this name is this one, whatever its tree, over the table of that name
 pub record HasIndex (schema : Schema) (table : Table) (index : Index) : Type 0 where
@@ -81,53 +93,72 @@ abbrev pub counts_rows : Schema → Bool
 counts_rows schema = list_any (λ t. t.is_counted) schema.tables
 
 -- the table is one of these, at its own tree
-abbrev pub IsOneOf : List Table → Table → Type 0
-IsOneOf tables t = (it : Table) × Has tables it × (t ≡ record it { tree = t.tree })
+abbrev pub IsTableOf : List Table → Table → Type 0
+IsTableOf tables t = (it : Table) × Has tables it × (t ≡ record it { tree = t.tree })
 
 -- the index is that of a PRIMARY KEY or a UNIQUE of the table
 abbrev pub IsOfKey : Table → Index → Type 0
-IsOfKey t i = (at : ℕ) × (key : List ℕ) × (slice_get t.uniques at ≡ Some key) × (i ≡ automatic t at key i.tree)
+IsOfKey t i =
+    (at : ℕ) × (key : List ℕ) × (slice_get t.uniques at ≡ Some key)
+    × (i ≡ automatic t at key i.tree)
 
 -- the index is this one, at its own tree, over the table of that name
-abbrev pub IsOver : Schema → Table → Index → Index → Type 0
-IsOver schema table index i = (at : ℕ) × (on : Table) × (table_named schema table.name ≡ Some at) × (slice_get schema.tables at ≡ Some on) × (i ≡ record index { tree = i.tree; table = on.tree })
+abbrev pub IsIndexOver : Schema → Table → Index → Index → Type 0
+IsIndexOver schema table index i =
+    (at : ℕ) × (on : Table) × (table_named schema table.name ≡ Some at)
+    × (slice_get schema.tables at ≡ Some on) × (i ≡ record index { tree = i.tree; table = on.tree })
 
--- a table that is made is one of these, or the `sqlite_sequence` that SQLite makes where some table had AUTOINCREMENT
+-- a table that is made is one of these, or the `sqlite_sequence` that SQLite makes where some table
+-- had AUTOINCREMENT
 abbrev pub IsMade : List Table → Schema → Table → Type 0
-IsMade tables old t = IsOneOf tables t ⊎ (IsTrue (counts_rows old) × DefinesTable sequence_text t)
+IsMade tables old t = IsTableOf tables t ⊎ (IsTrue (counts_rows old) × DefinesTable sequence_text t)
 
 -- an index that is made is one of these, or that of a key of a table that is made
 abbrev pub IsIndexMade : List (Table × Index) → Schema → Schema → Index → Type 0
-IsIndexMade indexes old new i = ((it : Table × Index) × Has indexes it × IsOver new it.0 it.1 i) ⊎ ((t : Table) × Has new.tables t × (next_tree old ≤ t.tree) × IsOfKey t i)
+IsIndexMade indexes old new i =
+    ((it : Table × Index) × Has indexes it × IsIndexOver new it.0 it.1 i)
+    ⊎ ((t : Table) × Has new.tables t × (next_tree old ≤ t.tree) × IsOfKey t i)
 
--- Each table and each index past the trees that were used is one that is made, and none of these tables has AUTOINCREMENT.
-pub record MakesOnly (tables : List Table) (indexes : List (Table × Index)) (old new : Schema) : Type 0 where
-  pub tables_are : AllByRecursion (λ (t : Table). next_tree old ≤ t.tree → IsMade tables old t) new.tables
-  pub indexes_are : AllByRecursion (λ (i : Index). next_tree old ≤ i.tree → IsIndexMade indexes old new i) new.indexes
+-- Each table and each index past the trees that were used is one that is made, and none of these
+-- tables has AUTOINCREMENT.
+pub record MakesOnly (tables : List Table) (indexes : List (Table × Index))
+    (old new : Schema) : Type 0 where
+  pub tables_are : AllByRecursion
+      (λ (t : Table). next_tree old ≤ t.tree → IsMade tables old t) new.tables
+  pub indexes_are : AllByRecursion
+      (λ (i : Index). next_tree old ≤ i.tree → IsIndexMade indexes old new i) new.indexes
   pub counts : counts_rows new ≡ counts_rows old
 
 -- ---- a register
 
 -- the seven tables
 abbrev pub seven_tables : List Table
-seven_tables = register_table ∷ agent_table ∷ filing_table ∷ statement_table ∷ interest_table ∷ identifier_table ∷ period_table ∷ []
+seven_tables =
+    register_table ∷ agent_table ∷ filing_table ∷ statement_table ∷ interest_table
+    ∷ identifier_table ∷ period_table ∷ []
 
 -- the seven tables with their rows
-abbrev pub filled : Contents → List (Table × List Row)
-filled t =
-    (register_table, t.register) ∷ (agent_table, t.agents) ∷ (filing_table, t.filings) ∷ (statement_table, t.statements)
-    ∷ (interest_table, t.interests) ∷ (identifier_table, t.identifiers) ∷ (period_table, t.periods) ∷ []
+abbrev pub tables_with_rows : Contents → List (Table × List Row)
+tables_with_rows t =
+    (register_table, t.register) ∷ (agent_table, t.agents) ∷ (filing_table, t.filings)
+    ∷ (statement_table, t.statements)
+    ∷ (interest_table, t.interests) ∷ (identifier_table, t.identifiers)
+    ∷ (period_table, t.periods) ∷ []
 
 -- the four indexes
 abbrev pub four_indexes : List (Table × Index)
-four_indexes = (statement_table, record_index) ∷ (statement_table, subject_index) ∷ (identifier_table, identifier_index) ∷ (filing_table, line_index) ∷ []
+four_indexes =
+    (statement_table, record_index) ∷ (statement_table, subject_index)
+    ∷ (identifier_table, identifier_index) ∷ (filing_table, line_index) ∷ []
 
--- A register is set up beside what stood in a database: this stays as it was, and the seven tables with the register's rows are there, in trees past those that were used, no two in one. With them are made the indexes of their keys and the four, and nothing else (`MakesOnly`).
+-- A register is set up beside what stood in a database: this stays as it was, and the seven tables
+-- with the register's rows are there, in trees past those that were used, no two in one. With them
+-- are made the indexes of their keys and the four, and nothing else (`MakesOnly`).
 pub record SetsUp (r : Register) (old new : Database) : Type 0 where
   pub sound : IsDatabase new
   pub spares : Spares old new
   pub unread : SparesUnread old new
-  pub tables : HasTables (next_tree old.schema) (filled (contents r)) new
+  pub tables : HasTables (next_tree old.schema) (tables_with_rows (contents r)) new
   pub indexes : HasIndexes four_indexes new.schema
   pub only : MakesOnly seven_tables four_indexes old.schema new.schema
 
@@ -142,7 +173,8 @@ abbrev pub tables_of : List (Table × List Row) → List Table
 tables_of made = map (λ it. it.0) made
 
 -- these tables are added with these rows, and these indexes
-pub record Adds (made : List (Table × List Row)) (over : List (Table × Index)) (old new : Database) : Type 0 where
+pub record Adds (made : List (Table × List Row)) (over : List (Table × Index))
+    (old new : Database) : Type 0 where
   pub sound : IsDatabase new
   pub spares : Spares old new
   pub unread : IsDatabase old → SparesUnread old new
@@ -152,7 +184,8 @@ pub record Adds (made : List (Table × List Row)) (over : List (Table × Index))
 
 -- there is the table of each of these indexes
 abbrev pub HasTheirTables : List (Table × Index) → Database → Type 0
-HasTheirTables indexes db = AllByRecursion (λ i. (tree : ℕ) × (rows : List Row) × HasTable db i.0 tree rows) indexes
+HasTheirTables indexes db =
+    AllByRecursion (λ i. (tree : ℕ) × (rows : List Row) × HasTable db i.0 tree rows) indexes
 
 -- these indexes are added, where their tables are there
 pub record AddsIndexes (over : List (Table × Index)) (old new : Database) : Type 0 where
@@ -178,4 +211,6 @@ SetsUpSound r old new = IsDatabase old → SetsUp r old new
 
 -- once the seven tables are added without rows, the register is set up
 abbrev pub PutsRegister : Register → Database → Database → Type 0
-PutsRegister r old new = (before : Database) → Adds (lists ++ details ++ blank period_table ∷ []) four_indexes before old → SetsUpSound r before new
+PutsRegister r old new =
+    (before : Database) → Adds (lists ++ details ++ blank period_table ∷ []) four_indexes before old
+    → SetsUpSound r before new

@@ -14,9 +14,19 @@ pub record IsBlank (schema : Schema) (db : Database) : Type 0 where
   pub empty : AllByRecursion (λ t. db.trees t.tree ≡ []) schema.tables
 
 -- statements of a transaction lead from one kind of database to another
-abbrev pub Leads : (Database → Type 0) → (Database → Type 0) → State → State → Result (Unit {0}) Error → Type 0
+abbrev pub Leads : (Database → Type 0) → (Database → Type 0) → State → State
+    → Result (Unit {0}) Error → Type 0
 Leads before after old new result = Moves (λ was is. before was → after is) old new result
 
 -- the contents of seven tables without rows
 abbrev pub no_contents : Contents
-no_contents = record { register = []; agents = []; filings = []; statements = []; interests = []; identifiers = []; periods = [] }
+no_contents =
+    record {
+      register = [];
+      agents = [];
+      filings = [];
+      statements = [];
+      interests = [];
+      identifiers = [];
+      periods = [];
+    }

@@ -1,5 +1,6 @@
 -- The tables after the changes.
-use Rattle.std.specs.Prelude.{◌≤◌, ℕ, ℤ, pos, Bool, false, not, cond, List, [], ◌∷◌, ◌++◌, map, filter, length}
+use Rattle.std.specs.Prelude.{◌≤◌, ℕ, ℤ, pos, Bool, false, not, cond, List, [], ◌∷◌, ◌++◌, map}
+use Rattle.std.specs.Prelude.{filter, length}
 use Rattle.std.specs.List.{list_all, flat_map}
 use Rattle.sqlite.specs.declared.types.Value.TheVariants.{Null, Int, Text, Blob}
 use Rattle.sqlite.specs.Order.{Row, column}
@@ -19,18 +20,23 @@ use Rattle.bor_store_sql.specs.declared.rows.typed.StatementRow.{StatementRow}
 use Rattle.bor_store_sql.specs.declared.rows.typed.InterestRow.{InterestRow}
 use Rattle.bor_store_sql.specs.declared.rows.typed.IdentifierRow.{IdentifierRow}
 use Rattle.bor_store_sql.specs.declared.rows.typed.PeriodRow.{PeriodRow}
-use Rattle.bor_store_sql.specs.Rows.Placed.{bare, interest_rows, identifier_rows, period_rows, placed, placed_from}
-use Rattle.bor_store_sql.specs.Rows.Encoding.{Contents, filing_columns, statement_columns, interest_columns, identifier_columns, period_columns}
+use Rattle.bor_store_sql.specs.Rows.Placed.{bare, interest_rows, identifier_rows, period_rows}
+use Rattle.bor_store_sql.specs.Rows.Placed.{placed, placed_from}
+use Rattle.bor_store_sql.specs.Rows.Encoding.{Contents, filing_columns, statement_columns}
+use Rattle.bor_store_sql.specs.Rows.Encoding.{interest_columns, identifier_columns, period_columns}
 
 -- the register once the agent's filing with this number is withdrawn
 abbrev pub withdrawn : List ℕ → ℕ → Register → Register
-withdrawn agent number r = record r { members = with_filings agent (with_withdrawn number (filings_of agent r.members)) r.members }
+withdrawn agent number r =
+    record r
+    { members = with_filings agent (with_withdrawn number (filings_of agent r.members)) r.members }
 
 -- the register once the agent's filing is added
 abbrev pub added : List ℕ → List ℕ → ℤ → List ℕ → List Statement → Register → Register
 added agent key due bytes statements r =
     let own = filings_of agent r.members in
-    record r { members = with_filings agent (own ++ accepted own key due bytes statements ∷ []) r.members }
+    record r
+    { members = with_filings agent (own ++ accepted own key due bytes statements ∷ []) r.members }
 
 -- the register once the agent is added
 abbrev pub enrolled : List ℕ → List ℕ → Register → Register
@@ -47,19 +53,23 @@ abbrev pub Any : Contents → Type 0
 Any t = Unit {0}
 
 -- the columns pass these tests
-abbrev pub passes : List Term → Row → Row → Bool
-passes tests params x = list_all (holds (params ∷ (Null ∷ x) ∷ [])) tests
+abbrev pub row_passes : List Term → Row → Row → Bool
+row_passes tests params x = list_all (holds (params ∷ (Null ∷ x) ∷ [])) tests
 
 -- the first two columns are the agent and the filing's number
 abbrev pub is_of_filing : List ℕ → ℕ → Row → Bool
-is_of_filing agent number = passes (equals 1 0 ∷ equals 2 1 ∷ []) (Text agent ∷ Int (pos number) ∷ [])
+is_of_filing agent number =
+    row_passes (equals 1 0 ∷ equals 2 1 ∷ []) (Text agent ∷ Int (pos number) ∷ [])
 
 -- a row of the table filing, marked as withdrawn
 abbrev pub marked : Row → Row
-marked x = cast_all filing_table.columns (column x 0 ∷ column x 1 ∷ column x 2 ∷ column x 3 ∷ Int (pos 1) ∷ column x 5 ∷ [])
+marked x =
+    cast_all filing_table.columns
+    (column x 0 ∷ column x 1 ∷ column x 2 ∷ column x 3 ∷ Int (pos 1) ∷ column x 5 ∷ [])
 
 abbrev pub with_mark : List ℕ → ℕ → Contents → Contents
-with_mark agent number t = record t { filings = map (λ x. cond (is_of_filing agent number x) (marked x) x) t.filings }
+with_mark agent number t =
+    record t { filings = map (λ x. cond (is_of_filing agent number x) (marked x) x) t.filings }
 
 -- at most one filing has the number
 abbrev pub IsOnce : List ℕ → ℕ → Contents → Type 0
@@ -83,17 +93,27 @@ without_periods agent number t = record t { periods = others agent number t.peri
 -- the filing is marked, and the rows of its statements are gone
 abbrev pub withdrawn_in : List ℕ → ℕ → Contents → Contents
 withdrawn_in agent number t =
-    without_statements agent number (without_interests agent number (without_identifiers agent number (without_periods agent number (with_mark agent number t))))
+    without_statements agent number (without_interests agent number
+    (without_identifiers agent number (without_periods agent number (with_mark agent number t))))
 
 -- ---- rows that are added, for clauses of private functions alone
 
 -- a filing that isn't withdrawn
 abbrev pub live_filing : ℕ → List ℕ → ℤ → List ℕ → List Statement → AcceptedFiling
-live_filing number key due bytes statements = record { number = number; key = key; due = due; withdrawn = false; bytes = bytes; statements = statements }
+live_filing number key due bytes statements =
+    record {
+      number = number;
+      key = key;
+      due = due;
+      withdrawn = false;
+      bytes = bytes;
+      statements = statements;
+    }
 
 -- the parameters of the INSERT of a filing: its columns but `withdrawn`
 abbrev pub given_filing : List ℕ → ℕ → List ℕ → ℤ → List ℕ → Row
-given_filing agent number key due bytes = Text agent ∷ Int (pos number) ∷ Text key ∷ Int due ∷ Blob bytes ∷ []
+given_filing agent number key due bytes =
+    Text agent ∷ Int (pos number) ∷ Text key ∷ Int due ∷ Blob bytes ∷ []
 
 abbrev pub with_agent_row : Row → Contents → Contents
 with_agent_row x t = record t { agents = t.agents ++ x ∷ [] }
@@ -122,7 +142,9 @@ with_period_rows is t = record t { periods = t.periods ++ flat_map days_of is }
 
 -- a statement's row and those of its lists
 abbrev pub with_one_placed : Placed → Contents → Contents
-with_one_placed p t = with_period_rows (interest_rows p) (with_interest_rows (interest_rows p) (with_identifier_rows (identifier_rows p) (with_statement_row (bare p) t)))
+with_one_placed p t =
+    with_period_rows (interest_rows p) (with_interest_rows (interest_rows p)
+    (with_identifier_rows (identifier_rows p) (with_statement_row (bare p) t)))
 
 -- the rows of all these statements
 abbrev pub with_placed : List Placed → Contents → Contents
@@ -134,22 +156,25 @@ with_placed ps t = record t {
 }
 
 -- a filing's row and those of its statements
-abbrev pub with_live_filing : List ℕ → ℕ → List ℕ → ℤ → List ℕ → List Statement → Contents → Contents
+abbrev pub with_live_filing : List ℕ → ℕ → List ℕ → ℤ → List ℕ → List Statement
+    → Contents → Contents
 with_live_filing agent number key due bytes statements t =
-    with_placed (placed_from agent number 1 statements) (with_filing_row agent (live_filing number key due bytes []) t)
+    with_placed (placed_from agent number 1 statements)
+    (with_filing_row agent (live_filing number key due bytes []) t)
 
 -- ---- the row with the day, for clauses of private functions alone
 
 -- the first column is 1
 abbrev pub is_the_one : ℤ → Row → Bool
-is_the_one day = passes (equals_number 1 1 ∷ []) (Int day ∷ [])
+is_the_one day = row_passes (equals_number 1 1 ∷ []) (Int day ∷ [])
 
 -- a row of the table register, of this day
 abbrev pub dated : ℤ → Row → Row
 dated day x = cast_all register_table.columns (column x 0 ∷ column x 1 ∷ Int day ∷ column x 3 ∷ [])
 
 abbrev pub with_day : ℤ → Contents → Contents
-with_day day t = record t { register = map (λ x. cond (is_the_one day x) (dated day x) x) t.register }
+with_day day t =
+    record t { register = map (λ x. cond (is_the_one day x) (dated day x) x) t.register }
 
 -- the table register has at most one such row
 abbrev pub IsOneRegister : ℤ → Contents → Type 0

@@ -1,5 +1,6 @@
 -- Whether what a file says is what is kept of its filing.
-use Rattle.std.specs.Prelude.{◌≡◌, ◌⊎◌, ◌↔◌, ◌+◌, ℕ, Bool, IsTrue, List, [], ◌∷◌, map, Option, Some, None, Result, IfOk, slice_set}
+use Rattle.std.specs.Prelude.{◌≡◌, ◌⊎◌, ◌↔◌, ◌+◌, ℕ, Bool, IsTrue, List, [], ◌∷◌, map, Option, Some}
+use Rattle.std.specs.Prelude.{None, Result, IfOk, slice_set}
 use Rattle.std.specs.List.{flat_map}
 use Rattle.sqlite.specs.Order.{Row, column}
 use Rattle.sqlite.specs.State.{State, HasCleanDisk}
@@ -11,7 +12,8 @@ use Rattle.bor_register.specs.declared.member.Member.{Member}
 use Rattle.bor_register.specs.Register.{Register, filings_of}
 use Rattle.bor_store_sql.specs.declared.rows.typed.Placed.{Placed}
 use Rattle.bor_store_sql.specs.Rows.Placed.{bare, interest_rows, identifier_rows}
-use Rattle.bor_store_sql.specs.Rows.Encoding.{statement_columns, interest_columns, identifier_columns}
+use Rattle.bor_store_sql.specs.Rows.Encoding.{statement_columns, interest_columns}
+use Rattle.bor_store_sql.specs.Rows.Encoding.{identifier_columns}
 use Rattle.bor_store_sql.specs.Selected.{numbered, interests_at, identifiers_at}
 use Rattle.bor_store_sql.specs.Ran.{LeavesNoMore}
 use Rattle.bor_store_sql.specs.Shown.{IsClean, ShowsLists}
@@ -20,19 +22,27 @@ use Rattle.bor_store_sql.specs.Shown.{IsClean, ShowsLists}
 
 -- the statement at this place of the agent's filing with this number
 abbrev pub standing : List ℕ → ℕ → ℕ → Statement → Placed
-standing agent number place s = record { at = record { agent = agent; filing = number; place = place }; statement = s }
+standing agent number place s =
+    record { at = record { agent = agent; filing = number; place = place }; statement = s }
 
 abbrev pub with_status : Option Status → Statement → Statement
 with_status status s = record s { status = status }
 
--- A statement that is said fits one that is kept at a place: it has the same row, but for a status that it leaves out, which any kept one fits, and the same rows of interests, which have no days, and of identifiers.
+-- A statement that is said fits one that is kept at a place: it has the same row, but for a status
+-- that it leaves out, which any kept one fits, and the same rows of interests, which have no days,
+-- and of identifiers.
 pub record FitsAt (agent : List ℕ) (number place : ℕ) (said kept : Statement) : Type 0 where
   pub status : (said.status ≡ None) ⊎ (said.status ≡ kept.status)
-  pub statement : statement_columns (bare (standing agent number place (with_status kept.status said))) ≡ statement_columns (bare (standing agent number place kept))
-  pub interests : map interest_columns (interest_rows (standing agent number place said)) ≡ map interest_columns (interest_rows (standing agent number place kept))
-  pub identifiers : map identifier_columns (identifier_rows (standing agent number place said)) ≡ map identifier_columns (identifier_rows (standing agent number place kept))
+  pub statement : statement_columns
+      (bare (standing agent number place (with_status kept.status said)))
+      ≡ statement_columns (bare (standing agent number place kept))
+  pub interests : map interest_columns (interest_rows (standing agent number place said))
+      ≡ map interest_columns (interest_rows (standing agent number place kept))
+  pub identifiers : map identifier_columns (identifier_rows (standing agent number place said))
+      ≡ map identifier_columns (identifier_rows (standing agent number place kept))
 
--- as many of these as of those, and each fits the one at its place; places are counted from a number on
+-- as many of these as of those, and each fits the one at its place; places are counted from a
+-- number on
 abbrev pub Pairwise : {A B : Type 0} → (ℕ → A → B → Type 0) → ℕ → List A → List B → Type 0
 Pairwise P n [] [] = Unit {0}
 Pairwise P n [] (y ∷ ys) = ⊥
@@ -45,12 +55,16 @@ Fit agent number place said kept = Pairwise (FitsAt agent number) place said kep
 
 -- the statements of the agent's filing with this number; none where it has no such filing
 abbrev pub statements_kept : List ℕ → ℕ → Register → List Statement
-statements_kept agent number r = flat_map (λ f. f.statements) (numbered number (filings_of agent r.members))
+statements_kept agent number r =
+    flat_map (λ f. f.statements) (numbered number (filings_of agent r.members))
 
 -- ---- answers
 
--- The tables, of either version, are asked whether something holds of the register. They are left as they were, and a stop leaves nothing more. The answer is whether it holds, or there is an error.
-pub record Tells (old new : State) (result : Result Bool Error) (Holds : Register → Type 0) : Type 0 where
+-- The tables, of either version, are asked whether something holds of the register. They are left
+-- as they were, and a stop leaves nothing more. The answer is whether it holds, or there is an
+-- error.
+pub record Tells (old new : State) (result : Result Bool Error)
+    (Holds : Register → Type 0) : Type 0 where
   pub clean : HasCleanDisk new → HasCleanDisk old
   pub stops : LeavesNoMore old new
   pub began : IsClean new → IsClean old
@@ -70,10 +84,13 @@ IsRowOf row p = row ≡ columns_beside row p.statement.status (statement_columns
 
 -- the tables have the lists of the statement, at its place
 pub record HasListsOf (p : Placed) (ms : List Member) : Type 0 where
-  pub interests : map interest_columns (interest_rows p) ≡ map interest_columns (interests_at p.at ms)
-  pub identifiers : map identifier_columns (identifier_rows p) ≡ map identifier_columns (identifiers_at p.at ms)
+  pub interests : map interest_columns (interest_rows p)
+      ≡ map interest_columns (interests_at p.at ms)
+  pub identifiers : map identifier_columns (identifier_rows p)
+      ≡ map identifier_columns (identifiers_at p.at ms)
 
 -- the row is that of the statement at this place, and the tables have its lists
-pub record IsKept (agent : List ℕ) (number : ℕ) (ms : List Member) (place : ℕ) (s : Statement) (found : Row) : Type 0 where
+pub record IsKept (agent : List ℕ) (number : ℕ) (ms : List Member) (place : ℕ) (s : Statement)
+    (found : Row) : Type 0 where
   pub row : IsRowOf found (standing agent number place s)
   pub lists : HasListsOf (standing agent number place s) ms

@@ -9,10 +9,16 @@ use Rattle.bor_store_sql.specs.Rows.Encoding.{contents}
 use Rattle.bor_store_sql.specs.Rows.Stored.{IsStored}
 use Rattle.bor_store_sql.specs.Shown.{Has, IsClean, ShowsIn, Stands}
 
--- A sound database has the rows of one register at most, so what the last commit left shows one register at most.
+-- A sound database has the rows of one register at most, so what the last commit left shows one
+-- register at most.
 abbrev pub TablesShowOneRegister : Type 0
-TablesShowOneRegister = (r q : Register) (db : Database) → IsStored r → IsStored q → Has (contents r) db → Has (contents q) db → r ≡ q
+TablesShowOneRegister =
+    (r q : Register) (db : Database) → IsStored r → IsStored q → Has (contents r) db
+    → Has (contents q) db → r ≡ q
 
--- A stop of a connection that is clean and shows a register leaves for the next one to open the files that register and nothing else: what was answered lasts.
+-- A stop of a connection that is clean and shows a register leaves for the next one to open the
+-- files that register and nothing else: what was answered lasts.
 abbrev pub OpenTablesLast : {S : Type 0} → Ghosts S → Type 0
-OpenTablesLast {S} g = (h : Held S) → IsClean (state g h) → (r : Register) → ShowsIn r (state g h) → (trees : Trees) → (state g h).may_leave trees → Stands r trees
+OpenTablesLast {S} g =
+    (h : Held S) → IsClean (state g h) → (r : Register) → ShowsIn r (state g h) → (trees : Trees)
+    → (state g h).may_leave trees → Stands r trees

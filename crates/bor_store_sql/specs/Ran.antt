@@ -8,40 +8,52 @@ use Rattle.sqlite.specs.declared.error.Error.{Error}
 
 -- the text was run, or failed and may have ended the transaction
 abbrev pub RunsInside : List ℕ → Row → State → State → Result (Unit {0}) Error → Type 0
-RunsInside text params old new (Ok x) = (count : ℕ) × ExecutesInside 0 text params old new (Ok count)
+RunsInside text params old new (Ok x) =
+    (count : ℕ) × ExecutesInside 0 text params old new (Ok count)
 RunsInside text params old new (Err e) = IsUnchanged old new ⊎ IsRolledBack old new
 
--- A stop after the call leaves nothing for the next one to open the files that a stop before it might not have left, if the disk has returned what was written.
+-- A stop after the call leaves nothing for the next one to open the files that a stop before it
+-- might not have left, if the disk has returned what was written.
 abbrev pub LeavesNoMore : State → State → Type 0
-LeavesNoMore old new = HasCleanDisk new → (trees : Trees) → new.may_leave trees → old.may_leave trees
+LeavesNoMore old new =
+    HasCleanDisk new → (trees : Trees) → new.may_leave trees → old.may_leave trees
 
 -- The text was run in the transaction that was under way, with these parameters.
-pub record Ran (text : List ℕ) (params : Row) (old new : State) (result : Result (Unit {0}) Error) : Type 0 where
+pub record Ran (text : List ℕ) (params : Row) (old new : State)
+    (result : Result (Unit {0}) Error) : Type 0 where
   pub clean : HasCleanDisk new → HasCleanDisk old
   pub stops : LeavesNoMore old new
   pub inside : HasCleanDisk new → IsTrue old.in_transaction → RunsInside text params old new result
 
 -- the database after statements that went well; a failure may have ended the transaction
-pub record Moved (Makes : Database → Database → Type 0) (old new : State) (result : Result (Unit {0}) Error) : Type 0 where
+pub record Moved (Makes : Database → Database → Type 0) (old new : State)
+    (result : Result (Unit {0}) Error) : Type 0 where
   pub was_open : IsTrue new.is_open → IsTrue old.is_open
   pub committed : IsTrue new.is_open → new.committed ≡ old.committed
   pub goes_on : OnOk result (IsTrue new.in_transaction)
   pub made : OnOk result (Makes old.now new.now)
 
--- Statements of a transaction that was under way, on a disk that has returned what was written, make such a change of the database.
-pub record Moves (Makes : Database → Database → Type 0) (old new : State) (result : Result (Unit {0}) Error) : Type 0 where
+-- Statements of a transaction that was under way, on a disk that has returned what was written,
+-- make such a change of the database.
+pub record Moves (Makes : Database → Database → Type 0) (old new : State)
+    (result : Result (Unit {0}) Error) : Type 0 where
   pub clean : HasCleanDisk new → HasCleanDisk old
   pub stops : LeavesNoMore old new
   pub inside : HasCleanDisk new → IsTrue old.in_transaction → Moved Makes old new result
 
--- On a disk that has returned what was written, statements of a transaction that was under way went well only where the connection was open.
+-- On a disk that has returned what was written, statements of a transaction that was under way went
+-- well only where the connection was open.
 abbrev pub RanOpen : State → State → Result (Unit {0}) Error → Type 0
-RanOpen old new result = HasCleanDisk new → IsTrue old.in_transaction → OnOk result (IsTrue old.is_open)
+RanOpen old new result =
+    HasCleanDisk new → IsTrue old.in_transaction → OnOk result (IsTrue old.is_open)
 
--- A transaction ends: it is committed where all went well that was done in it, and the connection is open then; else it is undone. A stop leaves what it might have left before or, where all went well that was done, what was written in the transaction.
+-- A transaction ends: it is committed where all went well that was done in it, and the connection
+-- is open then; else it is undone. A stop leaves what it might have left before or, where all went
+-- well that was done, what was written in the transaction.
 pub record Ends (old new : State) (done result : Result (Unit {0}) Error) : Type 0 where
   pub clean : HasCleanDisk new → HasCleanDisk old
-  pub stops : HasCleanDisk new → (trees : Trees) → new.may_leave trees → old.may_leave trees ⊎ (IsOk done × (trees ≡ old.now.trees))
+  pub stops : HasCleanDisk new → (trees : Trees) → new.may_leave trees
+      → old.may_leave trees ⊎ (IsOk done × (trees ≡ old.now.trees))
   pub was_open : HasCleanDisk new → IsTrue new.is_open → IsTrue old.is_open
   pub committed : HasCleanDisk new → OnOk result (IsOk done × (new.committed ≡ old.now))
   pub up : HasCleanDisk new → OnOk result (IsTrue new.is_open)

@@ -1,5 +1,6 @@
 -- The parts of a register that are asked for by key.
-use Rattle.std.specs.Prelude.{ℕ, pos, List, [], ◌∷◌, take, reverse, filter, ◌==◌, ◌&&◌, Bool, false, Some, None}
+use Rattle.std.specs.Prelude.{ℕ, pos, List, [], ◌∷◌, take, reverse, filter, ◌==◌, ◌&&◌, Bool, false}
+use Rattle.std.specs.Prelude.{Some, None}
 use Rattle.std.specs.List.{flat_map}
 use Rattle.sqlite.specs.declared.types.Value.TheVariants.{Int}
 use Rattle.sqlite.specs.Order.{Row}
@@ -13,11 +14,12 @@ use Rattle.bor_store_sql.specs.declared.rows.places.At.{At}
 use Rattle.bor_store_sql.specs.declared.rows.typed.Placed.{Placed}
 use Rattle.bor_store_sql.specs.declared.rows.typed.InterestRow.{InterestRow}
 use Rattle.bor_store_sql.specs.declared.rows.typed.IdentifierRow.{IdentifierRow}
-use Rattle.bor_store_sql.specs.Rows.Placed.{same_place, placed, placed_by, interest_rows, identifier_rows}
+use Rattle.bor_store_sql.specs.Rows.Placed.{same_place, placed, placed_by, interest_rows}
+use Rattle.bor_store_sql.specs.Rows.Placed.{identifier_rows}
 
 -- the agents of this name: at most one
-abbrev pub named : List ℕ → List Member → List Member
-named name ms = filter (λ m. is_same m.name name) ms
+abbrev pub members_named : List ℕ → List Member → List Member
+members_named name ms = filter (λ m. is_same m.name name) ms
 
 -- the agents that have the token
 abbrev pub with_token : List ℕ → List Member → List Member
@@ -48,7 +50,8 @@ in_declaration declaration ps = filter (λ p. is_same p.statement.declaration de
 
 -- those of a record of a declaration
 abbrev pub in_series : List ℕ → List ℕ → List Placed → List Placed
-in_series declaration rec ps = filter (λ p. is_same p.statement.declaration declaration && is_same p.statement.rec rec) ps
+in_series declaration rec ps =
+    filter (λ p. is_same p.statement.declaration declaration && is_same p.statement.rec rec) ps
 
 -- those of the records with this identifier, of whatever declaration
 abbrev pub in_record : List ℕ → List Placed → List Placed
@@ -63,7 +66,9 @@ names_subject rec (details.Relationship (Some subject) party interests) = is_sam
 
 -- those of a declaration that name this record as their subject
 abbrev pub with_subject : List ℕ → List ℕ → List Placed → List Placed
-with_subject declaration rec ps = filter (λ p. is_same p.statement.declaration declaration && names_subject rec p.statement.details) ps
+with_subject declaration rec ps =
+    filter
+    (λ p. is_same p.statement.declaration declaration && names_subject rec p.statement.details) ps
 
 -- those under an identifier
 abbrev pub identified : List ℕ → List Placed → List Placed
@@ -87,7 +92,9 @@ standing_at at ms = filter (λ p. same_place p.at at) (placed ms)
 
 -- the rows of the identifiers that have this scheme and this identifier
 abbrev pub identified_by : List ℕ → List ℕ → List Member → List IdentifierRow
-identified_by scheme id ms = filter (λ i. is_same i.identifier.scheme scheme && is_same i.identifier.id id) (flat_map identifier_rows (placed ms))
+identified_by scheme id ms =
+    filter (λ i. is_same i.identifier.scheme scheme && is_same i.identifier.id id)
+    (flat_map identifier_rows (placed ms))
 
 -- ---- other rows that are shown
 

@@ -46,16 +46,21 @@ pub record Stands (r : Register) (trees : Trees) : Type 0 where
   pub has : Has (contents r) (record { schema = keep_schema; trees = trees })
   pub stored : IsStored r
 
--- A stop after a change, whether it went well or failed, leaves for the next one to open the files what a stop before it might have left; or, where the connection was clean before, trees of this kind. It is said of a disk that has returned what was written.
+-- A stop after a change, whether it went well or failed, leaves for the next one to open the files
+-- what a stop before it might have left; or, where the connection was clean before, trees of this
+-- kind. It is said of a disk that has returned what was written.
 abbrev pub LeavesAtMost : (Trees → Type 0) → State → State → Type 0
-LeavesAtMost Made old new = HasCleanDisk new → (trees : Trees) → new.may_leave trees → old.may_leave trees ⊎ (IsClean old × Made trees)
+LeavesAtMost Made old new =
+    HasCleanDisk new → (trees : Trees) → new.may_leave trees
+    → old.may_leave trees ⊎ (IsClean old × Made trees)
 
 -- tables that have rows which the change fits have the changed rows
 abbrev pub Changes : (Contents → Type 0) → (Contents → Contents) → Database → Database → Type 0
 Changes fits change old new = (t : Contents) → Has t old → fits t → Has (change t) new
 
 -- statements of a transaction make this change
-abbrev pub Steps : (Contents → Type 0) → (Contents → Contents) → State → State → Result (Unit {0}) Error → Type 0
+abbrev pub Steps : (Contents → Type 0) → (Contents → Contents) → State → State
+    → Result (Unit {0}) Error → Type 0
 Steps fits change old new result = Moves (Changes fits change) old new result
 
 -- ---- version 1
@@ -72,7 +77,9 @@ pub record HasFirst (t : Contents) (db : Database) : Type 0 where
 
 -- the rows of the tables of version 1 for a register: all but the days of interests
 abbrev pub first_contents : Register → Contents
-first_contents r = record (contents r) { register = versioned_columns first_version (register_row r) ∷ []; periods = [] }
+first_contents r =
+    record (contents r)
+    { register = versioned_columns first_version (register_row r) ∷ []; periods = [] }
 
 -- the state that the last commit left is the register in version 1
 pub record ShowsFirst (r : Register) (s : State) : Type 0 where
@@ -85,7 +92,8 @@ pub record ShowsFirst (r : Register) (s : State) : Type 0 where
 abbrev pub IsOfVersion : Schema → Type 0
 IsOfVersion schema = (schema ≡ first_schema) ⊎ (schema ≡ keep_schema)
 
--- the database has the lists that are alike in both versions: all but the version's row and the days of interests
+-- the database has the lists that are alike in both versions: all but the version's row and the
+-- days of interests
 pub record HasLists (t : Contents) (db : Database) : Type 0 where
   pub schema : IsOfVersion db.schema
   pub agents : Keeps t.agents (db.trees 2)

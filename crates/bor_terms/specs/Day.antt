@@ -1,5 +1,9 @@
--- The day that a text names (BODS 0.4, statementDate: a civil date of ISO 8601, with or without a time).
-use Rattle.std.specs.Prelude.{◌≡◌, ℕ, ◌+◌, ◌-◌, ◌*◌, ◌/◌, ◌%◌, List, [], ◌∷◌, ◌++◌, length, slice_index, count_by, Bool, ◌&&◌, ◌||◌, ◌==◌, nat_le, if◌then◌else◌, Option, Some, None, option_and_then, ℤ, pos, neg_ℤ, ◌+ℤ◌, unsigned_abs}
+-- The day that a text names (BODS 0.4, statementDate: a civil date of ISO 8601, with or without a
+-- time).
+use Rattle.std.specs.Prelude.{◌≡◌, ℕ, ◌+◌, ◌-◌, ◌*◌, ◌/◌, ◌%◌, List, [], ◌∷◌, ◌++◌, length}
+use Rattle.std.specs.Prelude.{slice_index, count_by, Bool, ◌&&◌, ◌||◌, ◌==◌, nat_le, if◌then◌else◌}
+use Rattle.std.specs.Prelude.{Option, Some, None, option_and_then, ℤ, pos, neg_ℤ, ◌+ℤ◌}
+use Rattle.std.specs.Prelude.{unsigned_abs}
 use Rattle.std.specs.List.{range_with_len}
 use Rattle.jiff_core.specs.Calendar.{days_from_civil, days_in_month, days_of_months, IsBetween}
 
@@ -62,22 +66,25 @@ two_digits n = (48 + n / 10) ∷ (48 + n % 10) ∷ []
 -- YYYY-MM-DD
 abbrev pub civil_text : ℕ → ℕ → ℕ → List ℕ
 civil_text year month day =
-    two_digits (year / 100) ++ two_digits (year % 100) ++ 45 ∷ two_digits month ++ 45 ∷ two_digits day
+    two_digits (year / 100) ++ two_digits (year % 100) ++ 45 ∷ two_digits month ++ 45
+    ∷ two_digits day
 
--- the days from 0000-01-01 to 1 January of a year: 365 for each year, and one more for every fourth, but
--- of the centuries only for every fourth
+-- the days from 0000-01-01 to 1 January of a year: 365 for each year, and one more for every
+-- fourth, but of the centuries only for every fourth
 abbrev pub year_start : ℕ → ℕ
 year_start year = 365 * year + (year + 3) / 4 - (year + 99) / 100 + (year + 399) / 400
 
--- the year of the day so many days after 0000-01-01: as no year has more than 366 days, days / 366 years
--- are over, and of the 28 years after those as many as have begun
+-- the year of the day so many days after 0000-01-01: as no year has more than 366 days, days / 366
+-- years are over, and of the 28 years after those as many as have begun
 unfoldable pub year_at : ℕ → ℕ
 year_at days =
     days / 366 + count_by (λ k. nat_le (year_start (days / 366 + k)) days) (range_with_len 1 28)
 
--- the month of the day so many days after 1 January of a year: January, and each month that has begun since
+-- the month of the day so many days after 1 January of a year: January, and each month that has
+-- begun since
 unfoldable pub month_at : ℕ → ℕ → ℕ
-month_at year days = 1 + count_by (λ m. nat_le (days_of_months (pos year) m) days) (range_with_len 1 11)
+month_at year days =
+    1 + count_by (λ m. nat_le (days_of_months (pos year) m) days) (range_with_len 1 11)
 
 -- the text of the day so many days after the first of a month
 abbrev pub text_in_month : ℕ → ℕ → ℕ → List ℕ
@@ -86,7 +93,8 @@ text_in_month year month days = civil_text year month (days + 1)
 -- the text of the day so many days after 1 January of a year
 abbrev pub text_in_year : ℕ → ℕ → List ℕ
 text_in_year year days =
-    text_in_month year (month_at year days) (days - days_of_months (pos year) (month_at year days - 1))
+    text_in_month year (month_at year days)
+    (days - days_of_months (pos year) (month_at year days - 1))
 
 -- the text of the day so many days after 0000-01-01
 abbrev pub text_at : ℕ → List ℕ

@@ -1,6 +1,7 @@
--- The first and the last day of what a text names: a day, a month or a year (BODS 0.4, startDate and
--- endDate: a date of ISO 8601, which may be reduced to a month or a year).
-use Rattle.std.specs.Prelude.{ℕ, ◌+◌, ◌*◌, List, length, slice_index, Bool, ◌&&◌, ◌==◌, if◌then◌else◌, Option, Some, None, ℤ, pos}
+-- The first and the last day of what a text names: a day, a month or a year (BODS 0.4, startDate
+-- and endDate: a date of ISO 8601, which may be reduced to a month or a year).
+use Rattle.std.specs.Prelude.{ℕ, ◌+◌, ◌*◌, List, length, slice_index, Bool, ◌&&◌, ◌==◌}
+use Rattle.std.specs.Prelude.{if◌then◌else◌, Option, Some, None, ℤ, pos}
 use Rattle.jiff_core.specs.Calendar.{days_in_month}
 use Rattle.bor_terms.specs.Day.{◌>>=◌, day_of, number_of, pair_at}
 
@@ -46,12 +47,13 @@ abbrev pub or_else : Option ℤ → Option ℤ → Option ℤ
 or_else None other = other
 or_else (Some day) other = Some day
 
--- The first day: the day that the text names; else of exactly YYYY-MM that of the month, and of exactly
--- YYYY that of the year.
+-- The first day: the day that the text names; else of exactly YYYY-MM that of the month, and of
+-- exactly YYYY that of the year.
 unfoldable pub start_of : List ℕ → Option ℤ
 start_of text =
     or_else (day_of text)
-    (if is_month text then month_start text else (if length text == 4 then year_start text else None))
+    (if is_month text then month_start text
+    else (if length text == 4 then year_start text else None))
 
 -- the last day
 unfoldable pub end_of : List ℕ → Option ℤ

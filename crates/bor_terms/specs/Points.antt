@@ -1,4 +1,5 @@
--- The points of a share (BODS 0.4, share; in this register's profile whole percents): the half percents from 0 to 200 that meet every bound it gives.
+-- The points of a share (BODS 0.4, share; in this register's profile whole percents): the half
+-- percents from 0 to 200 that meet every bound it gives.
 use Rattle.std.specs.Prelude.{ℕ, ◌*◌, List, [], ◌∷◌, Bool, true, nat_lt, nat_le, if◌then◌else◌}
 use Rattle.std.specs.List.{list_all, list_any, filter, range_with_len}
 

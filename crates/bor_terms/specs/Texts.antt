@@ -1,4 +1,5 @@
--- The four texts of the register (this register's profile): which bytes each may have and how many, and how two texts compare.
+-- The four texts of the register (this register's profile): which bytes each may have and how many,
+-- and how two texts compare.
 use Rattle.std.specs.Prelude.{ℕ, List, length, Bool, not, ◌&&◌, ◌||◌, ◌==◌, nat_le}
 use Rattle.std.specs.List.{list_all}
 use Rattle.std.specs.Str.{bytes_eq, is_utf8}
@@ -27,15 +28,17 @@ is_name_byte b = is_small_letter b || is_digit b || b == 45
 
 -- a letter, a digit, a point, an underscore or a hyphen
 abbrev pub is_key_byte : ℕ → Bool
-is_key_byte b = is_capital_letter b || is_small_letter b || is_digit b || b == 46 || b == 95 || b == 45
+is_key_byte b =
+    is_capital_letter b || is_small_letter b || is_digit b || b == 46 || b == 95 || b == 45
 
--- part of no control character of ASCII: none below 0x20, and not 0x7F; from 0x80 on it is part of a character of UTF-8
+-- part of no control character of ASCII: none below 0x20, and not 0x7F; from 0x80 on it is part of
+-- a character of UTF-8
 abbrev pub is_printed : ℕ → Bool
 is_printed b = nat_le 32 b && not (b == 127)
 
 -- a visible character of ASCII: 0x21 to 0x7E
-abbrev pub is_visible : ℕ → Bool
-is_visible b = is_within 33 126 b
+abbrev pub is_visible_byte : ℕ → Bool
+is_visible_byte b = is_within 33 126 b
 
 -- the name of an agent
 unfoldable pub is_agent_name : List ℕ → Bool
@@ -51,7 +54,7 @@ is_ident bytes = has_length 1 255 bytes && list_all is_printed bytes && is_utf8 
 
 -- the token by which a caller is known
 unfoldable pub is_token : List ℕ → Bool
-is_token bytes = has_length 16 64 bytes && list_all is_visible bytes
+is_token bytes = has_length 16 64 bytes && list_all is_visible_byte bytes
 
 -- two texts are the same where their bytes are
 abbrev pub is_same : List ℕ → List ℕ → Bool

@@ -2,7 +2,7 @@
 
 ghost use Rattle.std.specs.Prelude.{◌≡◌, codes};
 ghost use Rattle.std.specs.List.{list_all};
-ghost use Rattle.bor_terms.specs.Texts.{is_token, is_visible};
+ghost use Rattle.bor_terms.specs.Texts.{is_token, is_visible_byte};
 
 use crate::text::{Form, Text};
 
@@ -30,7 +30,7 @@ impl Form for TokenForm {
 pub type Token = Text<TokenForm>;
 
 fn are_visible(bytes: &[u8]) -> bool
-    ensures { result ≡ list_all is_visible bytes.now }
+    ensures { result ≡ list_all is_visible_byte bytes.now }
 {
     bytes.iter().all(|b| matches!(*b, 0x21..=0x7E))
 }

@@ -45,7 +45,7 @@ use Rattle.bor_wire.specs.Spelling.Spell.{asked_behind, spelling}
 use Rattle.bor_wire.specs.Rendering.Replies.{Said, refused, answered, status_of}
 use Rattle.bor_wire.specs.Rendering.Statuses.{desk_status}
 use Rattle.bor_wire.specs.Inputs.{IsSaid}
-use Rattle.bor_wire.specs.AllRefusals.{IsFirst, TheFirstRefusalIsSaid, is_registrars, register_refusals, lines_of_agent, lines_of_registrar, lines_of_lodging, lines_of_withdrawal, lines_of_statements, lines_of_places, faults_in, placed}
+use Rattle.bor_wire.specs.AllRefusals.{IsFirstRefusal, TheFirstRefusalIsSaid, is_registrars, register_refusals, lines_of_agent, lines_of_registrar, lines_of_lodging, lines_of_withdrawal, lines_of_statements, lines_of_places, faults_in, refusal_at_place}
 
 -- the answer is the first of the refusals; where there is none, each reply that tells it has a status below 400
 abbrev Fits : List Refusal → Answer → Type 0
@@ -81,7 +81,7 @@ places_fit : (s : Sight) (key : List ℕ) (due : ℤ) (file : List ℕ) (settled
 places_fit s key due file (Ok statements) = below _ (omega arith)
 places_fit s key due file (Err refusal) = by_why refusal.why
   where
-    by_why : (why : settling.Refusal) → Fits (placed refusal.place why ∷ []) (told tell.Lodged of_lodging (told_added s.day (filing_of s.own key due file (told_settled (Err (record { place = refusal.place; why = why }))))))
+    by_why : (why : settling.Refusal) → Fits (refusal_at_place refusal.place why ∷ []) (told tell.Lodged of_lodging (told_added s.day (filing_of s.own key due file (told_settled (Err (record { place = refusal.place; why = why }))))))
     by_why settling.statement_twice = refl
     by_why (settling.by_record fault) = refl
 
@@ -182,14 +182,14 @@ caller_fits r (Some (Agent name)) request = agent_fits (sight_of name r) request
 abbrev desk_said : Refusal → Said
 desk_said why = answered (tell.Refused why)
 
-first_of : (lines : List Refusal) (answer : Answer) (said : Said) → Fits lines answer → (reply : DeskReply) × IsTold answer reply × (said ≡ answered reply) → IsFirst (map desk_said lines) said
+first_of : (lines : List Refusal) (answer : Answer) (said : Said) → Fits lines answer → (reply : DeskReply) × IsTold answer reply × (said ≡ answered reply) → IsFirstRefusal (map desk_said lines) said
 first_of [] answer said fits h = subst (λ x. status_of x < 400) (sym h.2) (fits h.0 h.1)
 first_of (why ∷ others) answer said fits h =
     let reply : h.0 ≡ tell.Refused why = subst (λ a. IsTold a h.0) fits h.1 in
     h.2 ∙ ap answered reply
 
 wire_first : (r : Register) (ws : List wire.Refusal) (asked : Asked) (said : Said) → IsSaid r (outcome ws asked) said
-    → IsFirst (map refused ws ++ map desk_said (register_refusals r (caller_of asked.token r) asked.request)) said
+    → IsFirstRefusal (map refused ws ++ map desk_said (register_refusals r (caller_of asked.token r) asked.request)) said
 wire_first r [] asked said h =
     let caller : Option Caller = caller_of asked.token r in
     first_of (register_refusals r caller asked.request) (step r caller asked.request).answer said (caller_fits r caller asked.request) h

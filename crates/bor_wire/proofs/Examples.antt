@@ -10,7 +10,7 @@ use Rattle.bor_wire.specs.declared.outcome.Outcome.TheVariants.{Replied, ReadFai
 use Rattle.bor_wire.specs.declared.replies.Reply.{Reply}
 use Rattle.bor_wire.specs.declared.replies.Reply.TheVariants.{Full, Unavailable}
 use Rattle.bor_wire.specs.Runs.{AreReplies, register_left, served, full}
-use Rattle.bor_wire.specs.Histories.{asked_in, told_in}
+use Rattle.bor_wire.specs.Histories.{asked_in, replies_to_requests}
 use Rattle.bor_wire.specs.Exchanges.{IsExchanged, read_faults, write_faults}
 use Rattle.bor_wire.proofs.Exchanged.{exchanged, no_status, some_status, unread}
 
@@ -50,7 +50,7 @@ unfolding inputs
 requests = refl
 
 -- a refused input is no request, and its reply is to nobody
-told : told_in inputs (codes "a" ∷ codes "b" ∷ []) ≡ codes "b" ∷ []
+told : replies_to_requests inputs (codes "a" ∷ codes "b" ∷ []) ≡ codes "b" ∷ []
 unfolding inputs
 told = refl
 

@@ -5,14 +5,14 @@ use Rattle.bor_register.specs.Register.{Register, filings_of}
 use Rattle.bor_desk.specs.Operations.Legality.{IsLegal}
 use Rattle.bor_desk.specs.declared.request.Request.{Request}
 use Rattle.bor_desk.specs.Step.{Answer}
-use Rattle.bor_desk.specs.Runs.{Asked, exchange, answers, request_of, told_then, told_to, history, solo}
+use Rattle.bor_desk.specs.Runs.{Asked, exchange, answers, agent_request, told_then, told_to, history, solo}
 use Rattle.bor_desk.proofs.Isolation.{isolated}
 use Rattle.bor_desk.proofs.Lengths.{told_to-length}
 use Rattle.bor_desk.proofs.OneReply.{one_reply}
 use Rattle.bor_wire.specs.Spelling.Spell.{Spelled}
 use Rattle.bor_wire.specs.Rendering.Replies.{answered, bytes_of}
 use Rattle.bor_wire.specs.Runs.{AreReplies}
-use Rattle.bor_wire.specs.Histories.{AreBytesOf, EachIsReceived, IsAlone, SameHistorySameBytes, asked_in, told_in, received}
+use Rattle.bor_wire.specs.Histories.{AreBytesOf, EachIsReceived, IsAlone, SameHistorySameBytes, asked_in, replies_to_requests, received}
 
 one_bytes : (answer : Answer) (x y : List ℕ) → AreBytesOf answer x → AreBytesOf answer y → x ≡ y
 one_bytes answer x y p q = p.2 ∙ ap (λ reply. bytes_of (answered reply)) (one_reply answer p.0 q.0 p.1 q.1) ∙ sym q.2
@@ -29,7 +29,7 @@ bytes_once (i ∷ told) (a ∷ rest) (b ∷ bs) p q =
     cc
 
 -- the replies to requests are the bytes of the answers to them
-answers_told : (r : Register) (ss : List Spelled) (bs : List (List ℕ)) → AreReplies r ss bs → AllZip AreBytesOf (answers r (asked_in ss)) (told_in ss bs)
+answers_told : (r : Register) (ss : List Spelled) (bs : List (List ℕ)) → AreReplies r ss bs → AllZip AreBytesOf (answers r (asked_in ss)) (replies_to_requests ss bs)
 answers_told r [] [] h = tt
 answers_told r [] (b ∷ bs) h = elim h [ ]
 answers_told r (s ∷ ss) [] h = elim h [ ]
@@ -49,13 +49,13 @@ both_told name r (a ∷ run) [] [] h = tt
 both_told name r (a ∷ run) [] (b ∷ bs) h = elim h [ ]
 both_told name r (a ∷ run) (x ∷ told) [] h = elim h [ ]
 both_told name r (a ∷ run) (x ∷ told) (b ∷ bs) h =
-    both_then (request_of name r a) x b (told_to name (exchange r a).register run told) (told_to name (exchange r a).register run bs) h.0
+    both_then (agent_request name r a) x b (told_to name (exchange r a).register run told) (told_to name (exchange r a).register run bs) h.0
     (both_told name (exchange r a).register run told bs h.1)
 
 pub alone : (name : List ℕ) (r : Register) (ss : List Spelled) (bs : List (List ℕ)) → IsLegal r → AreReplies r ss bs → IsAlone name r ss bs
 alone name r ss bs legal h =
     subst (λ told. AllZip AreBytesOf told (received name r ss bs)) (isolated.alone_each r (asked_in ss) name legal)
-    (both_told name r (asked_in ss) (answers r (asked_in ss)) (told_in ss bs) (answers_told r ss bs h))
+    (both_told name r (asked_in ss) (answers r (asked_in ss)) (replies_to_requests ss bs) (answers_told r ss bs h))
 
 pub same_bytes : SameHistorySameBytes
 same_bytes name r q inputs others replies told legal lawful one two own past =
@@ -66,11 +66,11 @@ same_bytes name r q inputs others replies told legal lawful one two own past =
 
 -- ---- how many replies an agent receives
 
-told_in-length : (ss : List Spelled) (bs : List (List ℕ)) → length bs ≡ length ss → length (told_in ss bs) ≡ length (asked_in ss)
+told_in-length : (ss : List Spelled) (bs : List (List ℕ)) → length bs ≡ length ss → length (replies_to_requests ss bs) ≡ length (asked_in ss)
 told_in-length [] bs same = refl
 told_in-length (s ∷ ss) [] same = absurd (omega arith)
 told_in-length (Err why ∷ ss) (b ∷ bs) same = told_in-length ss bs (omega arith)
 told_in-length (Ok asked ∷ ss) (b ∷ bs) same = ap suc (told_in-length ss bs (omega arith))
 
 pub each_is_received : EachIsReceived
-each_is_received name r ss bs same = told_to-length name r (asked_in ss) (told_in ss bs) (told_in-length ss bs same)
+each_is_received name r ss bs same = told_to-length name r (asked_in ss) (replies_to_requests ss bs) (told_in-length ss bs same)

@@ -8,13 +8,13 @@ use Rattle.bor_desk.specs.declared.reply.DeskReply.{DeskReply}
 use Rattle.bor_desk.specs.declared.reply.DeskReply.TheVariants.{Refused}
 use Rattle.bor_desk.specs.Outcomes.{IsTold}
 use Rattle.bor_desk.specs.Step.{step}
-use Rattle.bor_desk.specs.Runs.{Asked, exchange, request_by, request_of, occasion_then, history, told_then, told_to}
+use Rattle.bor_desk.specs.Runs.{Asked, exchange, request_by, agent_request, occasion_then, history, told_then, told_to}
 use Rattle.bor_wire.specs.Spelling.Spell.{Spelled, Spells}
 use Rattle.bor_wire.proofs.OnSpelling.Messages.{one_spelling}
 use Rattle.bor_wire.specs.Rendering.Replies.{Said, answered, bytes_of}
 use Rattle.bor_wire.specs.Inputs.{IsSaid, IsReplyTo, after}
 use Rattle.bor_wire.specs.Runs.{register_left}
-use Rattle.bor_wire.specs.Histories.{asked_in, told_in, received}
+use Rattle.bor_wire.specs.Histories.{asked_in, replies_to_requests, received}
 use Rattle.bor_wire.specs.Nobody.{IsNobodys, said_to_nobody, NobodysInputs}
 
 -- ---- the register
@@ -40,7 +40,7 @@ in_no_history name r [] later (Err why) h = refl
 in_no_history name r [] later (Ok asked) h = history_by name r (caller_of asked.token r) asked.request (asked_in later) h
 in_no_history name r (Err why ∷ earlier) later s h = in_no_history name r earlier later s h
 in_no_history name r (Ok asked ∷ earlier) later s h =
-    ap (λ rest. occasion_then name r (request_of name r asked) rest) (in_no_history name (exchange r asked).register earlier later s h)
+    ap (λ rest. occasion_then name r (agent_request name r asked) rest) (in_no_history name (exchange r asked).register earlier later s h)
 
 -- ---- what is received
 
@@ -54,13 +54,13 @@ received_by_none : (name : List ℕ) (r : Register) (earlier later : List Spelle
     → received name r (earlier ++ s ∷ later) (replies ++ bytes ∷ others) ≡ received name r (earlier ++ later) (replies ++ others)
 received_by_none name r [] later (Err why) [] others bytes count h = refl
 received_by_none name r [] later (Ok asked) [] others bytes count h =
-    told_by name r (caller_of asked.token r) asked.request (asked_in later) bytes (told_in later others) h
+    told_by name r (caller_of asked.token r) asked.request (asked_in later) bytes (replies_to_requests later others) h
 received_by_none name r [] later s (reply ∷ replies) others bytes count h = absurd cc
 received_by_none name r (t ∷ earlier) later s [] others bytes count h = absurd cc
 received_by_none name r (Err why ∷ earlier) later s (reply ∷ replies) others bytes count h =
     received_by_none name r earlier later s replies others bytes (omega arith) h
 received_by_none name r (Ok asked ∷ earlier) later s (reply ∷ replies) others bytes count h =
-    ap (λ rest. told_then (request_of name r asked) reply rest)
+    ap (λ rest. told_then (agent_request name r asked) reply rest)
     (received_by_none name (exchange r asked).register earlier later s replies others bytes (omega arith) h)
 
 -- ---- what is said

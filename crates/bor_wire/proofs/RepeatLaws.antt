@@ -34,7 +34,7 @@ use Rattle.bor_desk.proofs.OnOperations.Lodgings.{addition_is}
 use Rattle.bor_desk.proofs.Unchanged.{left_by_agent}
 use Rattle.bor_wire.specs.Spelling.Spell.{Spelled, Spells}
 use Rattle.bor_wire.proofs.OnSpelling.Messages.{one_spelling}
-use Rattle.bor_wire.specs.Rendering.Replies.{Said, answered, status_of, body_of, bytes_of}
+use Rattle.bor_wire.specs.Rendering.Replies.{Said, answered, status_of, reply_body, bytes_of}
 use Rattle.bor_wire.specs.Inputs.{IsSaid, IsReplyTo, after}
 use Rattle.bor_wire.specs.Refused.{HasStatus}
 use Rattle.bor_wire.specs.Runs.{register_left}
@@ -316,8 +316,8 @@ reused_is day due date file other f due_is file_is differs = by_tests (int_eq f.
 abbrev told_again_reply : Register → AcceptedFiling → Lodged → Said
 told_again_reply q f lodged = answered (tell.Lodged (told_again q.day f lodged))
 
-same_body : (q : Register) (f : AcceptedFiling) (lodged : Lodged) (said : Said) → said ≡ told_again_reply q f lodged → told_again q.day f lodged ≡ record lodged { fresh = false } → body_of said ≡ body_of (answered (tell.Lodged lodged))
-same_body q f lodged said is same = ap body_of is ∙ ap (λ l. body_of (answered (tell.Lodged l))) same
+same_body : (q : Register) (f : AcceptedFiling) (lodged : Lodged) (said : Said) → said ≡ told_again_reply q f lodged → told_again q.day f lodged ≡ record lodged { fresh = false } → reply_body said ≡ reply_body (answered (tell.Lodged lodged))
+same_body q f lodged said is same = ap reply_body is ∙ ap (λ l. reply_body (answered (tell.Lodged l))) same
 
 told_again_is : (r : Register) (asked : Asked) (key : List ℕ) (due : ℤ) (file : List ℕ) (lodged : Lodged) (between : List Spelled) → IsLodged r asked key due file lodged
     → IsToldAgain (register_left (after r (Ok asked)) between) asked key lodged

@@ -1,5 +1,8 @@
--- The one order of refusals: a table of all that may stand against an input, of which the first line that holds is what is said.
-use Rattle.std.specs.Prelude.{◌≡◌, ℕ, ℤ, ◌<◌, ◌&&◌, not, nat_le, int_lt, int_le, Bool, true, false, List, [], ◌∷◌, ◌++◌, length, map, Option, Some, None, unwrap_or, Result, Ok, Err}
+-- The one order of refusals: a table of all that may stand against an input, of which the first
+-- line that holds is what is said.
+use Rattle.std.specs.Prelude.{◌≡◌, ℕ, ℤ, ◌<◌, ◌&&◌, not, nat_le, int_lt, int_le, Bool, true, false}
+use Rattle.std.specs.Prelude.{List, [], ◌∷◌, ◌++◌, length, map, Option, Some, None, unwrap_or}
+use Rattle.std.specs.Prelude.{Result, Ok, Err}
 use Rattle.std.specs.Option.{is_none}
 use Rattle.std.specs.Ordering.{int_eq}
 use Rattle.serde_json.specs.Data.{Data}
@@ -54,23 +57,25 @@ faults_in None = NotJson ∷ []
 faults_in (Some d) = faults d
 
 -- why the statement at a place is refused
-abbrev pub placed : ℕ → settling.Refusal → Refusal
-placed place settling.statement_twice = refuse.StatementTwice place
-placed place (settling.by_record fault) = refuse.Record place fault
+abbrev pub refusal_at_place : ℕ → settling.Refusal → Refusal
+refusal_at_place place settling.statement_twice = refuse.StatementTwice place
+refusal_at_place place (settling.by_record fault) = refuse.Record place fault
 
 -- the first place of a file that is refused
 abbrev pub lines_of_places : Result (List Statement) settling.PlacedRefusal → List Refusal
 lines_of_places (Ok statements) = []
-lines_of_places (Err refusal) = placed refusal.place refusal.why ∷ []
+lines_of_places (Err refusal) = refusal_at_place refusal.place refusal.why ∷ []
 
 -- of the statements that a file is read to; where it has a fault, nothing more is looked at
 abbrev pub lines_of_statements : List Live → ℤ → Result (List Statement) FileFault → List Refusal
-lines_of_statements live due (Ok statements) = lines_of_places (settling.settled live due statements)
+lines_of_statements live due (Ok statements) =
+    lines_of_places (settling.settled live due statements)
 lines_of_statements live due (Err fault) = []
 
 -- under a key that is there, or under a new one
 abbrev pub lines_of_lodging : Sight → ℤ → List ℕ → Option AcceptedFiling → List Refusal
-lines_of_lodging s due file (Some f) = line (not (int_eq f.due due && is_same f.bytes file)) refuse.KeyReused
+lines_of_lodging s due file (Some f) =
+    line (not (int_eq f.due due && is_same f.bytes file)) refuse.KeyReused
 lines_of_lodging s due file None =
     table (line (nat_le filings_limit (length s.own)) refuse.FilingsFull
     ∷ line (int_lt due s.day) refuse.DuePast
@@ -92,13 +97,19 @@ abbrev pub lines_of_agent : Sight → Request → List Refusal
 lines_of_agent s (ask.Lodge key due file) = lines_of_lodging s due file (filing_keyed key s.own)
 lines_of_agent s (ask.Withdraw key) = lines_of_withdrawal s (filing_keyed key s.own)
 lines_of_agent s (ask.File key) = line (is_none (filing_keyed key s.own)) refuse.NoSuchFiling
-lines_of_agent s (ask.Chains entity date) = line (not (is_entity_info (info_of (shown_of (unwrap_or date s.day) s.seen) entity))) refuse.NoEntity
-lines_of_agent s (ask.Evidence entity date) = line (not (is_entity_info (info_of (shown_of (unwrap_or date s.day) s.seen) entity))) refuse.NoEntity
+lines_of_agent s (ask.Chains entity date) =
+    line
+    (not (is_entity_info (info_of (shown_of (unwrap_or date s.day) s.seen) entity))) refuse.NoEntity
+lines_of_agent s (ask.Evidence entity date) =
+    line
+    (not (is_entity_info (info_of (shown_of (unwrap_or date s.day) s.seen) entity))) refuse.NoEntity
 lines_of_agent s request = []
 
 abbrev pub lines_of_registrar : Register → Request → List Refusal
 lines_of_registrar r (ask.Day date) = line (int_lt date r.day) refuse.DayBack
-lines_of_registrar r (ask.Enrol name token) = table (line (is_enrolled name r.members) refuse.NameTaken ∷ line (is_taken token r) refuse.TokenTaken ∷ [])
+lines_of_registrar r (ask.Enrol name token) =
+    table (line (is_enrolled name r.members) refuse.NameTaken
+    ∷ line (is_taken token r) refuse.TokenTaken ∷ [])
 lines_of_registrar r request = []
 
 -- ---- the whole table
@@ -110,19 +121,25 @@ lines_of_operation r (Some Registrar) request = lines_of_registrar r request
 
 -- those of the register: who asks, and then what is asked
 abbrev pub register_refusals : Register → Option Caller → Request → List Refusal
-register_refusals r caller request = lines_of_caller caller request ++ lines_of_operation r caller request
+register_refusals r caller request =
+    lines_of_caller caller request ++ lines_of_operation r caller request
 
--- all that stands against an input whose head is taken apart so: what its bytes refuse, and then what the register does
-abbrev pub all_refusals : Register → List ℕ → Option Parts → List Said
-all_refusals r input head =
+-- all that stands against an input whose head is taken apart so: what its bytes refuse, and then
+-- what the register does
+abbrev pub input_refusals : Register → List ℕ → Option Parts → List Said
+input_refusals r input head =
     let asked = asked_behind input (head_end input) head in
-    map refused (refusals input head) ++ map (λ why. answered (tell.Refused why)) (register_refusals r (caller_of asked.token r) asked.request)
+    map refused (refusals input head)
+    ++ map (λ why. answered (tell.Refused why))
+    (register_refusals r (caller_of asked.token r) asked.request)
 
 -- the first of them is said; where there is none, the status is below 400
-abbrev pub IsFirst : List Said → Said → Type 0
-IsFirst [] said = status_of said < 400
-IsFirst (first ∷ others) said = said ≡ first
+abbrev pub IsFirstRefusal : List Said → Said → Type 0
+IsFirstRefusal [] said = status_of said < 400
+IsFirstRefusal (first ∷ others) said = said ≡ first
 
 -- This is the order of refusals, of every register and every input.
 abbrev pub TheFirstRefusalIsSaid : Type 0
-TheFirstRefusalIsSaid = (r : Register) (input : List ℕ) (head : Option Parts) (said : Said) → IsTakenApart input head → IsSaid r (spelling input head) said → IsFirst (all_refusals r input head) said
+TheFirstRefusalIsSaid =
+    (r : Register) (input : List ℕ) (head : Option Parts) (said : Said) → IsTakenApart input head
+    → IsSaid r (spelling input head) said → IsFirstRefusal (input_refusals r input head) said

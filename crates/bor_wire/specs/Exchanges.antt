@@ -1,5 +1,6 @@
 -- The effects of one exchange over a reader and a writer.
-use Rattle.std.specs.Prelude.{◌≡◌, ◌≢◌, ◌≤◌, ℕ, List, [], ◌∷◌, take, Option, Some, None, Ok, Err, IfSome, true, ⊤}
+use Rattle.std.specs.Prelude.{◌≡◌, ◌≢◌, ◌≤◌, ℕ, List, [], ◌∷◌, take, Option, Some, None, Ok, Err}
+use Rattle.std.specs.Prelude.{IfSome, true, ⊤}
 use Rattle.std.specs.Io.KnownBytes.{Appends, Keeps}
 use Rattle.bor_register.specs.Register.{Register, caller_of}
 use Rattle.bor_desk.specs.Operations.Legality.{IsLegal}
@@ -30,9 +31,12 @@ IsSpelled known spelled = IfSome known (λ input. Spells input spelled)
 
 -- ---- the reply that goes out; but for `IfRefusing`, for clauses of private functions alone
 
--- the status and the bytes are those of what is said to the input, and the register after it is shown
+-- the status and the bytes are those of what is said to the input, and the register after it is
+-- shown
 abbrev pub IsSent : (Register → Type 0) → Register → Spelled → ℕ → List ℕ → Type 0
-IsSent shown r spelled status bytes = (said : Said) × IsSaid r spelled said × (bytes ≡ bytes_of said) × (status ≡ status_of said) × shown (after r spelled)
+IsSent shown r spelled status bytes =
+    (said : Said) × IsSaid r spelled said × (bytes ≡ bytes_of said) × (status ≡ status_of said)
+    × shown (after r spelled)
 
 -- the reply that goes out for an input that spells this, or nothing changed
 abbrev pub GoesOut : Outgoing → (Register → Type 0) → Register → Spelled → Type 0
@@ -46,7 +50,8 @@ HasStatus outgoing.Unavailable = ⊤
 
 -- a whole reply is the refusal
 abbrev pub IsRefusal : Outgoing → Refusal → Type 0
-IsRefusal (outgoing.Full status bytes) why = (status ≡ status_of (refused why)) × (bytes.items ≡ bytes_of (refused why))
+IsRefusal (outgoing.Full status bytes) why =
+    (status ≡ status_of (refused why)) × (bytes.items ≡ bytes_of (refused why))
 IsRefusal outgoing.Unavailable why = ⊤
 
 -- the desk's reply, where there is one, has the answer
@@ -54,13 +59,15 @@ abbrev pub TellsAnswer : Option DeskReply → Register → Asked → Type 0
 TellsAnswer reply r asked = IfSome reply (λ told. IsTold (exchange r asked).answer told)
 
 -- the register after what the desk did; where it has no reply, nothing changed
-abbrev pub left_by : Option DeskReply → Register → Asked → Register
-left_by (Some reply) r asked = (exchange r asked).register
-left_by None r asked = r
+abbrev pub left_by_desk : Option DeskReply → Register → Asked → Register
+left_by_desk (Some reply) r asked = (exchange r asked).register
+left_by_desk None r asked = r
 
--- the reply that goes out has the status and the bytes of the desk's reply; nothing may go out of one that only has what was read
+-- the reply that goes out has the status and the bytes of the desk's reply; nothing may go out of
+-- one that only has what was read
 abbrev pub IsRendered : Outgoing → DeskReply → Type 0
-IsRendered (outgoing.Full status bytes) reply = (status ≡ status_of (answered reply)) × (bytes.items ≡ bytes_of (answered reply))
+IsRendered (outgoing.Full status bytes) reply =
+    (status ≡ status_of (answered reply)) × (bytes.items ≡ bytes_of (answered reply))
 IsRendered outgoing.Unavailable reply = is_long reply ≡ true
 
 -- where there is no whole reply, or one with a status of 400 or more, P holds
@@ -73,9 +80,12 @@ abbrev pub IfNoChange : Option Outgoing → Type 0 → Type 0
 IfNoChange (Some out) P = IfRefusing out P
 IfNoChange None P = P
 
--- of a whole reply there is something that the input spells, of which P holds with its status and bytes; of anything else Q does
-abbrev pub ByOutgoing : Option Outgoing → Option (List ℕ) → (Spelled → ℕ → List ℕ → Type 0) → Type 0 → Type 0
-ByOutgoing (Some (outgoing.Full status bytes)) known P Q = (spelled : Spelled) × IsSpelled known spelled × P spelled status bytes.items
+-- of a whole reply there is something that the input spells, of which P holds with its status and
+-- bytes; of anything else Q does
+abbrev pub ByOutgoing : Option Outgoing → Option (List ℕ) → (Spelled → ℕ → List ℕ → Type 0)
+    → Type 0 → Type 0
+ByOutgoing (Some (outgoing.Full status bytes)) known P Q =
+    (spelled : Spelled) × IsSpelled known spelled × P spelled status bytes.items
 ByOutgoing (Some outgoing.Unavailable) known P Q = Q
 ByOutgoing None known P Q = Q
 
@@ -99,7 +109,8 @@ IsWrittenBy ReadFailed old new bytes = ⊥
 IsWrittenBy (WriteFailed status) old new bytes = (n : ℕ) × Appends old new (take n bytes)
 
 -- The input was replied to with this status.
-pub record IsReplied (outcome : Outcome) (shown : Register → Type 0) (r : Register) (known old new : Option (List ℕ)) (status : ℕ) : Type 0 where
+pub record IsReplied (outcome : Outcome) (shown : Register → Type 0) (r : Register)
+    (known old new : Option (List ℕ)) (status : ℕ) : Type 0 where
   -- it spells this, where its bytes are known
   pub spelled : Spelled
   pub spells : IsSpelled known spelled
@@ -117,14 +128,20 @@ pub record IsReplied (outcome : Outcome) (shown : Register → Type 0) (r : Regi
   -- from a legal register each agent receives what it would receive alone
   pub alone : IsLegal r → (name : List ℕ) → IsAlone name r (spelled ∷ []) (bytes ∷ [])
 
--- The effects of an exchange that ended so, from the register r: `shown` says of a register that it is shown after it. Its reader had the bytes `known`, and its writer held those of `old` before it and those of `new` after it. Where the bytes of a reader or a writer aren't known, nothing is said of them.
-pub record IsExchanged (outcome : Outcome) (shown : Register → Type 0) (r : Register) (known old new : Option (List ℕ)) : Type 0 where
+-- The effects of an exchange that ended so, from the register r: `shown` says of a register that it
+-- is shown after it. Its reader had the bytes `known`, and its writer held those of `old` before it
+-- and those of `new` after it. Where the bytes of a reader or a writer aren't known, nothing is
+-- said of them.
+pub record IsExchanged (outcome : Outcome) (shown : Register → Type 0) (r : Register)
+    (known old new : Option (List ℕ)) : Type 0 where
   -- where the reader failed, nothing changed and nothing was written
   pub unread : status_told outcome ≡ None → shown r × Keeps old new
   -- with status 503 nothing changed, and what was written is `UNAVAILABLE`
-  pub unavailable : status_told outcome ≡ Some 503 → shown r × IsWrittenBy outcome old new UNAVAILABLE.now
+  pub unavailable : status_told outcome ≡ Some 503
+      → shown r × IsWrittenBy outcome old new UNAVAILABLE.now
   -- with another status the input was replied to
-  pub replied : (status : ℕ) → status_told outcome ≡ Some status → status ≢ 503 → IsReplied outcome shown r known old new status
+  pub replied : (status : ℕ) → status_told outcome ≡ Some status → status ≢ 503
+      → IsReplied outcome shown r known old new status
 
 -- ---- replies in memory
 
@@ -139,7 +156,8 @@ bytes_out outgoing.Unavailable = UNAVAILABLE.now
 
 -- the effects of an exchange over these bytes, whose reply this is
 abbrev pub IsResponse : (Register → Type 0) → Register → List ℕ → Outgoing → Type 0
-IsResponse shown r input out = IsExchanged (Replied (status_out out)) shown r (Some input) (Some []) (Some (bytes_out out))
+IsResponse shown r input out =
+    IsExchanged (Replied (status_out out)) shown r (Some input) (Some []) (Some (bytes_out out))
 
 -- ---- where a request is answered
 
@@ -166,13 +184,17 @@ UnlessUnavailable (WriteFailed status) P = status ≢ 503 → P
 
 -- ---- the state that a stop leaves
 
--- the state that is left shows the register after the input; where its bytes aren't known, after some input
-abbrev pub ShowsAfter : {W : Type 0} → (W → Register → Type 0) → Option (List ℕ) → Register → W → Type 0
-ShowsAfter left_shows known r left = (spelled : Spelled) × IsSpelled known spelled × left_shows left (after r spelled)
+-- the state that is left shows the register after the input; where its bytes aren't known, after
+-- some input
+abbrev pub ShowsAfter : {W : Type 0} → (W → Register → Type 0) → Option (List ℕ)
+    → Register → W → Type 0
+ShowsAfter left_shows known r left =
+    (spelled : Spelled) × IsSpelled known spelled × left_shows left (after r spelled)
 
 -- ---- whom it is for
 
--- the agent that has the token which is spelled; none where the registrar or nobody has it, and where no request is spelled
+-- the agent that has the token which is spelled; none where the registrar or nobody has it, and
+-- where no request is spelled
 abbrev pub agent_spelled : Register → Spelled → Option (List ℕ)
 agent_spelled r (Ok asked) = agent_of (caller_of asked.token r)
 agent_spelled r (Err why) = None
@@ -182,11 +204,15 @@ abbrev pub IsFor : Outgoing → Option (List ℕ) → Option (List ℕ) → Type
 IsFor (outgoing.Full status bytes) named asks = named ≡ asks
 IsFor outgoing.Unavailable named asks = IfSome named (λ name. asks ≡ Some name)
 
--- The response to an input names the agent that has the token which the input spells, and none where there is no such agent, or no request; with 503 it may name none.
+-- The response to an input names the agent that has the token which the input spells, and none
+-- where there is no such agent, or no request; with 503 it may name none.
 abbrev pub NamesWhoAsks : Register → List ℕ → Response → Type 0
-NamesWhoAsks r input response = (spelled : Spelled) → Spells input spelled → IsFor response.outgoing response.agent (agent_spelled r spelled)
+NamesWhoAsks r input response =
+    (spelled : Spelled) → Spells input spelled
+    → IsFor response.outgoing response.agent (agent_spelled r spelled)
 
--- the desk's reply, where there is one, is for the agent that asks; without one, no other agent is named (for clauses of private functions alone)
+-- the desk's reply, where there is one, is for the agent that asks; without one, no other agent is
+-- named (for clauses of private functions alone)
 abbrev pub IsToldFor : Option DeskReply → Option (List ℕ) → Option (List ℕ) → Type 0
 IsToldFor (Some reply) named asks = named ≡ asks
 IsToldFor None named asks = IfSome named (λ name. asks ≡ Some name)
@@ -197,11 +223,13 @@ OnSpelled known P = IfSome known (λ input. (spelled : Spelled) → Spells input
 
 -- ---- facts of any register and of any keep
 
--- where the status is 503, what was written is `UNAVAILABLE` or a front of it; where the reader failed, nothing was
+-- where the status is 503, what was written is `UNAVAILABLE` or a front of it; where the reader
+-- failed, nothing was
 abbrev pub TellsUnavailable : Outcome → Option (List ℕ) → Option (List ℕ) → Type 0
 TellsUnavailable (Replied status) old new = status ≡ 503 → Appends old new UNAVAILABLE.now
 TellsUnavailable ReadFailed old new = Keeps old new
-TellsUnavailable (WriteFailed status) old new = status ≡ 503 → (n : ℕ) × Appends old new (take n UNAVAILABLE.now)
+TellsUnavailable (WriteFailed status) old new =
+    status ≡ 503 → (n : ℕ) × Appends old new (take n UNAVAILABLE.now)
 
 -- with status 503, and where the reader failed, P holds
 abbrev pub WithoutReply : Outcome → Type 0 → Type 0
@@ -217,9 +245,12 @@ IfRefused (WriteFailed status) P = 400 ≤ status → P
 
 -- an input that spells a refusal is answered by it, where the status isn't 503
 abbrev pub TellsRefusal : Outcome → Refusal → Option (List ℕ) → Option (List ℕ) → Type 0
-TellsRefusal (Replied status) why old new = status ≢ 503 → (status ≡ status_of (refused why)) × Appends old new (bytes_of (refused why))
+TellsRefusal (Replied status) why old new =
+    status ≢ 503 → (status ≡ status_of (refused why)) × Appends old new (bytes_of (refused why))
 TellsRefusal ReadFailed why old new = Keeps old new
-TellsRefusal (WriteFailed status) why old new = status ≢ 503 → (status ≡ status_of (refused why)) × ((n : ℕ) × Appends old new (take n (bytes_of (refused why))))
+TellsRefusal (WriteFailed status) why old new =
+    status ≢ 503 → (status ≡ status_of (refused why))
+    × ((n : ℕ) × Appends old new (take n (bytes_of (refused why))))
 
 -- whatever refusal the input spells, P holds of it
 abbrev pub OnRefusal : Option (List ℕ) → (Refusal → Type 0) → Type 0
@@ -243,4 +274,5 @@ write_faults outcome n = n
 abbrev pub IsWritten : Outcome → ℕ → List ℕ → Option (List ℕ) → Option (List ℕ) → Type 0
 IsWritten (Replied told) status bytes old new = (told ≡ status) × Appends old new bytes
 IsWritten ReadFailed status bytes old new = ⊥
-IsWritten (WriteFailed told) status bytes old new = (told ≡ status) × (n : ℕ) × Appends old new (take n bytes)
+IsWritten (WriteFailed told) status bytes old new =
+    (told ≡ status) × (n : ℕ) × Appends old new (take n bytes)

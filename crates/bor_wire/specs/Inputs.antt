@@ -10,7 +10,8 @@ use Rattle.bor_wire.specs.Rendering.Replies.{Said, refused, answered, bytes_of}
 -- If the input spells no request, its refusal is said; else a reply that has the step's answer.
 abbrev pub IsSaid : Register → Spelled → Said → Type 0
 IsSaid r (Err why) said = said ≡ refused why
-IsSaid r (Ok asked) said = (reply : DeskReply) × IsTold (exchange r asked).answer reply × (said ≡ answered reply)
+IsSaid r (Ok asked) said =
+    (reply : DeskReply) × IsTold (exchange r asked).answer reply × (said ≡ answered reply)
 
 -- these are the bytes of what is said to the input
 abbrev pub IsReplyTo : Register → Spelled → List ℕ → Type 0

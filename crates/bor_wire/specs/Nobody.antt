@@ -20,14 +20,24 @@ abbrev pub said_to_nobody : Spelled → Said
 said_to_nobody (Err why) = refused why
 said_to_nobody (Ok asked) = answered (Refused NoAgent)
 
--- Wherever an input of a run is nobody's, it leaves the register, it is in no agent's history, and no agent receives its reply. What is said to it follows from what it spells; so its bytes alone give its reply, in all registers in which they are nobody's. This holds of every register.
+-- Wherever an input of a run is nobody's, it leaves the register, it is in no agent's history, and
+-- no agent receives its reply. What is said to it follows from what it spells; so its bytes alone
+-- give its reply, in all registers in which they are nobody's. This holds of every register.
 pub record NobodysInputs : Type 0 where
   pub left : (r : Register) (spelled : Spelled) → IsNobodys r spelled → after r spelled ≡ r
-  pub in_no_history : (name : List ℕ) (r : Register) (earlier later : List Spelled) (spelled : Spelled) → IsNobodys (register_left r earlier) spelled →
-      history name r (asked_in (earlier ++ spelled ∷ later)) ≡ history name r (asked_in (earlier ++ later))
-  pub received_by_none : (name : List ℕ) (r : Register) (earlier later : List Spelled) (spelled : Spelled) (replies others : List (List ℕ)) (bytes : List ℕ) →
+  pub in_no_history : (name : List ℕ) (r : Register) (earlier later : List Spelled)
+      (spelled : Spelled)
+      → IsNobodys (register_left r earlier) spelled →
+      history name r (asked_in (earlier ++ spelled ∷ later))
+      ≡ history name r (asked_in (earlier ++ later))
+  pub received_by_none : (name : List ℕ) (r : Register) (earlier later : List Spelled)
+      (spelled : Spelled) (replies others : List (List ℕ)) (bytes : List ℕ) →
       length earlier ≡ length replies → IsNobodys (register_left r earlier) spelled →
-      received name r (earlier ++ spelled ∷ later) (replies ++ bytes ∷ others) ≡ received name r (earlier ++ later) (replies ++ others)
-  pub said : (r : Register) (spelled : Spelled) (said : Said) → IsNobodys r spelled → IsSaid r spelled said ↔ (said ≡ said_to_nobody spelled)
-  pub by_its_bytes : (input : List ℕ) (r q : Register) (one other : Spelled) (bytes others : List ℕ) → Spells input one → Spells input other →
-      IsNobodys r one → IsNobodys q other → IsReplyTo r one bytes → IsReplyTo q other others → bytes ≡ others
+      received name r (earlier ++ spelled ∷ later) (replies ++ bytes ∷ others)
+      ≡ received name r (earlier ++ later) (replies ++ others)
+  pub said : (r : Register) (spelled : Spelled) (said : Said) → IsNobodys r spelled
+      → IsSaid r spelled said ↔ (said ≡ said_to_nobody spelled)
+  pub by_its_bytes : (input : List ℕ) (r q : Register) (one other : Spelled) (bytes others : List ℕ)
+      → Spells input one → Spells input other →
+      IsNobodys r one → IsNobodys q other → IsReplyTo r one bytes → IsReplyTo q other others
+      → bytes ≡ others

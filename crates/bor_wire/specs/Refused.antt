@@ -14,12 +14,15 @@ pub record IsFull (bytes : List ℕ) (status : ℕ) : Type 0 where
   pub line : HasStatus bytes status
   pub served : status ≢ 503
 
--- of these bytes as the reply to an input: where their status is 400 or more, the register after it is the one before
+-- of these bytes as the reply to an input: where their status is 400 or more, the register after it
+-- is the one before
 abbrev pub LeavesWhereRefused : Register → Spelled → List ℕ → Type 0
-LeavesWhereRefused r spelled bytes = (status : ℕ) → HasStatus bytes status → 400 ≤ status → after r spelled ≡ r
+LeavesWhereRefused r spelled bytes =
+    (status : ℕ) → HasStatus bytes status → 400 ≤ status → after r spelled ≡ r
 
 -- so does each reply of a run
 abbrev pub RefusalsLeave : Register → List Spelled → List (List ℕ) → Type 0
 RefusalsLeave r [] [] = Unit {0}
-RefusalsLeave r (spelled ∷ rest) (bytes ∷ replies) = LeavesWhereRefused r spelled bytes × RefusalsLeave (after r spelled) rest replies
+RefusalsLeave r (spelled ∷ rest) (bytes ∷ replies) =
+    LeavesWhereRefused r spelled bytes × RefusalsLeave (after r spelled) rest replies
 RefusalsLeave r inputs replies = ⊥

@@ -18,16 +18,21 @@ AreCounted persons = All (λ p. p.links < 2 ^ 64) persons
 abbrev pub report_bytes : Node → ℤ → List PersonLine → List ℕ
 report_bytes entity day persons = bytes_of (answered (Chains entity day persons))
 
--- Two reports of the same bytes are on one entity and one day, as it is written, and list the same persons, with the same names and the same least numbers of links.
-pub record IsSameReport (entity other : Node) (day date : ℤ) (persons lines : List PersonLine) : Type 0 where
+-- Two reports of the same bytes are on one entity and one day, as it is written, and list the same
+-- persons, with the same names and the same least numbers of links.
+pub record IsSameReport (entity other : Node) (day date : ℤ)
+    (persons lines : List PersonLine) : Type 0 where
   pub entity_is : entity ≡ other
   pub day_is : day_text day ≡ day_text date
   pub persons_are : persons ≡ lines
 
 -- The bytes of a report determine its persons.
 abbrev pub BytesGivePersons : Type 0
-BytesGivePersons = (entity other : Node) (day date : ℤ) (persons lines : List PersonLine) → AreCounted persons → AreCounted lines →
-    report_bytes entity day persons ≡ report_bytes other date lines → IsSameReport entity other day date persons lines
+BytesGivePersons =
+    (entity other : Node) (day date : ℤ) (persons lines : List PersonLine) → AreCounted persons
+    → AreCounted lines →
+    report_bytes entity day persons ≡ report_bytes other date lines
+    → IsSameReport entity other day date persons lines
 
 -- ---- evidence
 
@@ -36,7 +41,8 @@ IsShareCounted None = Unit {0}
 IsShareCounted (Some share) = (share.high < 2 ^ 64) × (share.low < 2 ^ 64)
 
 abbrev pub AreSharesCounted : Details → Type 0
-AreSharesCounted (Relationship subject party interests) = All (λ (i : Interest). IsShareCounted i.share) interests
+AreSharesCounted (Relationship subject party interests) =
+    All (λ (i : Interest). IsShareCounted i.share) interests
 AreSharesCounted details = Unit {0}
 
 -- each number of links is below 2^64, and each end of a share, as each is that is counted or read
@@ -47,8 +53,11 @@ pub record IsCounted (told : EntityEvidence) : Type 0 where
 abbrev pub evidence_bytes : Node → ℤ → EntityEvidence → List ℕ
 evidence_bytes entity day told = bytes_of (answered (Evidence entity day told))
 
--- Evidence of the same bytes is of one entity and one day, as it is written, and has the same persons with the same first links, and the same links with those that follow them and the same records between.
-pub record IsSameEvidence (entity other : Node) (day date : ℤ) (told said : EntityEvidence) : Type 0 where
+-- Evidence of the same bytes is of one entity and one day, as it is written, and has the same
+-- persons with the same first links, and the same links with those that follow them and the same
+-- records between.
+pub record IsSameEvidence (entity other : Node) (day date : ℤ)
+    (told said : EntityEvidence) : Type 0 where
   pub entity_is : entity ≡ other
   pub day_is : day_text day ≡ day_text date
   pub persons_are : told.persons ≡ said.persons
@@ -56,5 +65,8 @@ pub record IsSameEvidence (entity other : Node) (day date : ℤ) (told said : En
 
 -- The bytes of evidence determine its persons and its links.
 abbrev pub BytesGiveEvidence : Type 0
-BytesGiveEvidence = (entity other : Node) (day date : ℤ) (told said : EntityEvidence) → IsCounted told → IsCounted said →
-    evidence_bytes entity day told ≡ evidence_bytes other date said → IsSameEvidence entity other day date told said
+BytesGiveEvidence =
+    (entity other : Node) (day date : ℤ) (told said : EntityEvidence) → IsCounted told
+    → IsCounted said →
+    evidence_bytes entity day told ≡ evidence_bytes other date said
+    → IsSameEvidence entity other day date told said

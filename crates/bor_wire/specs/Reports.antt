@@ -16,27 +16,35 @@ use Rattle.bor_wire.specs.Spelling.Spell.{Spelled}
 use Rattle.bor_wire.specs.Rendering.Replies.{Said, answered, status_of, bytes_of}
 use Rattle.bor_wire.specs.Inputs.{IsSaid, after}
 
--- The report names exactly the persons that are joined to the entity by chains in what the caller, an agent, sees on the day.
-pub record NamesTheJoined (r : Register) (token : List ℕ) (entity : Node) (date : Option ℤ) (said : Said) : Type 0 where
+-- The report names exactly the persons that are joined to the entity by chains in what the caller,
+-- an agent, sees on the day.
+pub record NamesTheJoined (r : Register) (token : List ℕ) (entity : Node) (date : Option ℤ)
+    (said : Said) : Type 0 where
   pub name : List ℕ
   pub caller : caller_of token r ≡ Some (Agent name)
   pub persons : List PersonLine
   pub joined : AreJoined (shown_of (unwrap_or date r.day) (seen_by name r)) entity persons
   pub told : said ≡ answered (tell.Chains entity (unwrap_or date r.day) persons)
 
--- The reply has the evidence of the entity, by what the caller, an agent, sees on the day. It names exactly the persons that are joined to the entity, each with a chain of links that the caller sees.
-pub record TellsTheEvidence (r : Register) (token : List ℕ) (entity : Node) (date : Option ℤ) (said : Said) : Type 0 where
+-- The reply has the evidence of the entity, by what the caller, an agent, sees on the day. It names
+-- exactly the persons that are joined to the entity, each with a chain of links that the caller
+-- sees.
+pub record TellsTheEvidence (r : Register) (token : List ℕ) (entity : Node) (date : Option ℤ)
+    (said : Said) : Type 0 where
   pub name : List ℕ
   pub caller : caller_of token r ≡ Some (Agent name)
   pub evidence : EntityEvidence
   pub is_evidence : IsEntityEvidence (seen_by name r) entity (unwrap_or date r.day) evidence
-  pub joined : AreJoined (shown_of (unwrap_or date r.day) (seen_by name r)) entity (map without_first evidence.persons)
+  pub joined : AreJoined (shown_of (unwrap_or date r.day) (seen_by name r)) entity
+      (map without_first evidence.persons)
   pub told : said ≡ answered (tell.Evidence entity (unwrap_or date r.day) evidence)
 
 -- the reply with status 200 to a request for a report on chains, or for the evidence of one
 pub record IsExactTo (r : Register) (asked : Asked) (said : Said) : Type 0 where
-  pub report : (entity : Node) (date : Option ℤ) → asked.request ≡ ask.Chains entity date → status_of said ≡ 200 → NamesTheJoined r asked.token entity date said
-  pub evidence : (entity : Node) (date : Option ℤ) → asked.request ≡ ask.Evidence entity date → status_of said ≡ 200 → TellsTheEvidence r asked.token entity date said
+  pub report : (entity : Node) (date : Option ℤ) → asked.request ≡ ask.Chains entity date
+      → status_of said ≡ 200 → NamesTheJoined r asked.token entity date said
+  pub evidence : (entity : Node) (date : Option ℤ) → asked.request ≡ ask.Evidence entity date
+      → status_of said ≡ 200 → TellsTheEvidence r asked.token entity date said
 
 abbrev pub IsExact : Register → Spelled → Said → Type 0
 IsExact r (Err why) said = Unit {0}
@@ -44,10 +52,12 @@ IsExact r (Ok asked) said = IsExactTo r asked said
 
 -- the bytes of what is said to the input, which is of that kind
 abbrev pub IsReport : Register → Spelled → List ℕ → Type 0
-IsReport r spelled bytes = (said : Said) × IsSaid r spelled said × IsExact r spelled said × (bytes ≡ bytes_of said)
+IsReport r spelled bytes =
+    (said : Said) × IsSaid r spelled said × IsExact r spelled said × (bytes ≡ bytes_of said)
 
 -- each reply of a run is such
 abbrev pub AreReports : Register → List Spelled → List (List ℕ) → Type 0
 AreReports r [] [] = Unit {0}
-AreReports r (spelled ∷ rest) (bytes ∷ replies) = IsReport r spelled bytes × AreReports (after r spelled) rest replies
+AreReports r (spelled ∷ rest) (bytes ∷ replies) =
+    IsReport r spelled bytes × AreReports (after r spelled) rest replies
 AreReports r inputs replies = ⊥

@@ -12,7 +12,8 @@ use Rattle.bor_wire.specs.Inputs.{IsReplyTo, after}
 -- these are the replies to inputs that spell this, in order
 abbrev pub AreReplies : Register → List Spelled → List (List ℕ) → Type 0
 AreReplies r [] [] = Unit {0}
-AreReplies r (spelled ∷ rest) (bytes ∷ replies) = IsReplyTo r spelled bytes × AreReplies (after r spelled) rest replies
+AreReplies r (spelled ∷ rest) (bytes ∷ replies) =
+    IsReplyTo r spelled bytes × AreReplies (after r spelled) rest replies
 AreReplies r inputs replies = ⊥
 
 -- the register after them
@@ -41,7 +42,8 @@ AreSpelled inputs spelled = AllZip Spells inputs spelled
 
 -- ---- one reply of a list, for clauses of private functions alone
 
--- of a full reply there is something that the input spells, of which P holds with its bytes; of another Q does
+-- of a full reply there is something that the input spells, of which P holds with its bytes; of
+-- another Q does
 abbrev pub ByReply : Reply → List ℕ → (Spelled → List ℕ → Type 0) → Type 0 → Type 0
 ByReply (Full bytes) input P Q = (spelled : Spelled) × Spells input spelled × P spelled bytes
 ByReply Unavailable input P Q = Q

@@ -13,7 +13,9 @@ use Rattle.bor_wire.specs.Reports.{AreReports}
 use Rattle.bor_wire.specs.Refused.{RefusalsLeave}
 use Rattle.bor_wire.specs.Exchanges.{IsExchanged, ShowsAfter, IsSpelled, IsWrittenBy}
 
--- One exchange of a sequence: the bytes that its reader had, how it ended, what its writer held before it and after it, and the keep that it left. The bytes of some readers and writers, as of a socket, aren't known.
+-- One exchange of a sequence: the bytes that its reader had, how it ended, what its writer held
+-- before it and after it, and the keep that it left. The bytes of some readers and writers, as of a
+-- socket, aren't known.
 pub record Exchanged (K : Type 0) : Type 0 where
   pub known : Option (List ℕ)
   pub outcome : Outcome
@@ -27,16 +29,23 @@ keep_left keep [] = keep
 keep_left keep (e ∷ rest) = keep_left e.keep rest
 
 -- One exchange more, from the keep that the one before it left.
-pub record IsNext {K W : Type 0} (shows : K → Register → Type 0) (is_clean is_sound : K → Type 0) (may_leave : K → W → Type 0) (left_shows : W → Register → Type 0) (keep : K) (e : Exchanged K) : Type 0 where
-  -- where it ends clean it began clean, and a stop leaves what one before might have left, or the register after it
+pub record IsNext {K W : Type 0} (shows : K → Register → Type 0) (is_clean is_sound : K → Type 0)
+    (may_leave : K → W → Type 0) (left_shows : W → Register → Type 0) (keep : K)
+    (e : Exchanged K) : Type 0 where
+  -- where it ends clean it began clean, and a stop leaves what one before might have left, or the
+  -- register after it
   pub leaves : Leaves shows is_clean is_sound may_leave keep e.keep (ShowsAfter left_shows e.known)
   -- where it ends clean, and a legal register was shown, it is as the contract of an exchange says
-  pub exchanged : Promised shows is_clean keep e.keep (λ r. IsLegal r → IsExchanged e.outcome (shows e.keep) r e.known e.held e.holds)
+  pub exchanged : Promised shows is_clean keep e.keep
+      (λ r. IsLegal r → IsExchanged e.outcome (shows e.keep) r e.known e.held e.holds)
 
 -- each of them
-abbrev pub AreExchanged : {K W : Type 0} → (K → Register → Type 0) → (K → Type 0) → (K → Type 0) → (K → W → Type 0) → (W → Register → Type 0) → K → List (Exchanged K) → Type 0
+abbrev pub AreExchanged : {K W : Type 0} → (K → Register → Type 0) → (K → Type 0) → (K → Type 0)
+    → (K → W → Type 0) → (W → Register → Type 0) → K → List (Exchanged K) → Type 0
 AreExchanged shows is_clean is_sound may_leave left_shows keep [] = Unit {0}
-AreExchanged shows is_clean is_sound may_leave left_shows keep (e ∷ rest) = IsNext shows is_clean is_sound may_leave left_shows keep e × AreExchanged shows is_clean is_sound may_leave left_shows e.keep rest
+AreExchanged shows is_clean is_sound may_leave left_shows keep (e ∷ rest) =
+    IsNext shows is_clean is_sound may_leave left_shows keep e
+    × AreExchanged shows is_clean is_sound may_leave left_shows e.keep rest
 
 -- whether the request was answered: the reader didn't fail, and the reply isn't 503
 abbrev pub is_answered : Outcome → Bool
@@ -53,10 +62,13 @@ AreSpelledBy exchanges spelled = AllZip (λ e s. IsSpelled e.known s) exchanges 
 
 -- each reply was written, or a front of it where the writer failed
 abbrev pub AreWritten : {K : Type 0} → List (Exchanged K) → List (List ℕ) → Type 0
-AreWritten exchanges replies = AllZip (λ e bytes. IsWrittenBy e.outcome e.held e.holds bytes) exchanges replies
+AreWritten exchanges replies =
+    AllZip (λ e bytes. IsWrittenBy e.outcome e.held e.holds bytes) exchanges replies
 
--- The promise of `replay` on a list of inputs, of the exchanges that were answered; the register that they leave is legal.
-pub record IsRun {K : Type 0} (shown : Register → Type 0) (r : Register) (exchanges : List (Exchanged K)) : Type 0 where
+-- The promise of `replay` on a list of inputs, of the exchanges that were answered; the register
+-- that they leave is legal.
+pub record IsRun {K : Type 0} (shown : Register → Type 0) (r : Register)
+    (exchanges : List (Exchanged K)) : Type 0 where
   pub spelled : List Spelled
   pub spells : AreSpelledBy (answered exchanges) spelled
   pub sent : List (List ℕ)
@@ -68,7 +80,12 @@ pub record IsRun {K : Type 0} (shown : Register → Type 0) (r : Register) (exch
   pub reports : AreReports r spelled sent
   pub refused : RefusalsLeave r spelled sent
 
--- Exchanges one after the other, from a keep of a legal register, are a run over what their inputs spell.
-abbrev pub ExchangesAreARun : {K W : Type 0} → (K → Register → Type 0) → (K → Type 0) → (K → Type 0) → (K → W → Type 0) → (W → Register → Type 0) → Type 0
-ExchangesAreARun {K} {W} shows is_clean is_sound may_leave left_shows = (keep : K) (exchanges : List (Exchanged K)) → AreExchanged shows is_clean is_sound may_leave left_shows keep exchanges →
-    Promised shows is_clean keep (keep_left keep exchanges) (λ r. IsLegal r → IsRun (shows (keep_left keep exchanges)) r exchanges)
+-- Exchanges one after the other, from a keep of a legal register, are a run over what their inputs
+-- spell.
+abbrev pub ExchangesAreARun : {K W : Type 0} → (K → Register → Type 0) → (K → Type 0) → (K → Type 0)
+    → (K → W → Type 0) → (W → Register → Type 0) → Type 0
+ExchangesAreARun {K} {W} shows is_clean is_sound may_leave left_shows =
+    (keep : K) (exchanges : List (Exchanged K))
+    → AreExchanged shows is_clean is_sound may_leave left_shows keep exchanges →
+    Promised shows is_clean keep (keep_left keep exchanges)
+    (λ r. IsLegal r → IsRun (shows (keep_left keep exchanges)) r exchanges)

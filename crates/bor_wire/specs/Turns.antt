@@ -35,30 +35,43 @@ pub record IsTurn {K : Type 0} (input : List ℕ) (reply : Reply) (e : Exchanged
 -- each exchange was over its input, and has its reply
 abbrev pub AreTurns : {K : Type 0} → List (List ℕ) → List Reply → List (Exchanged K) → Type 0
 AreTurns [] [] [] = Unit {0}
-AreTurns (input ∷ inputs) (reply ∷ replies) (e ∷ rest) = IsTurn input reply e × AreTurns inputs replies rest
+AreTurns (input ∷ inputs) (reply ∷ replies) (e ∷ rest) =
+    IsTurn input reply e × AreTurns inputs replies rest
 AreTurns inputs replies exchanges = ⊥
 
--- A request is answered with another status than 503 only where the keep is clean after it, if its store has returned what was written by then.
+-- A request is answered with another status than 503 only where the keep is clean after it, if its
+-- store has returned what was written by then.
 abbrev pub AnswersClean : {K : Type 0} → (K → Type 0) → (K → Type 0) → Exchanged K → Type 0
-AnswersClean is_clean is_sound e = OnSpelled e.known (λ spelled. IfAsked spelled (UnlessUnavailable e.outcome (is_sound e.keep → is_clean e.keep)))
+AnswersClean is_clean is_sound e =
+    OnSpelled e.known
+    (λ spelled. IfAsked spelled (UnlessUnavailable e.outcome (is_sound e.keep → is_clean e.keep)))
 
 -- each of them does
 abbrev pub AllAnswerClean : {K : Type 0} → (K → Type 0) → (K → Type 0) → List (Exchanged K) → Type 0
 AllAnswerClean is_clean is_sound [] = Unit {0}
-AllAnswerClean is_clean is_sound (e ∷ rest) = AnswersClean is_clean is_sound e × AllAnswerClean is_clean is_sound rest
+AllAnswerClean is_clean is_sound (e ∷ rest) =
+    AnswersClean is_clean is_sound e × AllAnswerClean is_clean is_sound rest
 
--- The replies to the inputs are those of exchanges one after the other, the first from the old keep, each from the keep that the one before it left, and the last leaves the new one.
-pub record InTurn {K W : Type 0} (shows : K → Register → Type 0) (is_clean is_sound : K → Type 0) (may_leave : K → W → Type 0) (left_shows : W → Register → Type 0) (old new : K) (inputs : List (List ℕ)) (replies : List Reply) : Type 0 where
+-- The replies to the inputs are those of exchanges one after the other, the first from the old
+-- keep, each from the keep that the one before it left, and the last leaves the new one.
+pub record InTurn {K W : Type 0} (shows : K → Register → Type 0) (is_clean is_sound : K → Type 0)
+    (may_leave : K → W → Type 0) (left_shows : W → Register → Type 0) (old new : K)
+    (inputs : List (List ℕ)) (replies : List Reply) : Type 0 where
   pub exchanges : List (Exchanged K)
   pub turns : AreTurns inputs replies exchanges
   pub each : AreExchanged shows is_clean is_sound may_leave left_shows old exchanges
   pub answer_clean : AllAnswerClean is_clean is_sound exchanges
   pub left : keep_left old exchanges ≡ new
 
--- Each front of exchanges in turn is a run, where the keep after it is clean: whatever becomes of the keep later on, as where its store fails.
-abbrev pub FrontsAreRuns : {K W : Type 0} → (K → Register → Type 0) → (K → Type 0) → (K → Type 0) → (K → W → Type 0) → (W → Register → Type 0) → Type 0
-FrontsAreRuns {K} {W} shows is_clean is_sound may_leave left_shows = (keep : K) (front rest : List (Exchanged K)) → AreExchanged shows is_clean is_sound may_leave left_shows keep (front ++ rest) →
-    Promised shows is_clean keep (keep_left keep front) (λ r. IsLegal r → IsRun (shows (keep_left keep front)) r front)
+-- Each front of exchanges in turn is a run, where the keep after it is clean: whatever becomes of
+-- the keep later on, as where its store fails.
+abbrev pub FrontsAreRuns : {K W : Type 0} → (K → Register → Type 0) → (K → Type 0) → (K → Type 0)
+    → (K → W → Type 0) → (W → Register → Type 0) → Type 0
+FrontsAreRuns {K} {W} shows is_clean is_sound may_leave left_shows =
+    (keep : K) (front rest : List (Exchanged K))
+    → AreExchanged shows is_clean is_sound may_leave left_shows keep (front ++ rest) →
+    Promised shows is_clean keep (keep_left keep front)
+    (λ r. IsLegal r → IsRun (shows (keep_left keep front)) r front)
 
 -- a request was answered, with another status than 503
 pub record IsRequestAnswered {K : Type 0} (e : Exchanged K) : Type 0 where
@@ -68,10 +81,16 @@ pub record IsRequestAnswered {K : Type 0} (e : Exchanged K) : Type 0 where
   pub spells : Spells input (Ok asked)
   pub answered : IsTrue (is_answered e.outcome)
 
--- From a legal register that was shown, exchanges in turn up to a request that was answered, of which `AnswersClean` holds, are a run, if the store had returned what was written by then: whatever becomes of it later on, as where it shuts.
-abbrev pub AnswersAreRuns : {K W : Type 0} → (K → Register → Type 0) → (K → Type 0) → (K → Type 0) → (K → W → Type 0) → (W → Register → Type 0) → Type 0
-AnswersAreRuns {K} {W} shows is_clean is_sound may_leave left_shows = (keep : K) (front : List (Exchanged K)) (e : Exchanged K) (rest : List (Exchanged K)) → AreExchanged shows is_clean is_sound may_leave left_shows keep (front ++ e ∷ rest) →
-    AnswersClean is_clean is_sound e → IsRequestAnswered e → is_sound e.keep → (r : Register) → shows keep r → IsLegal r → IsRun (shows e.keep) r (front ++ e ∷ [])
+-- From a legal register that was shown, exchanges in turn up to a request that was answered, of
+-- which `AnswersClean` holds, are a run, if the store had returned what was written by then:
+-- whatever becomes of it later on, as where it shuts.
+abbrev pub AnswersAreRuns : {K W : Type 0} → (K → Register → Type 0) → (K → Type 0) → (K → Type 0)
+    → (K → W → Type 0) → (W → Register → Type 0) → Type 0
+AnswersAreRuns {K} {W} shows is_clean is_sound may_leave left_shows =
+    (keep : K) (front : List (Exchanged K)) (e : Exchanged K) (rest : List (Exchanged K))
+    → AreExchanged shows is_clean is_sound may_leave left_shows keep (front ++ e ∷ rest) →
+    AnswersClean is_clean is_sound e → IsRequestAnswered e → is_sound e.keep → (r : Register)
+    → shows keep r → IsLegal r → IsRun (shows e.keep) r (front ++ e ∷ [])
 
 -- ---- for clauses of private functions alone
 
@@ -81,11 +100,16 @@ IfWholeReply (Full bytes) P = P
 IfWholeReply Unavailable P = Unit {0}
 
 -- `AnswersClean` of one reply, and the keep after it
-abbrev pub TurnAnswersClean : {K : Type 0} → (K → Type 0) → (K → Type 0) → K → List ℕ → Reply → Type 0
-TurnAnswersClean is_clean is_sound new input reply = (spelled : Spelled) → Spells input spelled → IfAsked spelled (IfWholeReply reply (is_sound new → is_clean new))
+abbrev pub TurnAnswersClean : {K : Type 0} → (K → Type 0) → (K → Type 0) → K → List ℕ
+    → Reply → Type 0
+TurnAnswersClean is_clean is_sound new input reply =
+    (spelled : Spelled) → Spells input spelled
+    → IfAsked spelled (IfWholeReply reply (is_sound new → is_clean new))
 
 -- one reply, as an exchange between these keeps
-pub record TakesTurn {K : Type 0} (shows : K → Register → Type 0) (is_clean : K → Type 0) (old new : K) (input : List ℕ) (reply : Reply) : Type 0 where
+pub record TakesTurn {K : Type 0} (shows : K → Register → Type 0) (is_clean : K → Type 0)
+    (old new : K) (input : List ℕ) (reply : Reply) : Type 0 where
   pub status : ℕ
   pub status_is : HasStatusOf reply status
-  pub exchanged : Promised shows is_clean old new (λ r. IsLegal r → IsExchanged (Replied status) (shows new) r (Some input) (Some []) (Some (sent_as reply)))
+  pub exchanged : Promised shows is_clean old new (λ r. IsLegal r
+      → IsExchanged (Replied status) (shows new) r (Some input) (Some []) (Some (sent_as reply)))

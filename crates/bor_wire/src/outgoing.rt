@@ -13,7 +13,7 @@ ghost use Rattle.bor_wire.specs.Spelling.Steps.{Finds};
 ghost use Rattle.bor_wire.specs.Rendering.Limits.{reserved};
 ghost use Rattle.bor_wire.specs.Rendering.Statuses.{desk_status};
 ghost use Rattle.bor_wire.specs.Inputs.{after};
-ghost use Rattle.bor_wire.specs.Exchanges.{ByOutgoing, IfAsked, IfFull, IfWhole, GoesOut, GoesOutRefused, HasStatus, IfNoChange, IfRefusing, IsFor, ShowsAfter, IsRefusal, IsRendered, IsResponse, IsSent, IsToldFor, NamesWhoAsks, OnRefusal, OnSpelled, TellsAnswer, agent_spelled, faults_unread, left_by};
+ghost use Rattle.bor_wire.specs.Exchanges.{ByOutgoing, IfAsked, IfFull, IfWhole, GoesOut, GoesOutRefused, HasStatus, IfNoChange, IfRefusing, IsFor, ShowsAfter, IsRefusal, IsRendered, IsResponse, IsSent, IsToldFor, NamesWhoAsks, OnRefusal, OnSpelled, TellsAnswer, agent_spelled, faults_unread, left_by_desk};
 
 use crate::rendering::{
     RESERVED, UNAVAILABLE, desk_status, is_long, refusal_status, render, render_refusal,
@@ -121,7 +121,7 @@ fn asked<K: Keep>(
     ensures reply { Promised K.shows K.is_clean keep.old keep.new (λ r.
         IsOrderedFor asking.now.request r → TellsAnswer result.1 r (asked_view asking.now)) }
     ensures left { Promised K.shows K.is_clean keep.old keep.new (λ r.
-        K.shows keep.new (left_by result.1 r (asked_view asking.now))) }
+        K.shows keep.new (left_by_desk result.1 r (asked_view asking.now))) }
     ensures up { IfSome result.1 (λ _. K.is_sound keep.new → K.is_clean keep.new) }
     ensures agent { Promised K.shows K.is_clean keep.old keep.new (λ r.
         IsToldFor result.1 result.0 (agent_of (caller_of asking.now.token r))) }

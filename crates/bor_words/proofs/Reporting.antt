@@ -7,10 +7,10 @@ use Rattle.clap.specs.Words.{Row, Text}
 use Rattle.bor_words.specs.declared.unread.Unread.{Unread}
 use Rattle.bor_words.specs.Unread.{IsUnfitAmong}
 use Rattle.bor_words.specs.Values.{init_values, report_values, values_behind, values_of}
-use Rattle.bor_words.specs.Words.{Entered, found_behind, rows_in}
+use Rattle.bor_words.specs.Words.{Entered, found_behind, entered_rows}
 
 unfit_behind : (name : Text) (entered : Entered) (rows : List Row) (unread : Unread) → Some rows ≡ found_behind name entered
-    → IsUnfitAmong rows (values_behind name rows) unread → IsUnfitAmong (rows_in entered) (values_of entered) unread
+    → IsUnfitAmong rows (values_behind name rows) unread → IsUnfitAmong (entered_rows entered) (values_of entered) unread
 unfit_behind name None rows unread found h = absurd (none-some rows (sym found))
 unfit_behind name (Some e) rows unread found h =
     let is = cond_some (bytes_eq e.0 name) e.1 rows (sym found) in
@@ -19,9 +19,9 @@ unfit_behind name (Some e) rows unread found h =
     (subst (λ (other : Text). IsUnfitAmong rows (values_behind other rows) unread) (sym named) h)
 
 pub unfit_report : (entered : Entered) (rows : List Row) (unread : Unread) → Some rows ≡ found_behind (codes "report") entered
-    → IsUnfitAmong rows (report_values rows) unread → IsUnfitAmong (rows_in entered) (values_of entered) unread
+    → IsUnfitAmong rows (report_values rows) unread → IsUnfitAmong (entered_rows entered) (values_of entered) unread
 unfit_report entered rows unread found h = unfit_behind (codes "report") entered rows unread found h
 
 pub unfit_init : (entered : Entered) (rows : List Row) (unread : Unread) → Some rows ≡ found_behind (codes "init") entered
-    → IsUnfitAmong rows (init_values rows) unread → IsUnfitAmong (rows_in entered) (values_of entered) unread
+    → IsUnfitAmong rows (init_values rows) unread → IsUnfitAmong (entered_rows entered) (values_of entered) unread
 unfit_init entered rows unread found h = unfit_behind (codes "init") entered rows unread found h

@@ -1,5 +1,6 @@
 -- The commands that words ask for.
-use Rattle.std.specs.Prelude.{◌≡◌, ◌≢◌, ◌⊎◌, List, [], Option, Some, None, codes, map, option_and_then, option_map}
+use Rattle.std.specs.Prelude.{◌≡◌, ◌≢◌, ◌⊎◌, List, [], Option, Some, None, codes, map}
+use Rattle.std.specs.Prelude.{option_and_then, option_map}
 use Rattle.bor_terms.specs.Day.{day_of}
 use Rattle.clap.specs.Words.{IsAmong, Row, Text, fault_of, first_of}
 use Rattle.clap.specs.declared.error.kind.ErrorKind.{ErrorKind}
@@ -15,14 +16,17 @@ use Rattle.bor_words.specs.declared.serve.Serve.{Serve}
 use Rattle.bor_words.specs.declared.report.Report.{Report}
 use Rattle.bor_words.specs.declared.source.Source.{Source}
 use Rattle.bor_words.specs.declared.source.Source.TheVariants.{StandardInput, File}
-use Rattle.bor_words.specs.Words.{Entered, bor_app, entered_by, file_at, files_named, found_behind, given, is_set}
+use Rattle.bor_words.specs.Words.{Entered, bor_app, entered_by, file_at, files_named, found_behind}
+use Rattle.bor_words.specs.Words.{given, is_set}
 use Rattle.bor_words.specs.Values.{connections_of, first_unfit, memory_of, port_of, values_of}
 
 -- ---- whether they ask for something
 
--- the words ask for a command: clap finds no fault in them, they don't ask for help, and each value fits
+-- the words ask for a command: clap finds no fault in them, they don't ask for help, and each value
+-- fits
 abbrev pub IsCommand : List Text → Type 0
-IsCommand words = (fault_of bor_app words ≡ []) × (first_unfit (values_of (entered_by words)) ≡ None)
+IsCommand words =
+    (fault_of bor_app words ≡ []) × (first_unfit (values_of (entered_by words)) ≡ None)
 
 -- the words may be answered by help
 abbrev pub MayAskForHelp : List Text → Type 0
@@ -32,7 +36,8 @@ MayAskForHelp words = IsAmong DisplayHelp (fault_of bor_app words)
 abbrev pub IsWrong : List Text → Type 0
 IsWrong words =
     ((kind : ErrorKind) × IsAmong kind (fault_of bor_app words) × (kind ≢ DisplayHelp))
-    ⊎ ((fault_of bor_app words ≡ []) × ((word : Text) × (first_unfit (values_of (entered_by words)) ≡ Some word)))
+    ⊎ ((fault_of bor_app words ≡ [])
+    × ((word : Text) × (first_unfit (values_of (entered_by words)) ≡ Some word)))
 
 -- ---- for what
 
@@ -48,8 +53,10 @@ source_text (File name) = name.now
 
 -- no other command is entered than check
 abbrev pub EntersCheck : Entered → Type 0
-EntersCheck entered = (found_behind (codes "exchange") entered ≡ None) × (found_behind (codes "serve") entered ≡ None)
-    × (found_behind (codes "report") entered ≡ None) × (found_behind (codes "migrate") entered ≡ None)
+EntersCheck entered =
+    (found_behind (codes "exchange") entered ≡ None) × (found_behind (codes "serve") entered ≡ None)
+    × (found_behind (codes "report") entered ≡ None)
+    × (found_behind (codes "migrate") entered ≡ None)
     × (found_behind (codes "init") entered ≡ None)
 
 -- the registrar's token as words give it: the token, or the name of the file that has it
@@ -95,8 +102,14 @@ pub record IsMigrate (rows : List Row) (asked : Migrate) : Type 0 where
 -- the command is what is asked for
 abbrev pub IsAsked : Entered → Command → Type 0
 IsAsked entered (command.Check source) = EntersCheck entered × (name_of source ≡ file_at entered)
-IsAsked entered (command.Init asked) = (rows : List Row) × (found_behind (codes "init") entered ≡ Some rows) × IsInit rows asked
-IsAsked entered (command.Exchange asked) = (rows : List Row) × (found_behind (codes "exchange") entered ≡ Some rows) × IsExchange rows asked
-IsAsked entered (command.Serve asked) = (rows : List Row) × (found_behind (codes "serve") entered ≡ Some rows) × IsServe rows asked
-IsAsked entered (command.Report asked) = (rows : List Row) × (found_behind (codes "report") entered ≡ Some rows) × IsReport rows asked
-IsAsked entered (command.Migrate asked) = (rows : List Row) × (found_behind (codes "migrate") entered ≡ Some rows) × IsMigrate rows asked
+IsAsked entered (command.Init asked) =
+    (rows : List Row) × (found_behind (codes "init") entered ≡ Some rows) × IsInit rows asked
+IsAsked entered (command.Exchange asked) =
+    (rows : List Row) × (found_behind (codes "exchange") entered ≡ Some rows)
+    × IsExchange rows asked
+IsAsked entered (command.Serve asked) =
+    (rows : List Row) × (found_behind (codes "serve") entered ≡ Some rows) × IsServe rows asked
+IsAsked entered (command.Report asked) =
+    (rows : List Row) × (found_behind (codes "report") entered ≡ Some rows) × IsReport rows asked
+IsAsked entered (command.Migrate asked) =
+    (rows : List Row) × (found_behind (codes "migrate") entered ≡ Some rows) × IsMigrate rows asked

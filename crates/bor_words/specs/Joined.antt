@@ -1,5 +1,6 @@
 -- The words as clap takes them: a value that begins with a hyphen is joined with its option.
-use Rattle.std.specs.Prelude.{◌&&◌, ◌==◌, ◌++◌, List, [], ◌∷◌, Bool, false, true, not, codes, if◌then◌else◌, slice_index}
+use Rattle.std.specs.Prelude.{◌&&◌, ◌==◌, ◌++◌, List, [], ◌∷◌, Bool, false, true, not, codes}
+use Rattle.std.specs.Prelude.{if◌then◌else◌, slice_index}
 use Rattle.std.specs.List.{before_first, list_any}
 use Rattle.std.specs.Str.{bytes_eq}
 use Rattle.clap.specs.Words.{Text}
@@ -21,7 +22,8 @@ serve_options = codes "--db" ∷ codes "--port" ∷ codes "--connections" ∷ co
 -- of a report
 abbrev pub report_options : List Text
 report_options =
-    codes "--db" ∷ codes "--viewer" ∷ codes "--agent" ∷ codes "--declaration" ∷ codes "--record" ∷ codes "--date" ∷ []
+    codes "--db" ∷ codes "--viewer" ∷ codes "--agent" ∷ codes "--declaration" ∷ codes "--record"
+    ∷ codes "--date" ∷ []
 
 -- the word is an option of this command that takes a value
 unfoldable pub takes_value : Text → Text → Bool
@@ -42,11 +44,14 @@ is_flag command word =
 
 -- ---- their values
 
--- the word begins with a hyphen, is not `--`, and what stands before its first `=` is no option of the command
+-- the word begins with a hyphen, is not `--`, and what stands before its first `=` is no option of
+-- the command
 unfoldable pub is_value : Text → Text → Bool
 is_value command word =
     let name = before_first (λ c. c == 61) word in
-    slice_index word 0 == 45 && (not (bytes_eq word (codes "--")) && (not (takes_value command name) && not (is_flag command name)))
+    slice_index word 0 == 45
+    && (not (bytes_eq word (codes "--"))
+    && (not (takes_value command name) && not (is_flag command name)))
 
 -- the first of the words is such a value
 abbrev pub begin_with_value : Text → List Text → Bool
@@ -62,9 +67,11 @@ with_value option (value ∷ words) = (option ++ codes "=" ++ value) ∷ words
 abbrev pub joined_at : Text → Text → List Text → List Text → List Text
 joined_at command word words joined =
     if bytes_eq word (codes "--") then word ∷ words
-    else (if takes_value command word && begin_with_value command words then with_value word joined else word ∷ joined)
+    else (if takes_value command word && begin_with_value command words then with_value word joined
+    else word ∷ joined)
 
--- the words behind a command's name: an option's value that begins with a hyphen is joined with it by `=`; behind `--` each word stays
+-- the words behind a command's name: an option's value that begins with a hyphen is joined with it
+-- by `=`; behind `--` each word stays
 abbrev pub joined_behind : Text → List Text → List Text
 joined_behind command [] = []
 joined_behind command (word ∷ words) = joined_at command word words (joined_behind command words)

@@ -1,5 +1,7 @@
 -- The form of each word's value.
-use Rattle.std.specs.Prelude.{◌&&◌, ℕ, List, [], ◌∷◌, Bool, not, Option, Some, None, codes, find, is_some, length, nat_le, nat_lt, option_map, if◌then◌else◌, false, true}
+use Rattle.std.specs.Prelude.{◌&&◌, ℕ, List, [], ◌∷◌, Bool, not, Option, Some, None, codes, find}
+use Rattle.std.specs.Prelude.{is_some, length, nat_le, nat_lt, option_map, if◌then◌else◌, false}
+use Rattle.std.specs.Prelude.{true}
 use Rattle.std.specs.Option.{option_map_or}
 use Rattle.std.specs.List.{list_all}
 use Rattle.std.specs.Char.{digit_value}
@@ -20,11 +22,13 @@ is_numeral digits = nat_lt 0 (length digits) && list_all (λ c. nat_lt (digit_va
 abbrev pub is_between : ℕ → ℕ → ℕ → Bool
 is_between low high number = nat_le low number && nat_le number high
 
--- the number that a text spells in decimal digits, where it is from low to high; a plus may stand first
+-- the number that a text spells in decimal digits, where it is from low to high; a plus may stand
+-- first
 unfoldable pub number_within : ℕ → ℕ → Text → Option ℕ
 number_within low high text =
     let digits = without_leading_plus text in
-    if is_numeral digits && is_between low high (digits_value 10 digits) then Some (digits_value 10 digits) else None
+    if is_numeral digits && is_between low high (digits_value 10 digits)
+    then Some (digits_value 10 digits) else None
 
 abbrev pub port_of : Text → Option ℕ
 port_of text = number_within 1 65_535 text
@@ -52,8 +56,11 @@ is_registrar None None = false
 
 -- of a register that is set up
 abbrev pub init_values : List Row → List Value
-init_values rows =
-    (codes "registrar", is_registrar (first_of (codes "registrar") rows) (first_of (codes "registrar-file") rows))
+init_values rows = (
+  codes "registrar",
+  is_registrar (first_of (codes "registrar") rows)
+      (first_of (codes "registrar-file") rows),
+)
     ∷ (codes "day", is_some (day_of (given (codes "day") rows))) ∷ []
 
 abbrev pub exchange_values : List Row → List Value

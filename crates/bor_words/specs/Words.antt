@@ -1,8 +1,10 @@
 -- The words that the program takes, as clap sees them.
-use Rattle.std.specs.Prelude.{Bool, List, [], Option, Some, None, false, true, codes, option_and_then, unwrap_or, if◌then◌else◌}
+use Rattle.std.specs.Prelude.{Bool, List, [], Option, Some, None, false, true, codes}
+use Rattle.std.specs.Prelude.{option_and_then, unwrap_or, if◌then◌else◌}
 use Rattle.std.specs.Option.{option_map_or}
 use Rattle.std.specs.Str.{bytes_eq}
-use Rattle.clap.specs.Words.{App, Row, Rule, Text, all_of, first_of, new_app, new_rule, subcommand_of, with_rule, with_subcommand}
+use Rattle.clap.specs.Words.{App, Row, Rule, Text, all_of, first_of, new_app, new_rule}
+use Rattle.clap.specs.Words.{subcommand_of, with_rule, with_subcommand}
 use Rattle.clap.specs.declared.builder.action.ArgAction.TheVariants.{Append, SetTrue}
 
 -- ---- the words that clap is given
@@ -26,30 +28,39 @@ files_rule = record (new_rule (codes "FILE")) { action = Some Append; required =
 abbrev pub check_app : App
 check_app = with_rule (new_app (codes "check")) (new_rule (codes "FILE"))
 
--- the words that a register is set up by beside its file: the registrar's token, by itself or by the file that has it, and the day
+-- the words that a register is set up by beside its file: the registrar's token, by itself or by
+-- the file that has it, and the day
 abbrev pub with_setup : App → App
-with_setup a = with_rule (with_rule (with_rule a (option_rule (codes "registrar"))) (option_rule (codes "registrar-file"))) (required_rule (codes "day"))
+with_setup a =
+    with_rule (with_rule (with_rule a (option_rule (codes "registrar")))
+    (option_rule (codes "registrar-file"))) (required_rule (codes "day"))
 
 -- a register that is set up
 abbrev pub init_app : App
 init_app = with_setup (with_rule (new_app (codes "init")) (required_rule (codes "db")))
 
 abbrev pub exchange_app : App
-exchange_app = with_rule (with_setup (with_rule (new_app (codes "exchange")) (option_rule (codes "db")))) files_rule
+exchange_app =
+    with_rule
+    (with_setup (with_rule (new_app (codes "exchange")) (option_rule (codes "db")))) files_rule
 
 abbrev pub serve_app : App
 serve_app =
-    with_rule (with_rule (with_rule (with_rule (with_rule (new_app (codes "serve")) (required_rule (codes "db"))) (required_rule (codes "port")))
+    with_rule (with_rule (with_rule (with_rule (with_rule (new_app (codes "serve"))
+    (required_rule (codes "db"))) (required_rule (codes "port")))
     (required_rule (codes "connections"))) (option_rule (codes "memory"))) (flag_rule (codes "log"))
 
 -- which entity: who lodged it, in which declaration, as which record
 abbrev pub with_entity : App → App
-with_entity a = with_rule (with_rule (with_rule a (required_rule (codes "agent"))) (required_rule (codes "declaration"))) (required_rule (codes "record"))
+with_entity a =
+    with_rule (with_rule (with_rule a (required_rule (codes "agent")))
+    (required_rule (codes "declaration"))) (required_rule (codes "record"))
 
 -- whose chains, seen by whom, on which day, and whether with their links
 abbrev pub report_app : App
 report_app =
-    with_rule (with_rule (with_entity (with_rule (with_rule (new_app (codes "report")) (required_rule (codes "db"))) (required_rule (codes "viewer"))))
+    with_rule (with_rule (with_entity (with_rule (with_rule (new_app (codes "report"))
+    (required_rule (codes "db"))) (required_rule (codes "viewer"))))
     (option_rule (codes "date"))) (flag_rule (codes "evidence"))
 
 abbrev pub migrate_app : App
@@ -61,7 +72,8 @@ without_name a = record a { top = record a.top { no_binary_name = true } }
 
 abbrev pub bor_app : App
 bor_app =
-    with_subcommand (with_subcommand (with_subcommand (with_subcommand (with_subcommand (with_subcommand (without_name (new_app (codes "bor"))) check_app.top)
+    with_subcommand (with_subcommand (with_subcommand (with_subcommand
+    (with_subcommand (with_subcommand (without_name (new_app (codes "bor"))) check_app.top)
     init_app.top) exchange_app.top) serve_app.top) report_app.top) migrate_app.top
 
 -- ---- the words that clap finds
@@ -74,12 +86,13 @@ abbrev pub entered_by : List Text → Entered
 entered_by words = subcommand_of bor_app words
 
 -- the words that are found behind the command that is entered
-abbrev pub rows_in : Entered → List Row
-rows_in entered = option_map_or (λ e. e.1) entered []
+abbrev pub entered_rows : Entered → List Row
+entered_rows entered = option_map_or (λ e. e.1) entered []
 
 -- the words that are found behind the command of this name, where it is entered
 abbrev pub found_behind : Text → Entered → Option (List Row)
-found_behind name entered = option_and_then (λ e. if bytes_eq e.0 name then Some e.1 else None) entered
+found_behind name entered =
+    option_and_then (λ e. if bytes_eq e.0 name then Some e.1 else None) entered
 
 -- the value of a word; nothing where it is left out
 abbrev pub given : Text → List Row → Text

@@ -3,9 +3,9 @@
 ghost use Rattle.std.specs.Prelude.{◌≡◌, [], None, IfOk, IfErr, OnOk, map, option_map};
 ghost use Rattle.clap.specs.Words.{HasKind, fault_of, subcommand_rows_of};
 ghost use Rattle.bor_words.specs.Asked.{IsAsked, IsCommand};
-ghost use Rattle.bor_words.specs.Unread.{IsFaultOf, IsUnfitAmong};
+ghost use Rattle.bor_words.specs.Unread.{IsFaultOfWords, IsUnfitAmong};
 ghost use Rattle.bor_words.specs.Values.{first_unfit, values_of};
-ghost use Rattle.bor_words.specs.Words.{bor_app, entered_by, name_at, rows_in};
+ghost use Rattle.bor_words.specs.Words.{bor_app, entered_by, name_at, entered_rows};
 
 use crate::exchange::Exchange;
 use crate::init::Init;
@@ -47,7 +47,7 @@ impl<'a> Command<'a> {
     pub fn read<S: AsStr>(alloc: Global, words: &'a [S]) -> Result<Self, Unread<'a>>
         ensures ok { OnOk result (IsCommand (map S.text words.entry.now)) }
         ensures asked { IfOk result (IsAsked (entered_by (map S.text words.entry.now))) }
-        ensures err { IfErr result (IsFaultOf (map S.text words.entry.now)) }
+        ensures err { IfErr result (IsFaultOfWords (map S.text words.entry.now)) }
     {
         match parsed(alloc, words) {
             Ok(matches) => Command::of(alloc, &matches),
@@ -61,7 +61,7 @@ impl<'a> Command<'a> {
             (first_unfit (values_of (subcommand_rows_of matches.now)) ≡ None) }
         ensures asked { IfOk result (IsAsked (subcommand_rows_of matches.now)) }
         ensures err { IfErr result
-            (IsUnfitAmong (rows_in (subcommand_rows_of matches.now))
+            (IsUnfitAmong (entered_rows (subcommand_rows_of matches.now))
             (values_of (subcommand_rows_of matches.now))) }
     {
         if let Some(found) = behind(matches, "exchange") {

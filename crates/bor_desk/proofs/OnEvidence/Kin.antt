@@ -29,7 +29,7 @@ use Rattle.bor_records.proofs.OnLinks.Signs.{in_common}
 use Rattle.bor_chains.proofs.Classes.{common_alike, one_of}
 use Rattle.bor_desk.specs.declared.evidence.kin.Kin.{Kin}
 use Rattle.bor_desk.specs.Kin.{AreKin, AreTaken, HasSignAt, IsKinOf, NoneFound, signed_in, signs_in}
-use Rattle.bor_desk.specs.Memory.Indexed.{IsNoted, items_of, under}
+use Rattle.bor_desk.specs.Memory.Indexed.{IsNoted, values_under, under}
 use Rattle.bor_desk.proofs.OnMemory.Indexed.{empty_under}
 
 -- ---- aliases share a sign
@@ -79,28 +79,28 @@ taken_next ks i k a b c u v w lt at one two =
 
 -- what a sign leads to is taken
 pub taken_one : (m less : BTreeMap Sign (Vec Node Global)) (k : Sign) (o : Option (Vec Node Global)) (was now : List Node) → o ≡ get sign_cmp m k → ((q : Sign) → get sign_cmp less q ≡ cond (is_eq (sign_cmp k q)) None (get sign_cmp m q))
-    → now ≡ was ++ items_of o → AreTaken (k ∷ []) (under sign_cmp m) (under sign_cmp less) was now
+    → now ≡ was ++ values_under o → AreTaken (k ∷ []) (under sign_cmp m) (under sign_cmp less) was now
 taken_one m less k o was now found removed more = record {
-  kept = λ n h. subst (λ (ns : List Node). Contains ns n) (sym more) (Contains-append_left was (items_of o) n h);
-  each = λ n h. elim (Contains-append_cases was (items_of o) n (subst (λ (ns : List Node). Contains ns n) more h)) [
+  kept = λ n h. subst (λ (ns : List Node). Contains ns n) (sym more) (Contains-append_left was (values_under o) n h);
+  each = λ n h. elim (Contains-append_cases was (values_under o) n (subst (λ (ns : List Node). Contains ns n) more h)) [
     | inl old ↦ inl old
-    | inr new ↦ inr (k, here k [], subst (λ (p : Option (Vec Node Global)). Contains (items_of p) n) found new)
+    | inr new ↦ inr (k, here k [], subst (λ (p : Option (Vec Node Global)). Contains (values_under p) n) found new)
   ];
   every = λ j n on there. new n (subst (λ (z : Sign). Contains (under sign_cmp m z) n) (sym (one_of k j on)) there);
-  stays = λ j n h. stays j n (is_eq (sign_cmp k j)) (subst (λ (p : Option (Vec Node Global)). Contains (items_of p) n) (removed j) h);
+  stays = λ j n h. stays j n (is_eq (sign_cmp k j)) (subst (λ (p : Option (Vec Node Global)). Contains (values_under p) n) (removed j) h);
   left = λ j n h. left j n (is_eq (sign_cmp k j)) refl h;
 }
   where
     new : (n : Node) → Contains (under sign_cmp m k) n → Contains now n
-    new n h = subst (λ (ns : List Node). Contains ns n) (sym more) (Contains-append_right was (items_of o) n (subst (λ (p : Option (Vec Node Global)). Contains (items_of p) n) (sym found) h))
+    new n h = subst (λ (ns : List Node). Contains ns n) (sym more) (Contains-append_right was (values_under o) n (subst (λ (p : Option (Vec Node Global)). Contains (values_under p) n) (sym found) h))
 
-    stays : (j : Sign) (n : Node) (b : Bool) → Contains (items_of (cond b None (get sign_cmp m j))) n → Contains (under sign_cmp m j) n
+    stays : (j : Sign) (n : Node) (b : Bool) → Contains (values_under (cond b None (get sign_cmp m j))) n → Contains (under sign_cmp m j) n
     stays j n true h = absurd (none n h)
     stays j n false h = h
 
     left : (j : Sign) (n : Node) (b : Bool) → is_eq (sign_cmp k j) ≡ b → Contains (under sign_cmp m j) n → Contains (under sign_cmp less j) n ⊎ Contains now n
     left j n true e h = inr (new n (subst (λ (z : Sign). Contains (under sign_cmp m z) n) (sym (tells_apart exact_sign k j e)) h))
-    left j n false e h = inl (subst (λ (p : Option (Vec Node Global)). Contains (items_of p) n) (sym (removed j ∙ ap (λ (b : Bool). cond b None (get sign_cmp m j)) e)) h)
+    left j n false e h = inl (subst (λ (p : Option (Vec Node Global)). Contains (values_under p) n) (sym (removed j ∙ ap (λ (b : Bool). cond b None (get sign_cmp m j)) e)) h)
 
 -- ---- one entity after the other
 
@@ -145,8 +145,8 @@ module _ (s : Shown) (nodes : List Node) (one : OpenNode) (kin new : Kin) (key :
   signs_put n = at (is_eq (node_cmp key n)) refl
     where
       at : (b : Bool) → is_eq (node_cmp key n) ≡ b → ((one.node ≡ n) × (signs_in new n ≡ signs one)) ⊎ (signs_in new n ≡ signs_in kin n)
-      at true e = inl (sym keyed ∙ tells_apart exact_node key n e, ap (λ (o : Option (Vec Sign Global)). items_of o) (put n ∙ ap (λ (b : Bool). cond b (Some v) (get node_cmp kin.signs n)) e) ∙ own)
-      at false e = inr (ap (λ (o : Option (Vec Sign Global)). items_of o) (put n ∙ ap (λ (b : Bool). cond b (Some v) (get node_cmp kin.signs n)) e))
+      at true e = inl (sym keyed ∙ tells_apart exact_node key n e, ap (λ (o : Option (Vec Sign Global)). values_under o) (put n ∙ ap (λ (b : Bool). cond b (Some v) (get node_cmp kin.signs n)) e) ∙ own)
+      at false e = inr (ap (λ (o : Option (Vec Sign Global)). values_under o) (put n ∙ ap (λ (b : Bool). cond b (Some v) (get node_cmp kin.signs n)) e))
 
   has : (n : Node) (k : Sign) → one.node ≡ n → Contains (signs one) k → HasSignAt s n k
   has n k e h = subst (λ (z : Node). HasSignAt s z k) e (one, listed, (entity, h))
@@ -175,7 +175,7 @@ module _ (s : Shown) (nodes : List Node) (one : OpenNode) (kin new : Kin) (key :
   }
     where
       at_own : signs_in new one.node ≡ signs one
-      at_own = ap (λ (o : Option (Vec Sign Global)). items_of o) (subst (λ (z : Node). get node_cmp new.signs z ≡ Some v) keyed (put key ∙ ap (λ (o : Ordering). cond (is_eq o) (Some v) (get node_cmp kin.signs key)) (tied_itself node_total key))) ∙ own
+      at_own = ap (λ (o : Option (Vec Sign Global)). values_under o) (subst (λ (z : Node). get node_cmp new.signs z ≡ Some v) keyed (put key ∙ ap (λ (o : Ordering). cond (is_eq o) (Some v) (get node_cmp kin.signs key)) (tied_itself node_total key))) ∙ own
 
 -- ---- the class of a goal
 

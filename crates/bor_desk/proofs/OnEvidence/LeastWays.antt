@@ -13,7 +13,7 @@ use Rattle.bor_records.specs.declared.links.node.Node.{Node}
 use Rattle.bor_records.specs.Links.Nodes.{node_cmp}
 use Rattle.bor_records.specs.Links.Orders.{node_total}
 use Rattle.bor_records.specs.Links.Shown.{Shown}
-use Rattle.bor_records.specs.Links.Aliases.{Steps}
+use Rattle.bor_records.specs.Links.Aliases.{IsAliasPath}
 use Rattle.bor_records.proofs.OnLinks.Exact.{exact_node}
 use Rattle.bor_desk.specs.Evidence.{IsWay, way_cmp, IsLeastWay}
 use Rattle.bor_desk.specs.Ways.{IsAway, IsNearer, Followers, AreKnown}
@@ -103,7 +103,7 @@ least_more s goal x y ys nearer way = record { is_way = (refl, (nearer.alias, wa
         second same Less e = less_first y d ys ds (omega (arith, same, long)) e
         second same Equal e =
             let one = exact_node y d e in
-            way.least (d ∷ ds) (sym one, subst (λ (z : Node). Steps s z ds goal) (sym one) w.1.1)
+            way.least (d ∷ ds) (sym one, subst (λ (z : Node). IsAliasPath s z ds goal) (sym one) w.1.1)
         second same Greater e = absurd (let no : false ≡ true = ap (λ (o : Ordering). is_le o) (sym e) ∙ nearer.first d w.1.0 (d_away same) in cc)
 
 -- ---- as it is read off

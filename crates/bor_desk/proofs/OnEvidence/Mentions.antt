@@ -15,7 +15,7 @@ use Rattle.bor_records.specs.declared.links.node.OpenNode.{OpenNode}
 use Rattle.bor_records.specs.declared.links.node.Link.{Link}
 use Rattle.bor_records.specs.Links.Nodes.{link_record, same_node}
 use Rattle.bor_records.specs.Links.Shown.{info_in, info_of, listed_at}
-use Rattle.bor_records.specs.Links.Aliases.{Steps}
+use Rattle.bor_records.specs.Links.Aliases.{IsAliasPath}
 use Rattle.bor_records.specs.Links.Series.{open_at}
 use Rattle.bor_records.specs.Links.Stakes.{is_stake, is_holding}
 use Rattle.bor_records.specs.Links.Rows.{beside, is_entity_info, is_some_info, link_in, link_with, links_of, node_in, nodes_of, shown_of}
@@ -115,7 +115,7 @@ module _ (day : ℤ) (seen : List Row) where
 
   -- ---- those by which entities are one
 
-  steps_open : (a b : Node) (cs : List Node) → Steps (shown_of day seen) a cs b → (n : Node) → Contains cs n → IsOpen day seen n
+  steps_open : (a b : Node) (cs : List Node) → IsAliasPath (shown_of day seen) a cs b → (n : Node) → Contains cs n → IsOpen day seen n
   steps_open a b [] steps n h = absurd (none n h)
   steps_open a b (c ∷ cs) steps n h = elim (cases c cs n h) [
     | inl e ↦ subst (λ (m : Node). IsOpen day seen m) e (listed_open c (steps.0).two (steps.0).two_is)

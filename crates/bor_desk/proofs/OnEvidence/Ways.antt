@@ -16,7 +16,7 @@ use Rattle.bor_records.specs.declared.links.node.Node.{Node}
 use Rattle.bor_records.specs.Links.Nodes.{node_cmp}
 use Rattle.bor_records.specs.Links.Orders.{node_total}
 use Rattle.bor_records.specs.Links.Shown.{Shown}
-use Rattle.bor_records.specs.Links.Aliases.{Alias, Same, Steps}
+use Rattle.bor_records.specs.Links.Aliases.{Alias, Same, IsAliasPath}
 use Rattle.bor_records.specs.Links.Answers.{AreAliases}
 use Rattle.bor_records.proofs.OnLinks.Exact.{exact_node}
 use Rattle.bor_records.proofs.OnLinks.Found.{here, none, cases}
@@ -217,7 +217,7 @@ found_goal s goal (y ∷ ys) aliases a c f alone are added = record {
 
 -- ---- the start
 
-no_steps : (s : Shown) (goal : Node) {x : Node} (cs : List Node) → Steps s x cs goal → length cs ≡ 0 → x ≡ goal
+no_steps : (s : Shown) (goal : Node) {x : Node} (cs : List Node) → IsAliasPath s x cs goal → length cs ≡ 0 → x ≡ goal
 no_steps s goal [] st e = st
 no_steps s goal (c ∷ cs) st e = absurd (omega (arith, e))
 
@@ -237,7 +237,7 @@ known_none s goal a b empty put sorted = record {
   sorted = sorted;
 }
   where
-    every : (x : Node) (cs : List Node) → Steps s x cs goal → length cs ≤ 0 → IsSome (b x)
+    every : (x : Node) (cs : List Node) → IsAliasPath s x cs goal → length cs ≤ 0 → IsSome (b x)
     every x [] st le = subst (λ (z : Node). IsSome (b z)) (sym st) (some (b goal) None (at_node a b goal None put))
     every x (c ∷ cs) st le = absurd (omega (arith, le))
 
@@ -330,7 +330,7 @@ known_more s goal depth a b level found next known from same sorted = record {
             at j is_z true e = absurd (first.first j z (ltb-true j first.place e) is_z (alias_turn s x z alias))
             at j is_z false e = in_turn level known.sorted first.place j y z (ltb-false j first.place e) first.is is_z
 
-    every : (x : Node) (cs : List Node) → Steps s x cs goal → length cs ≤ depth + 1 → IsSome (b x)
+    every : (x : Node) (cs : List Node) → IsAliasPath s x cs goal → length cs ≤ depth + 1 → IsSome (b x)
     every x [] st le = still a b from.stays x (known.every x [] st (omega arith))
     every x (c ∷ cs) st le = elim (one_more s goal depth a level known x c st.0 (known.every c cs st.1 (omega (arith, le)))) [
       | inl on ↦ still a b from.stays x on
@@ -349,7 +349,7 @@ known_more s goal depth a b level found next known from same sorted = record {
 -- ---- the end
 
 -- after an empty level all are found
-pub known_all : (s : Shown) (goal : Node) (depth : ℕ) (a : Followers) (level : List Node) → AreKnown s goal depth a level → level ≡ [] → (x : Node) (cs : List Node) → Steps s x cs goal → IsSome (a x)
+pub known_all : (s : Shown) (goal : Node) (depth : ℕ) (a : Followers) (level : List Node) → AreKnown s goal depth a level → level ≡ [] → (x : Node) (cs : List Node) → IsAliasPath s x cs goal → IsSome (a x)
 known_all s goal depth a level known empty x [] st = known.every x [] st (omega arith)
 known_all s goal depth a level known empty x (c ∷ cs) st = elim (one_more s goal depth a level known x c st.0 (known_all s goal depth a level known empty c cs st.1)) [
   | inl on ↦ on

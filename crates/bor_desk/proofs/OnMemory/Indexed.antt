@@ -26,7 +26,7 @@ use Rattle.bor_desk.specs.declared.memory.index.StatementKey.{StatementKey}
 use Rattle.bor_register.specs.declared.member.Member.{Member}
 use Rattle.bor_register.specs.Register.{filings_of, is_enrolled, new_member, with_filings, with_member}
 use Rattle.bor_register.specs.Withdrawal.{as_withdrawn, with_withdrawn}
-use Rattle.bor_desk.specs.Memory.Indexed.{AllNoted, AreNoted, IsGrown, IsIndex, has_key, has_record, items_of, key_cmp, key_of, signs_of, statements_in, subjects_of, under}
+use Rattle.bor_desk.specs.Memory.Indexed.{AllNoted, AreNoted, IsGrown, IsIndex, has_key, has_record, values_under, key_cmp, key_of, signs_of, statements_in, subjects_of, under}
 use Rattle.bor_desk.specs.Memory.Sited.{ArePlaces, places_from}
 use Rattle.bor_register.proofs.Members.{filings_absent, filings_written, other_filings, with_filings_absent}
 use Rattle.bor_desk.proofs.OnMemory.Sited.{no_places, places_more, places_none}
@@ -172,7 +172,7 @@ index_enrolled ms agent token x fresh h = index_same ms (with_member (new_member
 -- ---- no agents
 
 pub empty_under : {K X : Type 0} (cmp : K → K → Ordering) (m : BTreeMap K (Vec X Global)) (k : K) → m.entries ≡ [] → under cmp m k ≡ []
-empty_under {K} {X} cmp m k e = ap (λ (es : List (K × Vec X Global)). items_of (lookup (is_at (cmp k)) es)) e
+empty_under {K} {X} cmp m k e = ap (λ (es : List (K × Vec X Global)). values_under (lookup (is_at (cmp k)) es)) e
 
 pub index_none : (x : Index) → IsEmpty x.series → IsEmpty x.named → IsIndex [] x
 index_none x series named = record {

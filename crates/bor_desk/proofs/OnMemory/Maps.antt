@@ -14,7 +14,7 @@ use Rattle.bor_records.specs.Links.Series.{stated}
 use Rattle.bor_records.proofs.OnLinks.Found.{none}
 use Rattle.bor_records.proofs.OnLinks.Growth.{Contains-take_more}
 use Rattle.bor_desk.specs.declared.memory.index.Place.{Place}
-use Rattle.bor_desk.specs.Memory.Indexed.{AreNoted, IsNoted, items_of, under}
+use Rattle.bor_desk.specs.Memory.Indexed.{AreNoted, IsNoted, values_under, under}
 use Rattle.bor_desk.specs.Memory.Sited.{places_from}
 
 -- ---- one value
@@ -25,15 +25,15 @@ pub put_under : {K X : Type 0} (cmp : K → K → Ordering) (m less more : BTree
     → ((q : K) → get cmp more q ≡ cond (is_eq (cmp key q)) (Some new) (get cmp less q))
     → (q : K) → under cmp more q ≡ cond (is_eq (cmp key q)) (under cmp m key ++ x ∷ []) (under cmp m q)
 put_under {K} {X} cmp m less more key old new x was is removed put q =
-    ap (λ (o : Option (Vec X Global)). items_of o) (put q ∙ ap (λ (o : Option (Vec X Global)). cond (is_eq (cmp key q)) (Some new) o) (removed q)) ∙ of (is_eq (cmp key q))
+    ap (λ (o : Option (Vec X Global)). values_under o) (put q ∙ ap (λ (o : Option (Vec X Global)). cond (is_eq (cmp key q)) (Some new) o) (removed q)) ∙ of (is_eq (cmp key q))
   where
-    of : (b : Bool) → items_of (cond b (Some new) (cond b None (get cmp m q))) ≡ cond b (under cmp m key ++ x ∷ []) (under cmp m q)
+    of : (b : Bool) → values_under (cond b (Some new) (cond b None (get cmp m q))) ≡ cond b (under cmp m key ++ x ∷ []) (under cmp m q)
     of true = is ∙ ap (λ (xs : List X). xs ++ x ∷ []) was
     of false = refl
 
 pub put_at : {K X : Type 0} (cmp : K → K → Ordering) (m more : BTreeMap K (Vec X Global)) (key : K) (old new : Vec X Global) (x : X) → old.items ≡ under cmp m key → new.items ≡ old.items ++ x ∷ []
     → get cmp more key ≡ Some new → under cmp more key ≡ under cmp m key ++ x ∷ []
-put_at {K} {X} cmp m more key old new x was is put = ap (λ (o : Option (Vec X Global)). items_of o) put ∙ is ∙ ap (λ (xs : List X). xs ++ x ∷ []) was
+put_at {K} {X} cmp m more key old new x was is put = ap (λ (o : Option (Vec X Global)). values_under o) put ∙ is ∙ ap (λ (xs : List X). xs ++ x ∷ []) was
 
 -- ---- the places of a filing's statements
 

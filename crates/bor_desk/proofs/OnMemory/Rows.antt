@@ -12,7 +12,7 @@ use Rattle.std.proofs.lemmas.List.Elements.{filter-append, filter_agree, Contain
 use Rattle.bor_terms.specs.Texts.{is_same}
 use Rattle.bor_terms.proofs.Texts.{same_refl}
 use Rattle.bods_read.specs.declared.statement.Statement.{Statement}
-use Rattle.bor_records.specs.Admission.{Live, is_closed, is_of as is_of_record, known_of, last_of, status_of}
+use Rattle.bor_records.specs.Admission.{Live, is_closed, is_of as is_of_record, known_of, last_of, stated_status}
 use Rattle.bor_records.specs.declared.links.node.Node.{Node}
 use Rattle.bor_records.specs.declared.row.Row.{Row}
 use Rattle.bor_records.specs.Links.Nodes.{text_cmp}
@@ -29,7 +29,7 @@ use Rattle.bor_register.specs.Live.{live_of}
 use Rattle.bor_register.specs.Register.{IsOrdered, filings_of}
 use Rattle.bor_register.specs.Rows.{is_visible, row_of, rows_from, rows_in, visible, visible_in}
 use Rattle.bor_desk.specs.Memory.Indexed.{has_key, has_record, statements_in}
-use Rattle.bor_desk.specs.Memory.Sighted.{unless_closed}
+use Rattle.bor_desk.specs.Memory.Sighted.{statement_unless_closed}
 use Rattle.bor_desk.specs.Memory.Sited.{Sited, ArePlaces, is_told, passes, row_sited, sited_at, sited_from, sited_in}
 use Rattle.bor_register.proofs.OneAgent.{one_agent}
 use Rattle.bor_desk.proofs.OnMemory.Lists.{filter-map, filter_between, filter_true, last_map}
@@ -90,9 +90,9 @@ module _ (viewer : List ℕ) (today day : ℤ) (n : Node) (ms : List Member) (or
       ∙ ap (filter (is_told viewer today day n.agent)) (sym places.told))
       ∙ ap (option_map (row_sited n.agent)) (sym (picked (sited_at (filings_of n.agent ms)) (is_told viewer today day n.agent) None ps))
 
-  closed_alike : (o : Option Sited) → option_and_then unless_closed (option_map (λ (x : Sited). x.statement) o) ≡ option_map (λ (r : Row). r.statement) (option_and_then row_unless_closed (option_map (row_sited n.agent) o))
+  closed_alike : (o : Option Sited) → option_and_then statement_unless_closed (option_map (λ (x : Sited). x.statement) o) ≡ option_map (λ (r : Row). r.statement) (option_and_then row_unless_closed (option_map (row_sited n.agent) o))
   closed_alike None = refl
-  closed_alike (Some x) = go (is_closed (status_of x.statement))
+  closed_alike (Some x) = go (is_closed (stated_status x.statement))
     where
       go : (b : Bool) → cond b None (Some x.statement) ≡ option_map (λ (r : Row). r.statement) (cond b None (Some (row_sited n.agent x)))
       go true = refl
@@ -101,9 +101,9 @@ module _ (viewer : List ℕ) (today day : ℤ) (n : Node) (ms : List Member) (or
   -- what stands at the last place that is told is what the record shows, where it isn't closed
   pub shown_sited : (o : Option Place) (t : Option Statement) → o ≡ last_or None (filter (λ p. passes (is_told viewer today day n.agent) (sited_at (filings_of n.agent ms) p)) ps)
       → t ≡ option_map (λ (x : Sited). x.statement) (option_and_then (sited_at (filings_of n.agent ms)) o)
-      → option_and_then unless_closed t ≡ option_map (λ (r : Row). r.statement) (open_at day n (visible viewer today ms))
+      → option_and_then statement_unless_closed t ≡ option_map (λ (r : Row). r.statement) (open_at day n (visible viewer today ms))
   shown_sited o t last is =
-      ap (option_and_then unless_closed) (is ∙ ap (λ (q : Option Place). option_map (λ (x : Sited). x.statement) (option_and_then (sited_at (filings_of n.agent ms)) q)) last)
+      ap (option_and_then statement_unless_closed) (is ∙ ap (λ (q : Option Place). option_map (λ (x : Sited). x.statement) (option_and_then (sited_at (filings_of n.agent ms)) q)) last)
       ∙ closed_alike (option_and_then (sited_at (filings_of n.agent ms)) (last_or None (filter (λ p. passes (is_told viewer today day n.agent) (sited_at (filings_of n.agent ms) p)) ps)))
       ∙ ap (λ (r : Option Row). option_map (λ (q : Row). q.statement) (option_and_then row_unless_closed r)) (sym latest_sited)
 

@@ -26,7 +26,7 @@ use Rattle.bor_chains.specs.Candidates.{is_into, link_at, link_into, names}
 use Rattle.bor_register.specs.declared.member.Member.{Member}
 use Rattle.bor_register.specs.Register.{IsOrdered}
 use Rattle.bor_register.specs.Rows.{visible}
-use Rattle.bor_desk.specs.Memory.Indexed.{AllNoted, beside, signs_in, signs_of, subjects_in, subjects_of}
+use Rattle.bor_desk.specs.Memory.Indexed.{AllNoted, record_beside, signs_in, signs_of, subjects_in, subjects_of}
 use Rattle.bor_desk.specs.Memory.Sighted.{as_row, identifiers_in}
 use Rattle.bor_desk.proofs.OnMemory.Rows.{seen-live}
 
@@ -85,7 +85,7 @@ named_in n agent s (details.Entity kind name identifiers) a d h = absurd cc
 named_in n agent s (details.Person kind name) a d h = absurd cc
 named_in n agent s (details.Relationship None party interests) a d h = absurd cc
 named_in n agent s (details.Relationship (Some subject) party interests) a d h =
-    let is : beside agent s subject ≡ n =
+    let is : record_beside agent s subject ≡ n =
     ap (λ (t : List ℕ). let m : Node = record { agent = t; declaration = s.declaration; rec = subject } in m) (same_is agent n.agent a)
     ∙ ap (λ (t : List ℕ). let m : Node = record { agent = n.agent; declaration = t; rec = subject } in m) (same_is s.declaration n.declaration d)
     ∙ ap (λ (t : List ℕ). let m : Node = record { agent = n.agent; declaration = n.declaration; rec = t } in m) (same_is subject n.rec h) in

@@ -28,7 +28,7 @@ use Rattle.bor_desk.specs.Operations.Sight.{Sight, sight_of, Outcome}
 use Rattle.bor_desk.specs.Operations.Lodging.{settled_reading, filing_of, addition, own_added, own_lodged_at, own_lodged, lodge_step}
 use Rattle.bor_desk.specs.Operations.Withdrawing.{own_withdrawn_at, own_withdrawn, withdraw_step}
 use Rattle.bor_desk.specs.Operations.Registrar.{advance_step, enrol_step}
-use Rattle.bor_desk.specs.Operations.Legality.{IsNumberedFrom, IsKeyedOnce, IsRead, AreRead, AreLegal, AllLegal, AreTokensDistinct, IsLegal}
+use Rattle.bor_desk.specs.Operations.Legality.{IsNumberedFrom, IsKeyedOnce, IsReadFromFile, AreRead, AreLegal, AllLegal, AreTokensDistinct, IsLegal}
 use Rattle.bor_desk.specs.Operations.Laws.{agents_of, LeavesOthers, KeepsAgents}
 use Rattle.bor_desk.proofs.OnOperations.Withdrawals.{withdrawn-legal}
 
@@ -145,10 +145,10 @@ keyed-push : (fs : List AcceptedFiling) (f : AcceptedFiling) → IsKeyedOnce fs 
 keyed-push [] f h e = (refl, tt)
 keyed-push (g ∷ fs) f h e = let other = other_key g f fs e in (keyed-none-push g.key fs f h.0 (same_sym f.key g.key ∙ other.0), keyed-push fs f h.1 other.1)
 
-read-push : (live : List Live) (fs : List AcceptedFiling) (f : AcceptedFiling) → AreRead live fs → IsRead f.withdrawn (live ++ live_of fs) f → AreRead live (fs ++ f ∷ [])
-read-push live [] f h e = (subst (λ ls. IsRead f.withdrawn ls f) (append-nil live) e, tt)
+read-push : (live : List Live) (fs : List AcceptedFiling) (f : AcceptedFiling) → AreRead live fs → IsReadFromFile f.withdrawn (live ++ live_of fs) f → AreRead live (fs ++ f ∷ [])
+read-push live [] f h e = (subst (λ ls. IsReadFromFile f.withdrawn ls f) (append-nil live) e, tt)
 read-push live (g ∷ fs) f h e =
-    (h.0, read-push (live ++ map (as_live g.due) g.statements) fs f h.1 (subst (λ ls. IsRead f.withdrawn ls f) (sym (append_assoc live (map (as_live g.due) g.statements) (live_of fs))) e))
+    (h.0, read-push (live ++ map (as_live g.due) g.statements) fs f h.1 (subst (λ ls. IsReadFromFile f.withdrawn ls f) (sym (append_assoc live (map (as_live g.due) g.statements) (live_of fs))) e))
 
 -- ---- a register with an agent's filings changed
 

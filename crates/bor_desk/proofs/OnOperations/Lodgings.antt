@@ -16,7 +16,7 @@ use Rattle.bor_register.specs.declared.filing.AcceptedFiling.{AcceptedFiling}
 use Rattle.bor_register.specs.Register.{Register, filings_of, filing_keyed}
 use Rattle.bor_register.specs.Live.{accepted, live_of}
 use Rattle.bor_desk.specs.Operations.Sight.{Sight}
-use Rattle.bor_desk.specs.Operations.Lodging.{fault_at, told_verdict, told_settled, settled_reading, as_read, repeated, filing_of, addition, lodge_step}
+use Rattle.bor_desk.specs.Operations.Lodging.{lodge_fault_at, told_verdict, told_settled, settled_reading, as_read, repeated, filing_of, addition, lodge_step}
 use Rattle.bor_desk.specs.Operations.Outcomes.{of_lodging, IsOutcome, Refuses, IsDone}
 use Rattle.bor_desk.specs.declared.operations.lodging.Lodged.{Lodged}
 use Rattle.bor_register.specs.Limits.{filings_limit}
@@ -116,7 +116,7 @@ so_far-end live due ss i le =
 refused_is : (e : LodgeFault) (front : List Statement) (place : ℕ) (s : Statement) (v : Result Status Refusal) (rest : Statement → Result (List Statement) PlacedRefusal) →
     told_verdict place v ≡ Err e → told_settled (behind front (settled_then place s v rest)) ≡ Err e
 refused_is e front place s (Ok st) rest h = absurd cc
-refused_is e front place s (Err w) rest h = let same : fault_at place w ≡ e = cc in ap (λ (x : LodgeFault). Err x) same
+refused_is e front place s (Err w) rest h = let same : lodge_fault_at place w ≡ e = cc in ap (λ (x : LodgeFault). Err x) same
 
 refused_then : (e : LodgeFault) (front : List Statement) (place : ℕ) (s : Statement) (v : Result Status Refusal) (rest : Statement → Result (List Statement) PlacedRefusal) →
     Refuses of_lodging e (told_verdict place v) → Refuses of_lodging e (told_settled (behind front (settled_then place s v rest)))

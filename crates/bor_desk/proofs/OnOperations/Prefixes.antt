@@ -23,8 +23,8 @@ use Rattle.bor_register.specs.Register.{Register, filings_of}
 use Rattle.bor_register.specs.Publication.{is_published}
 use Rattle.bor_register.specs.Live.{live_of}
 use Rattle.bor_desk.specs.Operations.Lodging.{told_settled, settled_reading}
-use Rattle.bor_desk.specs.Operations.Legality.{IsRead, AreRead, IsLegal}
-use Rattle.bor_desk.specs.Operations.Laws.{series, IsPrefix, PublishedPrefix}
+use Rattle.bor_desk.specs.Operations.Legality.{IsReadFromFile, AreRead, IsLegal}
+use Rattle.bor_desk.specs.Operations.Laws.{live_series, IsPrefix, PublishedPrefix}
 use Rattle.bor_desk.proofs.OnOperations.Legality.{own_legal}
 
 -- ---- due days of a record
@@ -54,8 +54,8 @@ due_in_order (Some l) s due status h = grind arith
 -- Facts that the published ones of live statements keep: a free identifier stays free; of each record they are the front, and all of it where its last is due by the day.
 record IsFront (day : ℤ) (live kept : List Live) : Type 0 where
   free : (id : List ℕ) → has_id id live ≡ false → has_id id kept ≡ false
-  whole : (declaration rec : List ℕ) → is_late day (last_of declaration rec live) ≡ false → series declaration rec live ≡ series declaration rec kept
-  front : (declaration rec : List ℕ) → IsPrefix (series declaration rec kept) (series declaration rec live)
+  whole : (declaration rec : List ℕ) → is_late day (last_of declaration rec live) ≡ false → live_series declaration rec live ≡ live_series declaration rec kept
+  front : (declaration rec : List ℕ) → IsPrefix (live_series declaration rec kept) (live_series declaration rec live)
 
 none_front : (day : ℤ) → IsFront day [] []
 none_front day = record { free = λ id h. refl; whole = λ declaration rec h. refl; front = λ declaration rec. ([], refl) }
@@ -68,12 +68,12 @@ last_push declaration rec live l b e = last_of-append declaration rec live (l �
     by_test true = refl
     by_test false = refl
 
-series_push : (declaration rec : List ℕ) (live : List Live) (l : Live) (b : Bool) → is_of declaration rec l.statement ≡ b → series declaration rec (live ++ l ∷ []) ≡ if b then series declaration rec live ++ l ∷ [] else series declaration rec live
+series_push : (declaration rec : List ℕ) (live : List Live) (l : Live) (b : Bool) → is_of declaration rec l.statement ≡ b → live_series declaration rec (live ++ l ∷ []) ≡ if b then live_series declaration rec live ++ l ∷ [] else live_series declaration rec live
 series_push declaration rec live l b e = filter-append (λ l. is_of declaration rec l.statement) live (l ∷ []) ∙ rw e (by_test b)
   where
-    by_test : (b : Bool) → series declaration rec live ++ cond b (l ∷ []) [] ≡ if b then series declaration rec live ++ l ∷ [] else series declaration rec live
+    by_test : (b : Bool) → live_series declaration rec live ++ cond b (l ∷ []) [] ≡ if b then live_series declaration rec live ++ l ∷ [] else live_series declaration rec live
     by_test true = refl
-    by_test false = append-nil (series declaration rec live)
+    by_test false = append-nil (live_series declaration rec live)
 
 -- a statement of a record has its declaration and its identifier
 names_of : (declaration rec : List ℕ) (s : Statement) → is_of declaration rec s ≡ true → (s.declaration ≡ declaration) × (s.rec ≡ rec)
@@ -86,14 +86,14 @@ draft_more day due live kept s h w = record {
   whole = λ declaration rec e. whole declaration rec (is_of declaration rec s) refl e;
   front = λ declaration rec.
       let old = w.front declaration rec in
-      let new = series declaration rec (l ∷ []) in
-      (old.0 ++ new, filter-append _ live (l ∷ []) ∙ ap (λ ls. ls ++ new) old.1 ∙ append_assoc (series declaration rec kept) old.0 new);
+      let new = live_series declaration rec (l ∷ []) in
+      (old.0 ++ new, filter-append _ live (l ∷ []) ∙ ap (λ ls. ls ++ new) old.1 ∙ append_assoc (live_series declaration rec kept) old.0 new);
 }
   where
     l : Live
     l = as_live due s
 
-    whole : (declaration rec : List ℕ) (b : Bool) → is_of declaration rec s ≡ b → is_late day (last_of declaration rec (live ++ l ∷ [])) ≡ false → series declaration rec (live ++ l ∷ []) ≡ series declaration rec kept
+    whole : (declaration rec : List ℕ) (b : Bool) → is_of declaration rec s ≡ b → is_late day (last_of declaration rec (live ++ l ∷ [])) ≡ false → live_series declaration rec (live ++ l ∷ []) ≡ live_series declaration rec kept
     whole declaration rec true e early = let late = ap (is_late day) (last_push declaration rec live l true e) ∙ due_after due day h in absurd cc
     whole declaration rec false e early = series_push declaration rec live l false e ∙ w.whole declaration rec (sym (ap (is_late day) (last_push declaration rec live l false e)) ∙ early)
 
@@ -114,19 +114,19 @@ published_more day due live kept s early w = record {
     l : Live
     l = as_live due s
 
-    its_record : (declaration rec : List ℕ) → is_of declaration rec s ≡ true → series declaration rec (live ++ l ∷ []) ≡ series declaration rec (kept ++ l ∷ [])
+    its_record : (declaration rec : List ℕ) → is_of declaration rec s ≡ true → live_series declaration rec (live ++ l ∷ []) ≡ live_series declaration rec (kept ++ l ∷ [])
     its_record declaration rec e =
         let names = names_of declaration rec s e in
         let here = subst (λ d. is_late day (last_of d rec live) ≡ false) names.0 (subst (λ r. is_late day (last_of s.declaration r live) ≡ false) names.1 early) in
         series_push declaration rec live l true e ∙ ap (λ ls. ls ++ l ∷ []) (w.whole declaration rec here) ∙ sym (series_push declaration rec kept l true e)
 
-    whole : (declaration rec : List ℕ) (b : Bool) → is_of declaration rec s ≡ b → is_late day (last_of declaration rec (live ++ l ∷ [])) ≡ false → series declaration rec (live ++ l ∷ []) ≡ series declaration rec (kept ++ l ∷ [])
+    whole : (declaration rec : List ℕ) (b : Bool) → is_of declaration rec s ≡ b → is_late day (last_of declaration rec (live ++ l ∷ [])) ≡ false → live_series declaration rec (live ++ l ∷ []) ≡ live_series declaration rec (kept ++ l ∷ [])
     whole declaration rec true e in_time = its_record declaration rec e
     whole declaration rec false e in_time =
         series_push declaration rec live l false e ∙ w.whole declaration rec (sym (ap (is_late day) (last_push declaration rec live l false e)) ∙ in_time) ∙ sym (series_push declaration rec kept l false e)
 
-    front : (declaration rec : List ℕ) (b : Bool) → is_of declaration rec s ≡ b → IsPrefix (series declaration rec (kept ++ l ∷ [])) (series declaration rec (live ++ l ∷ []))
-    front declaration rec true e = ([], its_record declaration rec e ∙ sym (append-nil (series declaration rec (kept ++ l ∷ []))))
+    front : (declaration rec : List ℕ) (b : Bool) → is_of declaration rec s ≡ b → IsPrefix (live_series declaration rec (kept ++ l ∷ [])) (live_series declaration rec (live ++ l ∷ []))
+    front declaration rec true e = ([], its_record declaration rec e ∙ sym (append-nil (live_series declaration rec (kept ++ l ∷ []))))
     front declaration rec false e =
         let old = w.front declaration rec in
         (old.0, series_push declaration rec live l false e ∙ old.1 ∙ ap (λ ls. ls ++ old.0) (sym (series_push declaration rec kept l false e)))
@@ -223,14 +223,14 @@ published_from day live kept (f ∷ fs) w h = by_tests f.withdrawn (int_le f.due
     left_out : IsFront day (live ++ here) kept → ((kept' : List Live) → IsFront day (live ++ here) kept' → Later kept') → AreRead kept rest × IsFront day (live ++ live_of (f ∷ fs)) (kept ++ live_of rest)
     left_out w' again = let later = again kept w' in (later.0, rw append_assoc at later.1)
 
-    by_tests : (withdrawn by_day : Bool) → f.withdrawn ≡ withdrawn → int_le f.due day ≡ by_day → IsRead withdrawn live f → ((kept' : List Live) → IsFront day (live ++ here) kept' → Later kept') →
+    by_tests : (withdrawn by_day : Bool) → f.withdrawn ≡ withdrawn → int_le f.due day ≡ by_day → IsReadFromFile withdrawn live f → ((kept' : List Live) → IsFront day (live ++ here) kept' → Later kept') →
         let gs = cond (not withdrawn && by_day) (f ∷ rest) rest in AreRead kept gs × IsFront day (live ++ live_of (f ∷ fs)) (kept ++ live_of gs)
     by_tests true by_day e d read again = left_out (subst (λ ss. IsFront day (live ++ map (as_live f.due) ss) kept) (sym read) (rw append-nil w)) again
     by_tests false false e d read again = left_out (draft_all day f.due live kept f.statements d w) again
     by_tests false true e d read again =
         let both = reading_published day f.due live kept (reading f.bytes) f.statements d w read in
         let later = again (kept ++ here) both.1 in
-        ((subst (λ b. IsRead b kept f) (sym e) both.0, later.0), rw (append_assoc live here (live_of fs), append_assoc kept here (live_of rest)) at later.1)
+        ((subst (λ b. IsReadFromFile b kept f) (sym e) both.0, later.0), rw (append_assoc live here (live_of fs), append_assoc kept here (live_of rest)) at later.1)
 
 pub published_is_front : PublishedPrefix
 published_is_front = record {

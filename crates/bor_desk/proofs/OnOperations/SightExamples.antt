@@ -15,7 +15,7 @@ use Rattle.bor_register.specs.Withdrawal.{as_withdrawn}
 use Rattle.bor_register.proofs.Examples.{first, second, today, tomorrow, two_agents}
 use Rattle.bor_desk.specs.Operations.Sight.{seen_by, sight_of}
 use Rattle.bor_desk.specs.Operations.Solo.{published_beside, alone}
-use Rattle.bor_desk.specs.Operations.Laws.{series}
+use Rattle.bor_desk.specs.Operations.Laws.{live_series}
 use Rattle.bor_desk.proofs.OnOperations.Examples.{with_own}
 
 -- the same statements under another number and key and with other bytes, between a withdrawn filing and a draft
@@ -62,13 +62,13 @@ same_alone = refl
 abbrev ids : List Live → List (List ℕ)
 ids live = map (λ (l : Live). l.statement.id) live
 
-live_of_e1 : ids (series (codes "c1") (codes "e1") (live_of (first ∷ second ∷ []))) ≡ codes "s1" ∷ codes "s3" ∷ []
+live_of_e1 : ids (live_series (codes "c1") (codes "e1") (live_of (first ∷ second ∷ []))) ≡ codes "s1" ∷ codes "s3" ∷ []
 live_of_e1 = refl
 
-published_of_e1 : ids (series (codes "c1") (codes "e1") (live_of (filter (is_published today) (first ∷ second ∷ [])))) ≡ codes "s1" ∷ []
+published_of_e1 : ids (live_series (codes "c1") (codes "e1") (live_of (filter (is_published today) (first ∷ second ∷ [])))) ≡ codes "s1" ∷ []
 published_of_e1 = refl
 
-all_published_of_e1 : ids (series (codes "c1") (codes "e1") (live_of (filter (is_published tomorrow) (first ∷ second ∷ [])))) ≡ codes "s1" ∷ codes "s3" ∷ []
+all_published_of_e1 : ids (live_series (codes "c1") (codes "e1") (live_of (filter (is_published tomorrow) (first ∷ second ∷ [])))) ≡ codes "s1" ∷ codes "s3" ∷ []
 all_published_of_e1 = refl
 
 -- ---- five agents: alder and birch have published, alder two filings; dogwood has withdrawn its one, and elm has none

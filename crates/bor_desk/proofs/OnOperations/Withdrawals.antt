@@ -17,7 +17,7 @@ use Rattle.bor_register.specs.declared.filing.AcceptedFiling.{AcceptedFiling}
 use Rattle.bor_register.specs.Register.{filing_keyed}
 use Rattle.bor_register.specs.Withdrawal.{shares_record, has_successor, as_withdrawn, with_withdrawn}
 use Rattle.bor_desk.specs.Operations.Lodging.{told_settled, settled_reading}
-use Rattle.bor_desk.specs.Operations.Legality.{IsNumberedFrom, IsKeyedOnce, IsRead, AreRead, AreLegal}
+use Rattle.bor_desk.specs.Operations.Legality.{IsNumberedFrom, IsKeyedOnce, IsReadFromFile, AreRead, AreLegal}
 
 -- ---- live statements without those of one filing
 
@@ -127,7 +127,7 @@ read-without f live kept (g ∷ fs) w h alone = (by_withdrawn g.withdrawn h.0, r
     both : (shares_record f g ≡ false) × (list_any (shares_record f) fs ≡ false)
     both = or_parts (shares_record f g) (list_any (shares_record f) fs) alone
 
-    by_withdrawn : (b : Bool) → IsRead b live g → IsRead b kept g
+    by_withdrawn : (b : Bool) → IsReadFromFile b live g → IsReadFromFile b kept g
     by_withdrawn true r = r
     by_withdrawn false r = settled_reading-without f.statements live kept g.due (reading g.bytes) g.statements w r both.0
 

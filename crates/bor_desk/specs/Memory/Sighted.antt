@@ -1,10 +1,11 @@
--- The part of a register in memory that a viewer sees, read by key; for clauses of private functions alone.
+-- The part of a register in memory that a viewer sees, read by key; for clauses of private
+-- functions alone.
 use Rattle.std.specs.Prelude.{ℕ, List, [], Option, None, Some, option_map, if◌then◌else◌}
 use Rattle.bods_read.specs.declared.details.Details.{Details}
 use Rattle.bods_read.specs.declared.details.Details.TheVariants as details
 use Rattle.bods_read.specs.declared.details.Identifier.{Identifier}
 use Rattle.bods_read.specs.declared.statement.Statement.{Statement}
-use Rattle.bor_records.specs.Admission.{is_closed, status_of}
+use Rattle.bor_records.specs.Admission.{is_closed, stated_status}
 use Rattle.bor_records.specs.declared.links.node.Node.{Node}
 use Rattle.bor_records.specs.declared.row.Row.{Row}
 use Rattle.bor_records.specs.Links.Rows.{shown_of}
@@ -33,8 +34,8 @@ abbrev pub statement_open : Sight → Node → Option Statement
 statement_open x n = option_map (λ (r : Row). r.statement) (open_at x.day n (rows_in_sight x))
 
 -- a statement that isn't closed
-abbrev pub unless_closed : Statement → Option Statement
-unless_closed s = if is_closed (status_of s) then None else Some s
+abbrev pub statement_unless_closed : Statement → Option Statement
+statement_unless_closed s = if is_closed (stated_status s) then None else Some s
 
 -- an agent's statement as a row: its links and nodes don't depend on where it stands
 abbrev pub as_row : List ℕ → Statement → Row

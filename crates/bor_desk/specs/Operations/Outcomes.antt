@@ -38,28 +38,37 @@ abbrev pub ByStore : Option StoreFault → Type 0 → (StoreFault → Type 0) �
 ByStore None P Q = P
 ByStore (Some fault) P Q = Q fault
 
--- The answer, a refusal too, is the step's, and so is the register left; want of memory or a failed store leaves the register as it was.
-abbrev pub IsOutcome : {A E : Type 0} → (E → Option StoreFault) → Result A E → (Register → Type 0) → Register → Outcome (Result A E) → Type 0
+-- The answer, a refusal too, is the step's, and so is the register left; want of memory or a failed
+-- store leaves the register as it was.
+abbrev pub IsOutcome : {A E : Type 0} → (E → Option StoreFault) → Result A E → (Register → Type 0)
+    → Register → Outcome (Result A E) → Type 0
 IsOutcome store (Ok answer) shown r o = (o.answer ≡ Ok answer) × shown o.register
-IsOutcome store (Err fault) shown r o = ByStore (store fault) ((o.answer ≡ Err fault) × shown o.register) (λ f. shown r)
+IsOutcome store (Err fault) shown r o =
+    ByStore (store fault) ((o.answer ≡ Err fault) × shown o.register) (λ f. shown r)
 
--- A fault of the store is want of memory where the keep's count of faults hasn't moved. Which one it may be where it has, `IsTellable` says.
+-- A fault of the store is want of memory where the keep's count of faults hasn't moved. Which one
+-- it may be where it has, `IsTellable` says.
 abbrev pub IsFaultOf : ℕ → ℕ → StoreFault → Type 0
 IsFaultOf before after fault = ((fault ≡ Memory) × (after ≡ before)) ⊎ (after ≢ before)
 
 -- an answer that is no fault of the store leaves the count
 abbrev pub IsAccounted : {A E : Type 0} → (E → Option StoreFault) → Result A E → ℕ → ℕ → Type 0
 IsAccounted store (Ok answer) before after = after ≡ before
-IsAccounted store (Err fault) before after = ByStore (store fault) (after ≡ before) (IsFaultOf before after)
+IsAccounted store (Err fault) before after =
+    ByStore (store fault) (after ≡ before) (IsFaultOf before after)
 
--- A fault of the store is want of memory where the keep's count of faults hasn't moved, and one that the keep may return where it has.
+-- A fault of the store is want of memory where the keep's count of faults hasn't moved, and one
+-- that the keep may return where it has.
 abbrev pub IsTellable : (StoreFault → Type 0) → ℕ → ℕ → StoreFault → Type 0
-IsTellable may_tell before after fault = ((fault ≡ Memory) × (after ≡ before)) ⊎ (may_tell fault × (after ≢ before))
+IsTellable may_tell before after fault =
+    ((fault ≡ Memory) × (after ≡ before)) ⊎ (may_tell fault × (after ≢ before))
 
 -- a fault of the store is such a one
-abbrev pub TellsFaultOf : {A E : Type 0} → (E → Option StoreFault) → (StoreFault → Type 0) → Result A E → ℕ → ℕ → Type 0
+abbrev pub TellsFaultOf : {A E : Type 0} → (E → Option StoreFault) → (StoreFault → Type 0)
+    → Result A E → ℕ → ℕ → Type 0
 TellsFaultOf store may_tell (Ok answer) before after = Unit {0}
-TellsFaultOf store may_tell (Err fault) before after = ByStore (store fault) (Unit {0}) (IsTellable may_tell before after)
+TellsFaultOf store may_tell (Err fault) before after =
+    ByStore (store fault) (Unit {0}) (IsTellable may_tell before after)
 
 -- a call that asks the keep alone moves the count where it answers a fault
 abbrev pub IsCounted : {A : Type 0} → Result A StoreFault → ℕ → ℕ → Type 0
@@ -78,11 +87,14 @@ abbrev pub Refuses : {B E : Type 0} → (E → Option StoreFault) → E → Resu
 Refuses store fault told = ByStore (store fault) (told ≡ Err fault) (λ f. Unit {0})
 
 -- a call answers what the definition gives, but for a fault of the store
-abbrev pub IsDone : {A B E : Type 0} → (E → Option StoreFault) → (A → B) → Result A E → Result B E → Type 0
+abbrev pub IsDone : {A B E : Type 0} → (E → Option StoreFault) → (A → B) → Result A E
+    → Result B E → Type 0
 IsDone store view (Ok x) told = told ≡ Ok (view x)
 IsDone store view (Err fault) told = Refuses store fault told
 
--- a call that asks no keep answers what the definition gives: its one fault of the store is want of memory
-pub record IsMade {A B : Type 0} (view : A → B) (made : Result A LodgeFault) (told : Result B LodgeFault) : Type 0 where
+-- a call that asks no keep answers what the definition gives: its one fault of the store is want of
+-- memory
+pub record IsMade {A B : Type 0} (view : A → B) (made : Result A LodgeFault)
+    (told : Result B LodgeFault) : Type 0 where
   pub done : IsDone of_lodging view made told
   pub err : IfErr made (λ fault. ByStore (of_lodging fault) (Unit {0}) (λ f. f ≡ Memory))

@@ -18,4 +18,8 @@ abbrev pub enrol_step : Register → List ℕ → List ℕ → Outcome (Result (
 enrol_step r name token =
     if is_enrolled name r.members then record { answer = Err NameTaken; register = r }
     else (if is_taken token r then record { answer = Err TokenTaken; register = r }
-    else record { answer = Ok name; register = record r { members = with_member (new_member name token) r.members } })
+    else record {
+      answer = Ok name;
+      register = record r
+          { members = with_member (new_member name token) r.members };
+    })

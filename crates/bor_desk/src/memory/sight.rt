@@ -11,7 +11,7 @@ ghost use Rattle.bor_records.specs.Snapshot.{unless_closed as row_unless_closed}
 ghost use Rattle.bor_chains.specs.Candidates.{link_at, link_into};
 ghost use Rattle.bor_desk.specs.Memory.Sited.{is_told, passes, row_sited, sited_at};
 ghost use Rattle.bor_register.specs.Rows.{row_of};
-ghost use Rattle.bor_desk.specs.Memory.Sighted.{IsIndexed, as_row, identifiers_in, in_sight, rows_in_sight, statement_open, unless_closed};
+ghost use Rattle.bor_desk.specs.Memory.Sighted.{IsIndexed, as_row, identifiers_in, in_sight, rows_in_sight, statement_open, statement_unless_closed};
 
 use crate::memory::index::{Index, Place, node_named};
 use bods_read::{Details, Identifier, Interest, Statement, Status};
@@ -83,7 +83,7 @@ pub(crate) fn statement_at<'a>(filings: &'a [AcceptedFiling], place: Place) -> O
 }
 
 fn unless_closed<'a>(statement: &'a Statement) -> Option<&'a Statement>
-    ensures { option_map (λ s. s.now) result ≡ unless_closed statement.now }
+    ensures { option_map (λ s. s.now) result ≡ statement_unless_closed statement.now }
 {
     if statement.status == Some(Status::Closed) {
         None
@@ -95,7 +95,7 @@ fn unless_closed<'a>(statement: &'a Statement) -> Option<&'a Statement>
 // The latest statement of a record that the viewer sees.
 fn latest<'a>(sight: &Sight<'a>, node: &Node) -> Option<&'a Statement>
     requires { IsIndexed sight.now }
-    ensures { option_and_then unless_closed (option_map (λ s. s.now) result)
+    ensures { option_and_then statement_unless_closed (option_map (λ s. s.now) result)
         ≡ statement_open sight.now node.now }
 {
     let filings = own_filings(sight.members, &node.agent);

@@ -10,7 +10,7 @@ use Rattle.bor_terms.specs.Tables.{table, outcome}
 use Rattle.bor_http.specs.declared.incoming.fault.Refusal.{Refusal}
 use Rattle.bor_http.specs.declared.incoming.fault.Refusal.TheVariants.{BadLength, BodyTooLarge, CutShort}
 use Rattle.bor_http.specs.Incoming.Message.{Parts, Message, FieldText, is_named, is_numeral, how_many, first_value, body_limit}
-use Rattle.bor_http.specs.Incoming.Refusals.{refuse, values, lengths, exceeds, lines_of_body, stated, message_of}
+use Rattle.bor_http.specs.Incoming.Refusals.{refuse, values, lengths, exceeds, lines_of_body, stated_length, message_of}
 use Rattle.bor_http.specs.Incoming.Steps.{and_then, length_of, body_len, body_of, with_body}
 
 -- ---- the values of fields
@@ -82,7 +82,7 @@ by_values : (encoded : Bool) (parts : Parts) (rest : List ℕ) (ls : List (List 
     ≡ outcome
     (table (refuse BadLength (encoded || nat_lt 1 (length ls) || list_any (λ value. not (is_numeral value)) ls)
     ∷ refuse BodyTooLarge (exceeds body_limit ls) ∷ refuse CutShort (exceeds (length rest) ls) ∷ []))
-    (record { parts = parts; body = take (stated ls) rest })
+    (record { parts = parts; body = take (stated_length ls) rest })
 unfolding first_of
 by_values true parts rest ls = refl
 by_values false parts rest [] = rw (none_below (length rest)) refl

@@ -9,7 +9,7 @@ use Rattle.std.proofs.lemmas.List.Splits.{join_with_byte-slice_split}
 use Rattle.std.proofs.lemmas.Bool.Decides.{nat_tests}
 use Rattle.bor_http.specs.declared.incoming.fault.Path.{Path}
 use Rattle.bor_http.specs.declared.incoming.fault.Path.TheVariants as paths
-use Rattle.bor_http.specs.Routes.Routes.{Line, table, path_word}
+use Rattle.bor_http.specs.Routes.Routes.{Line, route_table, path_word}
 use Rattle.bor_http.specs.Routes.Paths.{segments, stands_for, is_written_as, path_of, IsSegment, IsPath}
 use Rattle.bor_http.specs.Routes.Routers.{router, path_in}
 use Rattle.bor_http.proofs.OnRoutes.AsWritten.{is_found, is_path}
@@ -178,12 +178,12 @@ written_so (line ∷ lines) text path e = by_test (is_written_as text line.path)
 
 said_path : (path : Path) (text : List ℕ) → path_of text ≡ Some path → IsPath path text
 unfolding path_of
-said_path path text e = is_the_path path text (written_so table text path e)
+said_path path text e = is_the_path path text (written_so route_table text path e)
 
 -- ---- a path is the one of its segments
 
 abbrev path_by : List (List ℕ) → Option Path
-path_by parts = option_map (λ line. line.path) (find (λ line. pointwise stands_for parts (segments (path_word line.path))) table)
+path_by parts = option_map (λ line. line.path) (find (λ line. pointwise stands_for parts (segments (path_word line.path))) route_table)
 
 filing_by : (key : List ℕ) → nat_lt 0 (length key) ≡ true → path_by (filing_key key []) ≡ Some paths.Filing
 filing_by key some = rw some refl

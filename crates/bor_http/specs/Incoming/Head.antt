@@ -1,5 +1,6 @@
 -- Where a request's head ends.
-use Rattle.std.specs.Prelude.{ℕ, ◌+◌, ◌==◌, ◌&&◌, nat_lt, List, [], ◌∷◌, Option, Some, None, if◌then◌else◌, suc, take, count_by}
+use Rattle.std.specs.Prelude.{ℕ, ◌+◌, ◌==◌, ◌&&◌, nat_lt, List, [], ◌∷◌, Option, Some, None}
+use Rattle.std.specs.Prelude.{if◌then◌else◌, suc, take, count_by}
 use Rattle.std.specs.Option.{option_map}
 
 -- the length of the empty line at the front, or 0 where there is none

@@ -1,5 +1,6 @@
 -- A message, the head that an input begins with, and what the fields of a head say.
-use Rattle.std.specs.Prelude.{◌≡◌, ◌≤◌, ℕ, ◌==◌, ◌&&◌, nat_lt, Bool, List, [], length, take, map, find, count_by, Option, Some, None, if◌then◌else◌, nat_eq}
+use Rattle.std.specs.Prelude.{◌≡◌, ◌≤◌, ℕ, ◌==◌, ◌&&◌, nat_lt, Bool, List, [], length, take, map}
+use Rattle.std.specs.Prelude.{find, count_by, Option, Some, None, if◌then◌else◌, nat_eq}
 use Rattle.std.specs.List.{list_all}
 use Rattle.std.specs.Option.{option_map}
 use Rattle.std.specs.Char.{to_ascii_lowercase, is_ascii_digit}
@@ -29,7 +30,8 @@ pub record Message : Type 0 where
 abbrev pub parts_of : RequestHead → Parts
 parts_of h = record { method = h.method; target = h.target; fields = map name_and_value h.fields }
 
--- The input begins with a head that has these parts: it ends within the limit, it has few enough lines, and up to there the bytes are one head of the grammar of HTTP (RFC 9112) and nothing else.
+-- The input begins with a head that has these parts: it ends within the limit, it has few enough
+-- lines, and up to there the bytes are one head of the grammar of HTTP (RFC 9112) and nothing else.
 pub record BeginsWith (input : List ℕ) (parts : Parts) : Type 0 where
   pub end : ℕ
   pub ends : head_end input ≡ Some end
@@ -47,7 +49,8 @@ IsTakenApart input (Some parts) = BeginsWith input parts
 
 -- the field has this name, in whichever case
 abbrev pub is_named : List ℕ → FieldText → Bool
-is_named name field = pointwise nat_eq (map to_ascii_lowercase field.0) (map to_ascii_lowercase name)
+is_named name field =
+    pointwise nat_eq (map to_ascii_lowercase field.0) (map to_ascii_lowercase name)
 
 -- how many fields have the name
 abbrev pub how_many : List ℕ → List FieldText → ℕ

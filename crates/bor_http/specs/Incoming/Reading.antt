@@ -1,5 +1,6 @@
 -- The effects of reads on a reader and a buffer, and the results of calls that may fail.
-use Rattle.std.specs.Prelude.{◌≡◌, ℕ, ◌+◌, ◌≤◌, ◌<◌, List, ◌++◌, length, take, max, Option, Result, Ok, Err, ⊤}
+use Rattle.std.specs.Prelude.{◌≡◌, ℕ, ◌+◌, ◌≤◌, ◌<◌, List, ◌++◌, length, take, max, Option, Result}
+use Rattle.std.specs.Prelude.{Ok, Err, ⊤}
 use Rattle.std.specs.Io.KnownBytes.{Consumes, IsAtEnd}
 use Rattle.bor_http.specs.Incoming.Counted.{after_fault}
 use Rattle.bor_http.specs.declared.incoming.fault.Refusal.{Refusal}
@@ -35,9 +36,9 @@ GivesFault (Refused r) stated = stated ≡ Err r
 GivesFault Read stated = ⊤
 GivesFault Memory stated = ⊤
 
-abbrev pub Gives : {X Y : Type 0} → (X → Y) → Result X WireFault → Result Y Refusal → Type 0
-Gives view (Ok x) stated = stated ≡ Ok (view x)
-Gives view (Err e) stated = GivesFault e stated
+abbrev pub GivesStated : {X Y : Type 0} → (X → Y) → Result X WireFault → Result Y Refusal → Type 0
+GivesStated view (Ok x) stated = stated ≡ Ok (view x)
+GivesStated view (Err e) stated = GivesFault e stated
 
 -- the count of faults goes up by one exactly where the answer is a read's fault
 abbrev pub FaultTells : WireFault → ℕ → ℕ → Type 0
@@ -55,9 +56,9 @@ FaultFits (Refused r) Fits = Fits (Err r)
 FaultFits Read Fits = ⊤
 FaultFits Memory Fits = ⊤
 
-abbrev pub Answers : {Y : Type 0} → Result Y WireFault → (Result Y Refusal → Type 0) → Type 0
-Answers (Ok x) Fits = Fits (Ok x)
-Answers (Err e) Fits = FaultFits e Fits
+abbrev pub ResultFits : {Y : Type 0} → Result Y WireFault → (Result Y Refusal → Type 0) → Type 0
+ResultFits (Ok x) Fits = Fits (Ok x)
+ResultFits (Err e) Fits = FaultFits e Fits
 
 -- why fewer than n bytes have come: the reader ended before, or it failed, or memory ran out
 abbrev pub EndsBefore : Option (List ℕ) → List ℕ → ℕ → WireFault → Type 0
@@ -71,12 +72,15 @@ FillsUp left bytes n (Ok u) = n ≤ length bytes
 FillsUp left bytes n (Err e) = EndsBefore left bytes n e
 
 -- the first n of these bytes, or the reader ended before
-abbrev pub IsBody : {X : Type 0} → (X → List ℕ) → Option (List ℕ) → List ℕ → ℕ → Result X WireFault → Type 0
+abbrev pub IsBody : {X : Type 0} → (X → List ℕ) → Option (List ℕ) → List ℕ → ℕ
+    → Result X WireFault → Type 0
 IsBody view left all n (Ok body) = (view body ≡ take n all) × (n ≤ length all)
 IsBody view left all n (Err e) = EndsBefore left all n e
 
--- A body of n bytes was read behind those that had come already: `all` are these and what the reader lost, which is nothing where they were enough.
-pub record ReadsBody {X : Type 0} (view : X → List ℕ) (known left : Option (List ℕ)) (behind : List ℕ) (n : ℕ) (result : Result X WireFault) : Type 0 where
+-- A body of n bytes was read behind those that had come already: `all` are these and what the
+-- reader lost, which is nothing where they were enough.
+pub record ReadsBody {X : Type 0} (view : X → List ℕ) (known left : Option (List ℕ))
+    (behind : List ℕ) (n : ℕ) (result : Result X WireFault) : Type 0 where
   pub all : List ℕ
   pub grown : Grows known left behind all
   pub within : length all ≤ max (length behind) n
@@ -87,6 +91,7 @@ abbrev pub TakesAtMost : ℕ → Option (List ℕ) → Option (List ℕ) → Typ
 TakesAtMost n known left = (bytes : List ℕ) × Consumes known left bytes × (length bytes ≤ n)
 
 -- the answer fits, of the value as view shows it
-abbrev pub Tells : {X Y : Type 0} → (X → Y) → Result X WireFault → (Result Y Refusal → Type 0) → Type 0
+abbrev pub Tells : {X Y : Type 0} → (X → Y) → Result X WireFault
+    → (Result Y Refusal → Type 0) → Type 0
 Tells view (Ok x) Fits = Fits (Ok (view x))
 Tells view (Err e) Fits = FaultFits e Fits

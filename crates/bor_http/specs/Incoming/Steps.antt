@@ -1,5 +1,8 @@
--- The reading of an input, one part looked at after the other: each refuses, or the next is looked at. For clauses of private functions alone, but for `◌>>=◌`; it is proved to be what the table says (`Refusals`).
-use Rattle.std.specs.Prelude.{◌≡◌, ℕ, ◌+◌, nat_lt, nat_le, List, [], length, take, drop, map, Result, Ok, Err, if◌then◌else◌, codes, All, ⊤}
+-- The reading of an input, one part looked at after the other: each refuses, or the next is looked
+-- at. For clauses of private functions alone, but for `◌>>=◌`; it is proved to be what the table
+-- says (`Refusals`).
+use Rattle.std.specs.Prelude.{◌≡◌, ℕ, ◌+◌, nat_lt, nat_le, List, [], length, take, drop, map}
+use Rattle.std.specs.Prelude.{Result, Ok, Err, if◌then◌else◌, codes, All, ⊤}
 use Rattle.std.specs.Option.{option_map, option_map_or}
 use Rattle.std.specs.Str.Parse.{digits_value}
 use Rattle.httparse.specs.Grammar.{RequestHead, ReadsRequest}
@@ -7,11 +10,14 @@ use Rattle.httparse.specs.declared.spans.Span.{Span}
 use Rattle.httparse.specs.declared.spans.HeaderSpan.{HeaderSpan}
 use Rattle.httparse.specs.Spans.{span_bytes, header_bytes, IsWithin, IsHeaderWithin}
 use Rattle.bor_http.specs.Incoming.Head.{head_len, head_limit, line_feeds, line_limit}
-use Rattle.bor_http.specs.Incoming.Message.{FieldText, Parts, Message, parts_of, how_many, first_value, is_numeral, body_limit}
+use Rattle.bor_http.specs.Incoming.Message.{FieldText, Parts, Message, parts_of, how_many}
+use Rattle.bor_http.specs.Incoming.Message.{first_value, is_numeral, body_limit}
 use Rattle.bor_http.specs.declared.incoming.fault.WireFault.{WireFault}
 use Rattle.bor_http.specs.declared.incoming.fault.WireFault.TheVariants.{Refused, Read, Memory}
 use Rattle.bor_http.specs.declared.incoming.fault.Refusal.{Refusal}
-use Rattle.bor_http.specs.declared.incoming.fault.Refusal.TheVariants.{HeadTooLarge, BadHead, BadLength, BodyTooLarge, CutShort}
+use Rattle.bor_http.specs.declared.incoming.fault.Refusal.TheVariants.{HeadTooLarge, BadHead}
+use Rattle.bor_http.specs.declared.incoming.fault.Refusal.TheVariants.{BadLength, BodyTooLarge}
+use Rattle.bor_http.specs.declared.incoming.fault.Refusal.TheVariants.{CutShort}
 
 -- go on with the value, or keep the refusal
 abbrev pub and_then : {A B : Type 0} → (A → Result B Refusal) → Result A Refusal → Result B Refusal
@@ -31,7 +37,8 @@ IsScanned bytes from = head_len bytes ≡ option_map (λ n. from + n) (head_len 
 
 -- a head that was found has few enough lines
 abbrev pub with_few_lines : List ℕ → ℕ → Result ℕ Refusal
-with_few_lines bytes n = if nat_lt line_limit (line_feeds (take n bytes)) then Err HeadTooLarge else Ok n
+with_few_lines bytes n =
+    if nat_lt line_limit (line_feeds (take n bytes)) then Err HeadTooLarge else Ok n
 
 -- no head ends within the limit
 abbrev pub without_head : ℕ → List ℕ → Result ℕ Refusal
@@ -81,7 +88,9 @@ HeadAnswers view head (Err e) = HeadFault head e
 -- the number that a value of Content-Length gives
 abbrev pub length_of : ℕ → List ℕ → Result ℕ Refusal
 length_of limit bytes =
-    if is_numeral bytes then (if nat_le (digits_value 10 bytes) limit then Ok (digits_value 10 bytes) else Err BodyTooLarge)
+    if is_numeral bytes
+    then (if nat_le (digits_value 10 bytes) limit then Ok (digits_value 10 bytes)
+    else Err BodyTooLarge)
     else Err BadLength
 
 -- the length of the body that follows a head with these fields
@@ -93,7 +102,9 @@ body_len fields =
 
 -- the first bytes after the head, as many as the fields say
 abbrev pub body_of : Parts → List ℕ → ℕ → Result Message Refusal
-body_of parts rest n = if nat_lt (length rest) n then Err CutShort else Ok (record { parts = parts; body = take n rest })
+body_of parts rest n =
+    if nat_lt (length rest) n then Err CutShort
+    else Ok (record { parts = parts; body = take n rest })
 
 -- the bytes after a head with these parts
 abbrev pub with_body : List ℕ → Parts → Result Message Refusal
@@ -104,7 +115,8 @@ with_body rest parts = and_then (body_of parts rest) (body_len parts.fields)
 -- the reading of the input, with its first n bytes as its head
 abbrev pub IsBehind : List ℕ → ℕ → Result Message Refusal → Type 0
 IsBehind input n answer =
-    (parts : Result Parts Refusal) × HasParts (take n input) parts × (answer ≡ and_then (with_body (drop n input)) parts)
+    (parts : Result Parts Refusal) × HasParts (take n input) parts
+    × (answer ≡ and_then (with_body (drop n input)) parts)
 
 abbrev pub IsAt : List ℕ → Result ℕ Refusal → Result Message Refusal → Type 0
 IsAt input (Ok n) answer = IsBehind input n answer

@@ -3,7 +3,11 @@ use Rattle.std.specs.Prelude.{ℕ, List, Option, Some, None, codes}
 use Rattle.bor_http.specs.declared.incoming.fault.Name.{Name}
 use Rattle.bor_http.specs.declared.incoming.fault.Name.TheVariants as names
 use Rattle.bor_http.specs.declared.incoming.fault.Refusal.{Refusal}
-use Rattle.bor_http.specs.declared.incoming.fault.Refusal.TheVariants.{HeadTooLarge, CutShort, BadHead, BadLength, BodyTooLarge, NoPath, WrongMethod, NoToken, BadQuery}
+use Rattle.bor_http.specs.declared.incoming.fault.Refusal.TheVariants.{HeadTooLarge, CutShort}
+use Rattle.bor_http.specs.declared.incoming.fault.Refusal.TheVariants.{BadHead, BadLength}
+use Rattle.bor_http.specs.declared.incoming.fault.Refusal.TheVariants.{BodyTooLarge, NoPath}
+use Rattle.bor_http.specs.declared.incoming.fault.Refusal.TheVariants.{WrongMethod, NoToken}
+use Rattle.bor_http.specs.declared.incoming.fault.Refusal.TheVariants.{BadQuery}
 
 -- the name as it stands in a query
 unfoldable pub name_word : Name → List ℕ

@@ -1,20 +1,23 @@
 -- The path that a text is, by the segments between its slashes.
-use Rattle.std.specs.Prelude.{◌≡◌, ◌<◌, ◌==◌, ℕ, nat_lt, Bool, List, length, false, find, Option, ◌++◌, codes, if◌then◌else◌}
+use Rattle.std.specs.Prelude.{◌≡◌, ◌<◌, ◌==◌, ℕ, nat_lt, Bool, List, length, false, find, Option}
+use Rattle.std.specs.Prelude.{◌++◌, codes, if◌then◌else◌}
 use Rattle.std.specs.List.{list_any, slice_split}
 use Rattle.std.specs.Option.{option_map}
 use Rattle.std.specs.Str.{bytes_eq}
 use Rattle.std.specs.Cmp.Lexicographic.{pointwise}
 use Rattle.bor_http.specs.declared.incoming.fault.Path.{Path}
 use Rattle.bor_http.specs.declared.incoming.fault.Path.TheVariants as paths
-use Rattle.bor_http.specs.Routes.Routes.{table, path_word}
+use Rattle.bor_http.specs.Routes.Routes.{route_table, path_word}
 
 -- the segments of a text: what stands before, between and behind its slashes
 abbrev pub segments : List ℕ → List (List ℕ)
 segments text = slice_split (λ b. b == 47) text
 
--- a segment stands for a word of a path: {key} for any that isn't empty, another word for itself; nothing is decoded
+-- a segment stands for a word of a path: {key} for any that isn't empty, another word for itself;
+-- nothing is decoded
 abbrev pub stands_for : List ℕ → List ℕ → Bool
-stands_for segment word = if bytes_eq word (codes "{key}") then nat_lt 0 (length segment) else bytes_eq segment word
+stands_for segment word =
+    if bytes_eq word (codes "{key}") then nat_lt 0 (length segment) else bytes_eq segment word
 
 -- there are as many segments as words, and each stands for its word
 abbrev pub is_written_as : List ℕ → Path → Bool
@@ -22,7 +25,8 @@ is_written_as text path = pointwise stands_for (segments text) (segments (path_w
 
 -- the path that a text is, if the table has it
 unfoldable pub path_of : List ℕ → Option Path
-path_of text = option_map (λ line. line.path) (find (λ line. is_written_as text line.path) table)
+path_of text =
+    option_map (λ line. line.path) (find (λ line. is_written_as text line.path) route_table)
 
 -- ---- each path, as it is written
 
@@ -34,5 +38,6 @@ pub record IsSegment (key : List ℕ) : Type 0 where
 -- The text is the path as it is written, with a segment in the place of {key}. Nothing is decoded.
 abbrev pub IsPath : Path → List ℕ → Type 0
 IsPath paths.Filing text = (key : List ℕ) × IsSegment key × (text ≡ codes "/filings/" ++ key)
-IsPath paths.File text = (key : List ℕ) × IsSegment key × (text ≡ codes "/filings/" ++ key ++ codes "/file")
+IsPath paths.File text =
+    (key : List ℕ) × IsSegment key × (text ≡ codes "/filings/" ++ key ++ codes "/file")
 IsPath path text = text ≡ path_word path

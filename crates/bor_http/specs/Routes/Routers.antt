@@ -1,4 +1,5 @@
--- The router of the paths of the table, as matchit keeps them; for clauses of private functions alone.
+-- The router of the paths of the table, as matchit keeps them; for clauses of private functions
+-- alone.
 use Rattle.std.specs.Prelude.{ℕ, List, [], ◌∷◌, not, Option, Result, Ok, Err}
 use Rattle.std.specs.List.{filter}
 use Rattle.std.specs.Option.{option_map}
@@ -9,15 +10,17 @@ use Rattle.matchit.specs.Route.{Scan, parse_route}
 use Rattle.matchit.specs.Seek.{first}
 use Rattle.matchit.specs.declared.error.InsertError.{InsertError}
 use Rattle.bor_http.specs.declared.incoming.fault.Path.{Path}
-use Rattle.bor_http.specs.Routes.Routes.{Line, table, path_word, is_same_path}
+use Rattle.bor_http.specs.Routes.Routes.{Line, route_table, path_word, is_same_path}
 
 -- the paths of lines, each once, where it first stands
 abbrev pub paths_of : List Line → List Path
 paths_of [] = []
-paths_of (line ∷ rest) = line.path ∷ filter (λ path. not (is_same_path line.path path)) (paths_of rest)
+paths_of (line ∷ rest) =
+    line.path ∷ filter (λ path. not (is_same_path line.path path)) (paths_of rest)
 
 -- a router with one path more
-abbrev pub with_scan : Result Scan InsertError → Path → RowsOf (RouteOf Path) → RowsOf (RouteOf Path)
+abbrev pub with_scan : Result Scan InsertError → Path → RowsOf (RouteOf Path)
+    → RowsOf (RouteOf Path)
 with_scan (Ok scan) path rows = placed ((route_from scan path).pattern, route_from scan path) rows
 with_scan (Err fault) path rows = rows
 
@@ -30,7 +33,7 @@ with_paths rows (path ∷ rest) = with_paths (with_path rows path) rest
 
 -- the router of all paths of the table
 unfoldable pub router : RowsOf (RouteOf Path)
-router = with_paths [] (paths_of table)
+router = with_paths [] (paths_of route_table)
 
 -- the path that matchit finds in a router
 abbrev pub path_in : RowsOf (RouteOf Path) → List ℕ → Option Path

@@ -28,22 +28,22 @@ pub record Line : Type 0 where
   pub path : Path
   pub asks : Route
 
-abbrev line : List ℕ → Path → Route → Line
-line method path route = record { method = method; path = path; asks = route }
+abbrev route_line : List ℕ → Path → Route → Line
+route_line method path route = record { method = method; path = path; asks = route }
 
 -- the table of routes
-abbrev pub table : List Line
-table =
-    line (codes "PUT") paths.Filing asks.Lodge
-    ∷ line (codes "DELETE") paths.Filing asks.Withdraw
-    ∷ line (codes "GET") paths.Filings asks.Filings
-    ∷ line (codes "GET") paths.File asks.File
-    ∷ line (codes "GET") paths.Published asks.Published
-    ∷ line (codes "GET") paths.Snapshot asks.Snapshot
-    ∷ line (codes "GET") paths.Chains asks.Chains
-    ∷ line (codes "GET") paths.Evidence asks.Evidence
-    ∷ line (codes "POST") paths.Day asks.Day
-    ∷ line (codes "POST") paths.Agents asks.Enrol
+abbrev pub route_table : List Line
+route_table =
+    route_line (codes "PUT") paths.Filing asks.Lodge
+    ∷ route_line (codes "DELETE") paths.Filing asks.Withdraw
+    ∷ route_line (codes "GET") paths.Filings asks.Filings
+    ∷ route_line (codes "GET") paths.File asks.File
+    ∷ route_line (codes "GET") paths.Published asks.Published
+    ∷ route_line (codes "GET") paths.Snapshot asks.Snapshot
+    ∷ route_line (codes "GET") paths.Chains asks.Chains
+    ∷ route_line (codes "GET") paths.Evidence asks.Evidence
+    ∷ route_line (codes "POST") paths.Day asks.Day
+    ∷ route_line (codes "POST") paths.Agents asks.Enrol
     ∷ []
 
 abbrev pub is_same_path : Path → Path → Bool
@@ -51,18 +51,20 @@ is_same_path a b = bytes_eq (path_word a) (path_word b)
 
 -- the lines of a path
 abbrev pub lines_of : Path → List Line
-lines_of path = filter (λ line. is_same_path line.path path) table
+lines_of path = filter (λ line. is_same_path line.path path) route_table
 
 -- the request of a path by a method, if a line has both
 unfoldable pub route_at : Path → List ℕ → Option Route
-route_at path method = option_map (λ line. line.asks) (find (λ line. bytes_eq line.method method) (lines_of path))
+route_at path method =
+    option_map (λ line. line.asks) (find (λ line. bytes_eq line.method method) (lines_of path))
 
 -- ---- the methods of a path (RFC 9110, 10.2.1)
 
 -- words in the order of their bytes
 abbrev pub put_before : List ℕ → List (List ℕ) → List (List ℕ)
 put_before word [] = word ∷ []
-put_before word (next ∷ rest) = if is_lt (slice_cmp nat_cmp next word) then next ∷ put_before word rest else word ∷ next ∷ rest
+put_before word (next ∷ rest) =
+    if is_lt (slice_cmp nat_cmp next word) then next ∷ put_before word rest else word ∷ next ∷ rest
 
 abbrev pub in_order : List (List ℕ) → List (List ℕ)
 in_order [] = []

@@ -1,7 +1,7 @@
 //! Reading up to the end of a head, and up to a length.
 
 ghost use Rattle.std.specs.Prelude.{◌≡◌, ◌≤◌, [], IfSome, IfOk, length, take};
-ghost use Rattle.bor_http.specs.Incoming.Reading.{Grows, Gives, FaultsTell, FillsUp, ReadsBody};
+ghost use Rattle.bor_http.specs.Incoming.Reading.{Grows, GivesStated, FaultsTell, FillsUp, ReadsBody};
 ghost use Rattle.bor_http.specs.Incoming.Head.{head_limit, line_feeds, line_limit};
 ghost use Rattle.bor_http.specs.Incoming.Steps.{head_at};
 
@@ -28,7 +28,7 @@ pub(crate) fn read_head<R: Read>(
     ensures few { IfOk result (λ n.
         (n ≤ length buffer.new.bytes) × (line_feeds (take n buffer.new.bytes) ≤ line_limit)) }
     ensures head { IfSome (R.remaining reader.old.inner) (λ input.
-        Gives (λ n. n) result (head_at input)) }
+        GivesStated (λ n. n) result (head_at input)) }
     ensures faults { FaultsTell result reader.old.faults reader.new.faults }
 {
     // Where the scan goes on: no line that ends before it is followed by an empty one.

@@ -3,7 +3,7 @@
 ghost use Rattle.std.specs.Prelude.{◌≡◌, ◌≤◌, length, IfOk, IfSome};
 ghost use Rattle.std.specs.Option.{option_map};
 ghost use Rattle.bor_http.specs.Incoming.Head.{line_feeds, line_limit};
-ghost use Rattle.bor_http.specs.Incoming.Reading.{Answers, FaultsTell, TakesAtMost};
+ghost use Rattle.bor_http.specs.Incoming.Reading.{ResultFits, FaultsTell, TakesAtMost};
 ghost use Rattle.bor_http.specs.Incoming.Message.{only_value, request_limit};
 ghost use Rattle.bor_http.specs.Incoming.Steps.{AreWithin, HeadAnswers, parts_at};
 ghost use Rattle.bor_http.specs.Incoming.Refusals.{IsMessage};
@@ -131,7 +131,7 @@ pub fn read_request<R: Read>(
     reader: &mut Counted<R>,
 ) -> Result<RawRequest, WireFault>
     ensures request { IfSome (R.remaining reader.old.inner) (λ input.
-        Answers result (IsMessage input)) }
+        ResultFits result (IsMessage input)) }
     ensures taken { TakesAtMost request_limit (R.remaining reader.old.inner)
         (R.remaining reader.new.inner) }
     ensures faults { FaultsTell result reader.old.faults reader.new.faults }

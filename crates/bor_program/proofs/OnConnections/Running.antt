@@ -4,7 +4,7 @@ use Rattle.bor_register.specs.Register.{Register}
 use Rattle.bor_program.specs.declared.connections.server.Server.{Server}
 use Rattle.bor_program.specs.Connections.Serving.{Answer, IsServedOver}
 use Rattle.bor_program.specs.Connections.Streams.{IsOf}
-use Rattle.bor_program.specs.Connections.Servers.{Advances, AreHeld, Becomes, IsAt, IsRunning, Lets, LetsIn, Runs, pending_in, telling_in}
+use Rattle.bor_program.specs.Connections.Servers.{Advances, AreHeld, Becomes, GoesOnAs, IsRunning, Lets, LetsIn, Runs, pending_in, telling_in}
 use Rattle.bor_program.specs.Connections.Watching.{Act, AreDone, Does, Listens, WaitsOnce, faults_after, refused_in}
 use Rattle.bor_program.proofs.OnConnections.Servers.{becomes_at, begun, finished, lets_go_on, lets_same, lets_then}
 use Rattle.bor_program.proofs.OnConnections.Watching.{does_none, does_then, done-append, faults-append, over_kept, refused-append, waits-append}
@@ -36,7 +36,7 @@ starts shows is_clean is_sound may_leave left_shows does remaining contents keep
   held = held;
   acts = Listens failed ∷ [];
   done = (watch, listens, refl);
-  advances = λ start connections absent before. subst (λ n. IsAt shows is_clean is_sound may_leave left_shows remaining contents start keep connections n server) (begin_none absent) before;
+  advances = λ start connections absent before. subst (λ n. GoesOnAs shows is_clean is_sound may_leave left_shows remaining contents start keep connections n server) (begin_none absent) before;
   failed = refl;
   waited = refl;
 }
@@ -47,7 +47,7 @@ ran_deaf shows is_clean is_sound may_leave left_shows does remaining contents ke
   held = held;
   acts = Listens failed ∷ [];
   done = (watch, listens, refl);
-  advances = λ start connections absent before. subst (λ n. IsAt shows is_clean is_sound may_leave left_shows remaining contents start keep connections n server) (begin_none absent) before;
+  advances = λ start connections absent before. subst (λ n. GoesOnAs shows is_clean is_sound may_leave left_shows remaining contents start keep connections n server) (begin_none absent) before;
   over = λ some. inl (rw is refl);
 }
 
@@ -70,7 +70,7 @@ runs_on shows is_clean is_sound may_leave left_shows does remaining contents old
       advances = λ start connections absent before.
           let at = becomes_at shows is_clean is_sound may_leave left_shows remaining contents start keep connections (refused_in h.acts + absent) server awake (h.advances start connections absent before) same in
           let in_all = lets_go_on shows is_clean is_sound may_leave left_shows remaining contents start keep (telling_in awake) connections (pending_in awake) (refused_in h.acts + absent) lets.refused awake.status filled at lets.lets in
-          subst (λ n. IsAt shows is_clean is_sound may_leave left_shows remaining contents start new_keep connections n new) (refused absent) (advances start connections (lets.refused + (refused_in h.acts + absent)) in_all);
+          subst (λ n. GoesOnAs shows is_clean is_sound may_leave left_shows remaining contents start new_keep connections n new) (refused absent) (advances start connections (lets.refused + (refused_in h.acts + absent)) in_all);
       failed =
           faults-append 0 (h.acts ++ once.acts) d.acts ∙ d.faults (faults_after 0 (h.acts ++ once.acts)) ∙ faults-append 0 h.acts once.acts
           ∙ ap (λ n. faults_after n once.acts) h.failed ∙ once.faults;
@@ -95,7 +95,7 @@ ran shows is_clean is_sound may_leave left_shows does remaining contents old_kee
 
 -- what was left to be told was told, and those that are there were given up, and those that have not come
 pub served_over : {K W S Left : Type 0} (shows : K → Register → Type 0) (is_clean is_sound : K → Type 0) (may_leave : K → Left → Type 0) (left_shows : Left → Register → Type 0) (does : W → Act → W → Type 0) (remaining contents : S → Option (List ℕ)) (old_keep keep : K) (begun_at watch left : W) (connections : ℕ) (first server told last : Server S)
-    → IsAt shows is_clean is_sound may_leave left_shows remaining contents old_keep old_keep connections 0 first → Runs shows is_clean is_sound may_leave left_shows does remaining contents old_keep keep begun_at watch first server
+    → GoesOnAs shows is_clean is_sound may_leave left_shows remaining contents old_keep old_keep connections 0 first → Runs shows is_clean is_sound may_leave left_shows does remaining contents old_keep keep begun_at watch first server
     → Becomes server told → Does does watch left 0 → Lets remaining contents (telling_in told) (pending_in told) told.left told.status last → pending_in last ≡ 0
     → IsServedOver shows is_clean is_sound may_leave left_shows (IsOf remaining contents) does old_keep keep begun_at left connections last.status
 served_over shows is_clean is_sound may_leave left_shows does remaining contents old_keep keep begun_at watch left connections first server told last at runs same tells lets none =

@@ -15,7 +15,7 @@ use Rattle.bor_program.specs.declared.connections.server.Server.{Server}
 use Rattle.bor_program.specs.Connections.Serving.{Answer, Ended, Absent, IsServedAs, IsServing, absent_in, has_failed, is_absent, told_in, told_on}
 use Rattle.bor_program.specs.Connections.Streams.{IsOf}
 use Rattle.bor_program.specs.Connections.Phases.{EndsAs, IsHeld, telling}
-use Rattle.bor_program.specs.Connections.Servers.{AreHeld, Becomes, IsAt, Lets, idle_times, pending_in, telling_in, telling_to}
+use Rattle.bor_program.specs.Connections.Servers.{AreHeld, Becomes, GoesOnAs, Lets, idle_times, pending_in, telling_in, telling_to}
 use Rattle.std.specs.Duration.{as_nanos}
 use Rattle.bor_program.proofs.OnConnections.Served.{absent_in-append, all_served, either, ends, nothing_served, told_in-append}
 
@@ -176,7 +176,7 @@ lets_of remaining contents telling other pending absent status new same h = reco
 
 pub lets_go_on : {K S Left : Type 0} (shows : K → Register → Type 0) (is_clean is_sound : K → Type 0) (may_leave : K → Left → Type 0) (left_shows : Left → Register → Type 0) (remaining contents : S → Option (List ℕ)) (start keep : K) (telling : List Answer) (connections pending absent more status : ℕ) (new : Server S)
     → IsServing shows is_clean is_sound may_leave left_shows (IsOf remaining contents) start keep telling connections pending absent status → Lets remaining contents telling pending more status new
-    → IsAt shows is_clean is_sound may_leave left_shows remaining contents start keep connections (more + absent) new
+    → GoesOnAs shows is_clean is_sound may_leave left_shows remaining contents start keep connections (more + absent) new
 lets_go_on shows is_clean is_sound may_leave left_shows remaining contents start keep telling connections pending absent more status new h lets =
     subst (IsServing shows is_clean is_sound may_leave left_shows (IsOf remaining contents) start keep (telling_in new) connections (pending_in new) (more + absent)) (sym lets.told)
     (ends shows is_clean is_sound may_leave left_shows (IsOf remaining contents) start keep telling (telling_in new) connections pending (pending_in new) absent more status lets.ended h lets.ended_so lets.count lets.missing lets.told_once)
@@ -184,10 +184,10 @@ lets_go_on shows is_clean is_sound may_leave left_shows remaining contents start
 -- of those that ended a client came on each
 pub lets_go_same : {K S Left : Type 0} (shows : K → Register → Type 0) (is_clean is_sound : K → Type 0) (may_leave : K → Left → Type 0) (left_shows : Left → Register → Type 0) (remaining contents : S → Option (List ℕ)) (start keep : K) (telling : List Answer) (connections pending absent status : ℕ) (new : Server S)
     → IsServing shows is_clean is_sound may_leave left_shows (IsOf remaining contents) start keep telling connections pending absent status → Lets remaining contents telling pending 0 status new
-    → IsAt shows is_clean is_sound may_leave left_shows remaining contents start keep connections absent new
+    → GoesOnAs shows is_clean is_sound may_leave left_shows remaining contents start keep connections absent new
 lets_go_same shows is_clean is_sound may_leave left_shows remaining contents start keep telling connections pending absent status new h lets =
     let same : 0 + absent ≡ absent = omega arith in
-    subst (λ n. IsAt shows is_clean is_sound may_leave left_shows remaining contents start keep connections n new) same (lets_go_on shows is_clean is_sound may_leave left_shows remaining contents start keep telling connections pending absent 0 status new h lets)
+    subst (λ n. GoesOnAs shows is_clean is_sound may_leave left_shows remaining contents start keep connections n new) same (lets_go_on shows is_clean is_sound may_leave left_shows remaining contents start keep telling connections pending absent 0 status new h lets)
 
 -- ---- a client goes to the end of the queue, or leaves it
 
@@ -244,11 +244,11 @@ in_hand shows is_clean is_sound may_leave left_shows remaining contents start ke
     (subst (λ l. IsServing shows is_clean is_sound may_leave left_shows (IsOf remaining contents) start keep l connections (length clients + left) absent status) (ap telling_to is) h)
 
 pub becomes_at : {K S Left : Type 0} (shows : K → Register → Type 0) (is_clean is_sound : K → Type 0) (may_leave : K → Left → Type 0) (left_shows : Left → Register → Type 0) (remaining contents : S → Option (List ℕ)) (start keep : K) (connections absent : ℕ) (old new : Server S)
-    → IsAt shows is_clean is_sound may_leave left_shows remaining contents start keep connections absent old → Becomes old new → IsAt shows is_clean is_sound may_leave left_shows remaining contents start keep connections absent new
+    → GoesOnAs shows is_clean is_sound may_leave left_shows remaining contents start keep connections absent old → Becomes old new → GoesOnAs shows is_clean is_sound may_leave left_shows remaining contents start keep connections absent new
 becomes_at shows is_clean is_sound may_leave left_shows remaining contents start keep connections absent old new h same = rw (same.queue, same.left, same.status) h
 
 pub begun : {K S Left : Type 0} (shows : K → Register → Type 0) (is_clean is_sound : K → Type 0) (may_leave : K → Left → Type 0) (left_shows : Left → Register → Type 0) (remaining contents : S → Option (List ℕ)) (keep : K) (connections : ℕ) (server : Server S)
-    → server.queue.items ≡ [] → server.left ≡ connections → server.status ≡ 0 → IsAt shows is_clean is_sound may_leave left_shows remaining contents keep keep connections 0 server
+    → server.queue.items ≡ [] → server.left ≡ connections → server.status ≡ 0 → GoesOnAs shows is_clean is_sound may_leave left_shows remaining contents keep keep connections 0 server
 begun shows is_clean is_sound may_leave left_shows remaining contents keep connections server none all told =
     let Is = IsOf remaining contents in
     let count : connections ≡ pending_in server = omega (arith, ap length none, all) in
@@ -262,7 +262,7 @@ none_told [] left e = refl
 none_told (c ∷ rest) left e = absurd (omega (arith, e))
 
 pub finished : {K S Left : Type 0} (shows : K → Register → Type 0) (is_clean is_sound : K → Type 0) (may_leave : K → Left → Type 0) (left_shows : Left → Register → Type 0) (remaining contents : S → Option (List ℕ)) (start keep : K) (connections absent : ℕ) (server : Server S)
-    → IsAt shows is_clean is_sound may_leave left_shows remaining contents start keep connections absent server → pending_in server ≡ 0 → (served : IsServedAs shows is_clean is_sound may_leave left_shows (IsOf remaining contents) start keep connections server.status) × (served.absent ≡ absent)
+    → GoesOnAs shows is_clean is_sound may_leave left_shows remaining contents start keep connections absent server → pending_in server ≡ 0 → (served : IsServedAs shows is_clean is_sound may_leave left_shows (IsOf remaining contents) start keep connections server.status) × (served.absent ≡ absent)
 finished shows is_clean is_sound may_leave left_shows remaining contents start keep connections absent server h none =
     all_served shows is_clean is_sound may_leave left_shows (IsOf remaining contents) start keep connections absent server.status
     (subst (λ n. IsServing shows is_clean is_sound may_leave left_shows (IsOf remaining contents) start keep [] connections n absent server.status) none

@@ -7,7 +7,7 @@ use Rattle.bor_http.specs.Incoming.Progress.{IsWhole}
 use Rattle.bor_http.proofs.OnIncoming.ProgressLemmas.{missing}
 use Rattle.bor_program.specs.Connections.Limits.{rest_limit}
 use Rattle.bor_program.specs.Connections.Serving.{Answer}
-use Rattle.bor_program.specs.Connections.Streams.{Came, Drops, IsDraining, IsTold, IsUnanswered, IsWriting}
+use Rattle.bor_program.specs.Connections.Streams.{Came, Drops, IsDraining, IsReplySent, IsUnanswered, IsWriting}
 
 consumes_nothing : (known : Option (List ℕ)) → Consumes known known []
 consumes_nothing None = tt
@@ -79,12 +79,12 @@ drains_more remaining contents old new answer before after h more =
 
 -- ---- as the stream is let go
 
-pub told_writing : {S : Type 0} (remaining contents : S → Option (List ℕ)) (stream : S) (answer : Answer) (sent : ℕ) → IsWriting remaining contents stream answer sent → IsTold remaining contents answer sent
+pub told_writing : {S : Type 0} (remaining contents : S → Option (List ℕ)) (stream : S) (answer : Answer) (sent : ℕ) → IsWriting remaining contents stream answer sent → IsReplySent remaining contents answer sent
 told_writing remaining contents stream answer sent h =
     record { written = stream; told = h; let_go = stream; dropped = []; behind = consumes_nothing (remaining stream); bound = omega arith }
 
 pub told_draining : {S : Type 0} (remaining contents : S → Option (List ℕ)) (stream : S) (answer : Answer) (left : ℕ) → IsDraining remaining contents stream answer left
-    → IsTold remaining contents answer (length answer.reply)
+    → IsReplySent remaining contents answer (length answer.reply)
 told_draining remaining contents stream answer left h =
     let drops = h.dropped in
     record { written = h.written; told = h.told; let_go = stream; dropped = drops.0; behind = drops.1; bound = omega (arith, drops.2) }

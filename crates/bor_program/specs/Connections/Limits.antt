@@ -13,9 +13,10 @@ reply_nanos = 10_000_000_000
 abbrev pub reply_floor : ℕ
 reply_floor = 16_384
 
--- who took so many bytes in so many nanoseconds took less than the floor of each second behind the first ones
-abbrev pub IsBelow : (floor first taken in_all : ℕ) → Type 0
-IsBelow floor first taken in_all = taken * 1_000_000_000 < floor * (in_all - first)
+-- who took so many bytes in so many nanoseconds took less than the floor of each second behind the
+-- first ones
+abbrev pub IsBelowFloor : (floor first taken in_all : ℕ) → Type 0
+IsBelowFloor floor first taken in_all = taken * 1_000_000_000 < floor * (in_all - first)
 
 -- one second for what it is still sending then
 abbrev pub rest_nanos : ℕ

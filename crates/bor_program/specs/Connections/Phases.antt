@@ -5,7 +5,8 @@ use Rattle.bor_program.specs.declared.connections.phase.Phase.{Phase}
 use Rattle.bor_program.specs.declared.connections.phase.Phase.TheVariants as phase
 use Rattle.bor_program.specs.declared.connections.phase.Step.{Step}
 use Rattle.bor_program.specs.declared.connections.phase.Step.TheVariants as step
-use Rattle.bor_program.specs.Connections.Serving.{Answer, Ended, IsServing, answer_of, has_failed, is_absent, told_on}
+use Rattle.bor_program.specs.Connections.Serving.{Answer, Ended, IsServing, answer_of, has_failed}
+use Rattle.bor_program.specs.Connections.Serving.{is_absent, told_on}
 use Rattle.bor_program.specs.Connections.Streams.{IsDraining, IsOf, IsReading, IsWriting, KeepsAll}
 
 -- the answer that is being sent to a client
@@ -16,13 +17,20 @@ telling (phase.Draining draining) = answer_of draining.request.items draining.re
 
 -- the facts that are known of a client in its phase
 abbrev pub IsHeld : {S : Type 0} → (S → Option (List ℕ)) → (S → Option (List ℕ)) → Phase S → Type 0
-IsHeld remaining contents (phase.Reading reading) = IsReading remaining reading.stream reading.received.items reading.progress
-IsHeld remaining contents (phase.Writing writing) = IsWriting remaining contents writing.stream (answer_of writing.request.items writing.reply) writing.sent
-IsHeld remaining contents (phase.Draining draining) = IsDraining remaining contents draining.stream (answer_of draining.request.items draining.reply) draining.left
+IsHeld remaining contents (phase.Reading reading) =
+    IsReading remaining reading.stream reading.received.items reading.progress
+IsHeld remaining contents (phase.Writing writing) =
+    IsWriting remaining contents writing.stream
+    (answer_of writing.request.items writing.reply) writing.sent
+IsHeld remaining contents (phase.Draining draining) =
+    IsDraining remaining contents draining.stream
+    (answer_of draining.request.items draining.reply) draining.left
 
--- a client whose request is still read has been so from the first, and nothing that was read of it is forgotten
+-- a client whose request is still read has been so from the first, and nothing that was read of it
+-- is forgotten
 abbrev pub ReadsOn : {S : Type 0} → (S → Option (List ℕ)) → Phase S → Phase S → Type 0
-ReadsOn remaining (phase.Reading old) (phase.Reading new) = KeepsAll remaining old.stream old.received.items new.stream new.received.items
+ReadsOn remaining (phase.Reading old) (phase.Reading new) =
+    KeepsAll remaining old.stream old.received.items new.stream new.received.items
 ReadsOn remaining (phase.Writing old) (phase.Reading new) = ⊥
 ReadsOn remaining (phase.Draining old) (phase.Reading new) = ⊥
 ReadsOn remaining (phase.Reading old) (phase.Writing new) = ⊤
@@ -38,11 +46,20 @@ phase_of (step.Goes at pace) = at
 phase_of (step.Ends at) = at
 
 -- a connection ended on which a client had come, and this answer was being sent, and failed or not
-abbrev pub EndsAs : {S : Type 0} → (S → Option (List ℕ)) → (S → Option (List ℕ)) → List Answer → Bool → Type 0
-EndsAs remaining contents told failed = (e : Ended) × IsOf remaining contents e × (told_on e ≡ told) × (failed ≡ has_failed e) × (is_absent e ≡ false)
+abbrev pub EndsAs : {S : Type 0} → (S → Option (List ℕ)) → (S → Option (List ℕ))
+    → List Answer → Bool → Type 0
+EndsAs remaining contents told failed =
+    (e : Ended) × IsOf remaining contents e × (told_on e ≡ told) × (failed ≡ has_failed e)
+    × (is_absent e ≡ false)
 
--- a client's step is one of the server, whatever it has done before and whichever other clients there are: this answer was being sent to the client, and then that
-abbrev pub IsStep : {K S Left : Type 0} → (K → Register → Type 0) → (K → Type 0) → (K → Type 0) → (K → Left → Type 0) → (Left → Register → Type 0) → (S → Option (List ℕ)) → (S → Option (List ℕ)) → K → K → List Answer → List Answer → Type 0
+-- a client's step is one of the server, whatever it has done before and whichever other clients
+-- there are: this answer was being sent to the client, and then that
+abbrev pub IsStep : {K S Left : Type 0} → (K → Register → Type 0) → (K → Type 0) → (K → Type 0)
+    → (K → Left → Type 0) → (Left → Register → Type 0) → (S → Option (List ℕ))
+    → (S → Option (List ℕ)) → K → K → List Answer → List Answer → Type 0
 IsStep {K} shows is_clean is_sound may_leave left_shows remaining contents old new this that =
-    (start : K) (others : List Answer) (connections pending absent told : ℕ) → IsServing shows is_clean is_sound may_leave left_shows (IsOf remaining contents) start old (this ++ others) connections pending absent told
-    → IsServing shows is_clean is_sound may_leave left_shows (IsOf remaining contents) start new (that ++ others) connections pending absent told
+    (start : K) (others : List Answer) (connections pending absent told : ℕ)
+    → IsServing shows is_clean is_sound may_leave left_shows (IsOf remaining contents) start old
+    (this ++ others) connections pending absent told
+    → IsServing shows is_clean is_sound may_leave left_shows (IsOf remaining contents) start new
+    (that ++ others) connections pending absent told

@@ -7,8 +7,8 @@ abbrev pub place_count : ℕ
 place_count = 256
 
 -- a client has this place
-abbrev pub is_taken : Places → ℕ → Bool
-is_taken places place = get_or places.taken place false
+abbrev pub is_place_taken : Places → ℕ → Bool
+is_place_taken places place = get_or places.taken place false
 
 -- something may be read or written at this place
 abbrev pub is_ready : Places → ℕ → Bool
@@ -21,7 +21,7 @@ taken_in places = count_by (λ taken. taken) places.taken
 -- This place was free, and is taken. At others all is as it was.
 pub record Takes (old : Places) (place : ℕ) (new : Places) : Type 0 where
   pub there : place < place_count
-  pub free : is_taken old place ≡ false
+  pub free : is_place_taken old place ≡ false
   pub taken : new.taken ≡ set old.taken place true
   pub ready : new.ready ≡ set old.ready place false
   pub called : new.is_called ≡ old.is_called

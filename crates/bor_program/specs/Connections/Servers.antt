@@ -1,5 +1,6 @@
 -- The effects of a server, for clauses of private functions alone.
-use Rattle.std.specs.Prelude.{◌≡◌, ◌≤◌, ◌<◌, ◌+◌, ℕ, List, [], ◌∷◌, ◌++◌, length, map, get_or, remove, Option, if◌then◌else◌}
+use Rattle.std.specs.Prelude.{◌≡◌, ◌≤◌, ◌<◌, ◌+◌, ℕ, List, [], ◌∷◌, ◌++◌, length, map, get_or}
+use Rattle.std.specs.Prelude.{remove, Option, if◌then◌else◌}
 use Rattle.std.specs.Duration.{as_nanos}
 use Rattle.std.specs.declared.time.Duration.{Duration}
 use Rattle.std.specs.VecDeque.{deque_capacity, deque_len}
@@ -8,11 +9,13 @@ use Rattle.std.specs.List.Sorted.{IsPermutation}
 use Rattle.bor_register.specs.Register.{Register}
 use Rattle.bor_program.specs.declared.connections.server.Client.{Client}
 use Rattle.bor_program.specs.declared.connections.server.Server.{Server}
-use Rattle.bor_program.specs.Connections.Serving.{Answer, Ended, IsServing, absent_in, has_failed, told_in}
+use Rattle.bor_program.specs.Connections.Serving.{Answer, Ended, IsServing, absent_in, has_failed}
+use Rattle.bor_program.specs.Connections.Serving.{told_in}
 use Rattle.bor_program.specs.Connections.Streams.{IsOf}
 use Rattle.bor_program.specs.Connections.Phases.{IsHeld, ReadsOn, telling}
-use Rattle.bor_program.specs.Connections.Times.{IsTaking, IsUp, looked}
-use Rattle.bor_program.specs.Connections.Watching.{Act, AreDone, Does, IsOver, faults_after, refused_in, waits_in}
+use Rattle.bor_program.specs.Connections.Times.{IsTaking, IsTimeUp, looked}
+use Rattle.bor_program.specs.Connections.Watching.{Act, AreDone, Does, IsOver, faults_after}
+use Rattle.bor_program.specs.Connections.Watching.{refused_in, waits_in}
 
 -- the answers that are being sent to these clients
 abbrev pub telling_to : {S : Type 0} → List (Client S) → List Answer
@@ -20,9 +23,11 @@ telling_to [] = []
 telling_to (client ∷ rest) = telling client.phase ++ telling_to rest
 
 -- the facts that are known of each of them
-abbrev pub AreHeld : {S : Type 0} → (S → Option (List ℕ)) → (S → Option (List ℕ)) → List (Client S) → Type 0
+abbrev pub AreHeld : {S : Type 0} → (S → Option (List ℕ)) → (S → Option (List ℕ))
+    → List (Client S) → Type 0
 AreHeld remaining contents [] = Unit {0}
-AreHeld remaining contents (client ∷ rest) = IsHeld remaining contents client.phase × AreHeld remaining contents rest
+AreHeld remaining contents (client ∷ rest) =
+    IsHeld remaining contents client.phase × AreHeld remaining contents rest
 
 abbrev pub telling_in : {S : Type 0} → Server S → List Answer
 telling_in server = telling_to server.queue.items
@@ -38,7 +43,8 @@ idle_times clients = map (λ client. as_nanos client.timing.idle_since) clients
 -- the client at this place is idle for the longest: since no later than any other
 pub record IsLongestIdle {S : Type 0} (clients : List (Client S)) (place : ℕ) : Type 0 where
   pub there : place < length clients
-  pub longest : (other : ℕ) → other < length clients → get_or (idle_times clients) place 0 ≤ get_or (idle_times clients) other 0
+  pub longest : (other : ℕ) → other < length clients
+      → get_or (idle_times clients) place 0 ≤ get_or (idle_times clients) other 0
 
 -- of these clients, one that is idle for the longest leaves the others, where there is one
 abbrev pub GivesWay : {S : Type 0} → List (Client S) → List (Client S) → Type 0
@@ -48,22 +54,33 @@ GivesWay old new = 0 < length old → (place : ℕ) × IsLongestIdle old place �
 
 -- this client is put behind the others, which is sure where their queue has room for it
 pub record Stays {S : Type 0} (client : Client S) (old new : Server S) : Type 0 where
-  pub room : deque_len old.queue < deque_capacity old.queue → new.queue.items ≡ old.queue.items ++ client ∷ []
+  pub room : deque_len old.queue < deque_capacity old.queue
+      → new.queue.items ≡ old.queue.items ++ client ∷ []
   pub same : (last : Client S) → new.queue.items ≡ old.queue.items ++ last ∷ [] → last ≡ client
 
--- The time of this client is looked at: where it is up, it leaves the others as they are; and else it is put behind them in its phase, which is sure where their queue has room for it.
-pub record IsTimely {S : Type 0} (now : Duration) (client : Client S) (old new : Server S) : Type 0 where
-  pub up : IsUp old.limits client.timing client.phase now → new.queue ≡ old.queue
-  pub stays : (IsUp old.limits client.timing client.phase now → ⊥) → deque_len old.queue < deque_capacity old.queue → (last : Client S) × (new.queue.items ≡ old.queue.items ++ last ∷ [])
-  pub same : (last : Client S) → new.queue.items ≡ old.queue.items ++ last ∷ [] → last.phase ≡ client.phase
+-- The time of this client is looked at: where it is up, it leaves the others as they are; and else
+-- it is put behind them in its phase, which is sure where their queue has room for it.
+pub record IsTimely {S : Type 0} (now : Duration) (client : Client S)
+    (old new : Server S) : Type 0 where
+  pub up : IsTimeUp old.limits client.timing client.phase now → new.queue ≡ old.queue
+  pub stays : (IsTimeUp old.limits client.timing client.phase now → ⊥)
+      → deque_len old.queue < deque_capacity old.queue
+      → (last : Client S) × (new.queue.items ≡ old.queue.items ++ last ∷ [])
+  pub same : (last : Client S) → new.queue.items ≡ old.queue.items ++ last ∷ []
+      → last.phase ≡ client.phase
 
--- A client had its turn: where it is put behind the others, this is known of how it takes its reply, and nothing where that was made in this turn, after the clock was read.
+-- A client had its turn: where it is put behind the others, this is known of how it takes its
+-- reply, and nothing where that was made in this turn, after the clock was read.
 abbrev pub IsTimed : {S : Type 0} → Duration → Client S → Server S → Server S → Type 0
-IsTimed {S} now client old new = (last : Client S) → new.queue.items ≡ old.queue.items ++ last ∷ [] → IsTaking (looked client.phase now) last.phase
+IsTimed {S} now client old new =
+    (last : Client S) → new.queue.items ≡ old.queue.items ++ last ∷ []
+    → IsTaking (looked client.phase now) last.phase
 
 -- the same, and of what was read of it nothing is forgotten
 abbrev pub IsReadOn : {S : Type 0} → (S → Option (List ℕ)) → Client S → Server S → Server S → Type 0
-IsReadOn {S} remaining client old new = (last : Client S) → new.queue.items ≡ old.queue.items ++ last ∷ [] → ReadsOn remaining client.phase last.phase
+IsReadOn {S} remaining client old new =
+    (last : Client S) → new.queue.items ≡ old.queue.items ++ last ∷ []
+    → ReadsOn remaining client.phase last.phase
 
 -- ---- parts that stay the same
 
@@ -73,8 +90,10 @@ pub record Becomes {S : Type 0} (old new : Server S) : Type 0 where
   pub left : new.left ≡ old.left
   pub status : new.status ≡ old.status
 
--- nothing was answered, and some connections ended, of those that had not ended when these answers were being sent; on so many of them no client came
-pub record Lets {S : Type 0} (remaining contents : S → Option (List ℕ)) (telling : List Answer) (pending absent status : ℕ) (new : Server S) : Type 0 where
+-- nothing was answered, and some connections ended, of those that had not ended when these answers
+-- were being sent; on so many of them no client came
+pub record Lets {S : Type 0} (remaining contents : S → Option (List ℕ)) (telling : List Answer)
+    (pending absent status : ℕ) (new : Server S) : Type 0 where
   pub held : AreHeld remaining contents new.queue.items
   pub ended : List Ended
   pub ended_so : All (IsOf remaining contents) ended
@@ -83,44 +102,79 @@ pub record Lets {S : Type 0} (remaining contents : S → Option (List ℕ)) (tel
   pub told_once : IsPermutation telling (telling_in new ++ told_in ended)
   pub told : new.status ≡ (if list_any has_failed ended then 3 else status)
 
--- the server goes on as one of so many connections, on so many of which no client came, whatever it has done before
-abbrev pub IsAt : {K S Left : Type 0} → (K → Register → Type 0) → (K → Type 0) → (K → Type 0) → (K → Left → Type 0) → (Left → Register → Type 0) → (S → Option (List ℕ)) → (S → Option (List ℕ)) → K → K → ℕ → ℕ → Server S → Type 0
-IsAt shows is_clean is_sound may_leave left_shows remaining contents start keep connections absent server =
-    IsServing shows is_clean is_sound may_leave left_shows (IsOf remaining contents) start keep (telling_in server) connections (pending_in server) absent server.status
+-- the server goes on as one of so many connections, on so many of which no client came, whatever it
+-- has done before
+abbrev pub GoesOnAs : {K S Left : Type 0} → (K → Register → Type 0) → (K → Type 0) → (K → Type 0)
+    → (K → Left → Type 0) → (Left → Register → Type 0) → (S → Option (List ℕ))
+    → (S → Option (List ℕ)) → K → K → ℕ → ℕ → Server S → Type 0
+GoesOnAs shows is_clean is_sound may_leave left_shows remaining contents start keep
+    connections absent server =
+    IsServing shows is_clean is_sound may_leave left_shows (IsOf remaining contents) start keep
+    (telling_in server) connections (pending_in server) absent server.status
 
-abbrev pub Advances : {K S Left : Type 0} → (K → Register → Type 0) → (K → Type 0) → (K → Type 0) → (K → Left → Type 0) → (Left → Register → Type 0) → (S → Option (List ℕ)) → (S → Option (List ℕ)) → K → K → Server S → Server S → Type 0
-Advances {K} shows is_clean is_sound may_leave left_shows remaining contents old_keep new_keep old new =
-    (start : K) (connections absent : ℕ) → IsAt shows is_clean is_sound may_leave left_shows remaining contents start old_keep connections absent old → IsAt shows is_clean is_sound may_leave left_shows remaining contents start new_keep connections absent new
+abbrev pub Advances : {K S Left : Type 0} → (K → Register → Type 0) → (K → Type 0) → (K → Type 0)
+    → (K → Left → Type 0) → (Left → Register → Type 0) → (S → Option (List ℕ))
+    → (S → Option (List ℕ)) → K → K → Server S → Server S → Type 0
+Advances {K} shows is_clean is_sound may_leave left_shows remaining contents old_keep
+    new_keep old new =
+    (start : K) (connections absent : ℕ)
+    → GoesOnAs shows is_clean is_sound may_leave left_shows remaining contents start old_keep
+    connections absent old
+    → GoesOnAs shows is_clean is_sound may_leave left_shows remaining contents start new_keep
+    connections absent new
 
 -- the server goes on so, with a client in hand that is being sent this
-abbrev pub Serves : {K S Left : Type 0} → (K → Register → Type 0) → (K → Type 0) → (K → Type 0) → (K → Left → Type 0) → (Left → Register → Type 0) → (S → Option (List ℕ)) → (S → Option (List ℕ)) → K → K → List Answer → Server S → Server S → Type 0
-Serves {K} shows is_clean is_sound may_leave left_shows remaining contents old_keep new_keep mine old new =
-    (start : K) (connections absent : ℕ) → IsServing shows is_clean is_sound may_leave left_shows (IsOf remaining contents) start old_keep (mine ++ telling_in old) connections (pending_in old + 1) absent old.status
-    → IsAt shows is_clean is_sound may_leave left_shows remaining contents start new_keep connections absent new
+abbrev pub Serves : {K S Left : Type 0} → (K → Register → Type 0) → (K → Type 0) → (K → Type 0)
+    → (K → Left → Type 0) → (Left → Register → Type 0) → (S → Option (List ℕ))
+    → (S → Option (List ℕ)) → K → K → List Answer → Server S → Server S → Type 0
+Serves {K} shows is_clean is_sound may_leave left_shows remaining contents old_keep
+    new_keep mine old new =
+    (start : K) (connections absent : ℕ)
+    → IsServing shows is_clean is_sound may_leave left_shows (IsOf remaining contents) start
+    old_keep (mine ++ telling_in old) connections (pending_in old + 1) absent old.status
+    → GoesOnAs shows is_clean is_sound may_leave left_shows remaining contents start new_keep
+    connections absent new
 
 -- ---- over a watch
 
 -- clients were let in, and some could not be
-pub record LetsIn {W S : Type 0} (does : W → Act → W → Type 0) (begun left : W) (remaining contents : S → Option (List ℕ)) (telling : List Answer) (pending status : ℕ) (new : Server S) : Type 0 where
+pub record LetsIn {W S : Type 0} (does : W → Act → W → Type 0) (begun left : W)
+    (remaining contents : S → Option (List ℕ)) (telling : List Answer) (pending status : ℕ)
+    (new : Server S) : Type 0 where
   pub refused : ℕ
   pub done : Does does begun left refused
   pub lets : Lets remaining contents telling pending refused status new
 
--- The server goes on: these calls were made of its watch, of which so many waits failed last, one after the other, of so many in all.
-pub record IsRunning {K W S Left : Type 0} (shows : K → Register → Type 0) (is_clean is_sound : K → Type 0) (may_leave : K → Left → Type 0) (left_shows : Left → Register → Type 0) (does : W → Act → W → Type 0) (remaining contents : S → Option (List ℕ)) (old_keep keep : K) (begun watch : W) (old server : Server S) (faults waits : ℕ) : Type 0 where
+-- The server goes on: these calls were made of its watch, of which so many waits failed last, one
+-- after the other, of so many in all.
+pub record IsRunning {K W S Left : Type 0} (shows : K → Register → Type 0)
+    (is_clean is_sound : K → Type 0) (may_leave : K → Left → Type 0)
+    (left_shows : Left → Register → Type 0) (does : W → Act → W → Type 0)
+    (remaining contents : S → Option (List ℕ)) (old_keep keep : K) (begun watch : W)
+    (old server : Server S) (faults waits : ℕ) : Type 0 where
   pub held : AreHeld remaining contents server.queue.items
   pub acts : List Act
   pub done : AreDone does begun acts watch
-  pub advances : (start : K) (connections absent : ℕ) → IsAt shows is_clean is_sound may_leave left_shows remaining contents start old_keep connections absent old
-      → IsAt shows is_clean is_sound may_leave left_shows remaining contents start keep connections (refused_in acts + absent) server
+  pub advances : (start : K) (connections absent : ℕ)
+      → GoesOnAs shows is_clean is_sound may_leave left_shows remaining contents start old_keep
+      connections absent old
+      → GoesOnAs shows is_clean is_sound may_leave left_shows remaining contents start keep
+      connections (refused_in acts + absent) server
   pub failed : faults_after 0 acts ≡ faults
   pub waited : waits_in acts ≡ waits
 
 -- it went on until all clients came, or it may end
-pub record Runs {K W S Left : Type 0} (shows : K → Register → Type 0) (is_clean is_sound : K → Type 0) (may_leave : K → Left → Type 0) (left_shows : Left → Register → Type 0) (does : W → Act → W → Type 0) (remaining contents : S → Option (List ℕ)) (old_keep new_keep : K) (begun left : W) (old new : Server S) : Type 0 where
+pub record Runs {K W S Left : Type 0} (shows : K → Register → Type 0)
+    (is_clean is_sound : K → Type 0) (may_leave : K → Left → Type 0)
+    (left_shows : Left → Register → Type 0) (does : W → Act → W → Type 0)
+    (remaining contents : S → Option (List ℕ)) (old_keep new_keep : K) (begun left : W)
+    (old new : Server S) : Type 0 where
   pub held : AreHeld remaining contents new.queue.items
   pub acts : List Act
   pub done : AreDone does begun acts left
-  pub advances : (start : K) (connections absent : ℕ) → IsAt shows is_clean is_sound may_leave left_shows remaining contents start old_keep connections absent old
-      → IsAt shows is_clean is_sound may_leave left_shows remaining contents start new_keep connections (refused_in acts + absent) new
+  pub advances : (start : K) (connections absent : ℕ)
+      → GoesOnAs shows is_clean is_sound may_leave left_shows remaining contents start old_keep
+      connections absent old
+      → GoesOnAs shows is_clean is_sound may_leave left_shows remaining contents start new_keep
+      connections (refused_in acts + absent) new
   pub over : 0 < new.left → IsOver acts

@@ -1,5 +1,6 @@
 -- The keep that serving many clients at once leaves, and its status.
-use Rattle.std.specs.Prelude.{◌≡◌, ◌+◌, ℕ, List, [], ◌∷◌, ◌++◌, length, map, count_by, Some, Bool, true, false, ◌==◌, ◌||◌, nat_lt, if◌then◌else◌, ⊤}
+use Rattle.std.specs.Prelude.{◌≡◌, ◌+◌, ℕ, List, [], ◌∷◌, ◌++◌, length, map, count_by, Some, Bool}
+use Rattle.std.specs.Prelude.{true, false, ◌==◌, ◌||◌, nat_lt, if◌then◌else◌, ⊤}
 use Rattle.std.specs.List.{All, list_any}
 use Rattle.std.specs.List.Sorted.{IsPermutation}
 use Rattle.bor_records.specs.Promises.{Promised}
@@ -30,7 +31,14 @@ pub record Answered (K : Type 0) : Type 0 where
 
 -- the exchange that it was, over bytes that are known
 abbrev pub exchange_of : {K : Type 0} → Answered K → Exchanged K
-exchange_of a = record { known = Some a.answer.request; outcome = Replied a.answer.status; held = Some []; holds = Some a.answer.reply; keep = a.keep }
+exchange_of a =
+    record {
+      known = Some a.answer.request;
+      outcome = Replied a.answer.status;
+      held = Some [];
+      holds = Some a.answer.reply;
+      keep = a.keep;
+    }
 
 abbrev pub exchanges_of : {K : Type 0} → List (Answered K) → List (Exchanged K)
 exchanges_of answered = map exchange_of answered
@@ -65,8 +73,8 @@ abbrev pub absent_in : List Ended → ℕ
 absent_in ended = count_by is_absent ended
 
 -- the status of a server: 3 where a connection failed, else 0
-abbrev pub status_of : List Ended → ℕ
-status_of ended = if list_any has_failed ended then 3 else 0
+abbrev pub status_of_server : List Ended → ℕ
+status_of_server ended = if list_any has_failed ended then 3 else 0
 
 -- the answer on it
 abbrev pub told_on : Ended → List Answer
@@ -80,8 +88,15 @@ told_in (e ∷ rest) = told_on e ++ told_in rest
 
 -- ---- the server
 
--- Of so many connections some have ended, and some are pending, on which these answers are still being sent. The requests were answered one after the other, each from the keep that the one before it left. A request has another status than 503 only where the keep after it is clean, if its store has returned what was written by then. Each answer is sent on one connection, and on no other. On so many no client came. `Is` holds of how each connection ended.
-pub record IsServing {K Left : Type 0} (shows : K → Register → Type 0) (is_clean is_sound : K → Type 0) (may_leave : K → Left → Type 0) (left_shows : Left → Register → Type 0) (Is : Ended → Type 0) (old new : K) (telling : List Answer) (connections pending absent told : ℕ) : Type 0 where
+-- Of so many connections some have ended, and some are pending, on which these answers are still
+-- being sent. The requests were answered one after the other, each from the keep that the one
+-- before it left. A request has another status than 503 only where the keep after it is clean, if
+-- its store has returned what was written by then. Each answer is sent on one connection, and on no
+-- other. On so many no client came. `Is` holds of how each connection ended.
+pub record IsServing {K Left : Type 0} (shows : K → Register → Type 0)
+    (is_clean is_sound : K → Type 0) (may_leave : K → Left → Type 0)
+    (left_shows : Left → Register → Type 0) (Is : Ended → Type 0) (old new : K)
+    (telling : List Answer) (connections pending absent told : ℕ) : Type 0 where
   pub answered : List (Answered K)
   pub ended : List Ended
   pub count : length ended + pending ≡ connections
@@ -91,20 +106,33 @@ pub record IsServing {K Left : Type 0} (shows : K → Register → Type 0) (is_c
   pub told_once : IsPermutation (answers_in answered) (telling ++ told_in ended)
   pub ended_so : All Is ended
   pub missing : absent_in ended ≡ absent
-  pub status : told ≡ status_of ended
+  pub status : told ≡ status_of_server ended
 
--- So many connections were served and have ended, with this status. What was answered on them, one request after the other, is a run from a legal register: the bytes of each request and of its reply are known.
-pub record IsServedAs {K Left : Type 0} (shows : K → Register → Type 0) (is_clean is_sound : K → Type 0) (may_leave : K → Left → Type 0) (left_shows : Left → Register → Type 0) (Is : Ended → Type 0) (old new : K) (connections told : ℕ) : Type 0 where
+-- So many connections were served and have ended, with this status. What was answered on them, one
+-- request after the other, is a run from a legal register: the bytes of each request and of its
+-- reply are known.
+pub record IsServedAs {K Left : Type 0} (shows : K → Register → Type 0)
+    (is_clean is_sound : K → Type 0) (may_leave : K → Left → Type 0)
+    (left_shows : Left → Register → Type 0) (Is : Ended → Type 0) (old new : K)
+    (connections told : ℕ) : Type 0 where
   pub absent : ℕ
-  pub served : IsServing shows is_clean is_sound may_leave left_shows Is old new [] connections 0 absent told
-  pub run : Promised shows is_clean old new (λ r. IsLegal r → IsRun (shows new) r (exchanges_of served.answered))
+  pub served : IsServing shows is_clean is_sound may_leave left_shows Is old new []
+      connections 0 absent told
+  pub run : Promised shows is_clean old new
+      (λ r. IsLegal r → IsRun (shows new) r (exchanges_of served.answered))
 
 -- connections were served so, whatever the bytes of their streams
-abbrev pub IsServed : {K Left : Type 0} → (K → Register → Type 0) → (K → Type 0) → (K → Type 0) → (K → Left → Type 0) → (Left → Register → Type 0) → K → K → ℕ → ℕ → Type 0
-IsServed shows is_clean is_sound may_leave left_shows old new connections told = IsServedAs shows is_clean is_sound may_leave left_shows (λ e. ⊤) old new connections told
+abbrev pub IsServed : {K Left : Type 0} → (K → Register → Type 0) → (K → Type 0) → (K → Type 0)
+    → (K → Left → Type 0) → (Left → Register → Type 0) → K → K → ℕ → ℕ → Type 0
+IsServed shows is_clean is_sound may_leave left_shows old new connections told =
+    IsServedAs shows is_clean is_sound may_leave left_shows (λ e. ⊤) old new connections told
 
--- The same, of what the server asked of its watch: no client came only where one could not be let in, or where the server may end.
-pub record IsServedOver {K W Left : Type 0} (shows : K → Register → Type 0) (is_clean is_sound : K → Type 0) (may_leave : K → Left → Type 0) (left_shows : Left → Register → Type 0) (Is : Ended → Type 0) (does : W → Act → W → Type 0) (old new : K) (begun left : W) (connections told : ℕ) : Type 0 where
+-- The same, of what the server asked of its watch: no client came only where one could not be let
+-- in, or where the server may end.
+pub record IsServedOver {K W Left : Type 0} (shows : K → Register → Type 0)
+    (is_clean is_sound : K → Type 0) (may_leave : K → Left → Type 0)
+    (left_shows : Left → Register → Type 0) (Is : Ended → Type 0) (does : W → Act → W → Type 0)
+    (old new : K) (begun left : W) (connections told : ℕ) : Type 0 where
   pub served : IsServedAs shows is_clean is_sound may_leave left_shows Is old new connections told
   pub acts : List Act
   pub done : AreDone does begun acts left

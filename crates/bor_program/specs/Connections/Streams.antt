@@ -11,19 +11,27 @@ use Rattle.bor_program.specs.Connections.Serving.{Answer, Ended, Absent, Unanswe
 abbrev pub Came : {S : Type 0} → (S → Option (List ℕ)) → S → List ℕ → Type 0
 Came {S} remaining stream bytes = (came : S) × Consumes (remaining came) (remaining stream) bytes
 
--- None of these bytes was forgotten: whatever state of the stream they were read from, the later ones were read from it too.
-abbrev pub KeepsAll : {S : Type 0} → (S → Option (List ℕ)) → (old : S) → (bytes : List ℕ) → (new : S) → (later : List ℕ) → Type 0
-KeepsAll {S} remaining old bytes new later = (came : S) → Consumes (remaining came) (remaining old) bytes → Consumes (remaining came) (remaining new) later
+-- None of these bytes was forgotten: whatever state of the stream they were read from, the later
+-- ones were read from it too.
+abbrev pub KeepsAll : {S : Type 0} → (S → Option (List ℕ)) → (old : S) → (bytes : List ℕ)
+    → (new : S) → (later : List ℕ) → Type 0
+KeepsAll {S} remaining old bytes new later =
+    (came : S) → Consumes (remaining came) (remaining old) bytes
+    → Consumes (remaining came) (remaining new) later
 
--- The facts that are known of a client whose request is read: where its bytes come from, how far they are known, and that they are no whole request yet, and no more than a head and a body may have.
-pub record IsReading {S : Type 0} (remaining : S → Option (List ℕ)) (stream : S) (received : List ℕ) (progress : Progress) : Type 0 where
+-- The facts that are known of a client whose request is read: where its bytes come from, how far
+-- they are known, and that they are no whole request yet, and no more than a head and a body may
+-- have.
+pub record IsReading {S : Type 0} (remaining : S → Option (List ℕ)) (stream : S) (received : List ℕ)
+    (progress : Progress) : Type 0 where
   pub came : Came remaining stream received
   pub known : IsProgress received progress
   pub missing : length received < needs progress
   pub partial : IsWhole received → ⊥
   pub fits : length received ≤ request_limit
 
--- One read of a request took n bytes of the stream, at most as many as there was room for, and put them behind those that had come; none only at the end.
+-- One read of a request took n bytes of the stream, at most as many as there was room for, and put
+-- them behind those that had come; none only at the end.
 pub record Received (known left : Option (List ℕ)) (old new : List ℕ) (room n : ℕ) : Type 0 where
   pub bytes : List ℕ
   pub consumed : Consumes known left bytes
@@ -34,10 +42,14 @@ pub record Received (known left : Option (List ℕ)) (old new : List ℕ) (room 
 
 -- the request is whole, or its client has ended it, or there was no memory for it
 abbrev pub IsReady : {S : Type 0} → (S → Option (List ℕ)) → S → Answer → Type 0
-IsReady remaining stream answer = IsWhole answer.request ⊎ (IsAtEnd (remaining stream) ⊎ (answer.status ≡ 503))
+IsReady remaining stream answer =
+    IsWhole answer.request ⊎ (IsAtEnd (remaining stream) ⊎ (answer.status ≡ 503))
 
--- The request was read from this very stream, is no longer than a request may be, and was ready when it was answered; and so many bytes of the reply to it, and nothing else, were written to the same stream since then.
-pub record IsWriting {S : Type 0} (remaining contents : S → Option (List ℕ)) (stream : S) (answer : Answer) (sent : ℕ) : Type 0 where
+-- The request was read from this very stream, is no longer than a request may be, and was ready
+-- when it was answered; and so many bytes of the reply to it, and nothing else, were written to the
+-- same stream since then.
+pub record IsWriting {S : Type 0} (remaining contents : S → Option (List ℕ)) (stream : S)
+    (answer : Answer) (sent : ℕ) : Type 0 where
   pub read : S
   pub came : Came remaining read answer.request
   pub fits : length answer.request ≤ request_limit
@@ -47,16 +59,21 @@ pub record IsWriting {S : Type 0} (remaining contents : S → Option (List ℕ))
 
 -- of as many bytes as may still be read, those that were read are left out
 abbrev pub Drops : Option (List ℕ) → Option (List ℕ) → ℕ → ℕ → Type 0
-Drops known left before after = (bytes : List ℕ) × Consumes known left bytes × (length bytes + after ≡ before)
+Drops known left before after =
+    (bytes : List ℕ) × Consumes known left bytes × (length bytes + after ≡ before)
 
--- The whole reply was written to this very stream; and what was read of it since then, and dropped, and what may still be read, are together as much as is read behind a reply.
-pub record IsDraining {S : Type 0} (remaining contents : S → Option (List ℕ)) (stream : S) (answer : Answer) (left : ℕ) : Type 0 where
+-- The whole reply was written to this very stream; and what was read of it since then, and dropped,
+-- and what may still be read, are together as much as is read behind a reply.
+pub record IsDraining {S : Type 0} (remaining contents : S → Option (List ℕ)) (stream : S)
+    (answer : Answer) (left : ℕ) : Type 0 where
   pub written : S
   pub told : IsWriting remaining contents written answer (length answer.reply)
   pub dropped : Drops (remaining written) (remaining stream) rest_limit left
 
--- So many bytes of the reply were written to the stream that its request was read from, and since then no more was read of it than is read behind a reply, until it was let go.
-pub record IsTold {S : Type 0} (remaining contents : S → Option (List ℕ)) (answer : Answer) (sent : ℕ) : Type 0 where
+-- So many bytes of the reply were written to the stream that its request was read from, and since
+-- then no more was read of it than is read behind a reply, until it was let go.
+pub record IsReplySent {S : Type 0} (remaining contents : S → Option (List ℕ)) (answer : Answer)
+    (sent : ℕ) : Type 0 where
   pub written : S
   pub told : IsWriting remaining contents written answer sent
   pub let_go : S
@@ -64,8 +81,10 @@ pub record IsTold {S : Type 0} (remaining contents : S → Option (List ℕ)) (a
   pub behind : Consumes (remaining written) (remaining let_go) dropped
   pub bound : length dropped ≤ rest_limit
 
--- These bytes were read of the stream of a client that is given up: they are no whole request, for one that is whole is answered.
-pub record IsUnanswered {S : Type 0} (remaining : S → Option (List ℕ)) (request : List ℕ) : Type 0 where
+-- These bytes were read of the stream of a client that is given up: they are no whole request, for
+-- one that is whole is answered.
+pub record IsUnanswered {S : Type 0} (remaining : S → Option (List ℕ))
+    (request : List ℕ) : Type 0 where
   pub stream : S
   pub came : Came remaining stream request
   pub partial : IsWhole request → ⊥
@@ -75,4 +94,4 @@ pub record IsUnanswered {S : Type 0} (remaining : S → Option (List ℕ)) (requ
 abbrev pub IsOf : {S : Type 0} → (S → Option (List ℕ)) → (S → Option (List ℕ)) → Ended → Type 0
 IsOf remaining contents Absent = ⊤
 IsOf remaining contents (Unanswered request) = IsUnanswered remaining request
-IsOf remaining contents (Told answer sent) = IsTold remaining contents answer sent
+IsOf remaining contents (Told answer sent) = IsReplySent remaining contents answer sent

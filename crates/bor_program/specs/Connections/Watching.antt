@@ -1,5 +1,6 @@
 -- The calls of a server to its watch, and their results.
-use Rattle.std.specs.Prelude.{◌≡◌, ◌≤◌, ◌<◌, ◌⊎◌, ◌+◌, ℕ, List, [], ◌∷◌, Bool, true, false, count_by, map}
+use Rattle.std.specs.Prelude.{◌≡◌, ◌≤◌, ◌<◌, ◌⊎◌, ◌+◌, ℕ, List, [], ◌∷◌, Bool, true, false}
+use Rattle.std.specs.Prelude.{count_by, map}
 use Rattle.std.specs.List.{list_any}
 use Rattle.bor_program.specs.declared.log.Note.{Note}
 
@@ -78,16 +79,23 @@ fault_limit = 1000
 abbrev pub wait_limit : ℕ
 wait_limit = 18446744073709551615
 
--- A server may end before all its clients came: clients can't be watched for, or so many waits failed one after the other, or there were so many.
+-- A server may end before all its clients came: clients can't be watched for, or so many waits
+-- failed one after the other, or there were so many.
 abbrev pub IsOver : List Act → Type 0
-IsOver acts = (list_any is_deaf acts ≡ true) ⊎ ((fault_limit ≤ faults_after 0 acts) ⊎ (wait_limit ≤ waits_in acts))
+IsOver acts =
+    (list_any is_deaf acts ≡ true)
+    ⊎ ((fault_limit ≤ faults_after 0 acts) ⊎ (wait_limit ≤ waits_in acts))
 
--- no client came on so many connections: as many as could not be let in, and others only where the server may end
+-- no client came on so many connections: as many as could not be let in, and others only where the
+-- server may end
 abbrev pub IsExcused : List Act → ℕ → Type 0
-IsExcused acts absent = (missing : ℕ) × (absent ≡ refused_in acts + missing) × (0 < missing → IsOver acts)
+IsExcused acts absent =
+    (missing : ℕ) × (absent ≡ refused_in acts + missing) × (0 < missing → IsOver acts)
 
--- these calls, none of which waits, lead from one state of a watch to another, and so many clients could not be let in
-pub record Does {W : Type 0} (does : W → Act → W → Type 0) (old new : W) (refused : ℕ) : Type 0 where
+-- these calls, none of which waits, lead from one state of a watch to another, and so many clients
+-- could not be let in
+pub record Does {W : Type 0} (does : W → Act → W → Type 0) (old new : W)
+    (refused : ℕ) : Type 0 where
   pub acts : List Act
   pub done : AreDone does old acts new
   pub refusals : refused_in acts ≡ refused
@@ -95,7 +103,8 @@ pub record Does {W : Type 0} (does : W → Act → W → Type 0) (old new : W) (
   pub faults : (before : ℕ) → faults_after before acts ≡ before
 
 -- it waited once, and so many waits had failed before, one after the other, and have now
-pub record WaitsOnce {W : Type 0} (does : W → Act → W → Type 0) (old new : W) (before now : ℕ) : Type 0 where
+pub record WaitsOnce {W : Type 0} (does : W → Act → W → Type 0) (old new : W)
+    (before now : ℕ) : Type 0 where
   pub acts : List Act
   pub done : AreDone does old acts new
   pub refusals : refused_in acts ≡ 0

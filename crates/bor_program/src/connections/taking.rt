@@ -2,8 +2,8 @@
 
 ghost use Rattle.std.specs.Prelude.{◌≡◌, ◌↔◌, IsTrue};
 ghost use Rattle.std.specs.Duration.{as_nanos};
-ghost use Rattle.bor_program.specs.Connections.Limits.{IsBelow};
-ghost use Rattle.bor_program.specs.Connections.Times.{IsSlow, begun, seen};
+ghost use Rattle.bor_program.specs.Connections.Limits.{IsBelowFloor};
+ghost use Rattle.bor_program.specs.Connections.Times.{IsSlow, begun, taking_after};
 
 use crate::connections::limits::Limits;
 use std::time::Duration;
@@ -33,7 +33,7 @@ impl Taking {
 
     /// The clock is read, and so many bytes have been taken before.
     pub(crate) fn seen(taking: Option<Taking>, sent: usize, now: Duration) -> Taking
-        ensures { result ≡ seen taking sent now }
+        ensures { result ≡ taking_after taking sent now }
     {
         match taking {
             None => Taking::begun(sent, now),
@@ -43,7 +43,7 @@ impl Taking {
 
     // The clock is read again, and so many bytes have been taken before.
     fn seen_again(self, sent: usize, now: Duration) -> Taking
-        ensures { result ≡ seen (Some self) sent now }
+        ensures { result ≡ taking_after (Some self) sent now }
     {
         if sent == self.taken {
             return self;
@@ -96,7 +96,7 @@ impl Taking {
 // and a time as often as the floor has bytes.)
 fn is_below(limits: Limits, taken: usize, in_all: Duration) -> bool
     ensures { IsTrue result
-        ↔ IsBelow limits.floor (as_nanos limits.reply) taken (as_nanos in_all) }
+        ↔ IsBelowFloor limits.floor (as_nanos limits.reply) taken (as_nanos in_all) }
 {
     let behind = in_all.saturating_sub(limits.reply);
     let least = behind.saturating_mul(limits.floor);

@@ -3,7 +3,7 @@
 ghost use Rattle.std.specs.Prelude.{◌≡◌, ◌≢◌, ◌-◌, Some, unwrap_or, MatchOption};
 ghost use Rattle.std.specs.Duration.{as_nanos};
 ghost use Rattle.bor_program.specs.declared.connections.phase.Pace.TheVariants.{Blocked};
-ghost use Rattle.bor_program.specs.Connections.Times.{IsUp};
+ghost use Rattle.bor_program.specs.Connections.Times.{IsTimeUp};
 
 use crate::connections::limits::Limits;
 use crate::connections::phase::{Pace, Phase};
@@ -72,8 +72,8 @@ impl Timing {
         now: Duration,
     ) -> Option<Duration>
         ensures idle { self.new.idle_since ≡ self.old.idle_since }
-        ensures up { MatchOption result (IsUp limits self.old phase.now now)
-            (λ _. IsUp limits self.old phase.now now → ⊥) }
+        ensures up { MatchOption result (IsTimeUp limits self.old phase.now now)
+            (λ _. IsTimeUp limits self.old phase.now now → ⊥) }
     {
         match phase {
             Phase::Reading(_) => some_left(self.left_of(limits.request, now)),

@@ -6,7 +6,7 @@ ghost use Rattle.bor_wire.specs.Exchanges.{bytes_out};
 ghost use Rattle.bor_program.specs.declared.connections.writing.Written.TheVariants.{Whole};
 ghost use Rattle.bor_program.specs.Connections.Serving.{Told, answer_of, has_failed};
 ghost use Rattle.bor_program.specs.Connections.Streams.{Came, Drops, IsDraining, IsReady, IsWriting};
-ghost use Rattle.bor_program.specs.Connections.Times.{IsSlow, begun, seen};
+ghost use Rattle.bor_program.specs.Connections.Times.{IsSlow, begun, taking_after};
 
 use crate::connections::limits::Limits;
 use crate::connections::reading::{Reading, is_blocked};
@@ -34,7 +34,7 @@ impl<S> Writing<S> {
         ensures request { self.new.request ≡ self.old.request }
         ensures reply { self.new.reply ≡ self.old.reply }
         ensures sent { self.new.sent ≡ self.old.sent }
-        ensures taking { self.new.taking ≡ Some (seen self.old.taking self.old.sent now) }
+        ensures taking { self.new.taking ≡ Some (taking_after self.old.taking self.old.sent now) }
     {
         self.taking = Some(Taking::seen(self.taking, self.sent, now));
     }

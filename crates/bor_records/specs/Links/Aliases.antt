@@ -14,10 +14,10 @@ pub record Alias (s : Shown) (a b : Node) : Type 0 where
   pub alike : IsTrue (are_alike one two)
 
 -- from a by aliases, through these nodes, to b
-abbrev pub Steps : Shown → Node → List Node → Node → Type 0
-Steps s a [] b = a ≡ b
-Steps s a (c ∷ cs) b = Alias s a c × Steps s c cs b
+abbrev pub IsAliasPath : Shown → Node → List Node → Node → Type 0
+IsAliasPath s a [] b = a ≡ b
+IsAliasPath s a (c ∷ cs) b = Alias s a c × IsAliasPath s c cs b
 
 -- Two nodes stand for one entity: they are equal, or joined by finitely many steps.
 abbrev pub Same : Shown → Node → Node → Type 0
-Same s a b = (cs : List Node) × Steps s a cs b
+Same s a b = (cs : List Node) × IsAliasPath s a cs b

@@ -1,4 +1,5 @@
--- Nodes and links read by their keys: those that the latest statement of a series makes, with no list of all open rows.
+-- Nodes and links read by their keys: those that the latest statement of a series makes, with no
+-- list of all open rows.
 use Rattle.std.specs.Prelude.{◌≡◌, ℕ, ℤ, List, Contains, IsTrue, Option, Some, option_and_then}
 use Rattle.std.specs.List.{filter}
 use Rattle.bor_terms.specs.Texts.{is_same}
@@ -34,10 +35,15 @@ pub record IsMade (day : ℤ) (rows : List Row) (candidates : List Node) (l : Li
   pub latest : open_at day key rows ≡ Some row
   pub made : link_in day (nodes_of day rows) row ≡ Some l
 
--- the candidates have the series of each row that, were it the latest, would make a link into the node on some day
+-- the candidates have the series of each row that, were it the latest, would make a link into the
+-- node on some day
 abbrev pub CoverLinks : List Row → List Node → Node → Type 0
-CoverLinks rows candidates n = (day : ℤ) (r : Row) (nodes : List OpenNode) (l : Link) → Contains rows r → link_in day nodes r ≡ Some l → l.subject ≡ n → Contains candidates (series_of r)
+CoverLinks rows candidates n =
+    (day : ℤ) (r : Row) (nodes : List OpenNode) (l : Link) → Contains rows r
+    → link_in day nodes r ≡ Some l → l.subject ≡ n → Contains candidates (series_of r)
 
 -- the candidates have the series of each row that, were it the latest, would be alike
 abbrev pub CoverAliases : List Row → List Node → OpenNode → Type 0
-CoverAliases rows candidates one = (r : Row) (two : OpenNode) → Contains rows r → node_in r ≡ Some two → IsTrue (are_alike one two) → Contains candidates (series_of r)
+CoverAliases rows candidates one =
+    (r : Row) (two : OpenNode) → Contains rows r → node_in r ≡ Some two → IsTrue (are_alike one two)
+    → Contains candidates (series_of r)

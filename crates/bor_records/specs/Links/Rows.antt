@@ -1,5 +1,6 @@
 -- The nodes and links of the rows of a register on a day.
-use Rattle.std.specs.Prelude.{ℕ, ℤ, List, [], Bool, true, false, ◌&&◌, Option, Some, None, if◌then◌else◌}
+use Rattle.std.specs.Prelude.{ℕ, ℤ, List, [], Bool, true, false, ◌&&◌, Option, Some, None}
+use Rattle.std.specs.Prelude.{if◌then◌else◌}
 use Rattle.std.specs.List.{filter_map}
 use Rattle.bods_read.specs.declared.details.Details.{Details}
 use Rattle.bods_read.specs.declared.details.Details.TheVariants as details
@@ -30,8 +31,10 @@ is_legal_kind kinds.Other = false
 
 -- the open node that the details of an entity or a person make
 abbrev pub node_with : Node → Details → Option OpenNode
-node_with n (details.Entity kind name identifiers) = Some (record { node = n; info = Entity (is_legal_kind kind); identifiers = identifiers })
-node_with n (details.Person kind name) = Some (record { node = n; info = Person name; identifiers = [] })
+node_with n (details.Entity kind name identifiers) =
+    Some (record { node = n; info = Entity (is_legal_kind kind); identifiers = identifiers })
+node_with n (details.Person kind name) =
+    Some (record { node = n; info = Person name; identifiers = [] })
 node_with n (details.Relationship subject party interests) = None
 
 -- the node that a row's statement makes
@@ -60,10 +63,18 @@ is_some_info (Some info) = true
 abbrev pub beside : Row → List ℕ → Node
 beside r rec = record { agent = r.agent; declaration = r.statement.declaration; rec = rec }
 
--- a link of a record on a day, where the subject is an open entity and the party an open entity or person
+-- a link of a record on a day, where the subject is an open entity and the party an open entity or
+-- person
 abbrev pub link_between : ℤ → List OpenNode → List ℕ → Node → Node → List Interest → Option Link
 link_between day nodes rec party subject interests =
-    if is_entity_info (info_in nodes subject) && is_some_info (info_in nodes party) then Some (record { rec = rec; party = party; subject = subject; stake = is_stake day interests; holding = is_holding day interests })
+    if is_entity_info (info_in nodes subject) && is_some_info (info_in nodes party)
+    then Some (record {
+      rec = rec;
+      party = party;
+      subject = subject;
+      stake = is_stake day interests;
+      holding = is_holding day interests;
+    })
     else None
 
 -- the link that a relationship's details make; an end that names no record makes none
@@ -72,7 +83,8 @@ link_with day nodes r (details.Entity kind name identifiers) = None
 link_with day nodes r (details.Person kind name) = None
 link_with day nodes r (details.Relationship None party interests) = None
 link_with day nodes r (details.Relationship (Some subject) None interests) = None
-link_with day nodes r (details.Relationship (Some subject) (Some party) interests) = link_between day nodes r.statement.rec (beside r party) (beside r subject) interests
+link_with day nodes r (details.Relationship (Some subject) (Some party) interests) =
+    link_between day nodes r.statement.rec (beside r party) (beside r subject) interests
 
 abbrev pub link_in : ℤ → List OpenNode → Row → Option Link
 link_in day nodes r = link_with day nodes r r.statement.details

@@ -1,4 +1,5 @@
--- A series: the statements of one record of an agent's declaration, and whether it is open on a day.
+-- A series: the statements of one record of an agent's declaration, and whether it is open on a
+-- day.
 use Rattle.std.specs.Prelude.{ℕ, ℤ, List, Bool, Option, option_and_then}
 use Rattle.std.specs.List.{filter}
 use Rattle.bods_read.specs.declared.statement.Statement.{Statement}

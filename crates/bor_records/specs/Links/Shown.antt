@@ -1,5 +1,6 @@
 -- The open entities and persons that a source shows, and the links between them.
-use Rattle.std.specs.Prelude.{◌≡◌, ℕ, List, Bool, true, false, ◌&&◌, ◌||◌, not, Option, None, Some, find, option_map}
+use Rattle.std.specs.Prelude.{◌≡◌, ℕ, List, Bool, true, false, ◌&&◌, ◌||◌, not, Option, None, Some}
+use Rattle.std.specs.Prelude.{find, option_map}
 use Rattle.std.specs.List.{list_any}
 use Rattle.bor_terms.specs.Texts.{is_same}
 use Rattle.bods_read.specs.declared.details.Identifier.{Identifier}
@@ -10,7 +11,8 @@ use Rattle.bor_records.specs.declared.links.node.OpenNode.{OpenNode}
 use Rattle.bor_records.specs.declared.links.node.Link.{Link}
 use Rattle.bor_records.specs.Links.Nodes.{same_node}
 
--- two finite lists, of open nodes and of links; `NodesAreDistinct` says that those of rows have each node once
+-- two finite lists, of open nodes and of links; `NodesAreDistinct` says that those of rows have
+-- each node once
 pub record Shown : Type 0 where
   pub nodes : List OpenNode
   pub links : List Link
@@ -50,12 +52,15 @@ share_identifier xs ys = list_any (λ i. list_any (λ j. same_identifier i j) ys
 
 -- equal record of one agent in different declarations
 abbrev pub same_record : Node → Node → Bool
-same_record a b = is_same a.agent b.agent && (is_same a.rec b.rec && not (is_same a.declaration b.declaration))
+same_record a b =
+    is_same a.agent b.agent && (is_same a.rec b.rec && not (is_same a.declaration b.declaration))
 
 -- one step between two open nodes that stand for one entity
 abbrev pub are_alike : OpenNode → OpenNode → Bool
 are_alike a b =
-    is_entity a.info && is_entity b.info && (same_record a.node b.node || share_identifier a.identifiers b.identifiers && not (same_node a.node b.node))
+    is_entity a.info && is_entity b.info
+    && (same_record a.node b.node
+    || share_identifier a.identifiers b.identifiers && not (same_node a.node b.node))
 
 -- an open node is there, and is one step away
 abbrev pub is_like : OpenNode → Option OpenNode → Bool

@@ -10,7 +10,9 @@ use Rattle.bor_records.specs.Links.Nodes.{text_cmp}
 
 -- by record or identifier, then agent or scheme, then kind
 abbrev pub sign_cmp : Sign → Sign → Ordering
-sign_cmp a b = ordering_then (text_cmp a.name b.name) (ordering_then (text_cmp a.group b.group) (bool_cmp a.of_record b.of_record))
+sign_cmp a b =
+    ordering_then (text_cmp a.name b.name)
+    (ordering_then (text_cmp a.group b.group) (bool_cmp a.of_record b.of_record))
 
 abbrev pub by_record : Node → Sign
 by_record n = record { of_record = true; group = n.agent; name = n.rec }

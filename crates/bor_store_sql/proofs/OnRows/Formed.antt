@@ -16,7 +16,7 @@ use Rattle.bor_register.specs.declared.filing.AcceptedFiling.{AcceptedFiling}
 use Rattle.bor_register.specs.declared.member.Member.{Member}
 use Rattle.bor_store_sql.specs.declared.rows.places.At.{At}
 use Rattle.bor_store_sql.specs.declared.rows.typed.Placed.{Placed}
-use Rattle.bor_store_sql.specs.Rows.Placed.{register_row, agent_row, filing_row, filing_lines, bare, line_of, period_of, period_rows, if_said, part_of, interests_of, identifiers_of, interest_rows, identifier_rows, interests_from, identifiers_from, placed_from, placed_by, placed}
+use Rattle.bor_store_sql.specs.Rows.Placed.{register_row, agent_row, filing_row, filing_lines, bare, interest_line, period_of, period_rows, if_said, part_of, interests_of, identifiers_of, interest_rows, identifier_rows, interests_from, identifiers_from, placed_from, placed_by, placed}
 use Rattle.bor_store_sql.specs.Rows.RowForms.{IsFormedRegisterRow, IsFormedAgentRow, IsFormedFilingRow, IsFormedAt, IsFormedPart, IsFormedStatementRow, IsFormedInterestLine, IsFormedPeriodRow, IsFormedInterestRow, IsFormedIdentifierRow, IsFormedPlaced}
 use Rattle.bor_store_sql.specs.declared.rows.typed.InterestRow.{InterestRow}
 use Rattle.bor_store_sql.specs.Rows.Stored.{IsCounted, AreCounted, IsStored}
@@ -152,7 +152,7 @@ all_identifiers_formed (p ∷ ps) h =
 
 -- ---- interests and their days
 
-pub line_formed : (i : InterestRow) → IsFormedInterestRow i → IsFormedInterestLine (line_of i)
+pub line_formed : (i : InterestRow) → IsFormedInterestRow i → IsFormedInterestLine (interest_line i)
 line_formed i h = record { at = h.at; item = h.item; share = h.interest.share }
 
 period_formed : (i : InterestRow) → IsFormedInterestRow i → IsFormedPeriodRow (period_of i)
@@ -166,9 +166,9 @@ periods_formed i h = go i.interest.starts i.interest.ends
     go None (Some end) = All-cons IsFormedPeriodRow (period_of i) [] (period_formed i h) (All-nil IsFormedPeriodRow)
     go (Some start) ends = All-cons IsFormedPeriodRow (period_of i) [] (period_formed i h) (All-nil IsFormedPeriodRow)
 
-pub all_lines_formed : (is : List InterestRow) → All IsFormedInterestRow is → All IsFormedInterestLine (map line_of is)
+pub all_lines_formed : (is : List InterestRow) → All IsFormedInterestRow is → All IsFormedInterestLine (map interest_line is)
 all_lines_formed [] h = All-nil IsFormedInterestLine
-all_lines_formed (i ∷ is) h = All-cons IsFormedInterestLine (line_of i) (map line_of is) (line_formed i (All-head IsFormedInterestRow i is h)) (all_lines_formed is (All-tail IsFormedInterestRow i is h))
+all_lines_formed (i ∷ is) h = All-cons IsFormedInterestLine (interest_line i) (map interest_line is) (line_formed i (All-head IsFormedInterestRow i is h)) (all_lines_formed is (All-tail IsFormedInterestRow i is h))
 
 pub all_periods_formed : (is : List InterestRow) → All IsFormedInterestRow is → All IsFormedPeriodRow (flat_map period_rows is)
 all_periods_formed [] h = All-nil IsFormedPeriodRow

@@ -15,7 +15,7 @@ use Rattle.bor_store_sql.specs.declared.rows.typed.InterestRow.{InterestRow}
 use Rattle.bor_store_sql.specs.declared.rows.typed.PeriodRow.{PeriodRow}
 use Rattle.bor_store_sql.specs.declared.rows.typed.IdentifierRow.{IdentifierRow}
 use Rattle.bor_store_sql.specs.declared.rows.typed.Placed.{Placed}
-use Rattle.bor_store_sql.specs.Rows.Placed.{AreApart, AreSeveral, Misses, agent_row, bare, identifier_rows, identifiers_of, if_said, interest_rows, interests_of, line_of, period_of, period_rows, placed, placed_by, placed_from, same_interest, same_place, with_lists}
+use Rattle.bor_store_sql.specs.Rows.Placed.{AreApart, AreSeveral, Misses, agent_row, bare, identifier_rows, identifiers_of, if_said, interest_rows, interests_of, interest_line, period_of, period_rows, placed, placed_by, placed_from, same_interest, same_place, with_lists}
 use Rattle.bor_store_sql.specs.Rows.Stored.{AllNumbered, AreNumbered}
 use Rattle.bor_store_sql.proofs.OnRows.Decoded.{Filed, filed, without_statements}
 use Rattle.bor_store_sql.proofs.OnRows.Joins.{back, at_itself, identifiers_at, interests_at, no_identifiers_at, no_interests_at}
@@ -39,7 +39,7 @@ interest_itself : (at : At) (item : ℕ) → same_interest at item at item ≡ t
 interest_itself at item = rw (same_number item) (at_itself at)
 
 -- an interest of this line has a row among periods that miss it
-missed : (i j : InterestRow) (row : PeriodRow) (rows more : List PeriodRow) → line_of i ≡ line_of j → row.at ≡ i.at → row.item ≡ i.item → rows ≡ row ∷ more → Misses j rows → ⊥
+missed : (i j : InterestRow) (row : PeriodRow) (rows more : List PeriodRow) → interest_line i ≡ interest_line j → row.at ≡ i.at → row.item ≡ i.item → rows ≡ row ∷ more → Misses j rows → ⊥
 missed i j row rows more same at item first misses =
     let place : row.at ≡ j.at = at ∙ ap (λ (l : InterestLine). l.at) same in
     let number : row.item ≡ j.item = item ∙ ap (λ (l : InterestLine). l.item) same in
@@ -47,7 +47,7 @@ missed i j row rows more same at item first misses =
     true≢false (sym (interest_itself j.at j.item) ∙ sym (ap₂ (λ a n. same_interest a n j.at j.item) place number) ∙ not_it)
 
 -- where lines are the same, so are days, and the rows of the other interests
-same_days : (i j : InterestRow) (starts ends then till : Option ℤ) (more rest : List PeriodRow) → line_of i ≡ line_of j → Misses i more → Misses j rest
+same_days : (i j : InterestRow) (starts ends then till : Option ℤ) (more rest : List PeriodRow) → interest_line i ≡ interest_line j → Misses i more → Misses j rest
     → if_said (record (period_of i) { starts = starts; ends = ends }) starts ends ++ more ≡ if_said (record (period_of j) { starts = then; ends = till }) then till ++ rest → (starts ≡ then) × (ends ≡ till) × (more ≡ rest)
 same_days i j None None None None more rest line b d same = (refl, refl, same)
 same_days i j None None None (Some e) more rest line b d same = absurd (missed j i (record (period_of j) { starts = None; ends = Some e }) more rest (sym line) refl refl same b)
@@ -71,13 +71,13 @@ same_days i j (Some s) ends (Some t) till more rest line b d same =
     let tail : more ≡ rest = cc in
     (ap (λ (p : PeriodRow). p.starts) one, ap (λ (p : PeriodRow). p.ends) one, tail)
 
-pub same_timed : (is js : List InterestRow) → AreSeveral is → AreSeveral js → map line_of is ≡ map line_of js → flat_map period_rows is ≡ flat_map period_rows js → is ≡ js
+pub same_timed : (is js : List InterestRow) → AreSeveral is → AreSeveral js → map interest_line is ≡ map interest_line js → flat_map period_rows is ≡ flat_map period_rows js → is ≡ js
 same_timed [] [] a b lines periods = refl
 same_timed [] (j ∷ js) a b lines periods = absurd cc
 same_timed (i ∷ is) [] a b lines periods = absurd cc
 same_timed (i ∷ is) (j ∷ js) a b lines periods =
-    let line : line_of i ≡ line_of j = cc in
-    let others : map line_of is ≡ map line_of js = cc in
+    let line : interest_line i ≡ interest_line j = cc in
+    let others : map interest_line is ≡ map interest_line js = cc in
     let days = same_days i j i.interest.starts i.interest.ends j.interest.starts j.interest.ends (flat_map period_rows is) (flat_map period_rows js) line (all_missed i is a.0) (all_missed j js b.0) periods in
     let one : i ≡ j = (λ k. timed (line k) (days.0 k) (days.1 k)) in
     ap₂ (λ x l. x ∷ l) one (same_timed is js a.1 b.1 others days.2)

@@ -9,7 +9,7 @@ use Rattle.bods_read.specs.declared.interest.Interest.{Interest}
 use Rattle.bor_store_sql.specs.declared.rows.places.At.{At}
 use Rattle.bor_store_sql.specs.declared.rows.typed.Placed.{Placed}
 use Rattle.bor_store_sql.proofs.OnRows.Numbers.{other_number}
-use Rattle.bor_store_sql.specs.Rows.Placed.{AreApart, interest_rows, interests_from, interests_of, same_place, AreSeveral, Misses, OfNext, if_said, line_of, period_of, period_rows, same_interest}
+use Rattle.bor_store_sql.specs.Rows.Placed.{AreApart, interest_rows, interests_from, interests_of, same_place, AreSeveral, Misses, OfNext, if_said, interest_line, period_of, period_rows, same_interest}
 
 -- the periods of other interests miss this one
 one_missed : (i j : InterestRow) → same_interest j.at j.item i.at i.item ≡ false → Misses i (period_rows j)
@@ -29,13 +29,13 @@ pub record Left (all out : List InterestRow) (lines : List InterestLine) (period
   pub left : List InterestRow
   pub whole : out ++ left ≡ all
   pub several : AreSeveral left
-  pub lines_are : lines ≡ map line_of left
+  pub lines_are : lines ≡ map interest_line left
   pub periods_are : periods ≡ flat_map period_rows left
 
 pub none_left : (all out : List InterestRow) (lines : List InterestLine) (periods : List PeriodRow) → Left all out lines periods → lines ≡ [] → out ≡ all
 none_left all out lines periods l none = go l.left l.whole (sym l.lines_are ∙ none)
   where
-    go : (left : List InterestRow) → out ++ left ≡ all → map line_of left ≡ [] → out ≡ all
+    go : (left : List InterestRow) → out ++ left ≡ all → map interest_line left ≡ [] → out ≡ all
     go [] whole e = sym (append-nil out) ∙ whole
     go (i ∷ left) whole e = absurd cc
 
@@ -47,11 +47,11 @@ pub one_more : (all out : List InterestRow) (line : InterestLine) (rows lines : 
     → made ≡ timed line starts ends → Left all (out ++ made ∷ []) lines rest
 one_more all out line rows lines periods rest starts ends made l first days more made_is = go l.left l.whole l.several (sym first ∙ l.lines_are) l.periods_are
   where
-    go : (left : List InterestRow) → out ++ left ≡ all → AreSeveral left → line ∷ lines ≡ map line_of left → periods ≡ flat_map period_rows left → Left all (out ++ made ∷ []) lines rest
+    go : (left : List InterestRow) → out ++ left ≡ all → AreSeveral left → line ∷ lines ≡ map interest_line left → periods ≡ flat_map period_rows left → Left all (out ++ made ∷ []) lines rest
     go [] whole several e s = absurd cc
     go (i ∷ left) whole several e s =
-        let same : line ≡ line_of i = cc in
-        let others : lines ≡ map line_of left = cc in
+        let same : line ≡ interest_line i = cc in
+        let others : lines ≡ map interest_line left = cc in
         let missed = all_missed i left several.0 in
         let day = days i (flat_map period_rows left) same s missed in
         let then = more i (flat_map period_rows left) same s missed in

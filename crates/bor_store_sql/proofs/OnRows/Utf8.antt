@@ -8,7 +8,7 @@ use Rattle.std.proofs.lemmas.Bool.Decides.{nat_tests}
 use Rattle.std.proofs.lemmas.List.Elements.{All-nil, All-cons}
 use Rattle.std.proofs.lemmas.Str.{IsUtf8-from_ascii, IsUtf8-from_is_utf8}
 use Rattle.std.proofs.lemmas.Str.Ascii.{IsAscii-from_all}
-use Rattle.bor_terms.specs.Texts.{is_agent_name, is_lodge_key, is_token, is_ident, is_name_byte, is_key_byte, is_visible, is_printed, has_length}
+use Rattle.bor_terms.specs.Texts.{is_agent_name, is_lodge_key, is_token, is_ident, is_name_byte, is_key_byte, is_visible_byte, is_printed, has_length}
 
 all_below : (p : ℕ → Bool) → ((b : ℕ) → p b ≡ true → b < 128) → (t : List ℕ) → list_all p t ≡ true → All (λ b. b < 128) t
 all_below p small [] h = All-nil (λ b. b < 128)
@@ -23,7 +23,7 @@ name_byte_small b h = grind (arith, nat_tests)
 key_byte_small : (b : ℕ) → is_key_byte b ≡ true → b < 128
 key_byte_small b h = grind (arith, nat_tests)
 
-visible_small : (b : ℕ) → is_visible b ≡ true → b < 128
+visible_small : (b : ℕ) → is_visible_byte b ≡ true → b < 128
 visible_small b h = grind (arith, nat_tests)
 
 pub name_utf8 : (t : List ℕ) → is_agent_name t ≡ true → IsUtf8 t
@@ -36,7 +36,7 @@ key_utf8 t h = ascii_utf8 is_key_byte key_byte_small t (and_parts (has_length 1 
 
 pub token_utf8 : (t : List ℕ) → is_token t ≡ true → IsUtf8 t
 unfolding is_token
-token_utf8 t h = ascii_utf8 is_visible visible_small t (and_parts (has_length 16 64 t) (list_all is_visible t) h).1
+token_utf8 t h = ascii_utf8 is_visible_byte visible_small t (and_parts (has_length 16 64 t) (list_all is_visible_byte t) h).1
 
 pub ident_utf8 : (t : List ℕ) → is_ident t ≡ true → IsUtf8 t
 unfolding is_ident

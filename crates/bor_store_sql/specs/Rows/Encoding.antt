@@ -1,11 +1,15 @@
--- A register as rows of the seven tables, column by column. Numbers, days and percents are integers, truth values are 0 and 1, texts are as they are, and the kinds are the words of BODS 0.4.
-use Rattle.std.specs.Prelude.{ℕ, ℤ, pos, Bool, if◌then◌else◌, List, [], ◌∷◌, ◌++◌, map, Option, Some, None, option_map}
+-- A register as rows of the seven tables, column by column. Numbers, days and percents are
+-- integers, truth values are 0 and 1, texts are as they are, and the kinds are the words of BODS
+-- 0.4.
+use Rattle.std.specs.Prelude.{ℕ, ℤ, pos, Bool, if◌then◌else◌, List, [], ◌∷◌, ◌++◌, map, Option}
+use Rattle.std.specs.Prelude.{Some, None, option_map}
 use Rattle.std.specs.List.{flat_map}
 use Rattle.sqlite.specs.declared.types.Value.{Value}
 use Rattle.sqlite.specs.declared.types.Value.TheVariants.{Null, Int, Text, Blob}
 use Rattle.sqlite.specs.Order.{Row}
 use Rattle.bor_terms.specs.Span.{Range}
-use Rattle.bods_read.specs.Words.{type_word, status_word, entity_word, person_word, interest_word, directness_word}
+use Rattle.bods_read.specs.Words.{type_word, status_word, entity_word, person_word, interest_word}
+use Rattle.bods_read.specs.Words.{directness_word}
 use Rattle.bods_read.specs.declared.statement.RecordType.TheVariants as types
 use Rattle.bor_register.specs.Register.{Register}
 use Rattle.bor_register.specs.declared.filing.AcceptedFiling.{AcceptedFiling}
@@ -21,7 +25,8 @@ use Rattle.bor_store_sql.specs.declared.rows.typed.InterestRow.{InterestRow}
 use Rattle.bor_store_sql.specs.declared.rows.typed.InterestLine.{InterestLine}
 use Rattle.bor_store_sql.specs.declared.rows.typed.PeriodRow.{PeriodRow}
 use Rattle.bor_store_sql.specs.declared.rows.typed.IdentifierRow.{IdentifierRow}
-use Rattle.bor_store_sql.specs.Rows.Placed.{register_row, agent_row, bare, line_of, interest_rows, period_rows, identifier_rows, placed}
+use Rattle.bor_store_sql.specs.Rows.Placed.{register_row, agent_row, bare, interest_line}
+use Rattle.bor_store_sql.specs.Rows.Placed.{interest_rows, period_rows, identifier_rows, placed}
 
 -- ---- values
 
@@ -79,25 +84,30 @@ part_columns (part.Entity kind name) = Text (entity_word kind) ∷ or_null name 
 part_columns (part.Person kind name) = Text (person_word kind) ∷ or_null name ∷ Null ∷ Null ∷ []
 part_columns (part.Relationship subject party) = Null ∷ Null ∷ or_null subject ∷ or_null party ∷ []
 
--- statement: agent, filing, place, id, day, declaration, rec, kind, status, and the four above; the table has no statement without a status
+-- statement: agent, filing, place, id, day, declaration, rec, kind, status, and the four above; the
+-- table has no statement without a status
 abbrev pub statement_columns : StatementRow → Row
 statement_columns s =
-    Text s.at.agent ∷ Int (pos s.at.filing) ∷ Int (pos s.at.place) ∷ Text s.id ∷ Int s.day ∷ Text s.declaration ∷ Text s.rec
+    Text s.at.agent ∷ Int (pos s.at.filing) ∷ Int (pos s.at.place) ∷ Text s.id ∷ Int s.day
+    ∷ Text s.declaration ∷ Text s.rec
     ∷ Text (kind_word s.part) ∷ or_null (option_map status_word s.status) ∷ part_columns s.part
 
 -- interest: low, low_open, high, high_open
 abbrev pub share_columns : Option Range → Row
 share_columns None = Null ∷ Null ∷ Null ∷ Null ∷ []
-share_columns (Some s) = Int (pos s.low) ∷ truth s.low_open ∷ Int (pos s.high) ∷ truth s.high_open ∷ []
+share_columns (Some s) =
+    Int (pos s.low) ∷ truth s.low_open ∷ Int (pos s.high) ∷ truth s.high_open ∷ []
 
--- interest: agent, filing, place, item, kind, directness, and the four above; the days are in period
+-- interest: agent, filing, place, item, kind, directness, and the four above; the days are in
+-- period
 abbrev pub interest_line_columns : InterestLine → Row
 interest_line_columns i =
-    Text i.at.agent ∷ Int (pos i.at.filing) ∷ Int (pos i.at.place) ∷ Int (pos i.item) ∷ Text (interest_word i.kind)
+    Text i.at.agent ∷ Int (pos i.at.filing) ∷ Int (pos i.at.place) ∷ Int (pos i.item)
+    ∷ Text (interest_word i.kind)
     ∷ Text (directness_word i.directness) ∷ share_columns i.share
 
 abbrev pub interest_columns : InterestRow → Row
-interest_columns i = interest_line_columns (line_of i)
+interest_columns i = interest_line_columns (interest_line i)
 
 -- period: starts, ends
 abbrev pub day_or_null : Option ℤ → Value
@@ -107,12 +117,14 @@ day_or_null (Some day) = Int day
 -- period: agent, filing, place, item, starts, ends
 abbrev pub period_columns : PeriodRow → Row
 period_columns p =
-    Text p.at.agent ∷ Int (pos p.at.filing) ∷ Int (pos p.at.place) ∷ Int (pos p.item) ∷ day_or_null p.starts ∷ day_or_null p.ends ∷ []
+    Text p.at.agent ∷ Int (pos p.at.filing) ∷ Int (pos p.at.place) ∷ Int (pos p.item)
+    ∷ day_or_null p.starts ∷ day_or_null p.ends ∷ []
 
 -- identifier: agent, filing, place, item, scheme, id
 abbrev pub identifier_columns : IdentifierRow → Row
 identifier_columns i =
-    Text i.at.agent ∷ Int (pos i.at.filing) ∷ Int (pos i.at.place) ∷ Int (pos i.item) ∷ Text i.identifier.scheme ∷ Text i.identifier.id ∷ []
+    Text i.at.agent ∷ Int (pos i.at.filing) ∷ Int (pos i.at.place) ∷ Int (pos i.item)
+    ∷ Text i.identifier.scheme ∷ Text i.identifier.id ∷ []
 
 -- ---- the rows of a register
 
@@ -130,7 +142,9 @@ pub record Contents : Type 0 where
   pub periods : List Row
   pub identifiers : List Row
 
--- One row for the register, one for each agent, for each filing, for each statement of a filing, for each interest, each interest with a day, and each identifier of a statement. A withdrawn filing has no statements.
+-- One row for the register, one for each agent, for each filing, for each statement of a filing,
+-- for each interest, each interest with a day, and each identifier of a statement. A withdrawn
+-- filing has no statements.
 abbrev pub contents : Register → Contents
 contents r = record {
   register = register_columns r ∷ [];
@@ -138,7 +152,8 @@ contents r = record {
   filings = filing_rows r.members;
   statements = map (λ p. statement_columns (bare p)) (placed r.members);
   interests = flat_map (λ p. map interest_columns (interest_rows p)) (placed r.members);
-  periods = flat_map (λ p. flat_map (λ i. map period_columns (period_rows i)) (interest_rows p)) (placed r.members);
+  periods = flat_map (λ p. flat_map (λ i. map period_columns (period_rows i)) (interest_rows p))
+      (placed r.members);
   identifiers = flat_map (λ p. map identifier_columns (identifier_rows p)) (placed r.members);
 }
 

@@ -1,5 +1,7 @@
--- The rows of the tables for a register, row by row with each value of its type: its day and the registrar's token, agents, filings, and statements with where they stand.
-use Rattle.std.specs.Prelude.{◌≡◌, ℕ, ℤ, Option, Some, None, ◌+◌, List, [], ◌∷◌, ◌++◌, map, ◌==◌, ◌&&◌, Bool, false}
+-- The rows of the tables for a register, row by row with each value of its type: its day and the
+-- registrar's token, agents, filings, and statements with where they stand.
+use Rattle.std.specs.Prelude.{◌≡◌, ℕ, ℤ, Option, Some, None, ◌+◌, List, [], ◌∷◌, ◌++◌, map, ◌==◌}
+use Rattle.std.specs.Prelude.{◌&&◌, Bool, false}
 use Rattle.std.specs.List.{AllByRecursion}
 use Rattle.bor_terms.specs.Texts.{is_same}
 use Rattle.bods_read.specs.declared.statement.Statement.{Statement}
@@ -33,7 +35,8 @@ agent_row m = record { name = m.name; token = m.token }
 
 -- an agent's filing without its file
 abbrev pub filing_row : List ℕ → AcceptedFiling → FilingRow
-filing_row agent f = record { agent = agent; number = f.number; key = f.key; due = f.due; withdrawn = f.withdrawn }
+filing_row agent f =
+    record { agent = agent; number = f.number; key = f.key; due = f.due; withdrawn = f.withdrawn }
 
 -- all filings, by agent and number
 abbrev pub filing_lines : List Member → List FilingRow
@@ -77,11 +80,13 @@ bare p = record {
 
 abbrev pub interests_from : At → ℕ → List Interest → List InterestRow
 interests_from at item [] = []
-interests_from at item (i ∷ is) = record { at = at; item = item; interest = i } ∷ interests_from at (item + 1) is
+interests_from at item (i ∷ is) =
+    record { at = at; item = item; interest = i } ∷ interests_from at (item + 1) is
 
 abbrev pub identifiers_from : At → ℕ → List Identifier → List IdentifierRow
 identifiers_from at item [] = []
-identifiers_from at item (i ∷ is) = record { at = at; item = item; identifier = i } ∷ identifiers_from at (item + 1) is
+identifiers_from at item (i ∷ is) =
+    record { at = at; item = item; identifier = i } ∷ identifiers_from at (item + 1) is
 
 -- its interests, each with where it stands
 abbrev pub interest_rows : Placed → List InterestRow
@@ -92,8 +97,15 @@ abbrev pub identifier_rows : Placed → List IdentifierRow
 identifier_rows p = identifiers_from p.at 1 (identifiers_of p.statement.details)
 
 -- an interest's row in the table interest
-abbrev pub line_of : InterestRow → InterestLine
-line_of i = record { at = i.at; item = i.item; kind = i.interest.kind; directness = i.interest.directness; share = i.interest.share }
+abbrev pub interest_line : InterestRow → InterestLine
+interest_line i =
+    record {
+      at = i.at;
+      item = i.item;
+      kind = i.interest.kind;
+      directness = i.interest.directness;
+      share = i.interest.share;
+    }
 
 -- the row, where one of the days is there
 abbrev pub if_said : PeriodRow → Option ℤ → Option ℤ → List PeriodRow
@@ -102,7 +114,8 @@ if_said p None (Some end) = p ∷ []
 if_said p (Some start) ends = p ∷ []
 
 abbrev pub period_of : InterestRow → PeriodRow
-period_of i = record { at = i.at; item = i.item; starts = i.interest.starts; ends = i.interest.ends }
+period_of i =
+    record { at = i.at; item = i.item; starts = i.interest.starts; ends = i.interest.ends }
 
 -- its rows in the table period: one where it has a day, else none
 abbrev pub period_rows : InterestRow → List PeriodRow
@@ -119,18 +132,23 @@ Misses i ps = AllByRecursion (λ p. same_interest p.at p.item i.at i.item ≡ fa
 -- no two are the same interest
 abbrev pub AreSeveral : List InterestRow → Type 0
 AreSeveral [] = Unit {0}
-AreSeveral (i ∷ is) = AllByRecursion (λ j. same_interest j.at j.item i.at i.item ≡ false) is × AreSeveral is
+AreSeveral (i ∷ is) =
+    AllByRecursion (λ j. same_interest j.at j.item i.at i.item ≡ false) is × AreSeveral is
 
--- where the row is an interest's and the periods are its own and then those of others, this holds of the interest and of the others
+-- where the row is an interest's and the periods are its own and then those of others, this holds
+-- of the interest and of the others
 abbrev pub OfNext : InterestLine → List PeriodRow → (InterestRow → List PeriodRow → Type 0) → Type 0
-OfNext line periods P = (i : InterestRow) (others : List PeriodRow) → line ≡ line_of i → periods ≡ period_rows i ++ others → Misses i others → P i others
+OfNext line periods P =
+    (i : InterestRow) (others : List PeriodRow) → line ≡ interest_line i
+    → periods ≡ period_rows i ++ others → Misses i others → P i others
 
 -- ---- and back
 
 abbrev pub details_with : Part → List Interest → List Identifier → Details
 details_with (part.Entity kind name) interests identifiers = details.Entity kind name identifiers
 details_with (part.Person kind name) interests identifiers = details.Person kind name
-details_with (part.Relationship subject party) interests identifiers = details.Relationship subject party interests
+details_with (part.Relationship subject party) interests identifiers =
+    details.Relationship subject party interests
 
 abbrev pub with_lists : StatementRow → List Interest → List Identifier → Placed
 with_lists row interests identifiers = record {
@@ -150,7 +168,8 @@ with_lists row interests identifiers = record {
 abbrev pub placed_from : List ℕ → ℕ → ℕ → List Statement → List Placed
 placed_from agent filing place [] = []
 placed_from agent filing place (s ∷ ss) =
-    record { at = record { agent = agent; filing = filing; place = place }; statement = s } ∷ placed_from agent filing (place + 1) ss
+    record { at = record { agent = agent; filing = filing; place = place }; statement = s }
+    ∷ placed_from agent filing (place + 1) ss
 
 abbrev pub placed_by : List ℕ → List AcceptedFiling → List Placed
 placed_by agent [] = []

@@ -13,7 +13,8 @@ IsRead result x = MatchResult result (λ y. y ≡ x) (λ fault. fault ≡ faults
 -- from this column on, a row has these four
 abbrev pub HasFour : Row → ℕ → Row → Type 0
 HasFour row at four =
-    (column row at ≡ column four 0) × (column row (at + 1) ≡ column four 1) × (column row (at + 2) ≡ column four 2)
+    (column row at ≡ column four 0) × (column row (at + 1) ≡ column four 1)
+    × (column row (at + 2) ≡ column four 2)
     × (column row (at + 3) ≡ column four 3)
 
 -- both values are null

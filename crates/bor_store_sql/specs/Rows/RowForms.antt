@@ -2,7 +2,8 @@
 use Rattle.std.specs.Prelude.{◌≡◌, ◌<◌, ◌^◌, IfSome, true}
 use Rattle.bor_terms.specs.Day.{IsDay}
 use Rattle.bor_terms.specs.Texts.{is_agent_name, is_lodge_key, is_token}
-use Rattle.bods_read.specs.Forms.{IsFreeText, IsIdent, IsShare, IsFormedIdentifier, IsFormedInterest, IsFormedStatement}
+use Rattle.bods_read.specs.Forms.{IsFreeText, IsIdent, IsShare, IsFormedIdentifier}
+use Rattle.bods_read.specs.Forms.{IsFormedInterest, IsFormedStatement}
 use Rattle.bor_register.specs.declared.filing.Filing.{Filing}
 use Rattle.bor_store_sql.specs.declared.rows.places.At.{At}
 use Rattle.bor_store_sql.specs.declared.rows.typed.RegisterRow.{RegisterRow}

@@ -1,5 +1,6 @@
 -- The part of an agent's statements that a viewer sees, from their rows and those of their filings.
-use Rattle.std.specs.Prelude.{ℕ, ℤ, int_le, List, Bool, not, ◌&&◌, ◌==◌, if◌then◌else◌, unwrap_or, Option, Some, None, nat_lt, false}
+use Rattle.std.specs.Prelude.{ℕ, ℤ, int_le, List, Bool, not, ◌&&◌, ◌==◌, if◌then◌else◌, unwrap_or}
+use Rattle.std.specs.Prelude.{Option, Some, None, nat_lt, false}
 use Rattle.std.specs.List.{list_any}
 use Rattle.bor_terms.specs.Texts.{is_same}
 use Rattle.bods_read.specs.declared.statement.RecordType.{RecordType}
@@ -21,7 +22,8 @@ use Rattle.bor_store_sql.specs.declared.rows.typed.StatementRow.{StatementRow}
 
 -- the viewer sees the filing of this row: its own where it is live, another's where it is published
 abbrev pub is_line_visible : List ℕ → ℤ → FilingRow → Bool
-is_line_visible viewer day f = if is_same viewer f.agent then not f.withdrawn else (not f.withdrawn && int_le f.due day)
+is_line_visible viewer day f =
+    if is_same viewer f.agent then not f.withdrawn else (not f.withdrawn && int_le f.due day)
 
 -- the row of a statement where it stands
 abbrev pub row_placed : Placed → Row
@@ -33,11 +35,19 @@ is_of_declaration declaration p = is_same p.statement.declaration declaration
 
 -- the viewer sees the filing, among these of the agent, that the statement is of
 abbrev pub is_seen : List ℕ → ℤ → List ℕ → List AcceptedFiling → Placed → Bool
-is_seen viewer day agent filings p = list_any (λ f. f.number == p.at.filing && is_visible viewer day agent f) filings
+is_seen viewer day agent filings p =
+    list_any (λ f. f.number == p.at.filing && is_visible viewer day agent f) filings
 
 -- the line of the filing of this row, in its agent's list
 abbrev pub line_shown : ℤ → FilingRow → FilingLine
-line_shown day f = record { key = f.key; number = f.number; due = f.due; state = if f.withdrawn then Withdrawn else state_of_live f.due day }
+line_shown day f =
+    record {
+      key = f.key;
+      number = f.number;
+      due = f.due;
+      state = if f.withdrawn then Withdrawn
+          else state_of_live f.due day;
+    }
 
 -- the kind of a statement's record, by its row
 abbrev pub type_of_part : Part → RecordType
@@ -47,7 +57,8 @@ type_of_part (part.Relationship subject party) = types.Relationship
 
 -- the statement of this row, whose filing is due on this day, as far as the rules ask
 abbrev pub known_at : ℤ → StatementRow → Last
-known_at due s = record { kind = type_of_part s.part; status = unwrap_or s.status New; day = s.day; due = due }
+known_at due s =
+    record { kind = type_of_part s.part; status = unwrap_or s.status New; day = s.day; due = due }
 
 -- ---- for has_successor
 

@@ -26,9 +26,11 @@ pub record AreCounted (ss : List Statement) : Type 0 where
   pub few : length ss < 2 ^ 32
   pub each : All IsCounted ss
 
--- The names go up, each agent's filings are numbered from 1 on, each value has its form, and the places are numbers of 32 bits.
+-- The names go up, each agent's filings are numbered from 1 on, each value has its form, and the
+-- places are numbers of 32 bits.
 pub record IsStored (r : Register) : Type 0 where
   pub ordered : IsOrdered r.members
   pub numbered : AllNumbered r.members
   pub formed : IsFormed r
-  pub counted : All (λ (m : Member). All (λ (f : AcceptedFiling). AreCounted f.statements) m.filings) r.members
+  pub counted : All
+      (λ (m : Member). All (λ (f : AcceptedFiling). AreCounted f.statements) m.filings) r.members

@@ -1,10 +1,13 @@
--- Each word of the tables is UTF-8, and is read back as its value. Contracts of private functions alone cite it.
+-- Each word of the tables is UTF-8, and is read back as its value. Contracts of private functions
+-- alone cite it.
 use Rattle.std.proofs.Common.{◌≡◌, Some, refl}
 use Rattle.std.specs.Str.{IsUtf8, is_utf8, chars}
 use lib.Utf8.{encode}
 use Rattle.std.proofs.lemmas.Str.{IsUtf8-from_is_utf8}
-use Rattle.bods_read.specs.Words.{type_word, type_worded, status_word, status_worded, entity_word, person_word, interest_word, directness_word}
-use Rattle.bor_store_sql.specs.Rows.Words.{entity_kind_of, person_kind_of, interest_kind_of, directness_of}
+use Rattle.bods_read.specs.Words.{type_word, type_worded, status_word, status_worded, entity_word}
+use Rattle.bods_read.specs.Words.{person_word, interest_word, directness_word}
+use Rattle.bor_store_sql.specs.Rows.Words.{entity_kind_of, person_kind_of, interest_kind_of}
+use Rattle.bor_store_sql.specs.Rows.Words.{directness_of}
 use Rattle.bods_read.specs.declared.statement.RecordType.{RecordType}
 use Rattle.bods_read.specs.declared.statement.RecordType.TheVariants as types
 use Rattle.bods_read.specs.declared.statement.Status.{Status}
@@ -55,10 +58,12 @@ entity_back entities.Other = refl
 
 pub entity_utf8 : (x : EntityKind) → IsUtf8 (entity_word x)
 unfolding entity_word is_utf8 chars encode
-entity_utf8 entities.RegisteredEntity = IsUtf8-from_is_utf8 (entity_word entities.RegisteredEntity) refl
+entity_utf8 entities.RegisteredEntity =
+    IsUtf8-from_is_utf8 (entity_word entities.RegisteredEntity) refl
 entity_utf8 entities.LegalEntity = IsUtf8-from_is_utf8 (entity_word entities.LegalEntity) refl
 entity_utf8 entities.Arrangement = IsUtf8-from_is_utf8 (entity_word entities.Arrangement) refl
-entity_utf8 entities.AnonymousEntity = IsUtf8-from_is_utf8 (entity_word entities.AnonymousEntity) refl
+entity_utf8 entities.AnonymousEntity =
+    IsUtf8-from_is_utf8 (entity_word entities.AnonymousEntity) refl
 entity_utf8 entities.UnknownEntity = IsUtf8-from_is_utf8 (entity_word entities.UnknownEntity) refl
 entity_utf8 entities.State = IsUtf8-from_is_utf8 (entity_word entities.State) refl
 entity_utf8 entities.StateBody = IsUtf8-from_is_utf8 (entity_word entities.StateBody) refl
@@ -87,9 +92,12 @@ interest_back interests.Other = refl
 
 pub interest_utf8 : (x : InterestKind) → IsUtf8 (interest_word x)
 unfolding interest_word is_utf8 chars encode
-interest_utf8 interests.Shareholding = IsUtf8-from_is_utf8 (interest_word interests.Shareholding) refl
-interest_utf8 interests.VotingRights = IsUtf8-from_is_utf8 (interest_word interests.VotingRights) refl
-interest_utf8 interests.AppointmentOfBoard = IsUtf8-from_is_utf8 (interest_word interests.AppointmentOfBoard) refl
+interest_utf8 interests.Shareholding =
+    IsUtf8-from_is_utf8 (interest_word interests.Shareholding) refl
+interest_utf8 interests.VotingRights =
+    IsUtf8-from_is_utf8 (interest_word interests.VotingRights) refl
+interest_utf8 interests.AppointmentOfBoard =
+    IsUtf8-from_is_utf8 (interest_word interests.AppointmentOfBoard) refl
 interest_utf8 interests.Other = IsUtf8-from_is_utf8 (interest_word interests.Other) refl
 
 pub directness_back : (x : Directness) → directness_of (directness_word x) ≡ Some x

@@ -1,4 +1,5 @@
--- The values whose words the tables have (BODS 0.4). Unlike in a file, every other text is none of them.
+-- The values whose words the tables have (BODS 0.4). Unlike in a file, every other text is none of
+-- them.
 use Rattle.std.specs.Prelude.{ℕ, List, [], ◌∷◌, Option}
 use Rattle.bods_read.specs.Words.{worded, entity_word, person_word, interest_word, directness_word}
 use Rattle.bods_read.specs.declared.details.EntityKind.{EntityKind}
@@ -23,7 +24,8 @@ person_kind_of text =
 
 unfoldable pub interest_kind_of : List ℕ → Option InterestKind
 interest_kind_of text =
-    worded interest_word (interests.Shareholding ∷ interests.VotingRights ∷ interests.AppointmentOfBoard
+    worded interest_word
+    (interests.Shareholding ∷ interests.VotingRights ∷ interests.AppointmentOfBoard
     ∷ interests.Other ∷ []) text
 
 unfoldable pub directness_of : List ℕ → Option Directness

@@ -10,9 +10,19 @@ use Rattle.sqlite.specs.Command.TheVariants.{Insert, Update, Delete}
 use Rattle.sqlite.specs.Source.TheVariants.{Values}
 use Rattle.sqlite_schema.specs.declared.program.Program.{Program}
 use Rattle.bor_store_sql.specs.Texts.Queries.{table_query, equals}
-use Rattle.bor_store_sql.specs.declared.texts.changes.TheConstants.{INSERT_REGISTER, INSERT_AGENT, INSERT_FILING, INSERT_STATEMENT, INSERT_INTEREST, INSERT_IDENTIFIER, DELETE_IDENTIFIERS, DELETE_INTERESTS, DELETE_STATEMENTS, MARK_WITHDRAWN, UPDATE_DAY, INSERT_PERIOD, DELETE_PERIODS, UPDATE_VERSION}
+use Rattle.bor_store_sql.specs.declared.texts.changes.TheConstants.{INSERT_REGISTER, INSERT_AGENT}
+use Rattle.bor_store_sql.specs.declared.texts.changes.TheConstants.{INSERT_FILING, INSERT_STATEMENT}
+use Rattle.bor_store_sql.specs.declared.texts.changes.TheConstants.{INSERT_INTEREST}
+use Rattle.bor_store_sql.specs.declared.texts.changes.TheConstants.{INSERT_IDENTIFIER}
+use Rattle.bor_store_sql.specs.declared.texts.changes.TheConstants.{DELETE_IDENTIFIERS}
+use Rattle.bor_store_sql.specs.declared.texts.changes.TheConstants.{DELETE_INTERESTS}
+use Rattle.bor_store_sql.specs.declared.texts.changes.TheConstants.{DELETE_STATEMENTS}
+use Rattle.bor_store_sql.specs.declared.texts.changes.TheConstants.{MARK_WITHDRAWN, UPDATE_DAY}
+use Rattle.bor_store_sql.specs.declared.texts.changes.TheConstants.{INSERT_PERIOD, DELETE_PERIODS}
+use Rattle.bor_store_sql.specs.declared.texts.changes.TheConstants.{UPDATE_VERSION}
 
--- Columns are counted from 1, parameters from 0. An update gives the row's identity twice and then its columns, a deletion its identity.
+-- Columns are counted from 1, parameters from 0. An update gives the row's identity twice and then
+-- its columns, a deletion its identity.
 
 -- the column equals a number
 abbrev pub equals_number : ℕ → ℕ → Term
@@ -40,7 +50,8 @@ abbrev pub insert_filing_text : List ℕ
 insert_filing_text = INSERT_FILING.now
 
 abbrev pub insert_filing_terms : List Term
-insert_filing_terms = lit Null ∷ col 0 0 ∷ col 0 1 ∷ col 0 2 ∷ col 0 3 ∷ lit (Int (pos 0)) ∷ col 0 4 ∷ []
+insert_filing_terms =
+    lit Null ∷ col 0 0 ∷ col 0 1 ∷ col 0 2 ∷ col 0 3 ∷ lit (Int (pos 0)) ∷ col 0 4 ∷ []
 
 abbrev pub insert_filing_command : Command
 insert_filing_command = Insert 2 (Values insert_filing_terms 7)
@@ -49,7 +60,9 @@ abbrev pub insert_statement_text : List ℕ
 insert_statement_text = INSERT_STATEMENT.now
 
 abbrev pub insert_statement_terms : List Term
-insert_statement_terms = lit Null ∷ col 0 0 ∷ col 0 1 ∷ col 0 2 ∷ col 0 3 ∷ col 0 4 ∷ col 0 5 ∷ col 0 6 ∷ col 0 7 ∷ col 0 8 ∷ col 0 9 ∷ col 0 10 ∷ col 0 11 ∷ col 0 12 ∷ []
+insert_statement_terms =
+    lit Null ∷ col 0 0 ∷ col 0 1 ∷ col 0 2 ∷ col 0 3 ∷ col 0 4 ∷ col 0 5 ∷ col 0 6 ∷ col 0 7
+    ∷ col 0 8 ∷ col 0 9 ∷ col 0 10 ∷ col 0 11 ∷ col 0 12 ∷ []
 
 abbrev pub insert_statement_command : Command
 insert_statement_command = Insert 3 (Values insert_statement_terms 14)
@@ -58,7 +71,9 @@ abbrev pub insert_interest_text : List ℕ
 insert_interest_text = INSERT_INTEREST.now
 
 abbrev pub insert_interest_terms : List Term
-insert_interest_terms = lit Null ∷ col 0 0 ∷ col 0 1 ∷ col 0 2 ∷ col 0 3 ∷ col 0 4 ∷ col 0 5 ∷ col 0 6 ∷ col 0 7 ∷ col 0 8 ∷ col 0 9 ∷ []
+insert_interest_terms =
+    lit Null ∷ col 0 0 ∷ col 0 1 ∷ col 0 2 ∷ col 0 3 ∷ col 0 4 ∷ col 0 5 ∷ col 0 6 ∷ col 0 7
+    ∷ col 0 8 ∷ col 0 9 ∷ []
 
 abbrev pub insert_interest_command : Command
 insert_interest_command = Insert 4 (Values insert_interest_terms 11)
@@ -76,7 +91,8 @@ abbrev pub delete_identifiers_text : List ℕ
 delete_identifiers_text = DELETE_IDENTIFIERS.now
 
 abbrev pub delete_identifiers_program : Program
-delete_identifiers_program = record { lets = []; body = table_query 13 (equals 1 0 ∷ equals 2 1 ∷ []) (col 1 0 ∷ []) [] }
+delete_identifiers_program =
+    record { lets = []; body = table_query 13 (equals 1 0 ∷ equals 2 1 ∷ []) (col 1 0 ∷ []) [] }
 
 abbrev pub delete_identifiers_command : Command
 delete_identifiers_command = Delete 5 delete_identifiers_program
@@ -85,7 +101,8 @@ abbrev pub delete_interests_text : List ℕ
 delete_interests_text = DELETE_INTERESTS.now
 
 abbrev pub delete_interests_program : Program
-delete_interests_program = record { lets = []; body = table_query 11 (equals 1 0 ∷ equals 2 1 ∷ []) (col 1 0 ∷ []) [] }
+delete_interests_program =
+    record { lets = []; body = table_query 11 (equals 1 0 ∷ equals 2 1 ∷ []) (col 1 0 ∷ []) [] }
 
 abbrev pub delete_interests_command : Command
 delete_interests_command = Delete 4 delete_interests_program
@@ -94,7 +111,8 @@ abbrev pub delete_statements_text : List ℕ
 delete_statements_text = DELETE_STATEMENTS.now
 
 abbrev pub delete_statements_program : Program
-delete_statements_program = record { lets = []; body = table_query 8 (equals 1 0 ∷ equals 2 1 ∷ []) (col 1 0 ∷ []) [] }
+delete_statements_program =
+    record { lets = []; body = table_query 8 (equals 1 0 ∷ equals 2 1 ∷ []) (col 1 0 ∷ []) [] }
 
 abbrev pub delete_statements_command : Command
 delete_statements_command = Delete 3 delete_statements_program
@@ -103,7 +121,12 @@ abbrev pub mark_withdrawn_text : List ℕ
 mark_withdrawn_text = MARK_WITHDRAWN.now
 
 abbrev pub mark_withdrawn_program : Program
-mark_withdrawn_program = record { lets = []; body = table_query 5 (equals 1 0 ∷ equals 2 1 ∷ []) (col 1 0 ∷ col 1 0 ∷ col 1 1 ∷ col 1 2 ∷ col 1 3 ∷ col 1 4 ∷ lit (Int (pos 1)) ∷ col 1 6 ∷ []) [] }
+mark_withdrawn_program =
+    record {
+      lets = [];
+      body = table_query 5 (equals 1 0 ∷ equals 2 1 ∷ []) (col 1 0 ∷ col 1 0
+          ∷ col 1 1 ∷ col 1 2 ∷ col 1 3 ∷ col 1 4 ∷ lit (Int (pos 1)) ∷ col 1 6 ∷ []) [];
+    }
 
 abbrev pub mark_withdrawn_command : Command
 mark_withdrawn_command = Update 2 mark_withdrawn_program
@@ -112,7 +135,12 @@ abbrev pub update_day_text : List ℕ
 update_day_text = UPDATE_DAY.now
 
 abbrev pub update_day_program : Program
-update_day_program = record { lets = []; body = table_query 0 (equals_number 1 1 ∷ []) (col 1 0 ∷ col 1 0 ∷ col 1 1 ∷ col 1 2 ∷ col 0 0 ∷ col 1 4 ∷ []) [] }
+update_day_program =
+    record {
+      lets = [];
+      body = table_query 0 (equals_number 1 1 ∷ [])
+          (col 1 0 ∷ col 1 0 ∷ col 1 1 ∷ col 1 2 ∷ col 0 0 ∷ col 1 4 ∷ []) [];
+    }
 
 abbrev pub update_day_command : Command
 update_day_command = Update 0 update_day_program
@@ -130,7 +158,8 @@ abbrev pub delete_periods_text : List ℕ
 delete_periods_text = DELETE_PERIODS.now
 
 abbrev pub delete_periods_program : Program
-delete_periods_program = record { lets = []; body = table_query 19 (equals 1 0 ∷ equals 2 1 ∷ []) (col 1 0 ∷ []) [] }
+delete_periods_program =
+    record { lets = []; body = table_query 19 (equals 1 0 ∷ equals 2 1 ∷ []) (col 1 0 ∷ []) [] }
 
 abbrev pub delete_periods_command : Command
 delete_periods_command = Delete 6 delete_periods_program
@@ -139,7 +168,12 @@ abbrev pub update_version_text : List ℕ
 update_version_text = UPDATE_VERSION.now
 
 abbrev pub update_version_program : Program
-update_version_program = record { lets = []; body = table_query 0 (equals_number 1 1 ∷ []) (col 1 0 ∷ col 1 0 ∷ col 1 1 ∷ col 0 0 ∷ col 1 3 ∷ col 1 4 ∷ []) [] }
+update_version_program =
+    record {
+      lets = [];
+      body = table_query 0 (equals_number 1 1 ∷ [])
+          (col 1 0 ∷ col 1 0 ∷ col 1 1 ∷ col 0 0 ∷ col 1 3 ∷ col 1 4 ∷ []) [];
+    }
 
 abbrev pub update_version_command : Command
 update_version_command = Update 0 update_version_program

@@ -1,4 +1,5 @@
--- The seven tables and their indexes, as SQL makes them. Those of version 1 are six: all but `period`.
+-- The seven tables and their indexes, as SQL makes them. Those of version 1 are six: all but
+-- `period`.
 use Rattle.std.specs.Prelude.{true, false, [], ◌∷◌, None, codes, List, ℕ}
 use Rattle.sqlite.specs.Collation.TheVariants.{Binary}
 use Rattle.sqlite.specs.declared.types.Value.TheVariants.{Null}
@@ -15,21 +16,46 @@ use Rattle.sqlite_value.specs.Keys.{plain}
 
 -- a column that is never null
 abbrev pub needed : List ℕ → Kind → Column
-needed name kind = record { name = name; kind = kind; is_strict = true; not_null = true; default = Null; collation = Binary }
+needed name kind =
+    record {
+      name = name;
+      kind = kind;
+      is_strict = true;
+      not_null = true;
+      default = Null;
+      collation = Binary;
+    }
 
 -- a column that may be null
 abbrev pub may_have : List ℕ → Kind → Column
-may_have name kind = record { name = name; kind = kind; is_strict = true; not_null = false; default = Null; collation = Binary }
+may_have name kind =
+    record {
+      name = name;
+      kind = kind;
+      is_strict = true;
+      not_null = false;
+      default = Null;
+      collation = Binary;
+    }
 
 -- these columns are those of a row of another table
 abbrev pub refers_to : List ℕ → List ℕ → List (List ℕ) → Reference
-refers_to columns parent names = record { columns = columns; parent = parent; parent_columns = names; on_delete = NoAction; on_update = NoAction; is_deferred = false }
+refers_to columns parent names =
+    record {
+      columns = columns;
+      parent = parent;
+      parent_columns = names;
+      on_delete = NoAction;
+      on_update = NoAction;
+      is_deferred = false;
+    }
 
 abbrev pub register_table : Table
 register_table = record {
   name = codes "register";
   tree = 0;
-  columns = needed (codes "one") Integer ∷ needed (codes "version") Integer ∷ needed (codes "day") Integer ∷ needed (codes "registrar") Text ∷ [];
+  columns = needed (codes "one") Integer ∷ needed (codes "version") Integer
+      ∷ needed (codes "day") Integer ∷ needed (codes "registrar") Text ∷ [];
   key = None;
   primary = 1 ∷ [];
   uniques = (1 ∷ []) ∷ [];
@@ -61,7 +87,9 @@ abbrev pub filing_table : Table
 filing_table = record {
   name = codes "filing";
   tree = 0;
-  columns = needed (codes "agent") Text ∷ needed (codes "number") Integer ∷ needed (codes "lodge_key") Text ∷ needed (codes "due") Integer ∷ needed (codes "withdrawn") Integer ∷ needed (codes "bytes") Blob ∷ [];
+  columns = needed (codes "agent") Text ∷ needed (codes "number") Integer
+      ∷ needed (codes "lodge_key") Text ∷ needed (codes "due") Integer
+      ∷ needed (codes "withdrawn") Integer ∷ needed (codes "bytes") Blob ∷ [];
   key = None;
   primary = 1 ∷ 2 ∷ [];
   uniques = (1 ∷ 2 ∷ []) ∷ (1 ∷ 3 ∷ []) ∷ [];
@@ -77,7 +105,12 @@ abbrev pub statement_table : Table
 statement_table = record {
   name = codes "statement";
   tree = 0;
-  columns = needed (codes "agent") Text ∷ needed (codes "filing") Integer ∷ needed (codes "place") Integer ∷ needed (codes "id") Text ∷ needed (codes "day") Integer ∷ needed (codes "declaration") Text ∷ needed (codes "rec") Text ∷ needed (codes "kind") Text ∷ needed (codes "status") Text ∷ may_have (codes "sub_kind") Text ∷ may_have (codes "name") Text ∷ may_have (codes "subject") Text ∷ may_have (codes "party") Text ∷ [];
+  columns = needed (codes "agent") Text ∷ needed (codes "filing") Integer
+      ∷ needed (codes "place") Integer ∷ needed (codes "id") Text ∷ needed (codes "day") Integer
+      ∷ needed (codes "declaration") Text ∷ needed (codes "rec") Text ∷ needed (codes "kind") Text
+      ∷ needed (codes "status") Text ∷ may_have (codes "sub_kind") Text
+      ∷ may_have (codes "name") Text
+      ∷ may_have (codes "subject") Text ∷ may_have (codes "party") Text ∷ [];
   key = None;
   primary = 1 ∷ 2 ∷ 3 ∷ [];
   uniques = (1 ∷ 2 ∷ 3 ∷ []) ∷ (1 ∷ 4 ∷ []) ∷ [];
@@ -93,13 +126,18 @@ abbrev pub interest_table : Table
 interest_table = record {
   name = codes "interest";
   tree = 0;
-  columns = needed (codes "agent") Text ∷ needed (codes "filing") Integer ∷ needed (codes "place") Integer ∷ needed (codes "item") Integer ∷ needed (codes "kind") Text ∷ needed (codes "directness") Text ∷ may_have (codes "low") Integer ∷ may_have (codes "low_open") Integer ∷ may_have (codes "high") Integer ∷ may_have (codes "high_open") Integer ∷ [];
+  columns = needed (codes "agent") Text ∷ needed (codes "filing") Integer
+      ∷ needed (codes "place") Integer ∷ needed (codes "item") Integer ∷ needed (codes "kind") Text
+      ∷ needed (codes "directness") Text ∷ may_have (codes "low") Integer
+      ∷ may_have (codes "low_open") Integer ∷ may_have (codes "high") Integer
+      ∷ may_have (codes "high_open") Integer ∷ [];
   key = None;
   primary = 1 ∷ 2 ∷ 3 ∷ 4 ∷ [];
   uniques = (1 ∷ 2 ∷ 3 ∷ 4 ∷ []) ∷ [];
   orders = plain ∷ [];
   checks = [];
-  references = refers_to (1 ∷ 2 ∷ 3 ∷ []) (codes "statement") (codes "agent" ∷ codes "filing" ∷ codes "place" ∷ []) ∷ [];
+  references = refers_to (1 ∷ 2 ∷ 3 ∷ []) (codes "statement")
+      (codes "agent" ∷ codes "filing" ∷ codes "place" ∷ []) ∷ [];
   computed = [];
   stamps = record { places = []; terms = []; formats = [] };
   is_counted = false;
@@ -109,13 +147,17 @@ abbrev pub identifier_table : Table
 identifier_table = record {
   name = codes "identifier";
   tree = 0;
-  columns = needed (codes "agent") Text ∷ needed (codes "filing") Integer ∷ needed (codes "place") Integer ∷ needed (codes "item") Integer ∷ needed (codes "scheme") Text ∷ needed (codes "id") Text ∷ [];
+  columns = needed (codes "agent") Text ∷ needed (codes "filing") Integer
+      ∷ needed (codes "place") Integer ∷ needed (codes "item") Integer
+      ∷ needed (codes "scheme") Text
+      ∷ needed (codes "id") Text ∷ [];
   key = None;
   primary = 1 ∷ 2 ∷ 3 ∷ 4 ∷ [];
   uniques = (1 ∷ 2 ∷ 3 ∷ 4 ∷ []) ∷ [];
   orders = plain ∷ [];
   checks = [];
-  references = refers_to (1 ∷ 2 ∷ 3 ∷ []) (codes "statement") (codes "agent" ∷ codes "filing" ∷ codes "place" ∷ []) ∷ [];
+  references = refers_to (1 ∷ 2 ∷ 3 ∷ []) (codes "statement")
+      (codes "agent" ∷ codes "filing" ∷ codes "place" ∷ []) ∷ [];
   computed = [];
   stamps = record { places = []; terms = []; formats = [] };
   is_counted = false;
@@ -125,13 +167,16 @@ abbrev pub period_table : Table
 period_table = record {
   name = codes "period";
   tree = 0;
-  columns = needed (codes "agent") Text ∷ needed (codes "filing") Integer ∷ needed (codes "place") Integer ∷ needed (codes "item") Integer ∷ may_have (codes "starts") Integer ∷ may_have (codes "ends") Integer ∷ [];
+  columns = needed (codes "agent") Text ∷ needed (codes "filing") Integer
+      ∷ needed (codes "place") Integer ∷ needed (codes "item") Integer
+      ∷ may_have (codes "starts") Integer ∷ may_have (codes "ends") Integer ∷ [];
   key = None;
   primary = 1 ∷ 2 ∷ 3 ∷ 4 ∷ [];
   uniques = (1 ∷ 2 ∷ 3 ∷ 4 ∷ []) ∷ [];
   orders = plain ∷ [];
   checks = [];
-  references = refers_to (1 ∷ 2 ∷ 3 ∷ 4 ∷ []) (codes "interest") (codes "agent" ∷ codes "filing" ∷ codes "place" ∷ codes "item" ∷ []) ∷ [];
+  references = refers_to (1 ∷ 2 ∷ 3 ∷ 4 ∷ []) (codes "interest")
+      (codes "agent" ∷ codes "filing" ∷ codes "place" ∷ codes "item" ∷ []) ∷ [];
   computed = [];
   stamps = record { places = []; terms = []; formats = [] };
   is_counted = false;
@@ -163,7 +208,15 @@ period_at = record period_table { tree = 19 }
 -- ---- indexes beside those of the keys
 
 abbrev pub plain_index : ℕ → List ℕ → List ℕ → Index
-plain_index table name columns = record { name = name; tree = 0; table = table; columns = columns; order = plain; is_unique = false }
+plain_index table name columns =
+    record {
+      name = name;
+      tree = 0;
+      table = table;
+      columns = columns;
+      order = plain;
+      is_unique = false;
+    }
 
 abbrev pub record_index : Index
 record_index = plain_index 8 (codes "statement_record") (1 ∷ 7 ∷ 6 ∷ 2 ∷ 3 ∷ [])

@@ -2,7 +2,7 @@
 
 ghost use Rattle.std.specs.Prelude.{◌≡◌, IfOk, map};
 ghost use Rattle.std.specs.List.{flat_map};
-ghost use Rattle.bor_store_sql.specs.Rows.Placed.{AreSeveral, OfNext, line_of, period_rows, same_interest};
+ghost use Rattle.bor_store_sql.specs.Rows.Placed.{AreSeveral, OfNext, interest_line, period_rows, same_interest};
 
 use crate::rows::typed::{InterestLine, InterestRow, PeriodRow};
 use bods_read::Interest;
@@ -43,7 +43,7 @@ pub fn with_periods(
     lines: Vec<InterestLine>,
     periods_sorted: &[PeriodRow],
 ) -> Result<Vec<InterestRow>, AllocError>
-    ensures { IfOk result (λ rows. (is : _) → AreSeveral is → lines.items ≡ map line_of is
+    ensures { IfOk result (λ rows. (is : _) → AreSeveral is → lines.items ≡ map interest_line is
         → periods_sorted.now ≡ flat_map period_rows is → rows.items ≡ is) }
 {
     let mut rows = Vec::new(alloc);

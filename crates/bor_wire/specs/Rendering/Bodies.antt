@@ -16,7 +16,9 @@ use Rattle.bor_desk.specs.declared.reply.DeskReply.TheVariants as tell
 use Rattle.bor_desk.specs.Refusals.{refusal_name, refusal_place, refusal_field}
 use Rattle.bor_http.specs.declared.incoming.fault.Refusal.{Refusal}
 use Rattle.bor_http.specs.Incoming.Words as wire
-use Rattle.bor_wire.specs.Rendering.Values.{list_data, filing_data, line_data, outward_data, snapshot_data, chains_data, evidence_data, moved_data, enrolled_data, refusal_data}
+use Rattle.bor_wire.specs.Rendering.Values.{list_data, filing_data, line_data, outward_data}
+use Rattle.bor_wire.specs.Rendering.Values.{snapshot_data, chains_data, evidence_data, moved_data}
+use Rattle.bor_wire.specs.Rendering.Values.{enrolled_data, refusal_data}
 
 -- ---- texts
 
@@ -50,7 +52,8 @@ refusal_text name place field = compact_text (refusal_data name place field)
 -- ---- the desk's replies
 
 abbrev pub desk_refusal_text : desk.Refusal → List ℕ
-desk_refusal_text why = refusal_text (refusal_name why) (refusal_place why) (option_map field_word (refusal_field why))
+desk_refusal_text why =
+    refusal_text (refusal_name why) (refusal_place why) (option_map field_word (refusal_field why))
 
 -- a fault of the store, want of memory too, has one name in replies
 abbrev pub desk_body : DeskReply → List ℕ
@@ -70,4 +73,5 @@ desk_body (tell.Failed fault) = refusal_text (codes "StoreFault") None None
 -- ---- the refusals of bytes that spell no request
 
 abbrev pub wire_refusal_text : Refusal → List ℕ
-wire_refusal_text why = refusal_text (wire.refusal_word why) None (option_map wire.name_word (wire.refused_name why))
+wire_refusal_text why =
+    refusal_text (wire.refusal_word why) None (option_map wire.name_word (wire.refused_name why))

@@ -1,5 +1,6 @@
 -- Bodies part by part, as they are written: for private clauses.
-use Rattle.std.specs.Prelude.{◌≡◌, ℕ, List, [], ◌++◌, map, Option, Some, None, Result, OnOk, codes, decimal}
+use Rattle.std.specs.Prelude.{◌≡◌, ℕ, List, [], ◌++◌, map, Option, Some, None, Result, OnOk, codes}
+use Rattle.std.specs.Prelude.{decimal}
 use Rattle.json.specs.Print.{quoted}
 use Rattle.json.specs.Token.{Token}
 use Rattle.json.specs.Tree.{json_tokens, items_tokens}
@@ -19,20 +20,23 @@ abbrev pub rest_tokens : {A : Type 0} → (A → Data) → List A → List Token
 rest_tokens shown items = items_tokens (items_outline (items_of (map shown items)))
 
 -- These tokens were written behind the others, and what stands before them all stays.
-pub record Adds {E : Type 0} (result : Result (Unit {0}) E) (old new : Written) (added : List Token) : Type 0 where
+pub record Adds {E : Type 0} (result : Result (Unit {0}) E) (old new : Written)
+    (added : List Token) : Type 0 where
   pub tokens : OnOk result (new.tokens ≡ old.tokens ++ added)
   pub before : new.before ≡ old.before
 
 -- ---- byte by byte
 
-abbrev pub field_part : Option (List ℕ) → List ℕ
-field_part None = []
-field_part (Some field) = codes "\"field\":" ++ (quoted field ++ codes ",")
+abbrev pub field_member : Option (List ℕ) → List ℕ
+field_member None = []
+field_member (Some field) = codes "\"field\":" ++ (quoted field ++ codes ",")
 
-abbrev pub place_part : Option ℕ → List ℕ
-place_part None = []
-place_part (Some place) = codes "\"place\":" ++ (decimal place ++ codes ",")
+abbrev pub place_member : Option ℕ → List ℕ
+place_member None = []
+place_member (Some place) = codes "\"place\":" ++ (decimal place ++ codes ",")
 
 unfoldable pub refusal_parts : List ℕ → Option ℕ → Option (List ℕ) → List ℕ
 refusal_parts name place field =
-    codes "{" ++ (field_part field ++ (place_part place ++ (codes "\"refusal\":" ++ (quoted name ++ codes "}"))))
+    codes "{"
+    ++ (field_member field
+    ++ (place_member place ++ (codes "\"refusal\":" ++ (quoted name ++ codes "}"))))

@@ -26,9 +26,9 @@ abbrev pub path_of : Said → Option Path
 path_of (refused why) = wrong_method why
 path_of (answered reply) = None
 
-abbrev pub body_of : Said → List ℕ
-body_of (refused why) = wire_refusal_text why
-body_of (answered reply) = desk_body reply
+abbrev pub reply_body : Said → List ℕ
+reply_body (refused why) = wire_refusal_text why
+reply_body (answered reply) = desk_body reply
 
 -- a body with its head
 abbrev pub reply_bytes : ℕ → Option Path → List ℕ → List ℕ
@@ -36,4 +36,4 @@ reply_bytes status path body = head_bytes status path (length body) ++ body
 
 -- the bytes of a reply
 abbrev pub bytes_of : Said → List ℕ
-bytes_of said = reply_bytes (status_of said) (path_of said) (body_of said)
+bytes_of said = reply_bytes (status_of said) (path_of said) (reply_body said)

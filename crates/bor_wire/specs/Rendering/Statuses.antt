@@ -5,7 +5,11 @@ use Rattle.bor_desk.specs.declared.refusal.Refusal.TheVariants as refuse
 use Rattle.bor_desk.specs.declared.reply.DeskReply.{DeskReply}
 use Rattle.bor_desk.specs.declared.reply.DeskReply.TheVariants as tell
 use Rattle.bor_http.specs.declared.incoming.fault.Refusal.{Refusal}
-use Rattle.bor_http.specs.declared.incoming.fault.Refusal.TheVariants.{HeadTooLarge, CutShort, BadHead, BadLength, BodyTooLarge, NoPath, WrongMethod, NoToken, BadQuery}
+use Rattle.bor_http.specs.declared.incoming.fault.Refusal.TheVariants.{HeadTooLarge, CutShort}
+use Rattle.bor_http.specs.declared.incoming.fault.Refusal.TheVariants.{BadHead, BadLength}
+use Rattle.bor_http.specs.declared.incoming.fault.Refusal.TheVariants.{BodyTooLarge, NoPath}
+use Rattle.bor_http.specs.declared.incoming.fault.Refusal.TheVariants.{WrongMethod, NoToken}
+use Rattle.bor_http.specs.declared.incoming.fault.Refusal.TheVariants.{BadQuery}
 
 -- bytes that spell no request
 abbrev pub wire_refusal_status : Refusal → ℕ

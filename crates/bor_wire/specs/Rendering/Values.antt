@@ -1,6 +1,7 @@
 -- The values that replies show, as JSON with their members in the order of their keys.
 use Rattle.std.specs.Prelude.{ℕ, ℤ, List, map, Option, Some, None, codes}
-use Rattle.serde_json.specs.Data.{Data, null, boolean, number, string, array, object, Members, no_members, member, unsigned}
+use Rattle.serde_json.specs.Data.{Data, null, boolean, number, string, array, object, Members}
+use Rattle.serde_json.specs.Data.{no_members, member, unsigned}
 use Rattle.serde_json.specs.View.{items_of}
 use Rattle.bor_terms.specs.Day.{day_text}
 use Rattle.bor_terms.specs.Span.{Range}
@@ -9,7 +10,8 @@ use Rattle.bods_read.specs.declared.details.Details.{Details}
 use Rattle.bods_read.specs.declared.details.Details.TheVariants.{Entity, Person, Relationship}
 use Rattle.bods_read.specs.declared.details.Identifier.{Identifier}
 use Rattle.bods_read.specs.declared.interest.Interest.{Interest}
-use Rattle.bods_read.specs.Words.{type_word, type_of, status_word, entity_word, person_word, interest_word, directness_word}
+use Rattle.bods_read.specs.Words.{type_word, type_of, status_word, entity_word, person_word}
+use Rattle.bods_read.specs.Words.{interest_word, directness_word}
 use Rattle.bor_records.specs.declared.row.Entry.{Entry}
 use Rattle.bor_records.specs.declared.links.node.Node.{Node}
 use Rattle.bor_chains.specs.declared.line.PersonLine.{PersonLine}
@@ -191,7 +193,8 @@ link_evidence_data l =
     (member (codes "record") (string l.node.rec)
     (member (codes "same") (list_data key_data l.same) no_members)))))
 
--- an open record by its latest statement, as a snapshot shows it, with its agent and its declaration
+-- an open record by its latest statement, as a snapshot shows it, with its agent and its
+-- declaration
 abbrev pub record_evidence_data : RecordEvidence → Data
 record_evidence_data x =
     let s = x.entry.statement in

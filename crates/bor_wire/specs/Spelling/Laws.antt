@@ -13,9 +13,13 @@ SpellsOne = (input : List ℕ) (a b : Spelled) → Spells input a → Spells inp
 
 -- the message that an input is, or why it is none, says what the input spells
 abbrev pub MessageSpells : Type 0
-MessageSpells = (input : List ℕ) (read : Result Message Refusal) → IsMessage input read → Spells input (read >>= spell)
+MessageSpells =
+    (input : List ℕ) (read : Result Message Refusal) → IsMessage input read
+    → Spells input (read >>= spell)
 
--- bytes behind a request have no effect, nor have those behind an input that is refused for another cause than its end
+-- bytes behind a request have no effect, nor have those behind an input that is refused for another
+-- cause than its end
 abbrev pub WhatFollowsIsPassedOver : Type 0
 WhatFollowsIsPassedOver =
-    (input more : List ℕ) (spelled : Spelled) → spelled ≢ Err CutShort → Spells input spelled → Spells (input ++ more) spelled
+    (input more : List ℕ) (spelled : Spelled) → spelled ≢ Err CutShort → Spells input spelled
+    → Spells (input ++ more) spelled

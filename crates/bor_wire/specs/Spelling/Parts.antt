@@ -1,5 +1,7 @@
--- The parts of what a request asks. Each is None where the request lacks it, or it isn't of its form.
-use Rattle.std.specs.Prelude.{ℕ, ℤ, ◌==◌, Bool, List, [], ◌∷◌, take, drop, map, Option, Some, None, option_and_then, option_map, if◌then◌else◌, codes}
+-- The parts of what a request asks. Each is None where the request lacks it, or it isn't of its
+-- form.
+use Rattle.std.specs.Prelude.{ℕ, ℤ, ◌==◌, Bool, List, [], ◌∷◌, take, drop, map, Option, Some, None}
+use Rattle.std.specs.Prelude.{option_and_then, option_map, if◌then◌else◌, codes}
 use Rattle.std.specs.Char.{to_ascii_lowercase}
 use Rattle.std.specs.Str.{bytes_eq, is_utf8}
 use Rattle.form_urlencoded.specs.Form.{split_once}
@@ -53,7 +55,8 @@ skip_spaces (b ∷ bytes) = if b == 32 then skip_spaces bytes else b ∷ bytes
 -- "Bearer" in any case, one or more spaces, a token (RFC 6750, 2.1)
 unfoldable pub bearer_token : List ℕ → Option (List ℕ)
 bearer_token value =
-    if bytes_eq (map to_ascii_lowercase (take 7 value)) (codes "bearer ") then text_in is_token (skip_spaces (drop 7 value))
+    if bytes_eq (map to_ascii_lowercase (take 7 value)) (codes "bearer ")
+    then text_in is_token (skip_spaces (drop 7 value))
     else None
 
 -- the token of the one field of that name
@@ -67,9 +70,11 @@ unfoldable pub once : {A : Type 0} → (List ℕ → Option A) → Name → List
 once read name pairs = option_and_then read (only_text (name_word name) pairs)
 
 -- the value of a name that may be missing
-unfoldable pub at_most_once : {A : Type 0} → (List ℕ → Option A) → Name → List TextPair → Option (Option A)
+unfoldable pub at_most_once : {A : Type 0} → (List ℕ → Option A) → Name → List TextPair
+    → Option (Option A)
 at_most_once read name pairs =
-    if how_often (name_word name) pairs == 0 then Some None else option_map Some (once read name pairs)
+    if how_often (name_word name) pairs == 0 then Some None
+    else option_map Some (once read name pairs)
 
 -- the key: the segment of the path behind "/filings/"
 unfoldable pub key_in : List ℕ → Option (List ℕ)

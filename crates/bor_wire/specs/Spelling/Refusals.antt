@@ -1,4 +1,5 @@
--- The order of refusals: a table of what may stand against an input, of which the first line that holds is the answer. Its lines 1 to 6, on the head and the body, are in `Incoming/Refusals`.
+-- The order of refusals: a table of what may stand against an input, of which the first line that
+-- holds is the answer. Its lines 1 to 6, on the head and the body, are in `Incoming/Refusals`.
 use Rattle.std.specs.Prelude.{ℕ, List, [], ◌∷◌, ◌++◌, drop, Option, Some, None}
 use Rattle.std.specs.Option.{is_none}
 use Rattle.bor_terms.specs.Tables.{table}
@@ -6,7 +7,8 @@ use Rattle.bor_http.specs.declared.incoming.fault.Path.{Path}
 use Rattle.bor_http.specs.declared.incoming.fault.Name.{Name}
 use Rattle.bor_http.specs.declared.incoming.fault.Name.TheVariants as names
 use Rattle.bor_http.specs.declared.incoming.fault.Refusal.{Refusal}
-use Rattle.bor_http.specs.declared.incoming.fault.Refusal.TheVariants.{NoPath, WrongMethod, NoToken, BadQuery}
+use Rattle.bor_http.specs.declared.incoming.fault.Refusal.TheVariants.{NoPath, WrongMethod, NoToken}
+use Rattle.bor_http.specs.declared.incoming.fault.Refusal.TheVariants.{BadQuery}
 use Rattle.bor_http.specs.Incoming.Head.{head_end}
 use Rattle.bor_http.specs.Incoming.Message.{Parts, Message}
 use Rattle.bor_http.specs.Incoming.Refusals.{refuse, lines_of_input, message_of}
@@ -29,21 +31,26 @@ asks name value = refuse (BadQuery name) (is_none value)
 -- the names of a route, in order
 abbrev pub lines_of_names : Option Route → Message → List Refusal
 lines_of_names None m = []
-lines_of_names (Some routes.Lodge) m = table (asks names.Key (part.key m) ∷ asks names.Due (part.due m) ∷ [])
+lines_of_names (Some routes.Lodge) m =
+    table (asks names.Key (part.key m) ∷ asks names.Due (part.due m) ∷ [])
 lines_of_names (Some routes.Withdraw) m = table (asks names.Key (part.key m) ∷ [])
 lines_of_names (Some routes.Filings) m = []
 lines_of_names (Some routes.File) m = table (asks names.Key (part.key m) ∷ [])
 lines_of_names (Some routes.Published) m = []
 lines_of_names (Some routes.Snapshot) m =
-    table (asks names.Agent (part.agent m) ∷ asks names.Declaration (part.declaration m) ∷ asks names.Date (part.date_or_none m) ∷ [])
+    table (asks names.Agent (part.agent m) ∷ asks names.Declaration (part.declaration m)
+    ∷ asks names.Date (part.date_or_none m) ∷ [])
 lines_of_names (Some routes.Chains) m =
-    table (asks names.Agent (part.agent m) ∷ asks names.Declaration (part.declaration m) ∷ asks names.Record (part.rec m)
+    table (asks names.Agent (part.agent m) ∷ asks names.Declaration (part.declaration m)
+    ∷ asks names.Record (part.rec m)
     ∷ asks names.Date (part.date_or_none m) ∷ [])
 lines_of_names (Some routes.Evidence) m =
-    table (asks names.Agent (part.agent m) ∷ asks names.Declaration (part.declaration m) ∷ asks names.Record (part.rec m)
+    table (asks names.Agent (part.agent m) ∷ asks names.Declaration (part.declaration m)
+    ∷ asks names.Record (part.rec m)
     ∷ asks names.Date (part.date_or_none m) ∷ [])
 lines_of_names (Some routes.Day) m = table (asks names.Date (part.date m) ∷ [])
-lines_of_names (Some routes.Enrol) m = table (asks names.Name (part.new_name m) ∷ asks names.Token (part.new_token m) ∷ [])
+lines_of_names (Some routes.Enrol) m =
+    table (asks names.Name (part.new_name m) ∷ asks names.Token (part.new_token m) ∷ [])
 
 -- of a whole message, those that hold
 unfoldable pub lines_of_message : Message → List Refusal
@@ -63,4 +70,5 @@ lines_behind input end head = []
 
 -- all refusals that hold of an input whose head is taken apart so, in their order
 unfoldable pub refusals : List ℕ → Option Parts → List Refusal
-refusals input head = lines_of_input input (head_end input) head ++ lines_behind input (head_end input) head
+refusals input head =
+    lines_of_input input (head_end input) head ++ lines_behind input (head_end input) head

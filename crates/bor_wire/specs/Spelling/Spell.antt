@@ -28,13 +28,15 @@ day_or_any day = unwrap_or day (pos 0)
 -- the request that a route asks for
 abbrev pub request_of : Option Route → Message → Request
 request_of None m = ask.Filings
-request_of (Some routes.Lodge) m = ask.Lodge (text_or_any (part.key m)) (day_or_any (part.due m)) m.body
+request_of (Some routes.Lodge) m =
+    ask.Lodge (text_or_any (part.key m)) (day_or_any (part.due m)) m.body
 request_of (Some routes.Withdraw) m = ask.Withdraw (text_or_any (part.key m))
 request_of (Some routes.Filings) m = ask.Filings
 request_of (Some routes.File) m = ask.File (text_or_any (part.key m))
 request_of (Some routes.Published) m = ask.Published
 request_of (Some routes.Snapshot) m =
-    ask.Snapshot (text_or_any (part.agent m)) (text_or_any (part.declaration m)) (unwrap_or (part.date_or_none m) None)
+    ask.Snapshot (text_or_any (part.agent m)) (text_or_any (part.declaration m))
+    (unwrap_or (part.date_or_none m) None)
 request_of (Some routes.Chains) m =
     ask.Chains (record {
       agent = text_or_any (part.agent m);
@@ -48,11 +50,17 @@ request_of (Some routes.Evidence) m =
       rec = text_or_any (part.rec m);
     }) (unwrap_or (part.date_or_none m) None)
 request_of (Some routes.Day) m = ask.Day (day_or_any (part.date m))
-request_of (Some routes.Enrol) m = ask.Enrol (text_or_any (part.new_name m)) (text_or_any (part.new_token m))
+request_of (Some routes.Enrol) m =
+    ask.Enrol (text_or_any (part.new_name m)) (text_or_any (part.new_token m))
 
 -- the request of a message, and the token of whoever asks
 unfoldable pub asked : Message → Asked
-asked m = record { token = text_or_any (part.token m.parts.fields); request = request_of (part.route m) m }
+asked m =
+    record {
+      token = text_or_any (part.token m.parts.fields);
+      request = request_of
+          (part.route m) m;
+    }
 
 -- the request that a message spells, or the first of the refusals
 unfoldable pub spell : Message → Spelled
@@ -70,7 +78,8 @@ spelling input head = outcome (refusals input head) (asked_behind input (head_en
 
 -- the whole input spells this
 abbrev pub Spells : List ℕ → Spelled → Type 0
-Spells input spelled = (head : Option Parts) × IsTakenApart input head × (spelled ≡ spelling input head)
+Spells input spelled =
+    (head : Option Parts) × IsTakenApart input head × (spelled ≡ spelling input head)
 
 -- a request that was read, without where it lies
 abbrev pub asked_view : Asking → Asked

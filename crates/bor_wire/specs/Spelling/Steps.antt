@@ -1,4 +1,5 @@
--- The request that a message spells, one part looked at after the other: each refuses, or the next is looked at.
+-- The request that a message spells, one part looked at after the other: each refuses, or the next
+-- is looked at.
 use Rattle.std.specs.Prelude.{◌≡◌, List, Option, Some, None, Result, Ok, Err, ⊤}
 use Rattle.bor_terms.specs.Texts.{is_agent_name, is_ident}
 use Rattle.bor_records.specs.declared.links.node.Node.{Node}
@@ -7,7 +8,8 @@ use Rattle.bor_desk.specs.declared.request.Request.TheVariants as ask
 use Rattle.bor_http.specs.declared.incoming.fault.Name.{Name}
 use Rattle.bor_http.specs.declared.incoming.fault.Name.TheVariants as names
 use Rattle.bor_http.specs.declared.incoming.fault.Refusal.{Refusal}
-use Rattle.bor_http.specs.declared.incoming.fault.Refusal.TheVariants.{NoPath, WrongMethod, NoToken, BadQuery}
+use Rattle.bor_http.specs.declared.incoming.fault.Refusal.TheVariants.{NoPath, WrongMethod, NoToken}
+use Rattle.bor_http.specs.declared.incoming.fault.Refusal.TheVariants.{BadQuery}
 use Rattle.bor_http.specs.declared.incoming.fault.WireFault.{WireFault}
 use Rattle.bor_http.specs.declared.incoming.fault.WireFault.TheVariants.{Refused, Read, Memory}
 use Rattle.bor_http.specs.Incoming.Message.{Message}
@@ -20,15 +22,15 @@ use Rattle.bor_wire.specs.Spelling.Query.{TextPair}
 use Rattle.bor_wire.specs.Spelling.Spell.{Spelled}
 
 -- a fault that is returned is the refusal that is stated, or want of memory; nothing was read
-abbrev pub Fails : {Y : Type 0} → WireFault → Result Y Refusal → Type 0
-Fails (Refused why) stated = stated ≡ Err why
-Fails Read stated = ⊥
-Fails Memory stated = ⊤
+abbrev pub StatesFault : {Y : Type 0} → WireFault → Result Y Refusal → Type 0
+StatesFault (Refused why) stated = stated ≡ Err why
+StatesFault Read stated = ⊥
+StatesFault Memory stated = ⊤
 
 -- the value that is found, seen by view, is the one that is stated
 abbrev pub Finds : {X Y : Type 0} → (X → Y) → Result X WireFault → Result Y Refusal → Type 0
 Finds view (Ok x) stated = stated ≡ Ok (view x)
-Finds view (Err fault) stated = Fails fault stated
+Finds view (Err fault) stated = StatesFault fault stated
 
 -- the part, or why there is none
 abbrev pub or_refuse : {A : Type 0} → Refusal → Option A → Result A Refusal

@@ -9,7 +9,7 @@ ghost use Rattle.bor_desk.specs.Refusals as desk;
 ghost use Rattle.bor_http.specs.Incoming.Words as wire;
 ghost use Rattle.bor_wire.specs.Rendering.Limits.{short_room};
 ghost use Rattle.bor_wire.specs.Rendering.Bodies.{filing_text, moved_text, enrolled_text, refusal_text, desk_body, desk_refusal_text, wire_refusal_text};
-ghost use Rattle.bor_wire.specs.Rendering.Parts.{field_part, place_part};
+ghost use Rattle.bor_wire.specs.Rendering.Parts.{field_member, place_member};
 
 use crate::rendering::room::{put, put_day, put_number, put_quoted};
 use bor_desk::operations::State;
@@ -61,7 +61,7 @@ fn put_field(out: &mut Vec<u8>, field: Option<&str>)
     requires room { vec_len out.old + 120 ≤ vec_capacity out.old }
     requires short { IfSome field (λ field. length field.now ≤ 18) }
     ensures items { out.new.items
-        ≡ out.old.items ++ field_part (option_map (λ s. s.now) field.entry) }
+        ≡ out.old.items ++ field_member (option_map (λ s. s.now) field.entry) }
     ensures len { vec_len out.new ≤ vec_len out.old + 120 }
     ensures capacity { vec_capacity out.old ≤ vec_capacity out.new }
 {
@@ -74,7 +74,7 @@ fn put_field(out: &mut Vec<u8>, field: Option<&str>)
 
 fn put_place(out: &mut Vec<u8>, place: Option<u32>)
     requires { vec_len out.old + 20 ≤ vec_capacity out.old }
-    ensures items { out.new.items ≡ out.old.items ++ place_part place }
+    ensures items { out.new.items ≡ out.old.items ++ place_member place }
     ensures len { vec_len out.new ≤ vec_len out.old + 20 }
     ensures capacity { vec_capacity out.old ≤ vec_capacity out.new }
 {

@@ -1,6 +1,6 @@
 use Rattle.std.proofs.Common.{◌≡◌, min, take}
-use Rattle.bor_register.specs.Held.{statements_in}
+use Rattle.bor_register.specs.Held.{statement_total}
 use Rattle.bor_register.proofs.held.statements_in.Given as goal
 
 abbrev pub invariant-loop-filing : goal.invariant-loop-filing
-invariant-loop-filing l = l.count ≡ min (statements_in (take l.filing-index l.filings)) 18446744073709551615
+invariant-loop-filing l = l.count ≡ min (statement_total (take l.filing-index l.filings)) 18446744073709551615

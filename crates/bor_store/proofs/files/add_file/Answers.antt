@@ -1,6 +1,6 @@
 use Rattle.std.proofs.Common.{◌≡◌, ◌++◌, true≢false, OnOk, sym, subst, ◌∙◌}
 use Rattle.bor_store_sql.specs.Rows.Placed.{placed_from}
-use Rattle.bor_store.specs.Migrating.{days_of}
+use Rattle.bor_store.specs.Migrating.{interest_days}
 use Rattle.bor_store.proofs.Owned.{fits_so}
 use Rattle.bor_store.proofs.Saying.{file_added, misfit}
 use Rattle.bor_store.proofs.files.add_file.Goals as goal
@@ -21,4 +21,4 @@ returns-clause-gathered g c clean r shows f at same =
     let said = c.in_ok-statements.statements.items in
     let told = fits_so agent c.as_str.result.now number r f said c.as_slice.result.now c.in_ok-fits.fits c.as_str.ensures.value c.as_slice.ensures.value shows.stored at (c.in_ok-fits.ensures.tells.told clean r shows) in
     file_added agent number f c.args.bytes.now same before after said c.add_days.result c.in_ok-statements.ensures (told.0 c.if-not-fits.false)
-    (subst (λ ss. OnOk c.add_days.result (after ≡ before ++ days_of (placed_from agent number 1 ss))) c.as_slice-2.ensures.value c.add_days.ensures.added) c.add_days.ensures.failed
+    (subst (λ ss. OnOk c.add_days.result (after ≡ before ++ interest_days (placed_from agent number 1 ss))) c.as_slice-2.ensures.value c.add_days.ensures.added) c.add_days.ensures.failed

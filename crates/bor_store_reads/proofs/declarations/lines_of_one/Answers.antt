@@ -5,7 +5,7 @@ use Rattle.std.proofs.lemmas.List.Elements.{All-filter}
 use Rattle.sqlite.specs.Held.{state}
 use Rattle.bor_store_sql.specs.declared.rows.places.At.{At}
 use Rattle.bor_store_sql.specs.declared.rows.typed.Placed.{Placed}
-use Rattle.bor_store_sql.specs.Rows.Placed.{line_of, placed, same_place}
+use Rattle.bor_store_sql.specs.Rows.Placed.{interest_line, placed, same_place}
 use Rattle.bor_store_sql.specs.Rows.Encoding.{interest_columns, interest_line_columns}
 use Rattle.bor_store_sql.specs.Rows.RowForms.{IsFormedPlaced, IsFormedInterestLine}
 use Rattle.bor_store_sql.proofs.OnRows.Formed.{placed_formed, all_interests_formed, all_lines_formed}
@@ -18,7 +18,7 @@ returns g c =
     let at = c.args.at.now in
     let shown : List _ → At = λ a. record { agent = a; filing = at.filing; place = at.place } in
     told interest_line_columns IsFormedInterestLine (state g.S.Store c.args.conn.now) (state g.S.Store c.interests_of_statement.new.conn) c.interests_of_statement.result (λ r. map interest_columns (interests_at (shown c.as_str.result.now) r.members)) c.interests_of_statement.ensures.mode c.interests_of_statement.ensures.finds
-    (λ r. map line_of (interests_at at r.members))
-    (λ r. ap (λ a. map interest_columns (interests_at (shown a) r.members)) c.as_str.ensures.value ∙ sym (map-map interest_line_columns line_of (interests_at at r.members)))
+    (λ r. map interest_line (interests_at at r.members))
+    (λ r. ap (λ a. map interest_columns (interests_at (shown a) r.members)) c.as_str.ensures.value ∙ sym (map-map interest_line_columns interest_line (interests_at at r.members)))
     (λ r stored. all_lines_formed (interests_at at r.members) (all_interests_formed (filter (λ p. same_place p.at at) (placed r.members)) (All-filter (λ (p : Placed). same_place p.at at) IsFormedPlaced (placed r.members) (placed_formed r stored))))
     c.all_values.result (λ xs values. values.items ≡ xs) c.all_values.ensures.values c.all_values.ensures.found

@@ -6,7 +6,7 @@ use Rattle.bor_records.specs.declared.links.node.OpenNode.{OpenNode}
 use Rattle.bor_records.specs.Links.Nodes.{node_cmp}
 use Rattle.bor_records.specs.Links.Shown.{Shown, listed_at}
 use Rattle.bor_chains.specs.Listing.{Listing}
-use Rattle.bor_chains.specs.Tables.{placed}
+use Rattle.bor_chains.specs.Tables.{node_at_place}
 use Rattle.bor_chains.specs.Likeness.{AreUnder}
 use Rattle.bor_records.specs.Links.Answers.{AreSame}
 use Rattle.bor_records.proofs.OnLinks.Listed.{found_is}
@@ -19,7 +19,7 @@ returns-in_default c =
     let s : Shown = record { nodes = c.self.inside.nodes.items; links = c.self.inside.links.items } in
     let n = c.args.node.now in
     let gone : listed_at s.nodes n ≡ None =
-    sym (c.self.invariant.1 n) ∙ ap (λ (xs : List OpenNode). placed xs (get node_cmp c.self.inside.places n)) (sym c.deref.ensures.value)
+    sym (c.self.invariant.1 n) ∙ ap (λ (xs : List OpenNode). node_at_place xs (get node_cmp c.self.inside.places n)) (sym c.deref.ensures.value)
     ∙ place_none c.deref.result.now (get node_cmp c.self.inside.places n) (sym c.place_of.ensures ∙ c.in_default.is) in
     if_ok _ _ c.alone.result
     (λ out e. subst (λ (x : Listing). AreSame x.shown n out.items) c.self.view_is (subst (λ (ns : List Node). AreSame s n ns) (sym e) (same_unlisted s n gone)))
@@ -31,7 +31,7 @@ returns c =
     let n = c.args.node.now in
     let found = place_is c.deref.result.now (get node_cmp c.self.inside.places n) c.in-Some.place (sym c.place_of.ensures ∙ c.in-Some.is) in
     let listed : listed_at s.nodes n ≡ Some found.0 =
-    sym (c.self.invariant.1 n) ∙ ap (λ (xs : List OpenNode). placed xs (get node_cmp c.self.inside.places n)) (sym c.deref.ensures.value) ∙ found.2 in
+    sym (c.self.invariant.1 n) ∙ ap (λ (xs : List OpenNode). node_at_place xs (get node_cmp c.self.inside.places n)) (sym c.deref.ensures.value) ∙ found.2 in
     if_ok _ _ c.same_listed.result
     (λ out told. subst (λ (x : Listing). AreSame x.shown n out.items) c.self.view_is (subst (λ (m : Node). AreSame s m out.items) (found_is s.nodes n found.0 listed).1
     (told s found.0 (sym c.deref-2.ensures.value) c.self.invariant.0 (subst (λ (xs : List OpenNode). AreUnder (length xs) xs (under c.self.inside.alike)) (sym c.deref-2.ensures.value) c.self.invariant.3)

@@ -17,5 +17,5 @@ pub returns-clause-held : goal.returns-clause-held
 returns-clause-held g c =
     ok_three {D = λ k. HasCleanDisk (file_state k.conn) → FindsIn (image_at g.S.Start) (file_state k.conn)} c.adopt.result c.adopt.ensures.up c.adopt.ensures.began c.adopt.ensures.kept
     (λ k up began kept clean.
-        let is_clean : IsClean (file_state k.conn) = (clean, up clean) in
-        finds_still (image_at g.S.Start) (file_state c.in_ok-conn.conn) (file_state k.conn) (kept is_clean) (c.in_ok-conn.ensures.connected (began is_clean).0).found)
+    let is_clean : IsClean (file_state k.conn) = (clean, up clean) in
+    finds_still (image_at g.S.Start) (file_state c.in_ok-conn.conn) (file_state k.conn) (kept is_clean) (c.in_ok-conn.ensures.connected (began is_clean).0).found)
