@@ -216,7 +216,7 @@ def warnings_are_told(_bor, _folder):
     for data, name, word in files:
         found = [f"{it.says} write {it.write}" for it in Lint(data).warnings if it.name == name]
         is_so(any(word in it for it in found), f"{name} with {word} isn't told of {data.decode()}: {found}")
-    page = re.findall(r"^\| (`\w+`(?:, `\w+`)*) \|", (TOP / "docs" / "BODS.md").read_text(), re.M)
+    page = re.findall(r"^- (`\w+`(?:, `\w+`)*): ", (TOP / "docs" / "BODS.md").read_text(), re.M)
     listed = {name for line in page for name in re.findall(r"\w+", line)}
     is_so(listed == {name for _, name, _ in files} | {"DueNoEarlier"}, f"the page lists {listed}")
     statements = json.loads(file_of("E s1 e1; P s2 p1; R s3 r1 e1<-p1 V60"))
