@@ -51,8 +51,11 @@ LISTS = {
         "alder chains alder c1 e1",
         "birch chains alder c1 e1",
         "alder evidence alder c1 e1",
+        "alder entities GB-COH 00000001",
+        "birch entities GB-COH 00000001",
         "registrar day 2024-03-01",
         "birch chains alder c1 e1",
+        "birch entities GB-COH 00000001",
     ],
     "withdrawals in order": [
         "alder lodge k1 2024-03-01 E s1 e1",

@@ -16,6 +16,7 @@ READS = [
     "alder filings", "alder file f1", "alder file f2", "alder published", "alder snapshot alder c1",
     "alder chains alder c1 e1", "alder chains alder c1 e2", "birch filings", "birch published", "birch chains birch c9 b1",
     "alder evidence alder c1 e1", "alder evidence alder c1 e2", "birch evidence birch c9 b1",
+    "alder entities GB-COH 00000001", "birch entities GB-COH 00000001", "alder entities GB-COH 00000001 2024-01-09",
 ]
 
 

@@ -27,6 +27,7 @@ SPOILED = [
     "alder snapshot alder c1",
     "alder chains alder c1 e1",
     "alder evidence alder c1 e1",
+    "alder entities X 1",
     "registrar day 2024-02-01",
     "registrar enrol cedar cedar-token-000001",
 ]
@@ -75,7 +76,7 @@ def the_document_of_requests_holds(bor, folder):
     never = sorted(set(held.document.refusals()) - held.came, key=str)
     is_so(not never, f"{PLACE} lists what nobody is told: {never}")
     operations = dict(held.document.operations())
-    is_so(len(operations) == 10, f"{PLACE} has {len(operations)} requests")
+    is_so(len(operations) == 11, f"{PLACE} has {len(operations)} requests")
 
 
 LONG = 1_000_000  # A longer reply takes seconds to hold against a document, and tells no other error.
@@ -92,6 +93,8 @@ PLANTED = [
     ('schema: {enum: [GET, POST, "DELETE, PUT"]}', 'schema: {enum: [GET, POST, "PUT, DELETE"]}'),
     ("required: [agent, declaration, next, record, same]", "required: [agent, declaration, next, party, record, same]"),
     ("required: [agent, declaration, first, links, name, record]", "required: [agent, declaration, first, last, links, name, record]"),
+    ("required: [date, entities, id, scheme]", "required: [date, entities, id, record, scheme]"),
+    ("field: {enum: [scheme, id, date]}", "field: {enum: [scheme, date]}"),
     ("                    minItems: 1\n                    description: What the chains", "                    minItems: 2\n                    description: What the chains"),
 ]
 
@@ -175,7 +178,7 @@ PLANTED_IN_FILES = [
     ("written without a point and without an exponent.\n      minimum: 0", "written without a point and without an exponent.\n      minimum: 1"),
     ("          not: {enum: [shareholding, votingRights, appointmentOfBoard]}\n", ""),
     ('[12][0-9]|3[01])(T|$)"', '[12][0-9]|3[01])$"'),
-    ("{const: entity}", "{const: entity}\n        source: {type: object}"),
+    ("recordType: {const: entity}", "recordType: {const: entity}\n        source: {type: object}"),
     ("      required: [type]\n", ""),
     ("[registeredEntity, legalEntity, arrangement, anonymousEntity, unknownEntity, state, stateBody]", "[registeredEntity, legalEntity]"),
     ('relationship: "#/components/schemas/RelationshipStatement"', 'relationship: "#/components/schemas/PersonStatement"'),

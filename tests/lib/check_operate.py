@@ -125,6 +125,16 @@ def asked(port, method="GET", target=CHAINS):
     return reply.status
 
 
+def the_page_is_given(port):
+    """nginx itself gives the page, with its headers."""
+    client = http.client.HTTPConnection("127.0.0.1", port, timeout=SECONDS)
+    client.request("GET", "/picture", headers=BANK)
+    reply = client.getresponse()
+    told = [reply.status, reply.read() == (TOP / "web" / "index.html").read_bytes()]
+    told += [reply.getheader(it) for it in ("Content-Type", "Cache-Control", "Referrer-Policy")]
+    is_so(told == [200, True, "text/html; charset=utf-8", "no-store", "no-referrer"], f"the page came as {told}")
+
+
 def readers_are_left_alone(machine):
     """Readers that have the copy run on, and so do all where there is none; no part of a copy is left."""
     folder, ports = machine.root / "var" / "lib" / "bor-readers", [machine.ports[it] for it in READERS]
@@ -152,9 +162,10 @@ def banks_are_answered(machine):
         for name in READERS:
             subprocess.run(["systemctl", "stop", f"bor-reader@{machine.ports[name]}"], env=machine.variables, check=True)
         is_so(asked(port) == 502, "somebody answers in place of the readers")
+        the_page_is_given(port)
     logs = {it: it.read_text() for it in (machine.root / "var" / "log" / "nginx").iterdir()}
     lines = "".join(logs.values()).splitlines()
-    is_so(len(lines) == 18 and not [it for it in lines if "/" in it], f"nginx wrote {lines}")
+    is_so(len(lines) == 19 and not [it for it in lines if "/" in it], f"nginx wrote {lines}")
 
 
 @check

@@ -7,7 +7,7 @@ from pathlib import Path
 
 from lib.notation import request_of
 from lib.replies import exit_status, replies_in, reply_of
-from lib.scripts import apart, shown
+from lib.scripts import NotRun, apart, shown
 
 DB = "register.db"
 DAY = "2024-02-01"
@@ -38,10 +38,15 @@ def outcome(group, bor, function):
         try:
             function(bor, folder)
         except Mismatch as found:
-            return name, str(found)
+            return name, found.args[0] if isinstance(found.args[0], NotRun) else str(found)
         except (OSError, subprocess.SubprocessError, sqlite3.Error) as fault:
             return name, f"{type(fault).__name__}: {fault}"
     return name, None
+
+
+def not_run(why):
+    """Ends the check: it can't be done here."""
+    raise Mismatch(NotRun(f"not run: {why}"))
 
 
 def is_so(holds, text):

@@ -64,6 +64,8 @@ PROBES = [
     "birch chains birch c9 e9",
     "alder evidence alder c1 e2",
     "birch evidence birch c9 e9",
+    "alder entities X 1",
+    "birch entities Y 1",
     "alder file d1",
     "birch file b1",
 ]

@@ -24,12 +24,12 @@ DRAFT_DUE = ["2024-03-01", "2024-03-02", "2024-04-01", "2024-12-31", "9999-12-31
 ASKED_ON = ["2024-01-10", "2024-01-12", "2024-02-01", "2024-03-01", "2023-12-31", "9999-12-31"]
 KEYS = ["a1", "d1", "d2", "d3", "b1", "f1", "f2"] + [f"k{number}" for number in range(200)]
 LODGING = ["lodge"] * 9
-READING = ["filings", "file", "published", "snapshot", "snapshot", "chains", "chains", "chains", "evidence", "evidence"]
+READING = ["filings", "file", "published", "snapshot", "snapshot", "chains", "chains", "chains", "evidence", "evidence", "entities", "entities"]
 WISHES = LODGING + READING + ["file", "withdraw", "withdraw", "enrol", "odd"]
 METHODS = ["GET", "PUT", "DELETE", "POST", "HEAD", "PATCH", "OPTIONS", "get", "G@T", ""]
 TARGETS = [
     "/", "*", "/filings", "/filings/", "/filings/f1", "/filings/f1/", "/filings/f1/file", "/filings//file",
-    "/published", "/snapshot", "/chains", "/evidence", "/evidence/", "/day", "/agents", "/agents/alder", "/nothing", "http://localhost/filings", "/FILINGS",
+    "/published", "/snapshot", "/chains", "/evidence", "/evidence/", "/entities", "/entities/", "/day", "/agents", "/agents/alder", "/nothing", "http://localhost/filings", "/FILINGS",
     "/filings/%66%31", "/filings/../published", "//filings", "/filings?", "/filings#x", "/filings/f1/file/x", "filings",
 ]
 VALUES = [
@@ -37,7 +37,7 @@ VALUES = [
     "0000-01-01", "10000-01-01", "-0001-01-01", "2024-2-1", "2024-02-01T", "%00", "%ff", "%", "%c3%a9", "+", "a%26b=c",
     "1" * 40, "x" * 255, "x" * 256, "a" * 32, "a" * 33, "k" * 64, "k" * 65, "..", "%2e%2e", "é", "\u202e", "null",
 ]
-NAMES = ["agent", "declaration", "record", "date", "due", "name", "key", "token", "Due", "da%74e", "x", ""]
+NAMES = ["agent", "declaration", "record", "scheme", "id", "date", "due", "name", "key", "token", "Due", "da%74e", "x", ""]
 FIELDS = [
     "Content-Length: 0", "Content-Length: 1", "Content-Length: 99999999999999999999", "Content-Length: 1048576",
     "Content-Length: 1048577", "Content-Length: +5", "Content-Length: -1", "Content-Length:", "Content-Length: 1,1",
@@ -180,6 +180,9 @@ def asked(rng, wish, keys=KEYS):
         record = pick(rng, ["e1", "e1", "e2", "e3", "e9", "p1"])
         words = query(rng, agent=agent, declaration=declaration, record=record, date=date_or_none(rng))
         return "GET", f"/{wish}?{words}"
+    if wish == "entities":
+        scheme, id = pick(rng, ["X", "X", "Y", "Z", WORD]), pick(rng, ["1", "1", "1", "2"])
+        return "GET", f"/entities?{query(rng, scheme=scheme, id=id, date=date_or_none(rng))}"
     if wish == "odd":
         return pick(rng, METHODS), pick(rng, TARGETS)
     return "GET", f"/{wish}"
@@ -215,7 +218,7 @@ class Maker:
             day = "9999-12-31" if rng.random() < 0.02 else pick(rng, DAYS)
             return head_of("POST", f"/day?{query(rng, date=day)}", token_of(caller), 0)
         name = pick(rng, ["cedar", "damson", "elm", "alder", "x" * 32, "Cedar"])
-        token = token_of(name) if rng.random() < 0.8 else pick(rng, ODD_TOKENS)
+        token = token_of(name) if rng.random() < 0.8 else pick(rng, [*ODD_TOKENS, token_of("alder"), token_of("birch")])
         target, body = f"/agents?{query(rng, name=name)}", token.encode()
         return head_of("POST", target, token_of(caller), len(body)) + body
 

@@ -161,6 +161,9 @@ def spelled(wish, words):
     if wish in ("chains", "evidence"):
         agent, declaration, record, *date = names
         return "GET", dated(f"/{wish}?agent={agent}&declaration={declaration}&record={record}", date), b""
+    if wish == "entities":
+        scheme, id, *date = names
+        return "GET", dated(f"/entities?scheme={scheme}&id={id}", date), b""
     if wish == "day":
         return "POST", f"/day?date={names[0]}", b""
     if wish == "enrol":

@@ -607,6 +607,65 @@ class FirstIsLast(Planted):
         return {**super().person_line(person, chain[::-1], nodes), "links": len(chain)}
 
 
+# ---- entities by an identifier
+
+
+class EntitiesOfDrafts(Planted):
+    """Entities are found in others' drafts."""
+
+    breaks_isolation = True
+
+    def entities_seen(self, viewer):
+        return [(agent, it) for agent, filings in self.filings.items() for filing in filings for it in filing.statements]
+
+
+class EntitiesOfFormerNumbers(Planted):
+    """An entity is found by a number that an earlier statement has."""
+
+    def entities_seen(self, viewer):
+        self.seen = super().entities_seen(viewer)
+        return self.seen
+
+    def identified(self, rows, identifier):
+        had = {
+            (agent, *record_of(it))
+            for agent, it in self.seen
+            if it.type == "entity" and identifier in it.details["identifiers"]
+        }
+        return sorted((node for node in rows if node in had), key=in_bytes)
+
+
+class FirstIdentifierAlone(Planted):
+    """An entity is found by the first of its identifiers alone."""
+
+    def identified(self, rows, identifier):
+        found = super().identified(rows, identifier)
+        return [node for node in found if rows[node].details["identifiers"][0] == identifier]
+
+
+class FirstEntityAlone(Planted):
+    """One entity of a number is found."""
+
+    def identified(self, rows, identifier):
+        return super().identified(rows, identifier)[:1]
+
+
+class EntitiesAsLodged(Planted):
+    """Entities are listed in the order of lodging."""
+
+    def identified(self, rows, identifier):
+        found = super().identified(rows, identifier)
+        return [node for node in rows if node in found]
+
+
+class EntitiesByScheme(Planted):
+    """The scheme decides which entities are found."""
+
+    def identified(self, rows, identifier):
+        schemes = {node: [has["scheme"] for has in it.details["identifiers"]] for node, it in rows.items() if it.type == "entity"}
+        return sorted((node for node, told in schemes.items() if identifier["scheme"] in told), key=in_bytes)
+
+
 PLANTED = [
     HalfCounts,
     OpenHalfIsNone,
@@ -665,4 +724,10 @@ PLANTED = [
     FirstStatements,
     RecordsOfLinksAlone,
     FirstIsLast,
+    EntitiesOfDrafts,
+    EntitiesOfFormerNumbers,
+    FirstIdentifierAlone,
+    FirstEntityAlone,
+    EntitiesAsLodged,
+    EntitiesByScheme,
 ]

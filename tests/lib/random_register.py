@@ -251,6 +251,8 @@ class Maker:
             self.ask(viewer, "filings")
         for viewer in self.agents:
             self.ask_why(viewer)
+        for viewer in self.agents:
+            self.find(viewer)
 
     def ask_why(self, viewer):
         """Why each entity's persons are named to a viewer, on the register's day and on another one."""
@@ -262,6 +264,13 @@ class Maker:
             for record in ["f1", "f2"]:
                 self.ask(viewer, "evidence", agent, LAYERED, record)
         self.ask(viewer, "evidence", viewer, "c1", "p1")
+
+
+    def find(self, viewer):
+        """Which entities a viewer finds by each identifier, on the register's day and on another one."""
+        for scheme, number in [*IDENTIFIERS, ("T", "1")]:
+            self.ask(viewer, "entities", scheme, number)
+            self.ask(viewer, "entities", scheme, number, self.rng.choice(ASKED_ON))
 
 
 def inputs_of(rng):

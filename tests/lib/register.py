@@ -6,7 +6,7 @@ of one link, of two, and so on, until a round has none that is new.
 import json
 from dataclasses import dataclass
 
-from lib.evidence import Evidence, named
+from lib.evidence import Evidence, in_bytes, named
 from lib.notation import token_of
 from lib.reading import Refused, read
 from lib.replies import reply
@@ -19,7 +19,7 @@ STATUSES = {
 }
 STATUS_OF = {name: status for status, names in STATUSES.items() for name in names}
 LEGAL_KINDS = ["registeredEntity", "legalEntity"]
-READS = ["chains", "evidence", "snapshot", "filings", "file", "published"]
+READS = ["chains", "evidence", "entities", "snapshot", "filings", "file", "published"]
 # The methods that aren't named as what is wished.
 CALLS = {"day": "set_day", "filings": "list_filings"}
 
@@ -322,6 +322,22 @@ class Register(Evidence):
         target = (agent, declaration, record)
         graph = self.graph_about(viewer, target, date)
         return reply(200, told(self.evidence_told(viewer, date, target, graph)))
+
+    # ---- entities by an identifier
+
+    def entities_seen(self, viewer):
+        return self.visible(viewer)
+
+    def identified(self, rows, identifier):
+        """The open entities that have the identifier, each by its agent, declaration and record."""
+        found = [node for node, it in rows.items() if it.type == "entity" and identifier in it.details["identifiers"]]
+        return sorted(found, key=in_bytes)
+
+    def entities(self, viewer, scheme, id, date=None):
+        date = date or self.day
+        rows, identifier = self.latest(self.entities_seen(viewer), date), {"id": id, "scheme": scheme}
+        records = [self.record_line(node, rows) for node in self.identified(rows, identifier)]
+        return reply(200, told({**identifier, "date": date, "entities": records}))
 
 
 # ---- records

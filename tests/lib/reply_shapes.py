@@ -29,7 +29,7 @@ REFUSALS = {
     },
     431: {"HeadTooLarge": ""},
 }
-QUERY_NAMES = ["key", "due", "agent", "declaration", "record", "date", "name", "token"]
+QUERY_NAMES = ["key", "due", "agent", "declaration", "record", "scheme", "id", "date", "name", "token"]
 MEMBERS = [
     "statement", "statementId", "statementDate", "declarationSubject", "recordId", "recordType", "recordStatus",
     "recordDetails", "identifiers", "subject", "interestedParty", "interests", "share", "exact", "minimum", "maximum",
@@ -114,6 +114,7 @@ EVIDENCE = {
     "persons": [{**PERSON, "first": KEY}],
     "records": [{**RECORD, "agent": text, "declaration": text}],
 }
+ENTITIES = {"date": day, "entities": EVIDENCE["records"], "id": text, "scheme": text}
 FILE = "a file"
 # The routes, and what a status of success tells on each.
 ROUTES = [
@@ -125,6 +126,7 @@ ROUTES = [
     (re.compile(rb"GET /snapshot\?.*"), {200: SNAPSHOT}),
     (re.compile(rb"GET /chains\?.*"), {200: CHAINS}),
     (re.compile(rb"GET /evidence\?.*"), {200: EVIDENCE}),
+    (re.compile(rb"GET /entities\?.*"), {200: ENTITIES}),
     (re.compile(rb"POST /day\?.*"), {200: {"day": day}}),
     (re.compile(rb"POST /agents\?.*"), {201: {"agent": text}}),
 ]

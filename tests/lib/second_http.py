@@ -27,6 +27,7 @@ ROUTES = [
     (re.compile(r"/snapshot"), {"GET": "snapshot"}),
     (re.compile(r"/chains"), {"GET": "chains"}),
     (re.compile(r"/evidence"), {"GET": "evidence"}),
+    (re.compile(r"/entities"), {"GET": "entities"}),
     (re.compile(r"/day"), {"POST": "day"}),
     (re.compile(r"/agents"), {"POST": "enrol"}),
 ]
@@ -38,6 +39,7 @@ NAMES = {
     "snapshot": ["agent", "declaration", "date"],
     "chains": ["agent", "declaration", "record", "date"],
     "evidence": ["agent", "declaration", "record", "date"],
+    "entities": ["scheme", "id", "date"],
     "day": ["date"],
     "enrol": ["name", "token"],
 }
@@ -71,6 +73,8 @@ VALUES = {
     "name": fits(NAME),
     "declaration": ident,
     "record": ident,
+    "scheme": ident,
+    "id": ident,
     "key": fits(KEY),
     "token": fits(TOKEN),
 }

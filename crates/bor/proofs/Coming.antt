@@ -1,4 +1,6 @@
 -- How a register comes to be open on a connection that was looked at.
+use Rattle.bor_register.specs.declared.fault.StoreFault.{StoreFault}
+use Rattle.bor_records.specs.Promises.{Meaning}
 use Rattle.std.proofs.Common.{◌≡◌, ◌∙◌, ℕ, ℤ, List, Result, Ok, Err, IfOk, inl, inr, subst, sym}
 use Rattle.sqlite.specs.State.{State}
 use Rattle.bor_register.specs.Register.{Register, empty_register}
@@ -22,10 +24,10 @@ not_new came is new = let same : Found ≡ New = sym is ∙ new in cc
 pub shows_still : (r : Register) (old mid : State) → mid.committed ≡ old.committed → ShowsIn r old → ShowsIn r mid
 shows_still r old mid kept shown = record { has = subst (Has (contents r)) (sym kept) shown.has; stored = shown.stored }
 
-module _ {K E : Type 0} (shows : K → Register → Type 0) (is_clean : K → Type 0) (registrar : List ℕ) (day : ℤ) (old mid : State) (was_clean : IsClean mid → IsClean old) (kept : IsClean mid → mid.committed ≡ old.committed) where
+module _ {K E W : Type 0} (meaning : Meaning K Register W StoreFault) (registrar : List ℕ) (day : ℤ) (old mid : State) (was_clean : IsClean mid → IsClean old) (kept : IsClean mid → mid.committed ≡ old.committed) where
   -- the one that was there
-  pub found_open : (result : Result (Opened K) E) → IfOk result (λ o. o.origin ≡ Found) → IfOk result (λ o. is_clean o.register → IsClean mid)
-      → IfOk result (λ o. is_clean o.register → (r : Register) → ShowsIn r mid → shows o.register r) → IfOk result (λ o. ComesOpen shows is_clean registrar day old o.register o.origin)
+  pub found_open : (result : Result (Opened K) E) → IfOk result (λ o. o.origin ≡ Found) → IfOk result (λ o. meaning.is_clean o.register → IsClean mid)
+      → IfOk result (λ o. meaning.is_clean o.register → (r : Register) → ShowsIn r mid → meaning.shows o.register r) → IfOk result (λ o. ComesOpen meaning registrar day old o.register o.origin)
   found_open (Err e) is began sh = tt
   found_open (Ok o) is began sh = record {
     began = λ clean. was_clean (began clean);
@@ -35,9 +37,9 @@ module _ {K E : Type 0} (shows : K → Register → Type 0) (is_clean : K → Ty
   }
 
   -- the one that is set up, where none was shown
-  pub made_open : (IsClean mid → (r : Register) → ShowsIn r old → ⊥) → (result : Result (Opened K) E) → IfOk result (λ o. o.origin ≡ New) → IfOk result (λ o. is_clean o.register → IsClean mid)
-      → IfOk result (λ o. is_clean o.register → shows o.register (empty_register registrar day))
-      → IfOk result (λ o. ComesOpen shows is_clean registrar day old o.register o.origin)
+  pub made_open : (IsClean mid → (r : Register) → ShowsIn r old → ⊥) → (result : Result (Opened K) E) → IfOk result (λ o. o.origin ≡ New) → IfOk result (λ o. meaning.is_clean o.register → IsClean mid)
+      → IfOk result (λ o. meaning.is_clean o.register → meaning.shows o.register (empty_register registrar day))
+      → IfOk result (λ o. ComesOpen meaning registrar day old o.register o.origin)
   made_open none (Err e) is began made = tt
   made_open none (Ok o) is began made = record {
     began = λ clean. was_clean (began clean);

@@ -1,4 +1,6 @@
 -- Deeds on registers in files of SQLite.
+use Rattle.bor_register.specs.declared.fault.StoreFault.{StoreFault}
+use Rattle.bor_records.specs.Promises.{Meaning}
 use Rattle.std.specs.Prelude.{◌≡◌, ◌≢◌, ⊤, List, ℕ, ℤ}
 use Rattle.sqlite.specs.State.{HasCleanDisk, State}
 use Rattle.sqlite_wal.specs.Recovery.{Image}
@@ -29,21 +31,24 @@ opening_failure path faults.Store = Store
 -- A register came to be open on a connection, which was in this state. One that was there shows
 -- what it did; where one is set up, none was shown, and the new one of this registrar and day is
 -- shown.
-pub record ComesOpen {K : Type 0} (shows : K → Register → Type 0) (is_clean : K → Type 0)
+pub record ComesOpen {K W : Type 0} (meaning : Meaning K Register W StoreFault)
     (registrar : List ℕ) (day : ℤ) (old : State) (register : K) (came : Origin) : Type 0 where
-  pub began : is_clean register → IsClean old
-  pub found : came ≡ origin.Found → is_clean register → (r : Register) → ShowsIn r old
-      → shows register r
-  pub none : came ≢ origin.Found → is_clean register → (r : Register) → ¬ ShowsIn r old
-  pub made : came ≡ origin.New → is_clean register → shows register (empty_register registrar day)
+  pub began : meaning.is_clean register → IsClean old
+  pub found : came ≡ origin.Found → meaning.is_clean register → (r : Register) → ShowsIn r old
+      → meaning.shows register r
+  pub none : came ≢ origin.Found → meaning.is_clean register → (r : Register) → ¬ ShowsIn r old
+  pub made : came ≡ origin.New → meaning.is_clean register
+      → meaning.shows register (empty_register registrar day)
 
 -- The same, where the files hold these registers.
-pub record FindsOrSetsUp {K : Type 0} (shows : K → Register → Type 0) (is_clean : K → Type 0)
+pub record FindsOrSetsUp {K W : Type 0} (meaning : Meaning K Register W StoreFault)
     (Held : Register → Type 0) (registrar : List ℕ) (day : ℤ) (register : K)
     (came : Origin) : Type 0 where
-  pub found : came ≡ origin.Found → is_clean register → (r : Register) → Held r → shows register r
-  pub none : came ≢ origin.Found → is_clean register → (r : Register) → ¬ Held r
-  pub made : came ≡ origin.New → is_clean register → shows register (empty_register registrar day)
+  pub found : came ≡ origin.Found → meaning.is_clean register → (r : Register) → Held r
+      → meaning.shows register r
+  pub none : came ≢ origin.Found → meaning.is_clean register → (r : Register) → ¬ Held r
+  pub made : came ≡ origin.New → meaning.is_clean register
+      → meaning.shows register (empty_register registrar day)
 
 -- The result of moving the tables of two files, on a connection that was in the one state as it was
 -- opened, and is in the other one. It shows then each register that the files held, and each legal
@@ -57,13 +62,13 @@ pub record IsMoved (image : Image) (old new : State) : Type 0 where
 -- A deed on a file that holds these registers as it is opened. A register that is opened shows
 -- them, none is set up over them, and one that is closed is left so. A move is of a connection,
 -- which is closed. Of a failure no connection is left, and nothing is said.
-abbrev pub IsDeedDone : {K C : Type 0} → (K → Register → Type 0) → (K → Type 0) → (K → C)
+abbrev pub IsDeedDone : {K C W : Type 0} → Meaning K Register W StoreFault → (K → C)
     → (C → Type 0) → (Register → Type 0) → (C → C → Type 0) → Deed K → Type 0
-IsDeedDone shows is_clean conn IsLeft Held Moved (Opens path register) =
-    is_clean register → (r : Register) → Held r → shows register r
-IsDeedDone shows is_clean conn IsLeft Held Moved (SetsUp path register) =
-    is_clean register → (r : Register) → ¬ Held r
-IsDeedDone shows is_clean conn IsLeft Held Moved (Closes path register) = IsLeft (conn register)
-IsDeedDone {K} {C} shows is_clean conn IsLeft Held Moved (Moves path) =
+IsDeedDone meaning conn IsLeft Held Moved (Opens path register) =
+    meaning.is_clean register → (r : Register) → Held r → meaning.shows register r
+IsDeedDone meaning conn IsLeft Held Moved (SetsUp path register) =
+    meaning.is_clean register → (r : Register) → ¬ Held r
+IsDeedDone meaning conn IsLeft Held Moved (Closes path register) = IsLeft (conn register)
+IsDeedDone {K} {C} meaning conn IsLeft Held Moved (Moves path) =
     (opened : C) × (left : C) × Moved opened left × IsLeft left
-IsDeedDone shows is_clean conn IsLeft Held Moved (Fails path failure) = ⊤
+IsDeedDone meaning conn IsLeft Held Moved (Fails path failure) = ⊤

@@ -9,13 +9,12 @@ ghost use Rattle.sqlite_wal.specs.Files.{image_at};
 ghost use Rattle.bor_program.specs.Deeds.{Moves};
 ghost use Rattle.bor.specs.Machine.{FindsOrSetsUp, IsDeedDone, IsMoved, opening_failure};
 
+use crate::served_keep::{Notice, ServedKeep};
 use crate::setup::find_or_set_up;
 use crate::waiting::{Waiting, time};
 use bor_desk::operations::Keep;
 use bor_program::{Failure, Opened, Ports, Registers, Stage};
-use bor_store::{
-    Notice, OpenFault, ServedKeep, SqlKeep, close_files, connect, migrate, statements_within,
-};
+use bor_store::{OpenFault, SqlKeep, close_files, connect, migrate, statements_within};
 use bor_terms::{Day, Token};
 use mio::net;
 use sqlite::{FileFrom, FileStore, Start};
@@ -110,7 +109,7 @@ impl<'r, S: Start + Copy> Registers for Host<'r, S> {
     type Register = Served<'r, S>;
 
     ghost does = { let keep = ⟦<Served<'r, S> as Keep>⟧ in
-        λ _ deed _. IsDeedDone keep.shows keep.is_clean (λ k. k.keep.0.conn)
+        λ _ deed _. IsDeedDone keep.meaning (λ k. k.keep.0.conn)
         (λ c. (closed : _) × IsClosing c closed)
         (HoldsRegister (image_at S.Start))
         (λ opened left. IsMoved (image_at S.Start) (file_state opened) (file_state left)) deed };
@@ -234,8 +233,8 @@ fn open_in<'r, S: Start>(
     log: bool,
 ) -> Result<Served<'r, S>, OpenFault>
     ensures { let keep = ⟦<Served<'r, S> as Keep>⟧ in
-        IfOk result (λ register. keep.is_clean register → (r : Register)
-        → HoldsRegister (image_at S.Start) r → keep.shows register r) }
+        IfOk result (λ register. keep.meaning.is_clean register → (r : Register)
+        → HoldsRegister (image_at S.Start) r → keep.meaning.shows register r) }
 {
     let store = SqlKeep::open(rt, path, start)?;
     Ok(ServedKeep::new(store, most, Telling { rt, log }))
@@ -249,8 +248,8 @@ fn filled_in<'r, S: Start + Copy>(
     log: bool,
 ) -> Result<Served<'r, S>, OpenFault>
     ensures { let keep = ⟦<Served<'r, S> as Keep>⟧ in
-        IfOk result (λ register. keep.is_clean register → (r : Register)
-        → HoldsRegister (image_at S.Start) r → keep.shows register r) }
+        IfOk result (λ register. keep.meaning.is_clean register → (r : Register)
+        → HoldsRegister (image_at S.Start) r → keep.meaning.shows register r) }
 {
     let mut register = open_in(host.rt, path, host.start, most, log)?;
     host.reach(Stage::Filling);
@@ -268,7 +267,7 @@ fn found_or_set_up<S: Start>(
     day: Day,
 ) -> Result<Opened<SqlKeep<FileStore<FileFrom<S>>>>, OpenFault>
     ensures { let keep = ⟦<SqlKeep<FileStore<FileFrom<S>>> as Keep>⟧ in IfOk result (λ opened.
-        FindsOrSetsUp keep.shows keep.is_clean (HoldsRegister (image_at S.Start)) registrar.now day
+        FindsOrSetsUp keep.meaning (HoldsRegister (image_at S.Start)) registrar.now day
         opened.register opened.origin) }
 {
     make_private(rt, path);
@@ -286,7 +285,7 @@ fn opened_in<'r, S: Start>(
 ) -> Result<Opened<Served<'r, S>>, OpenFault>
     ensures { let keep = ⟦<Served<'r, S> as Keep>⟧ in
         IfOk result (λ opened.
-        FindsOrSetsUp keep.shows keep.is_clean (HoldsRegister (image_at S.Start)) registrar.now day
+        FindsOrSetsUp keep.meaning (HoldsRegister (image_at S.Start)) registrar.now day
         opened.register opened.origin) }
 {
     let Opened { register, origin } = found_or_set_up(rt, path, start, registrar, day)?;
@@ -313,7 +312,7 @@ fn make_private(rt: &HostRuntime, path: &str) {
 // Moves the register in the file of this name to the tables of this program, and closes the file.
 fn migrate_in<S: Start>(rt: &HostRuntime, path: &str, start: S) -> Result<(), OpenFault>
     ensures { let keep = ⟦<SqlKeep<FileStore<FileFrom<S>>> as Keep>⟧ in OnOk result
-        (IsDeedDone keep.shows keep.is_clean (λ k. k.conn) (λ c. (closed : _) × IsClosing c closed)
+        (IsDeedDone keep.meaning (λ k. k.conn) (λ c. (closed : _) × IsClosing c closed)
         (HoldsRegister (image_at S.Start))
         (λ opened left. IsMoved (image_at S.Start) (file_state opened) (file_state left))
         (Moves path.entry)) }

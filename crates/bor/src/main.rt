@@ -2,17 +2,16 @@
 #![tactic(auto)]
 
 mod host;
+mod served_keep;
 mod setup;
 mod start;
 mod waiting;
 
 use bor_program::{Failure, Status, joined};
 use host::Host;
-use sqlite::Start;
 use start::Anything;
-use std::convert::AsStr;
 use std::env::{self, Env};
-use std::io::{self, ErrorKind, Read, Write};
+use std::io::{self, ErrorKind, Stderr, Stdin, Stdout, Write};
 use std::process::ExitCode;
 
 // Runs on the words after the program's name and on the three standard streams, and exits with the
@@ -22,7 +21,6 @@ fn main(rt: HostRuntime) -> ExitCode {
     let code = match words(&rt) {
         Ok(words) => run(
             &rt,
-            Anything,
             words.as_slice(),
             &mut rt.stdin(),
             &mut rt.stdout(),
@@ -35,15 +33,14 @@ fn main(rt: HostRuntime) -> ExitCode {
 
 // Does what the words ask for, over registers in files and ports of this machine, as
 // `bor_program::run` does, and gives the exit status.
-fn run<F: Start + Copy, S: AsStr, I: Read, O: Write, E: Write>(
+fn run(
     rt: &HostRuntime,
-    start: F,
-    words: &[S],
-    input: &mut I,
-    output: &mut O,
-    errors: &mut E,
+    words: &[String],
+    input: &mut Stdin,
+    output: &mut Stdout,
+    errors: &mut Stderr,
 ) -> u8 {
-    let mut host = Host::new(rt, start);
+    let mut host = Host::new(rt, Anything);
     bor_program::run(rt, &mut host, words, input, output, errors)
 }
 

@@ -23,7 +23,7 @@ pub fn find_or_set_up<S: Alter + Drop>(
 ) -> Result<Opened<SqlKeep<S>>, OpenFault>
     requires { conn.in_transaction ≡ false }
     ensures { let keep = ⟦<SqlKeep<S> as Keep>⟧ in IfOk result (λ opened.
-        ComesOpen keep.shows keep.is_clean registrar.now day (state S.Store conn)
+        ComesOpen keep.meaning registrar.now day (state S.Store conn)
         opened.register opened.origin) }
 {
     let mut conn = conn;
@@ -42,10 +42,10 @@ fn adopt<S: Alter + Drop>(
     requires { conn.in_transaction ≡ false }
     ensures origin { IfOk result (λ opened. opened.origin ≡ Origin.Found) }
     ensures began { let keep = ⟦<SqlKeep<S> as Keep>⟧ in IfOk result (λ opened.
-        keep.is_clean opened.register → IsClean (state S.Store conn)) }
+        keep.meaning.is_clean opened.register → IsClean (state S.Store conn)) }
     ensures shows { let keep = ⟦<SqlKeep<S> as Keep>⟧ in IfOk result (λ opened.
-        keep.is_clean opened.register → (r : Register) → ShowsIn r (state S.Store conn)
-        → keep.shows opened.register r) }
+        keep.meaning.is_clean opened.register → (r : Register) → ShowsIn r (state S.Store conn)
+        → keep.meaning.shows opened.register r) }
 {
     let register = SqlKeep::adopt(alloc, conn)?;
     Ok(Opened {
@@ -64,10 +64,10 @@ fn set_up_on<S: Alter + Drop>(
     requires { conn.in_transaction ≡ false }
     ensures origin { IfOk result (λ opened. opened.origin ≡ Origin.New) }
     ensures began { let keep = ⟦<SqlKeep<S> as Keep>⟧ in IfOk result (λ opened.
-        keep.is_clean opened.register → IsClean (state S.Store conn)) }
+        keep.meaning.is_clean opened.register → IsClean (state S.Store conn)) }
     ensures made { let keep = ⟦<SqlKeep<S> as Keep>⟧ in IfOk result (λ opened.
-        keep.is_clean opened.register
-        → keep.shows opened.register (empty_register registrar.now day)) }
+        keep.meaning.is_clean opened.register
+        → keep.meaning.shows opened.register (empty_register registrar.now day)) }
 {
     let mut conn = conn;
     set_up(&mut conn, registrar, day)?;

@@ -35,7 +35,7 @@ use Rattle.bor_chains.specs.Candidates.{IsAlikeIn}
 use Rattle.bor_chains.specs.Alike.{CoverSign, Expands, Follows}
 
 -- the node that a row makes is its record
-node_of : (row : Row) (x : OpenNode) → node_in row ≡ Some x → x.node ≡ series_of row
+pub node_of : (row : Row) (x : OpenNode) → node_in row ≡ Some x → x.node ≡ series_of row
 node_of row x e = go row.statement.details e
   where
     go : (d : Details) → node_with (series_of row) d ≡ Some x → x.node ≡ series_of row
@@ -44,7 +44,7 @@ node_of row x e = go row.statement.details e
     go (details.Relationship subject party interests) h = let no : None ≡ Some x = h in absurd cc
 
 -- an open node is made by a row of its series
-opened_node : (day : ℤ) (rows : List Row) (n : Node) (x : OpenNode) → node_at day n rows ≡ Some x → (row : Row) × Contains rows row × (node_in row ≡ Some x) × (series_of row ≡ n)
+pub opened_node : (day : ℤ) (rows : List Row) (n : Node) (x : OpenNode) → node_at day n rows ≡ Some x → (row : Row) × Contains rows row × (node_in row ≡ Some x) × (series_of row ≡ n)
 opened_node day rows n x e = go (open_at day n rows) refl e
   where
     go : (o : Option Row) → open_at day n rows ≡ o → option_and_then node_in o ≡ Some x → (row : Row) × Contains rows row × (node_in row ≡ Some x) × (series_of row ≡ n)

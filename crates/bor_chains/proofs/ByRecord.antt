@@ -16,7 +16,7 @@ use Rattle.bor_records.specs.declared.links.node.Link.{Link}
 use Rattle.bor_records.specs.Links.Nodes.{same_node}
 use Rattle.bor_records.specs.Links.Orders.{node_equiv}
 use Rattle.bor_records.specs.Links.Series.{series_of, open_at}
-use Rattle.bor_records.specs.Links.Shown.{Shown, info_in, is_like}
+use Rattle.bor_records.specs.Links.Shown.{Shown, info_in}
 use Rattle.bor_records.specs.Links.Rows.{is_entity_info, is_some_info, beside, link_between, link_with, link_in, nodes_of, shown_of}
 use Rattle.bor_records.specs.Links.Answers.{AreSame, AreLinksInto, only_into}
 use Rattle.bor_records.specs.Links.Stakes.{is_stake, is_holding}
@@ -27,7 +27,7 @@ use Rattle.bor_records.proofs.OnLinks.Found.{none, Contains-filter_map, Contains
 use Rattle.bor_records.proofs.OnLinks.Growth.{grown_none, grown_like, grown_more, Contains-take_more, Contains-take_front, Contains-take_last}
 use Rattle.bor_records.proofs.OnLinks.Reached.{AreReached, reached_end}
 use Rattle.bor_records.proofs.OnLinks.SameNode.{same_node_is}
-use Rattle.bor_chains.specs.Candidates.{names, is_into, link_into, link_at, IsAlike, IsAlikeIn}
+use Rattle.bor_chains.specs.Candidates.{names, is_into, link_into, link_at, IsFit, IsFitIn}
 
 -- ---- links
 
@@ -120,28 +120,29 @@ link_is day nodes rec n party subject interests stake holding same entity known 
 
 -- ---- a candidate more
 
-pub alike_there : (day : ℤ) (rows : List Row) (one : OpenNode) (candidate : Node) (nodes : List Node) → Contains nodes candidate → Grown (IsAlike day rows one candidate) nodes nodes
-alike_there day rows one candidate nodes there = grown_none (IsAlike day rows one candidate) nodes (λ b h. subst (λ (m : Node). Contains nodes m) (sym h.0) there)
+module _ (day : ℤ) (rows : List Row) (fits : Option OpenNode → Bool) where
+  pub fit_there : (candidate : Node) (nodes : List Node) → Contains nodes candidate → Grown (IsFit day rows fits candidate) nodes nodes
+  fit_there candidate nodes there = grown_none (IsFit day rows fits candidate) nodes (λ b h. subst (λ (m : Node). Contains nodes m) (sym h.0) there)
 
-pub alike_not : (day : ℤ) (rows : List Row) (one : OpenNode) (candidate : Node) (nodes : List Node) → is_like one (node_at day candidate rows) ≡ false → Grown (IsAlike day rows one candidate) nodes nodes
-alike_not day rows one candidate nodes gone = grown_none (IsAlike day rows one candidate) nodes
-    (λ b h. absurd (let no : true ≡ false = sym h.1 ∙ ap (λ (m : Node). is_like one (node_at day m rows)) h.0 ∙ gone in cc))
+  pub fit_not : (candidate : Node) (nodes : List Node) → fits (node_at day candidate rows) ≡ false → Grown (IsFit day rows fits candidate) nodes nodes
+  fit_not candidate nodes gone = grown_none (IsFit day rows fits candidate) nodes
+      (λ b h. absurd (let no : true ≡ false = sym h.1 ∙ ap (λ (m : Node). fits (node_at day m rows)) h.0 ∙ gone in cc))
 
-pub alike_added : (day : ℤ) (rows : List Row) (one : OpenNode) (candidate added : Node) (a b : List Node) → is_like one (node_at day candidate rows) ≡ true → added ≡ candidate → Grown (λ n. n ≡ added) a b → Grown (IsAlike day rows one candidate) a b
-alike_added day rows one candidate added a b alike is g = grown_like (λ n. n ≡ added) (IsAlike day rows one candidate) a b g
-    (λ n e. (e ∙ is, ap (λ (m : Node). is_like one (node_at day m rows)) (e ∙ is) ∙ alike)) (λ n h. h.0 ∙ sym is)
+  pub fit_added : (candidate added : Node) (a b : List Node) → fits (node_at day candidate rows) ≡ true → added ≡ candidate → Grown (λ n. n ≡ added) a b → Grown (IsFit day rows fits candidate) a b
+  fit_added candidate added a b fit is g = grown_like (λ n. n ≡ added) (IsFit day rows fits candidate) a b g
+      (λ n e. (e ∙ is, ap (λ (m : Node). fits (node_at day m rows)) (e ∙ is) ∙ fit)) (λ n h. h.0 ∙ sym is)
 
-pub alike_more : (day : ℤ) (rows : List Row) (one : OpenNode) (candidates : List Node) (i : ℕ) (x : Node) (a b c : List Node) → i < length candidates → x ≡ get_or candidates i x
-    → Grown (IsAlikeIn day rows one (take i candidates)) a b → Grown (IsAlike day rows one x) b c → Grown (IsAlikeIn day rows one (take (i + 1) candidates)) a c
-alike_more day rows one candidates i x a b c lt at g h = grown_more (IsAlikeIn day rows one (take i candidates)) (IsAlike day rows one x) (IsAlikeIn day rows one (take (i + 1) candidates)) a b c g h
-    (λ n. elim [
-      | inl p ↦ (Contains-take_front candidates i x n lt p.0, p.1)
-      | inr p ↦ (Contains-take_last candidates i x n lt (p.0 ∙ at), p.1)
-    ])
-    (λ n r. elim (Contains-take_more candidates i x n lt r.0) [
-      | inl p ↦ inl (p, r.1)
-      | inr e ↦ inr (e ∙ sym at, r.1)
-    ])
+  pub fit_more : (candidates : List Node) (i : ℕ) (x : Node) (a b c : List Node) → i < length candidates → x ≡ get_or candidates i x
+      → Grown (IsFitIn day rows fits (take i candidates)) a b → Grown (IsFit day rows fits x) b c → Grown (IsFitIn day rows fits (take (i + 1) candidates)) a c
+  fit_more candidates i x a b c lt at g h = grown_more (IsFitIn day rows fits (take i candidates)) (IsFit day rows fits x) (IsFitIn day rows fits (take (i + 1) candidates)) a b c g h
+      (λ n. elim [
+        | inl p ↦ (Contains-take_front candidates i x n lt p.0, p.1)
+        | inr p ↦ (Contains-take_last candidates i x n lt (p.0 ∙ at), p.1)
+      ])
+      (λ n r. elim (Contains-take_more candidates i x n lt r.0) [
+        | inl p ↦ inl (p, r.1)
+        | inr e ↦ inr (e ∙ sym at, r.1)
+      ])
 
 -- ---- what is added is what is answered
 

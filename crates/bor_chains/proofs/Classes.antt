@@ -25,7 +25,7 @@ use Rattle.bor_chains.specs.Laws.{SameAreAClass}
 use Rattle.bor_chains.specs.Tables.{node_at_place}
 use Rattle.bor_records.specs.Links.Signs.{sign_cmp, by_record, by_identifier, signs}
 use Rattle.bor_chains.specs.Likeness.{AreUnder}
-use Rattle.bor_chains.specs.Classes.{listed_node, entity_in, place_in, IsAmong, HasSign, Expands, AreGathered, Visits, AreAllSame}
+use Rattle.bor_chains.specs.Classes.{listed_node, entity_in, place_in, IsAmong, HasSign, Expands, AreGathered, VisitsPlace, AreAllSame}
 use Rattle.bor_records.proofs.OnLinks.SameNode.{same_node_is}
 use Rattle.bor_records.proofs.OnLinks.Found.{Contains-filter_map, Contains-from_filter_map, none, here, cases, Contains-filter, Contains-from_filter, Contains-from_map}
 use Rattle.bor_records.proofs.OnLinks.Listed.{found_is}
@@ -202,7 +202,7 @@ like_is one None h = absurd (cc)
 like_is one (Some y) h = (y, refl, h)
 
 -- it was done
-pub visits_done : (s : Shown) (first : Node) (place : ℕ) (found : List ℕ) (seen : Sign → Bool) (was now : ℕ → Bool) → ((i : ℕ) → now i ≡ was i) → was place ≡ true → Visits s first place found found seen seen was now
+pub visits_done : (s : Shown) (first : Node) (place : ℕ) (found : List ℕ) (seen : Sign → Bool) (was now : ℕ → Bool) → ((i : ℕ) → now i ≡ was i) → was place ≡ true → VisitsPlace s first place (record { found = found; seen = seen; done = was }) (record { found = found; seen = seen; done = now })
 visits_done s first place found seen was now same done = record {
   rest = [];
   begins = sym (append-nil found);
@@ -214,7 +214,7 @@ visits_done s first place found seen was now same done = record {
 -- a place of no entity
 pub visits_none : (s : Shown) (first : Node) (place : ℕ) (found : List ℕ) (seen : Sign → Bool) (was now : ℕ → Bool)
     → ((i : ℕ) → now i ≡ true → (i ≡ place) ⊎ (was i ≡ true)) → ((i : ℕ) → was i ≡ true → now i ≡ true) → now place ≡ true
-    → ((x : OpenNode) → slice_get s.nodes place ≡ Some x → IsTrue (is_entity x.info) → ⊥) → Visits s first place found found seen seen was now
+    → ((x : OpenNode) → slice_get s.nodes place ≡ Some x → IsTrue (is_entity x.info) → ⊥) → VisitsPlace s first place (record { found = found; seen = seen; done = was }) (record { found = found; seen = seen; done = now })
 visits_none s first place found seen was now split stays done no_entity = record {
   rest = [];
   begins = sym (append-nil found);
@@ -233,7 +233,7 @@ visits_none s first place found seen was now split stays done no_entity = record
 -- a place of an entity, whose signs are looked up
 pub visits_entity : (s : Shown) (first : Node) (place : ℕ) (one : OpenNode) (places : Sign → List ℕ) (a b : List ℕ) (p q : Sign → Bool) (was now : ℕ → Bool) → AreDistinct s.nodes → AreUnder (length s.nodes) s.nodes places
     → slice_get s.nodes place ≡ Some one → is_entity one.info ≡ true → ((i : ℕ) → now i ≡ true → (i ≡ place) ⊎ (was i ≡ true)) → ((i : ℕ) → was i ≡ true → now i ≡ true) → now place ≡ true
-    → Expands s.nodes places one (signs one) a b p q → Visits s first place a b p q was now
+    → Expands s.nodes places one (signs one) a b p q → VisitsPlace s first place (record { found = a; seen = p; done = was }) (record { found = b; seen = q; done = now })
 visits_entity s first place one places a b p q was now d under at entity split stays done e = record {
   rest = e.rest;
   begins = e.begins;
@@ -312,18 +312,18 @@ put_again place was now up done i = up i ∙ by (is_eq (nat_cmp place i)) refl
     by false e = refl
 
 -- the three ways of a visit
-pub visit_again : (s : Shown) (first : Node) (place : ℕ) (found : List ℕ) (seen : Sign → Bool) (was now : ℕ → Bool) (fresh : Bool) → fresh ≡ not (was place) → fresh ≡ false → PutDone place was now → Visits s first place found found seen seen was now
+pub visit_again : (s : Shown) (first : Node) (place : ℕ) (found : List ℕ) (seen : Sign → Bool) (was now : ℕ → Bool) (fresh : Bool) → fresh ≡ not (was place) → fresh ≡ false → PutDone place was now → VisitsPlace s first place (record { found = found; seen = seen; done = was }) (record { found = found; seen = seen; done = now })
 visit_again s first place found seen was now fresh is again up =
     let done = not-false (was place) (sym is ∙ again) in
     visits_done s first place found seen was now (put_again place was now up done) done
 
 pub visit_none : (s : Shown) (nodes : List OpenNode) (first : Node) (place : ℕ) (found : List ℕ) (seen : Sign → Bool) (was now : ℕ → Bool) → s.nodes ≡ nodes → PutDone place was now → now place ≡ true → entity_in (slice_get nodes place) ≡ None
-    → Visits s first place found found seen seen was now
+    → VisitsPlace s first place (record { found = found; seen = seen; done = was }) (record { found = found; seen = seen; done = now })
 visit_none s nodes first place found seen was now e up done gone = visits_none s first place found seen was now (put_split place was now up) (put_stays place was now up) done
     (λ x at t. no_entity_is (slice_get nodes place) x gone (ap (λ (xs : List OpenNode). slice_get xs place) (sym e) ∙ at) t)
 
 pub visit_entity : (s : Shown) (nodes : List OpenNode) (first : Node) (place : ℕ) (one : OpenNode) (places : Sign → List ℕ) (a b : List ℕ) (p q : Sign → Bool) (was now : ℕ → Bool) → s.nodes ≡ nodes → IsDistinct same_node (map (λ x. x.node) s.nodes)
-    → AreUnder (length nodes) nodes places → PutDone place was now → now place ≡ true → entity_in (slice_get nodes place) ≡ Some one → Expands nodes places one (signs one) a b p q → Visits s first place a b p q was now
+    → AreUnder (length nodes) nodes places → PutDone place was now → now place ≡ true → entity_in (slice_get nodes place) ≡ Some one → Expands nodes places one (signs one) a b p q → VisitsPlace s first place (record { found = a; seen = p; done = was }) (record { found = b; seen = q; done = now })
 visit_entity s nodes first place one places a b p q was now e d under up done at x =
     let is = entity_is (slice_get nodes place) one at in
     visits_entity s first place one places a b p q was now d (subst (λ (xs : List OpenNode). AreUnder (length xs) xs places) (sym e) under)
@@ -370,7 +370,7 @@ way_start s x first found seen done e at unseen undone = subst (λ (xs : List �
   passed = λ i h. absurd (none i h);
 })
 
-pub way_more : (s : Shown) (x : OpenNode) (first next place : ℕ) (a b : List ℕ) (p q : Sign → Bool) (was now : ℕ → Bool) → next < length a → place ≡ get_or a next place → IsUnderWay s x first next a p was → Visits s x.node place a b p q was now
+pub way_more : (s : Shown) (x : OpenNode) (first next place : ℕ) (a b : List ℕ) (p q : Sign → Bool) (was now : ℕ → Bool) → next < length a → place ≡ get_or a next place → IsUnderWay s x first next a p was → VisitsPlace s x.node place (record { found = a; seen = p; done = was }) (record { found = b; seen = q; done = now })
     → IsUnderWay s x first (next + 1) b q now
 way_more s x first next place a b p q was now lt at w v = record {
   there = subst (λ (xs : List ℕ). Contains xs first) (sym v.begins) (Contains-append_left a v.rest first w.there);

@@ -36,11 +36,18 @@ link_into day rows n r = only_into n (link_in day (nodes_of day rows) r)
 abbrev pub link_at : ℤ → List Row → Node → Node → Option Link
 link_at day rows n k = option_and_then (link_into day rows n) (open_at day k rows)
 
+-- the candidate, where what is open of it passes a test
+abbrev pub IsFit : ℤ → List Row → (Option OpenNode → Bool) → Node → Node → Type 0
+IsFit day rows fits candidate b = (b ≡ candidate) × (fits (node_at day b rows) ≡ true)
+
+-- one of the candidates that do
+abbrev pub IsFitIn : ℤ → List Row → (Option OpenNode → Bool) → List Node → Node → Type 0
+IsFitIn day rows fits candidates b = Contains candidates b × (fits (node_at day b rows) ≡ true)
+
 -- the candidate, where it is open and alike
 abbrev pub IsAlike : ℤ → List Row → OpenNode → Node → Node → Type 0
-IsAlike day rows one candidate b = (b ≡ candidate) × (is_like one (node_at day b rows) ≡ true)
+IsAlike day rows one candidate b = IsFit day rows (is_like one) candidate b
 
 -- one of the candidates that are
 abbrev pub IsAlikeIn : ℤ → List Row → OpenNode → List Node → Node → Type 0
-IsAlikeIn day rows one candidates b =
-    Contains candidates b × (is_like one (node_at day b rows) ≡ true)
+IsAlikeIn day rows one candidates b = IsFitIn day rows (is_like one) candidates b

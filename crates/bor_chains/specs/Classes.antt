@@ -2,13 +2,16 @@
 -- private functions alone.
 use Rattle.std.specs.Prelude.{◌≡◌, ◌⊎◌, ◌++◌, ℕ, Bool, true, List, Contains, IsTrue, Option, Some}
 use Rattle.std.specs.Prelude.{None, option_map, if◌then◌else◌}
+use Rattle.std.specs.BTreeSet.{contains}
 use Rattle.std.specs.List.{slice_get}
+use Rattle.std.specs.Ordering.{nat_cmp}
 use Rattle.bor_records.specs.declared.links.node.Node.{Node}
 use Rattle.bor_records.specs.declared.links.node.OpenNode.{OpenNode}
 use Rattle.bor_records.specs.declared.links.sign.Sign.{Sign}
 use Rattle.bor_records.specs.Links.Shown.{Shown, is_entity, is_like}
 use Rattle.bor_records.specs.Links.Aliases.{Same}
-use Rattle.bor_records.specs.Links.Signs.{signs}
+use Rattle.bor_records.specs.Links.Signs.{sign_cmp, signs}
+use Rattle.bor_chains.specs.declared.class.Class.{Class}
 
 abbrev pub listed_node : Option OpenNode → Option Node
 listed_node None = None
@@ -59,15 +62,27 @@ pub record AreGathered (s : Shown) (first : Node) (found : List ℕ) (seen : Sig
   pub signed : (i : ℕ) (x : OpenNode) (k : Sign) → done i ≡ true → slice_get s.nodes i ≡ Some x
       → HasSign x k → seen k ≡ true
 
+-- the places that were found, the signs that were looked up, and the places that are done
+pub record Looked : Type 0 where
+  pub found : List ℕ
+  pub seen : Sign → Bool
+  pub done : ℕ → Bool
+
+abbrev pub looked : Class → Looked
+looked class = record {
+  found = class.found.items;
+  seen = λ k. contains sign_cmp class.seen k;
+  done = λ i. contains nat_cmp class.done i;
+}
+
 -- a place more is done
-pub record Visits (s : Shown) (first : Node) (place : ℕ) (old_found new_found : List ℕ)
-    (old_seen new_seen : Sign → Bool) (old_done new_done : ℕ → Bool) : Type 0 where
+pub record VisitsPlace (s : Shown) (first : Node) (place : ℕ) (old new : Looked) : Type 0 where
   pub rest : List ℕ
-  pub begins : new_found ≡ old_found ++ rest
-  pub stays : (i : ℕ) → old_done i ≡ true → new_done i ≡ true
-  pub done : new_done place ≡ true
-  pub gathered : AreGathered s first old_found old_seen old_done → Contains old_found place
-      → AreGathered s first new_found new_seen new_done
+  pub begins : new.found ≡ old.found ++ rest
+  pub stays : (i : ℕ) → old.done i ≡ true → new.done i ≡ true
+  pub done : new.done place ≡ true
+  pub gathered : AreGathered s first old.found old.seen old.done → Contains old.found place
+      → AreGathered s first new.found new.seen new.done
 
 -- all that are the same as the first, and no others
 abbrev pub AreAllSame : Shown → Node → List ℕ → Type 0

@@ -1,7 +1,7 @@
 -- The order of marked nodes, in which the last node comes first, with its laws; for clauses of
 -- private functions alone.
-use Rattle.std.specs.Prelude.{Bool, ◌≡◌, Some}
-use Rattle.std.specs.Ordering.{ordering_then, eq_by_cmp, flip_args, nat_cmp}
+use Rattle.std.specs.Prelude.{Bool, Some}
+use Rattle.std.specs.Ordering.{ordering_then, eq_by_cmp, nat_cmp}
 use Rattle.std.specs.declared.cmp.Ordering.{Ordering}
 use Rattle.std.specs.Cmp.{IsTotalOrder, IsEquivalence, IsPartialOrder, partial_order_from_total}
 use Rattle.std.specs.Cmp.{on_total, then_total, back_total}

@@ -14,7 +14,7 @@ ghost use Rattle.bor_records.specs.Links.Answers.{AreAliases, AreSame};
 ghost use Rattle.bor_chains.specs.Tables.{items_of};
 ghost use Rattle.bor_records.specs.Links.Signs.{sign_cmp, by_identifier, signs};
 ghost use Rattle.bor_chains.specs.Likeness.{AreUnder};
-ghost use Rattle.bor_chains.specs.Classes.{listed_node, entity_in, place_in, Expands, Visits, AreAllSame};
+ghost use Rattle.bor_chains.specs.Classes.{listed_node, entity_in, place_in, Expands, VisitsPlace, AreAllSame, looked};
 
 use bods_read::Identifier;
 use bor_records::links::{Node, OpenNode, Sign, once};
@@ -177,9 +177,7 @@ impl Class {
             → IsDistinct same_node (map (λ x. x.node) s.nodes)
             → AreUnder (length nodes.now) nodes.now (λ k.
             items_of (λ v. v.items) (get sign_cmp places.now k))
-            → Visits s first place self.old.found.items self.new.found.items
-            (λ k. contains sign_cmp self.old.seen k) (λ k. contains sign_cmp self.new.seen k)
-            (λ i. contains nat_cmp self.old.done i) (λ i. contains nat_cmp self.new.done i)) }
+            → VisitsPlace s first place (looked self.old) (looked self.new)) }
     {
         let fresh = self.done.insert(place)?;
         if !fresh {

@@ -2,9 +2,9 @@
 
 ghost use Rattle.std.specs.Prelude.{◌≡◌, ◌≤◌, ◌++◌, OnOk, IfOk, IfErr, length};
 ghost use Rattle.std.specs.List.Sorted.{IsPermutation, IsSorted};
-ghost use Rattle.bor_records.specs.Promises.{Kept, StaysClean, Promised};
+ghost use Rattle.bor_records.specs.Promises.{Kept, Promised};
 ghost use Rattle.bor_records.specs.Links.Growth.{Grown};
-ghost use Rattle.bor_chains.specs.Promises.{walk_counted, OnWalkSource};
+ghost use Rattle.bor_chains.specs.Promises.{WalkAccounts};
 ghost use Rattle.bor_chains.specs.Crossings.{crossing_cmp, counted_at, IsCountedOf, IsCrossingInto, AreCrossings};
 
 use crate::fault::WalkFault;
@@ -63,12 +63,9 @@ fn cross_one<S: LinkSource>(
     below: usize,
 ) -> Result<(), WalkFault<S::Fault>>
     ensures same_reference { S.lender source.new ≡ S.lender source.old }
-    ensures kept { Kept S.shows S.is_clean S.is_sound S.may_leave source.old source.new }
-    ensures counts { S.fault_count source.new ≡ walk_counted result (S.fault_count source.old) }
-    ensures lasts { OnOk result (StaysClean S.is_clean S.is_sound source.old source.new) }
-    ensures told { Promised S.shows S.is_clean source.old source.new (λ m.
-        IfErr result (λ f. OnWalkSource f S.may_tell)) }
-    ensures crossed { OnOk result (Promised S.shows S.is_clean source.old source.new (λ m.
+    ensures kept { Kept S.meaning source.old source.new }
+    ensures accounted { WalkAccounts S.meaning source.old source.new result }
+    ensures crossed { OnOk result (Promised S.meaning source.old source.new (λ m.
         Grown (IsCrossingInto (S.shown m) marked.now below)
         crossings.old.items crossings.new.items)) }
 {
@@ -92,13 +89,10 @@ pub(crate) fn crossings_from<S: LinkSource>(
 ) -> Result<Vec<Crossing>, WalkFault<S::Fault>>
     requires { start ≤ length marks.now }
     ensures same_reference { S.lender source.new ≡ S.lender source.old }
-    ensures kept { Kept S.shows S.is_clean S.is_sound S.may_leave source.old source.new }
-    ensures counts { S.fault_count source.new ≡ walk_counted result (S.fault_count source.old) }
-    ensures lasts { OnOk result (StaysClean S.is_clean S.is_sound source.old source.new) }
-    ensures told { Promised S.shows S.is_clean source.old source.new (λ m.
-        IfErr result (λ f. OnWalkSource f S.may_tell)) }
+    ensures kept { Kept S.meaning source.old source.new }
+    ensures accounted { WalkAccounts S.meaning source.old source.new result }
     ensures crossed { IfOk result (λ crossings.
-        Promised S.shows S.is_clean source.old source.new (λ m.
+        Promised S.meaning source.old source.new (λ m.
         AreCrossings (S.shown m) marks.now start (length marks.now) crossings.items)) }
 {
     let mut crossings = Vec::new(alloc);

@@ -3,11 +3,11 @@
 ghost use Rattle.std.specs.Prelude.{◌≡◌, ◌≢◌, [], OnOk, IfOk, IfErr};
 ghost use Rattle.std.specs.List.Sorted.{IsPermutation, IsSorted};
 ghost use Rattle.std.specs.List.Retain.{IsFiltered, DiffersFromLast};
-ghost use Rattle.bor_records.specs.Promises.{Kept, StaysClean, Promised};
+ghost use Rattle.bor_records.specs.Promises.{Kept, Promised};
 ghost use Rattle.bor_records.specs.Links.Shown.{IsEntity};
 ghost use Rattle.bor_chains.specs.Lines.{same_evidence, evidence_cmp, same_in_tree, tree_cmp};
 ghost use Rattle.bor_chains.specs.Evidence.{AreEvidenced};
-ghost use Rattle.bor_chains.specs.Promises.{chain_counted, IfToldBy, OnNoEntity, OnSource};
+ghost use Rattle.bor_chains.specs.Promises.{OnNoEntity, ReportAccounts};
 
 use crate::branches::branches_of;
 use crate::fault::ChainFault;
@@ -36,20 +36,15 @@ pub fn evidence_of<S: LinkSource>(
 ) -> Result<Evidence, ChainFault<S::Fault>>
     // As for `persons_of`.
     ensures same_reference { S.lender source.new ≡ S.lender source.old }
-    ensures kept { Kept S.shows S.is_clean S.is_sound S.may_leave source.old source.new }
-    ensures counts { S.fault_count source.new ≡ chain_counted result (S.fault_count source.old) }
-    ensures lasts { IfToldBy result (StaysClean S.is_clean S.is_sound source.old source.new) }
-    ensures honest { IfErr result (λ f.
-        OnSource f (λ _. S.fault_count source.new ≢ S.fault_count source.old)) }
-    ensures told { Promised S.shows S.is_clean source.old source.new (λ m.
-        IfErr result (λ f. OnSource f S.may_tell)) }
+    ensures kept { Kept S.meaning source.old source.new }
+    ensures accounted { ReportAccounts S.meaning source.old source.new result }
 
     // The report, and when there is none.
-    ensures evidenced { Promised S.shows S.is_clean source.old source.new (λ m.
+    ensures evidenced { Promised S.meaning source.old source.new (λ m.
         IfOk result (λ tree. AreEvidenced (S.shown m) target.now tree)) }
-    ensures entity { Promised S.shows S.is_clean source.old source.new (λ m.
+    ensures entity { Promised S.meaning source.old source.new (λ m.
         OnOk result (IsEntity (S.shown m) target.now)) }
-    ensures no_entity { Promised S.shows S.is_clean source.old source.new (λ m.
+    ensures no_entity { Promised S.meaning source.old source.new (λ m.
         IfErr result (λ f. OnNoEntity f (IsEntity (S.shown m) target.now → ⊥))) }
 {
     match source.node(target) {

@@ -1,11 +1,11 @@
 //! The walk that keeps the reason for each mark.
 
 ghost use Rattle.std.specs.Prelude.{◌≡◌, ◌+◌, ◌≤◌, ℕ, true, Some, OnOk, IfOk, IfErr, length};
-ghost use Rattle.bor_records.specs.Promises.{Kept, StaysClean, Promised};
+ghost use Rattle.bor_records.specs.Promises.{Kept, Promised};
 ghost use Rattle.bor_records.specs.declared.links.node.Node.{Node};
 ghost use Rattle.bor_records.specs.declared.links.node.NodeInfo.TheVariants as infos;
 ghost use Rattle.bor_chains.specs.declared.marks.Mark.TheVariants.{Middle, Holder};
-ghost use Rattle.bor_chains.specs.Promises.{walk_counted, OnWalkSource};
+ghost use Rattle.bor_chains.specs.Promises.{WalkAccounts};
 ghost use Rattle.bor_chains.specs.Marks.{IsOneOf, IsSameAs};
 ghost use Rattle.bor_chains.specs.Trail.{step_by, IsFilled, Gives, GivesUnlessThere, AreBeside, AreWhole, Follows, FollowsTo, IsAtLevel, IsAll};
 
@@ -130,12 +130,9 @@ impl Trail {
     ) -> Result<(), WalkFault<S::Fault>>
         ensures longer { OnOk result (length self.old.marks ≤ length self.new.marks) }
         ensures same_reference { S.lender source.new ≡ S.lender source.old }
-        ensures kept { Kept S.shows S.is_clean S.is_sound S.may_leave source.old source.new }
-        ensures counts { S.fault_count source.new ≡ walk_counted result (S.fault_count source.old) }
-        ensures lasts { OnOk result (StaysClean S.is_clean S.is_sound source.old source.new) }
-        ensures told { Promised S.shows S.is_clean source.old source.new (λ m.
-            IfErr result (λ f. OnWalkSource f S.may_tell)) }
-        ensures walked { OnOk result (Promised S.shows S.is_clean source.old source.new (λ m.
+        ensures kept { Kept S.meaning source.old source.new }
+        ensures accounted { WalkAccounts S.meaning source.old source.new result }
+        ensures walked { OnOk result (Promised S.meaning source.old source.new (λ m.
             GivesUnlessThere (record { node = crossing.link.party; mark = Middle })
             (IsSameAs (S.shown m) crossing.link.party Middle)
             (Some (step_by crossing (infos.Entity true))) self.old self.new)) }
@@ -165,12 +162,9 @@ impl Trail {
     ) -> Result<(), WalkFault<S::Fault>>
         ensures longer { OnOk result (length self.old.marks ≤ length self.new.marks) }
         ensures same_reference { S.lender source.new ≡ S.lender source.old }
-        ensures kept { Kept S.shows S.is_clean S.is_sound S.may_leave source.old source.new }
-        ensures counts { S.fault_count source.new ≡ walk_counted result (S.fault_count source.old) }
-        ensures lasts { OnOk result (StaysClean S.is_clean S.is_sound source.old source.new) }
-        ensures told { Promised S.shows S.is_clean source.old source.new (λ m.
-            IfErr result (λ f. OnWalkSource f S.may_tell)) }
-        ensures walked { OnOk result (Promised S.shows S.is_clean source.old source.new (λ m.
+        ensures kept { Kept S.meaning source.old source.new }
+        ensures accounted { WalkAccounts S.meaning source.old source.new result }
+        ensures walked { OnOk result (Promised S.meaning source.old source.new (λ m.
             AreWhole (S.shown m) self.old.marks → AreWhole (S.shown m) self.new.marks
             × Follows (S.shown m) crossing self.old self.new)) }
     {
@@ -198,12 +192,9 @@ impl Trail {
     ) -> Result<(), WalkFault<S::Fault>>
         ensures longer { OnOk result (length self.old.marks ≤ length self.new.marks) }
         ensures same_reference { S.lender source.new ≡ S.lender source.old }
-        ensures kept { Kept S.shows S.is_clean S.is_sound S.may_leave source.old source.new }
-        ensures counts { S.fault_count source.new ≡ walk_counted result (S.fault_count source.old) }
-        ensures lasts { OnOk result (StaysClean S.is_clean S.is_sound source.old source.new) }
-        ensures told { Promised S.shows S.is_clean source.old source.new (λ m.
-            IfErr result (λ f. OnWalkSource f S.may_tell)) }
-        ensures walked { OnOk result (Promised S.shows S.is_clean source.old source.new (λ m.
+        ensures kept { Kept S.meaning source.old source.new }
+        ensures accounted { WalkAccounts S.meaning source.old source.new result }
+        ensures walked { OnOk result (Promised S.meaning source.old source.new (λ m.
             AreBeside self.old → AreWhole (S.shown m) self.old.marks
             → AreWhole (S.shown m) self.new.marks
             × FollowsTo (S.shown m) crossings.items (length crossings.items)
@@ -226,12 +217,9 @@ impl Trail {
         requires { start ≤ length self.old.marks }
         ensures longer { OnOk result (length self.old.marks ≤ length self.new.marks) }
         ensures same_reference { S.lender source.new ≡ S.lender source.old }
-        ensures kept { Kept S.shows S.is_clean S.is_sound S.may_leave source.old source.new }
-        ensures counts { S.fault_count source.new ≡ walk_counted result (S.fault_count source.old) }
-        ensures lasts { OnOk result (StaysClean S.is_clean S.is_sound source.old source.new) }
-        ensures told { Promised S.shows S.is_clean source.old source.new (λ m.
-            IfErr result (λ f. OnWalkSource f S.may_tell)) }
-        ensures walked { OnOk result (Promised S.shows S.is_clean source.old source.new (λ m.
+        ensures kept { Kept S.meaning source.old source.new }
+        ensures accounted { WalkAccounts S.meaning source.old source.new result }
+        ensures walked { OnOk result (Promised S.meaning source.old source.new (λ m.
             (e : Node) (level : ℕ) → IsAtLevel (S.shown m) e start level self.old
             → IsAtLevel (S.shown m) e (length self.old.marks) (level + 1) self.new)) }
     {
@@ -249,12 +237,9 @@ fn begin<S: LinkSource>(
     target: &Node,
 ) -> Result<Trail, WalkFault<S::Fault>>
     ensures same_reference { S.lender source.new ≡ S.lender source.old }
-    ensures kept { Kept S.shows S.is_clean S.is_sound S.may_leave source.old source.new }
-    ensures counts { S.fault_count source.new ≡ walk_counted result (S.fault_count source.old) }
-    ensures lasts { OnOk result (StaysClean S.is_clean S.is_sound source.old source.new) }
-    ensures told { Promised S.shows S.is_clean source.old source.new (λ m.
-        IfErr result (λ f. OnWalkSource f S.may_tell)) }
-    ensures walked { IfOk result (λ trail. Promised S.shows S.is_clean source.old source.new (λ m.
+    ensures kept { Kept S.meaning source.old source.new }
+    ensures accounted { WalkAccounts S.meaning source.old source.new result }
+    ensures walked { IfOk result (λ trail. Promised S.meaning source.old source.new (λ m.
         IsAtLevel (S.shown m) target.now 0 0 trail)) }
 {
     let nodes = match source.same(target) {
@@ -278,12 +263,9 @@ pub(crate) fn trail_from<S: LinkSource>(
     target: &Node,
 ) -> Result<Trail, WalkFault<S::Fault>>
     ensures same_reference { S.lender source.new ≡ S.lender source.old }
-    ensures kept { Kept S.shows S.is_clean S.is_sound S.may_leave source.old source.new }
-    ensures counts { S.fault_count source.new ≡ walk_counted result (S.fault_count source.old) }
-    ensures lasts { OnOk result (StaysClean S.is_clean S.is_sound source.old source.new) }
-    ensures told { Promised S.shows S.is_clean source.old source.new (λ m.
-        IfErr result (λ f. OnWalkSource f S.may_tell)) }
-    ensures walked { IfOk result (λ trail. Promised S.shows S.is_clean source.old source.new (λ m.
+    ensures kept { Kept S.meaning source.old source.new }
+    ensures accounted { WalkAccounts S.meaning source.old source.new result }
+    ensures walked { IfOk result (λ trail. Promised S.meaning source.old source.new (λ m.
         IsAll (S.shown m) target.now trail)) }
 {
     let mut trail = begin(alloc, source, target)?;

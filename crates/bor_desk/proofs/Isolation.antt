@@ -63,6 +63,7 @@ registrar-filings r ask.Published asked = refl
 registrar-filings r (ask.Snapshot agent declaration date) asked = refl
 registrar-filings r (ask.Chains entity date) asked = refl
 registrar-filings r (ask.Evidence entity date) asked = refl
+registrar-filings r (ask.Entities identifier date) asked = refl
 
 others-filings : (r : Register) (caller : Option Caller) (request : Request) (name : List ℕ) → is_agent name caller ≡ false → filings_of name (step r caller request).register.members ≡ filings_of name r.members
 others-filings r None request name other = refl

@@ -1,4 +1,5 @@
 pub mod SeenChains
+pub mod Accounts
 pub mod SeenSnapshots
 pub mod Reports
 pub mod Steps

@@ -1,12 +1,14 @@
 -- What an agent is told as of a date is told by the statements that it sees dated by then.
 use Rattle.std.proofs.Common.{◌≡◌, ℕ, ℤ, Bool, true, false, cond, Option, Some, None, option_map, List, refl, sym, ap, ◌∙◌, subst}
 use Rattle.std.specs.Prelude.{unwrap_or}
+use Rattle.bods_read.specs.declared.details.Identifier.{Identifier}
 use Rattle.bor_records.specs.declared.row.Row.{Row}
 use Rattle.bor_records.specs.declared.row.Entry.{Entry}
 use Rattle.bor_records.specs.Snapshot.{IsSnapshot, entry_of, open_row, snapshot}
 use Rattle.bor_records.specs.declared.links.node.Node.{Node}
 use Rattle.bor_records.specs.Links.ByKey.{rows_by}
 use Rattle.bor_records.specs.Links.Series.{open_at}
+use Rattle.bor_records.specs.Links.Answers.{Identified}
 use Rattle.bor_records.specs.Links.Shown.{Shown, info_of}
 use Rattle.bor_records.specs.Links.Rows.{is_entity_info, shown_of}
 use Rattle.bor_records.proofs.OpenRecords.{determined}
@@ -23,7 +25,7 @@ use Rattle.bor_desk.specs.declared.refusal.Refusal.TheVariants.{NoEntity}
 use Rattle.bor_desk.specs.Operations.Sight.{seen_by}
 use Rattle.bor_desk.specs.Evidence.{AreLinkEvidence, AreRecords, IsEntityEvidence, IsMentioned, record_node}
 use Rattle.bor_desk.specs.Outcomes.{IsTold}
-use Rattle.bor_desk.specs.Step.{Answer, exactly, evidence, refused, report_on, chains_answer, evidence_answer, snapshot_answer}
+use Rattle.bor_desk.specs.Step.{Answer, exactly, entities, evidence, refused, report_on, chains_answer, evidence_answer, snapshot_answer}
 use Rattle.bor_desk.specs.Laws as laws
 
 -- ---- snapshots
@@ -78,6 +80,12 @@ module _ (day : ℤ) (rows others : List Row) (same : dated_by day rows ≡ date
       at true k = (k.0, evidence_same entity k.0 k.1, k.2)
       at false k = k
 
+  -- ---- entities
+
+  entities_told : (identifier : Identifier) (reply : DeskReply) → IsTold (entities identifier day rows) reply → IsTold (entities identifier day others) reply
+  entities_told identifier reply h =
+      (h.0, records_same (Identified (shown_of day others) identifier) h.0 (subst (λ (s : Shown). AreRecords day rows (Identified s identifier) h.0) shown_same h.1), h.2)
+
 -- ---- what is told
 
 none_named : (day : ℤ) → None ≡ Some day → ⊥
@@ -100,6 +108,10 @@ later_statements_change_no_past name day r q (ask.Evidence entity date) reply is
     subst (λ (d : Option ℤ). IsTold (evidence_answer (seen_by name q) entity (unwrap_or d q.day)) reply) (sym is)
     (evidence_told day (seen_by name r) (seen_by name q) same entity reply
     (subst (λ (d : Option ℤ). IsTold (evidence_answer (seen_by name r) entity (unwrap_or d r.day)) reply) is told))
+later_statements_change_no_past name day r q (ask.Entities identifier date) reply is same told =
+    subst (λ (d : Option ℤ). IsTold (entities identifier (unwrap_or d q.day) (seen_by name q)) reply) (sym is)
+    (entities_told day (seen_by name r) (seen_by name q) same identifier reply
+    (subst (λ (d : Option ℤ). IsTold (entities identifier (unwrap_or d r.day) (seen_by name r)) reply) is told))
 later_statements_change_no_past name day r q (ask.Lodge key due file) reply is same told = absurd (none_named day is)
 later_statements_change_no_past name day r q (ask.Withdraw key) reply is same told = absurd (none_named day is)
 later_statements_change_no_past name day r q ask.Filings reply is same told = absurd (none_named day is)

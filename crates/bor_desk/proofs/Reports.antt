@@ -58,9 +58,9 @@ memory_only before after fault (inl h) = h.0
 memory_only before after fault (inr h) = h.0
 
 -- a keep whose only fault is want of memory
-only_memory : (fault : LodgeFault) (f : StoreFault) (before after : ℕ) → machine.TellsFaultOf {A = Lodged} machine.of_lodging (λ g. g ≡ Memory) (Err fault) before after → Failed f ≡ of_lodging fault → f ≡ Memory
+only_memory : (fault : LodgeFault) (f : StoreFault) (before after : ℕ) → machine.ByStore (machine.of_lodging fault) (Unit {0}) (machine.IsTellable (λ g. g ≡ Memory) before after) → Failed f ≡ of_lodging fault → f ≡ Memory
 only_memory (lodges.Store fault) f before after h e = let same : f ≡ fault = cc in same ∙ memory_only before after fault h
 only_memory fault f before after h e = absurd cc
 
-pub refused-err : (fault : LodgeFault) (given : DeskFault) (made : Result Text StoreFault) (before after : ℕ) → machine.TellsFaultOf {A = Lodged} machine.of_lodging (λ f. f ≡ Memory) (Err fault) before after → given ≡ of_lodging fault → IsFaultTold given made → IfErr made (λ f. f ≡ Memory)
+pub refused-err : (fault : LodgeFault) (given : DeskFault) (made : Result Text StoreFault) (before after : ℕ) → machine.ByStore (machine.of_lodging fault) (Unit {0}) (machine.IsTellable (λ f. f ≡ Memory) before after) → given ≡ of_lodging fault → IsFaultTold given made → IfErr made (λ f. f ≡ Memory)
 refused-err fault given made before after h e told = told-err given made (λ f failed. only_memory fault f before after h (sym failed ∙ e)) told

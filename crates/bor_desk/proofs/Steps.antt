@@ -35,6 +35,7 @@ agent-stays_legal r name ask.Published legal = reading-legal r name legal
 agent-stays_legal r name (ask.Snapshot agent declaration date) legal = reading-legal r name legal
 agent-stays_legal r name (ask.Chains entity date) legal = reading-legal r name legal
 agent-stays_legal r name (ask.Evidence entity date) legal = reading-legal r name legal
+agent-stays_legal r name (ask.Entities identifier date) legal = reading-legal r name legal
 agent-stays_legal r name (ask.Day date) legal = reading-legal r name legal
 agent-stays_legal r name (ask.Enrol new token) legal = reading-legal r name legal
 
@@ -49,6 +50,7 @@ registrar-stays_legal r ask.Published legal = legal
 registrar-stays_legal r (ask.Snapshot agent declaration date) legal = legal
 registrar-stays_legal r (ask.Chains entity date) legal = legal
 registrar-stays_legal r (ask.Evidence entity date) legal = legal
+registrar-stays_legal r (ask.Entities identifier date) legal = legal
 
 -- each request of each caller leaves a legal register legal
 pub step-stays_legal : (r : Register) (caller : Option Caller) (request : Request) → IsLegal r → IsLegal (step r caller request).register

@@ -17,7 +17,7 @@ use Rattle.bor_desk.specs.declared.request.Request.TheVariants as ask
 use Rattle.bor_desk.specs.declared.reply.DeskReply.{DeskReply}
 use Rattle.bor_desk.specs.declared.reply.DeskReply.TheVariants as tell
 use Rattle.bor_desk.specs.Refusals.{of_lodging, of_withdrawal}
-use Rattle.bor_desk.specs.Step.{Answer, exactly, report, evidence, told, own_after, may_change_own, agent_step, registrar_step, step}
+use Rattle.bor_desk.specs.Step.{Answer, exactly, report, evidence, entities, told, own_after, may_change_own, agent_step, registrar_step, step}
 use Rattle.bor_desk.specs.Outcomes.{IsTold}
 use Rattle.bor_desk.specs.Laws.{may_tell_a_change, RefusalChangesNothing, is_read, is_long, ReadsLeave}
 use Rattle.bor_desk.proofs.Steps.{written_back}
@@ -66,6 +66,7 @@ unchanged_by_agent r name ask.Published h = refl
 unchanged_by_agent r name (ask.Snapshot agent declaration date) h = refl
 unchanged_by_agent r name (ask.Chains entity date) h = refl
 unchanged_by_agent r name (ask.Evidence entity date) h = refl
+unchanged_by_agent r name (ask.Entities identifier date) h = refl
 unchanged_by_agent r name (ask.Day date) h = refl
 unchanged_by_agent r name (ask.Enrol new token) h = refl
 
@@ -92,6 +93,7 @@ unchanged_by_registrar r ask.Published h = refl
 unchanged_by_registrar r (ask.Snapshot agent declaration date) h = refl
 unchanged_by_registrar r (ask.Chains entity date) h = refl
 unchanged_by_registrar r (ask.Evidence entity date) h = refl
+unchanged_by_registrar r (ask.Entities identifier date) h = refl
 
 -- ---- refusals
 
@@ -129,6 +131,7 @@ long_told : (answer : Answer) (reply : DeskReply) → IsTold answer reply → is
 long_told (exactly wanted) reply told h = long_is_unchanged wanted (ap is_long (sym told) ∙ h)
 long_told (report entity day shown) reply told h = refl
 long_told (evidence entity day seen) reply told h = refl
+long_told (entities identifier day seen) reply told h = refl
 
 pub reads : ReadsLeave
 reads = record {

@@ -18,7 +18,7 @@ use Rattle.bor_chains.specs.Evidence.{AreEvidenced}
 use Rattle.bor_desk.specs.declared.text.Text.{Text}
 use Rattle.bor_desk.specs.declared.reply.DeskReply.TheVariants as tell
 use Rattle.bor_desk.specs.Texts.{answering, tabbed, refused_text}
-use Rattle.bor_desk.specs.Step.{Answer, exactly, report, evidence}
+use Rattle.bor_desk.specs.Step.{Answer, exactly, report, evidence, entities}
 
 -- a name, or none, as a value of JSON
 abbrev pub name_data : Option (List ℕ) → Data
@@ -109,5 +109,6 @@ pub record IsEvidenceTextOn (shown : Shown) (entity : Node) (day : ℤ) (text : 
 abbrev pub IsTextOf : Answer → Text → Type 0
 IsTextOf (report entity day shown) text = IsReportOn shown entity day text
 IsTextOf (evidence entity day seen) text = IsEvidenceTextOn (shown_of day seen) entity day text
+IsTextOf (entities identifier day seen) text = ⊥
 IsTextOf (exactly (tell.Refused why)) text = text ≡ refused_text why
 IsTextOf (exactly reply) text = ⊥

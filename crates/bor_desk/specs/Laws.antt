@@ -66,6 +66,7 @@ is_read ask.Published = true
 is_read (ask.Snapshot agent declaration date) = true
 is_read (ask.Chains entity date) = true
 is_read (ask.Evidence entity date) = true
+is_read (ask.Entities identifier date) = true
 is_read request = false
 
 -- whether the reply is to a request that only reads, a refusal apart: it may be of any length
@@ -76,6 +77,7 @@ is_long (tell.Published outwards) = true
 is_long (tell.Snapshot date records) = true
 is_long (tell.Chains entity date persons) = true
 is_long (tell.Evidence entity date evidence) = true
+is_long (tell.Entities identifier date records) = true
 is_long reply = false
 
 -- Evidence names exactly the persons that are joined to the entity, those of the report on it.
@@ -144,6 +146,7 @@ abbrev pub date_of : Request → Option ℤ
 date_of (ask.Snapshot agent declaration date) = date
 date_of (ask.Chains entity date) = date
 date_of (ask.Evidence entity date) = date
+date_of (ask.Entities identifier date) = date
 date_of request = None
 
 -- Where an agent sees the same statements dated by a day, it is told the same of that day, whatever

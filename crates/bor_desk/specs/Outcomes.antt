@@ -2,28 +2,32 @@
 use Rattle.std.specs.Prelude.{◌≡◌, ℕ, ℤ, List, Option, Some, None, IfSome, Result, Ok, Err}
 use Rattle.bor_records.specs.declared.links.node.Node.{Node}
 use Rattle.bor_chains.specs.declared.line.PersonLine.{PersonLine}
+use Rattle.bor_records.specs.Links.Answers.{Identified}
+use Rattle.bor_records.specs.Links.Rows.{shown_of}
 use Rattle.bor_records.specs.Links.Shown.{Shown}
 use Rattle.bor_records.specs.declared.row.Row.{Row}
 use Rattle.bor_chains.specs.declared.tree.Evidence.{Evidence}
 use Rattle.bor_chains.specs.Chains.{AreJoined}
 use Rattle.bor_chains.specs.Evidence.{AreEvidenced}
 use Rattle.bor_desk.specs.declared.evidence.lines.EntityEvidence.{EntityEvidence}
+use Rattle.bor_desk.specs.declared.evidence.lines.RecordEvidence.{RecordEvidence}
 use Rattle.bor_register.specs.declared.caller.Caller.{Caller}
 use Rattle.bor_register.specs.declared.caller.Caller.TheVariants.{Agent}
 use Rattle.bor_register.specs.declared.fault.StoreFault.{StoreFault}
 use Rattle.bor_register.specs.Register.{Register, IsOrdered}
-use Rattle.bor_desk.specs.Operations.Outcomes.{ByStore, IsFaultOf, IsTellable}
+use Rattle.bor_desk.specs.Operations.Outcomes.{ByStore}
 use Rattle.bor_desk.specs.declared.request.Request.{Request}
 use Rattle.bor_desk.specs.declared.request.Request.TheVariants as ask
 use Rattle.bor_desk.specs.declared.reply.DeskReply.{DeskReply}
 use Rattle.bor_desk.specs.declared.reply.DeskReply.TheVariants as tell
 use Rattle.bor_desk.specs.declared.refusal.DeskFault.{DeskFault}
 use Rattle.bor_desk.specs.declared.refusal.DeskFault.TheVariants.{Refused, Failed}
-use Rattle.bor_desk.specs.Step.{Answer, exactly, report, evidence, refused, report_on}
+use Rattle.bor_desk.specs.Step.{Answer, exactly, report, evidence, entities, refused, report_on}
 use Rattle.bor_desk.specs.Step.{evidence_answer}
-use Rattle.bor_desk.specs.Evidence.{IsEntityEvidence}
+use Rattle.bor_desk.specs.Evidence.{AreRecords, IsEntityEvidence}
 
--- The reply has the answer: of a report it names exactly the persons that are joined to the entity.
+-- The reply has the answer: of a report it names exactly the persons that are joined to the entity,
+-- of an identifier it has exactly the open entities that have it, as their records say.
 abbrev pub IsTold : Answer → DeskReply → Type 0
 IsTold (exactly wanted) reply = reply ≡ wanted
 IsTold (report entity day shown) reply =
@@ -32,6 +36,10 @@ IsTold (report entity day shown) reply =
 IsTold (evidence entity day seen) reply =
     (told : EntityEvidence) × IsEntityEvidence seen entity day told
     × (reply ≡ tell.Evidence entity day told)
+IsTold (entities identifier day seen) reply =
+    (records : List RecordEvidence)
+    × AreRecords day seen (Identified (shown_of day seen) identifier) records
+    × (reply ≡ tell.Entities identifier day records)
 
 -- the reply that a fault makes
 abbrev pub denial : DeskFault → DeskReply
@@ -58,17 +66,6 @@ IsOrderedFor request r = Unit {0}
 -- was.
 abbrev pub IsLeft : DeskReply → (Register → Type 0) → Register → Register → Type 0
 IsLeft reply shown r after = ByStore (fault_of reply) (shown after) (λ fault. shown r)
-
--- a reply that has a fault of the store has the right one, by whether the keep's count of faults
--- moved; any other leaves the count
-abbrev pub IsReplyAccounted : DeskReply → ℕ → ℕ → Type 0
-IsReplyAccounted reply before after =
-    ByStore (fault_of reply) (after ≡ before) (IsFaultOf before after)
-
--- such a fault is want of memory, or one that the keep may return, by whether the count moved
-abbrev pub TellsFault : (StoreFault → Type 0) → DeskReply → ℕ → ℕ → Type 0
-TellsFault may_tell reply before after =
-    ByStore (fault_of reply) (Unit {0}) (IsTellable may_tell before after)
 
 -- P, where the reply is no fault of the store
 abbrev pub UnlessReplyFailed : DeskReply → Type 0 → Type 0

@@ -1,6 +1,7 @@
 -- The answer to each request, and the register after it (this register's own rules).
 use Rattle.std.specs.Prelude.{ℕ, ℤ, Bool, true, false, List, map, Option, Some, None, unwrap_or}
 use Rattle.std.specs.Prelude.{Result, Ok, Err, if◌then◌else◌}
+use Rattle.bods_read.specs.declared.details.Identifier.{Identifier}
 use Rattle.bor_records.specs.declared.row.Row.{Row}
 use Rattle.bor_records.specs.Snapshot.{snapshot}
 use Rattle.bor_records.specs.declared.links.node.Node.{Node}
@@ -28,11 +29,13 @@ use Rattle.bor_desk.specs.declared.refusal.DeskFault.TheVariants as faults
 use Rattle.bor_desk.specs.Refusals.{of_lodging, of_withdrawal, of_advance, of_enrolment}
 
 -- An answer: exactly a reply, or the report on an entity on a day, by the nodes and links that the
--- caller sees, or its evidence, by the rows that the caller sees.
+-- caller sees, or its evidence, by the rows that the caller sees, or the entities that have an
+-- identifier on a day, by these rows.
 pub data Answer : Type 0 where
   exactly : DeskReply → Answer
   report : Node → ℤ → Shown → Answer
   evidence : Node → ℤ → List Row → Answer
+  entities : Identifier → ℤ → List Row → Answer
 
 abbrev pub refused : Refusal → Answer
 refused why = exactly (tell.Refused why)
@@ -85,6 +88,7 @@ agent_answer s (ask.Snapshot agent declaration date) =
     snapshot_answer s.seen agent declaration (unwrap_or date s.day)
 agent_answer s (ask.Chains entity date) = chains_answer s.seen entity (unwrap_or date s.day)
 agent_answer s (ask.Evidence entity date) = evidence_answer s.seen entity (unwrap_or date s.day)
+agent_answer s (ask.Entities identifier date) = entities identifier (unwrap_or date s.day) s.seen
 agent_answer s (ask.Day date) = refused NotRegistrar
 agent_answer s (ask.Enrol name token) = refused NotRegistrar
 

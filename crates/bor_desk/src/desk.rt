@@ -2,20 +2,21 @@
 
 ghost use Rattle.std.specs.Prelude.{◌≡◌, IfOk, IfErr, unwrap_or, true, false};
 ghost use Rattle.bor_register.specs.Register.{Register, IsOrdered, caller_of, is_enrolled, filings_of, filing_keyed};
-ghost use Rattle.bor_records.specs.Promises.{Kept, Leaves, StaysClean, Promised, Sure};
+ghost use Rattle.bor_records.specs.Promises.{Kept, Leaves, Promised, Reads, Sure};
 ghost use Rattle.bor_desk.specs.Operations.Legality.{IsLegal};
 ghost use Rattle.bor_desk.specs.Operations.Sight.{seen_by, sight_of};
-ghost use Rattle.bor_desk.specs.Operations.Outcomes.{IsCounted};
-ghost use Rattle.bor_desk.specs.Step.{step, agent_answer, agent_step, may_change_own, registrar_step, file_answer, chains_answer, evidence_answer, snapshot_answer};
+ghost use Rattle.bor_desk.specs.Operations.Outcomes.{Accounts};
+ghost use Rattle.bor_desk.specs.Step.{entities, step, agent_answer, agent_step, may_change_own, registrar_step, file_answer, chains_answer, evidence_answer, snapshot_answer};
 ghost use Rattle.bor_desk.specs.Laws.{IsToldAlone};
-ghost use Rattle.bor_desk.specs.Outcomes.{UnlessReplyFailed, IsAnswered, IsLeft, IsNamed, IsOrderedFor, IsReplyAccounted, TellsFault, agent_of, reply_of, denial};
+ghost use Rattle.bor_desk.specs.Outcomes.{fault_of, UnlessReplyFailed, IsAnswered, IsLeft, IsNamed, IsOrderedFor, agent_of, reply_of, denial};
 
-use crate::evidence::evidence_seen;
+use crate::evidence::{entities_seen, evidence_seen};
 use crate::operations::{Caller, Keep, StoreFault, advance, enrol, lodge, withdraw};
 use crate::refusal::{DeskFault, Refusal};
 use crate::reply::{Answered, DeskReply};
 use crate::report::persons_seen;
 use crate::request::Request;
+use bods_read::Identifier;
 use bor_chains::Node;
 use bor_records::snapshot;
 use bor_terms::{AgentName, Day, Ident, Listed, LodgeKey, Token};
@@ -38,13 +39,7 @@ impl From<DeskFault> for DeskReply {
 ///
 /// The keep failed.
 pub fn date_or_day<K: Keep>(keep: &mut K, date: Option<Day>) -> Result<Day, StoreFault>
-    ensures kept { Kept K.shows K.is_clean K.is_sound K.may_leave keep.old keep.new }
-    ensures told { Promised K.shows K.is_clean keep.old keep.new (λ r.
-        IfErr result K.may_tell) }
-    ensures accounted { IsCounted result (K.fault_count keep.old) (K.fault_count keep.new) }
-    ensures lasts { IfOk result (λ _. StaysClean K.is_clean K.is_sound keep.old keep.new) }
-    ensures answer { Promised K.shows K.is_clean keep.old keep.new (λ r.
-        IfOk result (λ day. day ≡ unwrap_or date r.day)) }
+    ensures { Reads K.meaning keep.old keep.new result (λ r day. day ≡ unwrap_or date r.day) }
 {
     match date {
         Some(date) => Ok(date),
@@ -55,15 +50,9 @@ pub fn date_or_day<K: Keep>(keep: &mut K, date: Option<Day>) -> Result<Day, Stor
 // The bytes of the agent's filing under a key, of a withdrawn one too.
 #[tactic(auto, using(crate::proofs::Steps::file_told, crate::proofs::Steps::file_missing))]
 fn file_for<K: Keep>(keep: &mut K, name: &AgentName, key: &LodgeKey) -> Result<DeskReply, DeskFault>
-    ensures kept { Kept K.shows K.is_clean K.is_sound K.may_leave keep.old keep.new }
-    ensures accounted { IsReplyAccounted (reply_of result) (K.fault_count keep.old)
-        (K.fault_count keep.new) }
-    ensures told { Promised K.shows K.is_clean keep.old keep.new (λ r.
-        TellsFault K.may_tell (reply_of result) (K.fault_count keep.old)
-        (K.fault_count keep.new)) }
-    ensures lasts { UnlessReplyFailed (reply_of result)
-        (StaysClean K.is_clean K.is_sound keep.old keep.new) }
-    ensures answer { Promised K.shows K.is_clean keep.old keep.new (λ r.
+    ensures kept { Kept K.meaning keep.old keep.new }
+    ensures accounted { Accounts K.meaning keep.old keep.new (fault_of (reply_of result)) }
+    ensures answer { Promised K.meaning keep.old keep.new (λ r.
         IsAnswered (reply_of result)
         (file_answer (filing_keyed key.now (filings_of name.now r.members)))) }
 {
@@ -82,15 +71,9 @@ fn snapshot_for<K: Keep>(
     declaration: &Ident,
     date: Option<Day>,
 ) -> Result<DeskReply, DeskFault>
-    ensures kept { Kept K.shows K.is_clean K.is_sound K.may_leave keep.old keep.new }
-    ensures accounted { IsReplyAccounted (reply_of result) (K.fault_count keep.old)
-        (K.fault_count keep.new) }
-    ensures told { Promised K.shows K.is_clean keep.old keep.new (λ r.
-        TellsFault K.may_tell (reply_of result) (K.fault_count keep.old)
-        (K.fault_count keep.new)) }
-    ensures lasts { UnlessReplyFailed (reply_of result)
-        (StaysClean K.is_clean K.is_sound keep.old keep.new) }
-    ensures answer { Promised K.shows K.is_clean keep.old keep.new (λ r.
+    ensures kept { Kept K.meaning keep.old keep.new }
+    ensures accounted { Accounts K.meaning keep.old keep.new (fault_of (reply_of result)) }
+    ensures answer { Promised K.meaning keep.old keep.new (λ r.
         IsOrdered r.members → IsAnswered (reply_of result)
         (snapshot_answer (seen_by viewer.now r) agent.now declaration.now (unwrap_or date r.day))) }
 {
@@ -110,15 +93,9 @@ fn chains_for<K: Keep>(
     entity: &Node,
     date: Option<Day>,
 ) -> Result<DeskReply, DeskFault>
-    ensures kept { Kept K.shows K.is_clean K.is_sound K.may_leave keep.old keep.new }
-    ensures accounted { IsReplyAccounted (reply_of result) (K.fault_count keep.old)
-        (K.fault_count keep.new) }
-    ensures told { Promised K.shows K.is_clean keep.old keep.new (λ r.
-        TellsFault K.may_tell (reply_of result) (K.fault_count keep.old)
-        (K.fault_count keep.new)) }
-    ensures lasts { UnlessReplyFailed (reply_of result)
-        (StaysClean K.is_clean K.is_sound keep.old keep.new) }
-    ensures answer { Promised K.shows K.is_clean keep.old keep.new (λ r.
+    ensures kept { Kept K.meaning keep.old keep.new }
+    ensures accounted { Accounts K.meaning keep.old keep.new (fault_of (reply_of result)) }
+    ensures answer { Promised K.meaning keep.old keep.new (λ r.
         IsAnswered (reply_of result)
         (chains_answer (seen_by viewer.now r) entity.now (unwrap_or date r.day))) }
 {
@@ -139,15 +116,9 @@ fn evidence_for<K: Keep>(
     entity: &Node,
     date: Option<Day>,
 ) -> Result<DeskReply, DeskFault>
-    ensures kept { Kept K.shows K.is_clean K.is_sound K.may_leave keep.old keep.new }
-    ensures accounted { IsReplyAccounted (reply_of result) (K.fault_count keep.old)
-        (K.fault_count keep.new) }
-    ensures told { Promised K.shows K.is_clean keep.old keep.new (λ r.
-        TellsFault K.may_tell (reply_of result) (K.fault_count keep.old)
-        (K.fault_count keep.new)) }
-    ensures lasts { UnlessReplyFailed (reply_of result)
-        (StaysClean K.is_clean K.is_sound keep.old keep.new) }
-    ensures answer { Promised K.shows K.is_clean keep.old keep.new (λ r.
+    ensures kept { Kept K.meaning keep.old keep.new }
+    ensures accounted { Accounts K.meaning keep.old keep.new (fault_of (reply_of result)) }
+    ensures answer { Promised K.meaning keep.old keep.new (λ r.
         IsAnswered (reply_of result)
         (evidence_answer (seen_by viewer.now r) entity.now (unwrap_or date r.day))) }
 {
@@ -160,6 +131,29 @@ fn evidence_for<K: Keep>(
     })
 }
 
+// The open entities that have an identifier on a date, as the viewer sees it.
+fn entities_for<K: Keep>(
+    alloc: Global,
+    keep: &mut K,
+    viewer: &AgentName,
+    identifier: &Identifier,
+    date: Option<Day>,
+) -> Result<DeskReply, DeskFault>
+    ensures kept { Kept K.meaning keep.old keep.new }
+    ensures accounted { Accounts K.meaning keep.old keep.new (fault_of (reply_of result)) }
+    ensures answer { Promised K.meaning keep.old keep.new (λ r.
+        IsAnswered (reply_of result)
+        (entities identifier.now (unwrap_or date r.day) (seen_by viewer.now r))) }
+{
+    let date = date_or_day(keep, date)?;
+    let records = entities_seen(alloc, keep, viewer, identifier, date)?;
+    Ok(DeskReply::Entities {
+        identifier: identifier.copy(alloc)?,
+        date,
+        records: Listed::new(records),
+    })
+}
+
 // The answer to an agent where its filings stay as they are: the data that it reads, or that it
 // isn't the registrar.
 fn tell_agent<K: Keep>(
@@ -169,15 +163,9 @@ fn tell_agent<K: Keep>(
     request: &Request,
 ) -> Result<DeskReply, DeskFault>
     requires { may_change_own request.now ≡ false }
-    ensures kept { Kept K.shows K.is_clean K.is_sound K.may_leave keep.old keep.new }
-    ensures accounted { IsReplyAccounted (reply_of result) (K.fault_count keep.old)
-        (K.fault_count keep.new) }
-    ensures told { Promised K.shows K.is_clean keep.old keep.new (λ r.
-        TellsFault K.may_tell (reply_of result) (K.fault_count keep.old)
-        (K.fault_count keep.new)) }
-    ensures lasts { UnlessReplyFailed (reply_of result)
-        (StaysClean K.is_clean K.is_sound keep.old keep.new) }
-    ensures answer { Promised K.shows K.is_clean keep.old keep.new (λ r.
+    ensures kept { Kept K.meaning keep.old keep.new }
+    ensures accounted { Accounts K.meaning keep.old keep.new (fault_of (reply_of result)) }
+    ensures answer { Promised K.meaning keep.old keep.new (λ r.
         IsOrderedFor request.now r
         → IsAnswered (reply_of result) (agent_answer (sight_of name.now r) request.now)) }
 {
@@ -192,6 +180,9 @@ fn tell_agent<K: Keep>(
         } => snapshot_for(alloc, keep, name, agent, declaration, *date),
         Request::Chains { entity, date } => chains_for(alloc, keep, name, entity, *date),
         Request::Evidence { entity, date } => evidence_for(alloc, keep, name, entity, *date),
+        Request::Entities { identifier, date } => {
+            entities_for(alloc, keep, name, identifier, *date)
+        }
         Request::Day { .. } | Request::Enrol { .. } => {
             Err(DeskFault::Refused(Refusal::NotRegistrar))
         }
@@ -205,23 +196,17 @@ fn answer_agent<K: Keep>(
     name: &AgentName,
     request: &Request,
 ) -> Result<DeskReply, DeskFault>
-    requires enrolled { Sure K.shows K.is_clean keep.old (λ r.
+    requires enrolled { Sure K.meaning keep.old (λ r.
         is_enrolled name.now r.members ≡ true) }
-    ensures leaves { Leaves K.shows K.is_clean K.is_sound K.may_leave keep.old keep.new
-        (λ r left. K.left_shows left (agent_step r name.now request.now).register) }
-    ensures step { Promised K.shows K.is_clean keep.old keep.new (λ r.
+    ensures leaves { Leaves K.meaning keep.old keep.new
+        (λ r left. K.meaning.left_shows left (agent_step r name.now request.now).register) }
+    ensures step { Promised K.meaning keep.old keep.new (λ r.
         IsOrderedFor request.now r
         → IsAnswered (reply_of result) (agent_step r name.now request.now).answer) }
-    ensures left { Promised K.shows K.is_clean keep.old keep.new (λ r.
-        IsLeft (reply_of result) (K.shows keep.new) r
+    ensures left { Promised K.meaning keep.old keep.new (λ r.
+        IsLeft (reply_of result) (K.meaning.shows keep.new) r
         (agent_step r name.now request.now).register) }
-    ensures accounted { IsReplyAccounted (reply_of result) (K.fault_count keep.old)
-        (K.fault_count keep.new) }
-    ensures told { Promised K.shows K.is_clean keep.old keep.new (λ r.
-        TellsFault K.may_tell (reply_of result) (K.fault_count keep.old)
-        (K.fault_count keep.new)) }
-    ensures lasts { UnlessReplyFailed (reply_of result)
-        (StaysClean K.is_clean K.is_sound keep.old keep.new) }
+    ensures accounted { Accounts K.meaning keep.old keep.new (fault_of (reply_of result)) }
 {
     match request {
         Request::Lodge { key, due, file } => Ok(DeskReply::Lodged(lodge(
@@ -242,19 +227,14 @@ fn answer_registrar<K: Keep>(
     keep: &mut K,
     request: &Request,
 ) -> Result<DeskReply, DeskFault>
-    ensures leaves { Leaves K.shows K.is_clean K.is_sound K.may_leave keep.old keep.new
-        (λ r left. K.left_shows left (registrar_step r request.now).register) }
-    ensures step { Promised K.shows K.is_clean keep.old keep.new (λ r.
+    ensures leaves { Leaves K.meaning keep.old keep.new
+        (λ r left. K.meaning.left_shows left (registrar_step r request.now).register) }
+    ensures step { Promised K.meaning keep.old keep.new (λ r.
         IsAnswered (reply_of result) (registrar_step r request.now).answer) }
-    ensures left { Promised K.shows K.is_clean keep.old keep.new (λ r.
-        IsLeft (reply_of result) (K.shows keep.new) r (registrar_step r request.now).register) }
-    ensures accounted { IsReplyAccounted (reply_of result) (K.fault_count keep.old)
-        (K.fault_count keep.new) }
-    ensures told { Promised K.shows K.is_clean keep.old keep.new (λ r.
-        TellsFault K.may_tell (reply_of result) (K.fault_count keep.old)
-        (K.fault_count keep.new)) }
-    ensures lasts { UnlessReplyFailed (reply_of result)
-        (StaysClean K.is_clean K.is_sound keep.old keep.new) }
+    ensures left { Promised K.meaning keep.old keep.new (λ r.
+        IsLeft (reply_of result) (K.meaning.shows keep.new) r
+        (registrar_step r request.now).register) }
+    ensures accounted { Accounts K.meaning keep.old keep.new (fault_of (reply_of result)) }
 {
     match request {
         Request::Day { date } => Ok(DeskReply::Day(advance(keep, *date)?)),
@@ -270,7 +250,8 @@ fn answer_registrar<K: Keep>(
         | Request::Published
         | Request::Snapshot { .. }
         | Request::Chains { .. }
-        | Request::Evidence { .. } => Err(DeskFault::Refused(Refusal::NotAgent)),
+        | Request::Evidence { .. }
+        | Request::Entities { .. } => Err(DeskFault::Refused(Refusal::NotAgent)),
     }
 }
 
@@ -289,7 +270,7 @@ fn named(agent: Option<AgentName>, made: Result<DeskReply, DeskFault>) -> Answer
 }
 
 /// Answers the request of whoever has the token, as [`answer`] does, and names the agent that has
-/// it.
+/// it; beside `Failed` it may name none. `alone` and `legal` of [`answer`] aren't repeated here.
 ///
 /// The name is the one that the keep returned for the answer: it isn't asked once more.
 pub fn answer_naming<K: Keep>(
@@ -298,21 +279,18 @@ pub fn answer_naming<K: Keep>(
     token: &Token,
     request: &Request,
 ) -> Answered
-    ensures leaves { Leaves K.shows K.is_clean K.is_sound K.may_leave keep.old keep.new
-        (λ r left. K.left_shows left (step r (caller_of token.now r) request.now).register) }
-    ensures step { Promised K.shows K.is_clean keep.old keep.new (λ r. IsOrderedFor request.now r
+    ensures leaves { Leaves K.meaning keep.old keep.new (λ r left.
+        K.meaning.left_shows left (step r (caller_of token.now r) request.now).register) }
+    ensures step { Promised K.meaning keep.old keep.new (λ r. IsOrderedFor request.now r
         → IsAnswered result.reply (step r (caller_of token.now r) request.now).answer) }
-    ensures left { Promised K.shows K.is_clean keep.old keep.new (λ r.
-        IsLeft result.reply (K.shows keep.new) r
+    ensures left { Promised K.meaning keep.old keep.new (λ r.
+        IsLeft result.reply (K.meaning.shows keep.new) r
         (step r (caller_of token.now r) request.now).register) }
-    ensures agent { Promised K.shows K.is_clean keep.old keep.new (λ r.
+    ensures agent { Promised K.meaning keep.old keep.new (λ r.
         IsNamed result.reply result.agent (agent_of (caller_of token.now r))) }
-    ensures accounted { IsReplyAccounted result.reply (K.fault_count keep.old)
-        (K.fault_count keep.new) }
-    ensures told { Promised K.shows K.is_clean keep.old keep.new (λ r.
-        TellsFault K.may_tell result.reply (K.fault_count keep.old)
-        (K.fault_count keep.new)) }
-    ensures up { UnlessReplyFailed result.reply (K.is_sound keep.new → K.is_clean keep.new) }
+    ensures accounted { Accounts K.meaning keep.old keep.new (fault_of result.reply) }
+    ensures up { UnlessReplyFailed result.reply (K.meaning.is_sound keep.new
+        → K.meaning.is_clean keep.new) }
 {
     match keep.who(token) {
         Err(fault) => named(None, Err(DeskFault::Failed(fault))),
@@ -329,32 +307,33 @@ pub fn answer_naming<K: Keep>(
 ///
 /// The refusals are, in their order: `NoAgent` where nobody has the token; `NotRegistrar` where an
 /// agent asks for the registrar's doing; `NotAgent` where the registrar asks for anything else;
-/// then the operation's own. A refusal leaves the register as it was, and so does `Failed`, unless
-/// the store shut in its commit. No call of the keep is made that the request doesn't need. Where
-/// the store has shut, or shuts meanwhile, the reply is `Failed`, if the store has returned what
-/// was written.
+/// then the operation's own. `Failed` may come in place of any other reply: for want of memory, or
+/// where the keep's count of faults has moved (`accounted`). Where the store has shut, or shuts
+/// meanwhile, it is `Failed`, if the store has returned what was written (`up`).
 ///
-/// The clause on the register that is left holds of every register, and so does the one on the
-/// reply, but for snapshots: that one holds of registers whose agents stand in order of their
-/// names, as every legal one's do.
+/// The rest is said of each register that the keep showed, where it ends clean. A refusal leaves it
+/// as it was, and so does `Failed` (`left`). The reply is that of `step`; of a snapshot only where
+/// agents stand in order of their names, as each legal register's do. Of a legal one, an agent gets
+/// the reply that it would get alone with what others have published: no draft of theirs changes it
+/// (`alone`); and a legal one is left (`legal`). After a stop the next keep shows what it might
+/// have shown after a stop before the call or, where the keep was clean, the register after the
+/// request, while the store returns what was written (`leaves`).
 pub fn answer<K: Keep>(alloc: Global, keep: &mut K, token: &Token, request: &Request) -> DeskReply
-    ensures leaves { Leaves K.shows K.is_clean K.is_sound K.may_leave keep.old keep.new
-        (λ r left. K.left_shows left (step r (caller_of token.now r) request.now).register) }
-    ensures step { Promised K.shows K.is_clean keep.old keep.new (λ r.
+    ensures leaves { Leaves K.meaning keep.old keep.new (λ r left.
+        K.meaning.left_shows left (step r (caller_of token.now r) request.now).register) }
+    ensures step { Promised K.meaning keep.old keep.new (λ r.
         IsOrderedFor request.now r
         → IsAnswered result (step r (caller_of token.now r) request.now).answer) }
-    ensures left { Promised K.shows K.is_clean keep.old keep.new (λ r.
-        IsLeft result (K.shows keep.new) r (step r (caller_of token.now r) request.now).register) }
-    ensures alone { Promised K.shows K.is_clean keep.old keep.new (λ r.
+    ensures left { Promised K.meaning keep.old keep.new (λ r.
+        IsLeft result (K.meaning.shows keep.new) r
+        (step r (caller_of token.now r) request.now).register) }
+    ensures alone { Promised K.meaning keep.old keep.new (λ r.
         IsLegal r → IsToldAlone result (caller_of token.now r) r request.now) }
-    ensures accounted { IsReplyAccounted result (K.fault_count keep.old)
-        (K.fault_count keep.new) }
-    ensures told { Promised K.shows K.is_clean keep.old keep.new (λ r.
-        TellsFault K.may_tell result (K.fault_count keep.old)
-        (K.fault_count keep.new)) }
-    ensures up { UnlessReplyFailed result (K.is_sound keep.new → K.is_clean keep.new) }
-    ensures legal { Promised K.shows K.is_clean keep.old keep.new (λ r.
-        IsLegal r → (left : Register) × K.shows keep.new left × IsLegal left) }
+    ensures accounted { Accounts K.meaning keep.old keep.new (fault_of result) }
+    ensures up { UnlessReplyFailed result (K.meaning.is_sound keep.new
+        → K.meaning.is_clean keep.new) }
+    ensures legal { Promised K.meaning keep.old keep.new (λ r.
+        IsLegal r → (left : Register) × K.meaning.shows keep.new left × IsLegal left) }
 {
     let Answered { reply, .. } = answer_naming(alloc, keep, token, request);
     reply

@@ -13,9 +13,9 @@
 //! assert!(rt; matches!(&reply, DeskReply::Published(outwards) if outwards.as_slice().is_empty()));
 //! ```
 //!
-//! [`check_text`], [`report_text`] and [`evidence_text`] give what the program prints. What is done to a register on
-//! the way stands in [`operations`], the register in memory in [`memory`], and a keep with such a
-//! register beside it in [`mirror`].
+//! [`check_text`], [`report_text`] and [`evidence_text`] give what `bor check` and `bor report`
+//! print. What is done to a register on the way stands in [`operations`], the register in memory in
+//! [`memory`], and a keep with such a register beside it in [`mirror`].
 //!
 //! Nothing is read or printed here, and no HTTP is known of: requests come in as values, and
 //! replies go out as values or as bytes of a text.

@@ -1,8 +1,9 @@
 //! The replies to a caller.
 
-use crate::evidence::EntityEvidence;
+use crate::evidence::{EntityEvidence, RecordEvidence};
 use crate::operations::{FilingLine, Lodged, Outward, StoreFault};
 use crate::refusal::Refusal;
+use bods_read::Identifier;
 use bor_chains::{Node, PersonLine};
 use bor_records::Entry;
 use bor_terms::{AgentName, Day, Listed};
@@ -38,6 +39,13 @@ pub enum DeskReply {
         entity: Node,
         date: Day,
         evidence: EntityEvidence,
+    },
+    /// The open entities that have the identifier on the date, as their records say, by agent,
+    /// declaration and record.
+    Entities {
+        identifier: Identifier,
+        date: Day,
+        records: Listed<RecordEvidence>,
     },
     /// The register's day, once it is moved.
     Day(Day),

@@ -4,9 +4,9 @@ ghost use Rattle.std.specs.Prelude.{◌≡◌, ◌++◌, ℕ, List, Some, IfOk, 
 ghost use Rattle.serde_json.specs.Written.{compact_text};
 ghost use Rattle.bor_terms.specs.Day.{IsSpelling};
 ghost use Rattle.bor_records.specs.Links.Rows.{shown_of};
-ghost use Rattle.bor_records.specs.Promises.{Kept, StaysClean, Promised};
+ghost use Rattle.bor_records.specs.Promises.{Kept, Promised};
 ghost use Rattle.bor_desk.specs.Operations.Sight.{seen_by};
-ghost use Rattle.bor_desk.specs.Operations.Outcomes.{UnlessFailed, IsAccounted, TellsFaultOf};
+ghost use Rattle.bor_desk.specs.Operations.Outcomes.{Accounts, store_fault};
 ghost use Rattle.bor_desk.specs.Refusals.{failed};
 ghost use Rattle.bor_desk.specs.Step.{chains_answer};
 ghost use Rattle.bor_desk.specs.Outcomes.{ArePersonsFound};
@@ -30,16 +30,11 @@ pub(crate) fn persons_seen<K: Keep>(
     entity: &Node,
     day: Day,
 ) -> Result<Vec<PersonLine>, DeskFault>
-    ensures kept { Kept K.shows K.is_clean K.is_sound K.may_leave keep.old keep.new }
-    ensures answer { Promised K.shows K.is_clean keep.old keep.new (λ r.
+    ensures kept { Kept K.meaning keep.old keep.new }
+    ensures answer { Promised K.meaning keep.old keep.new (λ r.
         ArePersonsFound (λ persons. persons.items) result
         (shown_of day (seen_by viewer.now r)) entity.now day) }
-    ensures accounted { IsAccounted failed result (K.fault_count keep.old)
-        (K.fault_count keep.new) }
-    ensures told { Promised K.shows K.is_clean keep.old keep.new (λ r.
-        TellsFaultOf failed K.may_tell result (K.fault_count keep.old) (K.fault_count keep.new)) }
-    ensures lasts { UnlessFailed failed result
-        (StaysClean K.is_clean K.is_sound keep.old keep.new) }
+    ensures accounted { Accounts K.meaning keep.old keep.new (store_fault failed result) }
 {
     let mut source = KeepSource::new(keep, viewer, day);
     Ok(persons_of(alloc, &mut source, entity)?)
@@ -158,14 +153,10 @@ pub fn report_text<K: Keep>(
     entity: &Node,
     day: Day,
 ) -> Result<Text, StoreFault>
-    ensures kept { Kept K.shows K.is_clean K.is_sound K.may_leave keep.old keep.new }
-    ensures text { Promised K.shows K.is_clean keep.old keep.new (λ r.
+    ensures kept { Kept K.meaning keep.old keep.new }
+    ensures text { Promised K.meaning keep.old keep.new (λ r.
         IfOk result (λ text. IsTextOf (chains_answer (seen_by viewer.now r) entity.now day) text)) }
-    ensures accounted { IsAccounted Some result (K.fault_count keep.old)
-        (K.fault_count keep.new) }
-    ensures told { Promised K.shows K.is_clean keep.old keep.new (λ r.
-        TellsFaultOf Some K.may_tell result (K.fault_count keep.old) (K.fault_count keep.new)) }
-    ensures lasts { UnlessFailed Some result (StaysClean K.is_clean K.is_sound keep.old keep.new) }
+    ensures accounted { Accounts K.meaning keep.old keep.new (store_fault Some result) }
 {
     match persons_seen(alloc, keep, viewer, entity, day) {
         Ok(persons) => Ok(persons_text(alloc, entity, day, &persons)?),

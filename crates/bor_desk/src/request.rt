@@ -1,5 +1,6 @@
 //! The requests of a caller.
 
+use bods_read::Identifier;
 use bor_chains::Node;
 use bor_terms::{AgentName, Day, Ident, Listed, LodgeKey, Token};
 
@@ -38,6 +39,11 @@ pub enum Request {
     /// Tells why the persons behind an entity are named on a day; without one, on the register's.
     Evidence {
         entity: Node,
+        date: Option<Day>,
+    },
+    /// Finds the open entities that have an identifier on a day; without one, on the register's.
+    Entities {
+        identifier: Identifier,
         date: Option<Day>,
     },
     /// Moves the register's day.

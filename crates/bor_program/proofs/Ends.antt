@@ -12,7 +12,7 @@ use Rattle.bor_program.specs.declared.status.Status.{Status}
 use Rattle.bor_words.specs.declared.source.Source.{Source}
 use Rattle.bor_words.specs.declared.source.Source.TheVariants.{StandardInput, File}
 use Rattle.bor_program.specs.Program.{EndsReport, EndsReportOf, EndsText, IfFile, IsReportedOf, IsReportedOrCutOff, exit_code}
-use Rattle.bor_program.specs.Streams.{AppendsPart, TakesAtMostPart, part_read}
+use Rattle.bor_program.specs.Streams.{AppendsPart, part_read}
 
 -- what holds of every value holds of the one that is there
 pub whatever : {X : Type 0} (o : Option X) {P : X → Type 0} → ((x : X) → P x) → IfSome o P
@@ -31,9 +31,6 @@ kept_none (Some xs) (Some ys) h = h ∙ sym (append-nil xs)
 -- nothing is a front of whatever was to be written
 pub part_none : (before after : Option (List ℕ)) (bytes : List ℕ) → Keeps before after → AppendsPart before after bytes
 part_none before after bytes h = ([], bytes, refl, kept_none before after h)
-
-pub kept_as : (before after last : Option (List ℕ)) → last ≡ after → Keeps before after → Keeps before last
-kept_as before after last same h = subst (λ (o : Option (List ℕ)). Keeps before o) (sym same) h
 
 pub part_as : (before after last : Option (List ℕ)) (bytes : List ℕ) → last ≡ after → AppendsPart before after bytes → AppendsPart before last bytes
 part_as before after last bytes same h = subst (λ (o : Option (List ℕ)). AppendsPart before o bytes) (sym same) h
@@ -66,25 +63,6 @@ pub cut_unwritten : (bytes : List ℕ) (before after last : Option (List ℕ)) (
     → IsReportedOrCutOff bytes before last code
 cut_unwritten bytes before after last code same three kept =
     inr (record { text = part_as before after last (check_report bytes).bytes same (part_none before after (check_report bytes).bytes kept); told = three })
-
-pub told_one : (bytes : List ℕ) (before after last : Option (List ℕ)) (status code : ℕ) → last ≡ after → code ≡ status
-    → IsReportedOrCutOff bytes before after status → IsReportedOrCutOff bytes before last code
-told_one bytes before after last status code same e h =
-    let P : ℕ → Type 0 = λ n. IsReportedOrCutOff bytes before last n in
-    let Q : Option (List ℕ) → Type 0 = λ o. IsReportedOrCutOff bytes before o status in
-    subst P (sym e) (subst Q (sym same) h)
-
-pub told_some : (before after last : Option (List ℕ)) (status code : ℕ) → last ≡ after → code ≡ status
-    → ((bytes : List ℕ) × IsReportedOrCutOff bytes before after status) → (bytes : List ℕ) × IsReportedOrCutOff bytes before last code
-told_some before after last status code same e h = (h.0, told_one h.0 before after last status code same e h.1)
-
-pub told_known : (o before after last : Option (List ℕ)) (status code : ℕ) → last ≡ after → code ≡ status
-    → IfSome o (λ bytes. IsReportedOrCutOff (part_read bytes) before after status) → IfSome o (λ bytes. IsReportedOrCutOff (part_read bytes) before last code)
-told_known None before after last status code same e h = tt
-told_known (Some bytes) before after last status code same e h = told_one (part_read bytes) before after last status code same e h
-
-pub took_as : (before after last : Option (List ℕ)) → last ≡ after → TakesAtMostPart before after → TakesAtMostPart before last
-took_as before after last same h = subst (λ (o : Option (List ℕ)). TakesAtMostPart before o) (sym same) h
 
 pub memory_is_no_help : (kind : ErrorKind) → kind ≡ OutOfMemory → kind ≢ DisplayHelp
 memory_is_no_help kind e help = let none : DisplayHelp ≡ OutOfMemory = sym help ∙ e in cc

@@ -17,6 +17,7 @@ routed asks.Published = refl
 routed asks.Snapshot = refl
 routed asks.Chains = refl
 routed asks.Evidence = refl
+routed asks.Entities = refl
 routed asks.Day = refl
 routed asks.Enrol = refl
 

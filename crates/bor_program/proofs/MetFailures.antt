@@ -7,12 +7,13 @@ use Rattle.bor_register.specs.declared.fault.StoreFault.TheVariants as fault
 use Rattle.bor_program.specs.declared.failure.Failure.{Failure}
 use Rattle.bor_program.specs.declared.failure.Failure.TheVariants.{Unreadable, NoRegister, OtherVersion, Taken, Registered, NoToken, Memory, Store, Unlistening, Unwritable}
 use Rattle.bor_program.specs.Failures.{IsMetIn, IsMetListening, IsMetOnKeep, IsOpeningOf, IsWantOfMemory, LeavesOutput, failure_line, failure_of}
+use Rattle.bor_program.specs.Courses.{Course, IsDone}
 use Rattle.bor_program.specs.Deeds.{Deed, Fails}
 use Rattle.bor_program.specs.Performing.{FailsToOpen}
 use Rattle.bor_desk.specs.CheckReport.{check_report}
 use Rattle.bor_desk.specs.declared.text.Text.{Text as Written}
 use Rattle.bor_program.specs.Program.{IsWrittenOrCutOff, report_status}
-use Rattle.bor_program.specs.Streams.{AppendsPart}
+use Rattle.bor_program.specs.Streams.{AppendsPart, Streams}
 use Rattle.bor_program.proofs.Ends.{keeps_same, part_none}
 use Rattle.clap.specs.Words.{Text}
 
@@ -45,10 +46,10 @@ met_opened path Told before after failure (inr e) = record { cause = inr e; outp
 pub met_opening : (path : Bor Text) (known : Option (List ℕ)) (failure : Failure) → IsOpeningOf path failure → IsMetIn path known known failure
 met_opening path known failure h = record { cause = inl h; output = leaves known known failure (keeps_same known) }
 
-pub fails_to_open : {M K : Type 0} (does : M → Deed K → M → Type 0) (begun ended : M) (path : Bor Text) (known errors told : Option (List ℕ)) (failure : Failure) (status : ℕ) → status ≡ 3
-    → does begun (Fails path failure) ended → IsOpeningOf path failure → AppendsPart errors told (failure_line failure) → FailsToOpen does begun ended path known known errors told status
-fails_to_open does begun ended path known errors told failure status three fails h line =
-    record { status_is = three; kept = keeps_same known; failure = failure; fails = fails; cause = h; line = line }
+pub fails_to_open : {M K : Type 0} (files : Course M (Deed K)) (path : Bor Text) (streams : Streams) (failure : Failure) → streams.status ≡ 3 → Keeps streams.output streams.printed
+    → IsDone files (Fails path failure) → IsOpeningOf path failure → AppendsPart streams.errors streams.told (failure_line failure) → FailsToOpen files path streams
+fails_to_open files path streams failure three kept fails h line =
+    record { status_is = three; kept = kept; failure = failure; fails = fails; cause = h; line = line }
 
 -- ---- failures of a server before its first connection
 

@@ -1,5 +1,7 @@
 -- Bytes that are written part by part, and how replies end.
+use Rattle.bor_register.specs.declared.fault.StoreFault.{StoreFault}
 use Rattle.std.proofs.Common.{◌≡◌, ◌∙◌, ◌≤◌, ◌⊎◌, ℕ, List, [], ◌∷◌, ◌++◌, Option, Some, None, Result, Ok, Err, ap, arith, inl, inr, refl, sym, subst, true, false, Bool, max, ◌+◌, ◌/◌, ◌<◌, IfSome, length, option_map, take, append-nil, append_assoc, lit≤}
+use Rattle.std.specs.Prelude.{⊤}
 use Rattle.std.specs.Borrow.{Bor}
 use Rattle.std.specs.Io.KnownBytes.{Appends, Keeps}
 use Rattle.std.proofs.KnownBytes.{Appends-trans}
@@ -14,18 +16,18 @@ use Rattle.std.specs.Result.{is_err}
 use Rattle.bor_program.specs.Inputs.{AreReadOf}
 use Rattle.bor_program.specs.Reporting.{EndsTelling}
 use Rattle.bor_program.specs.Program.{exit_code, report_status}
-use Rattle.bor_program.specs.Replying.{AreAnswers, IsSentOrCutOff, EndsFiles, EndsSending, is_refusal, replies_status, reply_status, sent}
+use Rattle.bor_program.specs.Replying.{AreAnswers, AreRepliesLeaving, AreRepliesTo, IsSentOrCutOff, EndsFiles, EndsSending, is_refusal, replies_status, reply_status, sent}
 use Rattle.bor_program.specs.Streams.{AppendsPart}
-use Rattle.bor_records.specs.Promises.{Promised}
+use Rattle.bor_records.specs.Promises.{Meaning, Promised}
 use Rattle.bor_register.specs.Register.{Register}
 use Rattle.bor_desk.specs.Operations.Legality.{IsLegal}
 use Rattle.bor_wire.specs.Spelling.Spell.{Spelled}
-use Rattle.bor_wire.specs.Histories.{IsAlone}
 use Rattle.bor_wire.specs.Refused.{IsFull}
 use Rattle.bor_wire.specs.Rendering.Heads.{status_line}
-use Rattle.bor_wire.specs.Reports.{AreReports}
-use Rattle.bor_wire.specs.Runs.{AreReplies, AreSpelled, full, register_left, served}
+use Rattle.bor_wire.specs.Replays.{IsReplayed}
+use Rattle.bor_wire.specs.Runs.{AreSpelled, full, served}
 use Rattle.bor_wire.specs.Turns.{InTurn}
+use Rattle.bor_wire.proofs.SequenceLaws.{run_over}
 use Rattle.bor_program.proofs.Ends.{part_none}
 use Rattle.bor_program.proofs.FilesRead.{none_read}
 use Rattle.bor_program.proofs.KnownBytes.{IsWritten}
@@ -119,44 +121,37 @@ sent_as P Q Reads names last before after code e wider h =
 
 -- ---- what is answered of a register
 
-none_yet : {K Left : Type 0} (shows : K → Register → Type 0) (is_clean is_sound : K → Type 0) (may_leave : K → Left → Type 0) (left_shows : Left → Register → Type 0) (state : K) → AreAnswers shows is_clean is_sound may_leave left_shows state state [] []
-none_yet shows is_clean is_sound may_leave left_shows state = record {
+none_yet : {K Left : Type 0} (meaning : Meaning K Register Left StoreFault) (state : K) → AreAnswers meaning state state [] []
+none_yet meaning state = record {
   began = λ clean. clean;
-  answers = λ r shown clean legal. record {
-    replies_to = record { count = refl; spelled = []; spells = tt; replied = tt; alone = λ name. tt; reports = tt };
-    left = shown;
-  };
+  answers = λ r shown clean legal. record { count = refl; spelled = []; spells = tt; run = run_over (meaning.shows state) r [] [] legal tt shown };
   in_turn = record { exchanges = []; turns = tt; each = tt; answer_clean = tt; left = refl };
 }
 
 -- nothing was answered, and the register is as it was
-pub none_answered : {K Left : Type 0} (shows : K → Register → Type 0) (is_clean is_sound : K → Type 0) (may_leave : K → Left → Type 0) (left_shows : Left → Register → Type 0) (opened left : K) → left ≡ opened
-    → AreAnswers shows is_clean is_sound may_leave left_shows opened left [] []
-none_answered shows is_clean is_sound may_leave left_shows opened left same =
-    subst (λ k. AreAnswers shows is_clean is_sound may_leave left_shows opened k [] []) (sym same) (none_yet shows is_clean is_sound may_leave left_shows opened)
+pub none_answered : {K Left : Type 0} (meaning : Meaning K Register Left StoreFault) (opened left : K) → left ≡ opened
+    → AreAnswers meaning opened left [] []
+none_answered meaning opened left same =
+    subst (λ k. AreAnswers meaning opened k [] []) (sym same) (none_yet meaning opened)
 
 -- what is said of all that the inputs spell is said of them
-pub all_answered : {K Left : Type 0} (shows : K → Register → Type 0) (is_clean is_sound : K → Type 0) (may_leave : K → Left → Type 0) (left_shows : Left → Register → Type 0) (opened left : K) (inputs : List (List ℕ)) (replies : List Reply)
-    → (is_clean left → is_clean opened) → length replies ≡ length inputs → ((spelled : List Spelled) × AreSpelled (served inputs replies) spelled)
-    → Promised shows is_clean opened left (λ r. IsLegal r → (spelled : List Spelled) → AreSpelled (served inputs replies) spelled → AreReplies r spelled (full replies))
-    → Promised shows is_clean opened left (λ r. IsLegal r → (spelled : List Spelled) → AreSpelled (served inputs replies) spelled → shows left (register_left r spelled))
-    → Promised shows is_clean opened left (λ r. IsLegal r → (spelled : List Spelled) → AreSpelled (served inputs replies) spelled → (name : List ℕ) → IsAlone name r spelled (full replies))
-    → Promised shows is_clean opened left (λ r. IsLegal r → (spelled : List Spelled) → AreSpelled (served inputs replies) spelled → AreReports r spelled (full replies))
-    → InTurn shows is_clean is_sound may_leave left_shows opened left inputs replies → AreAnswers shows is_clean is_sound may_leave left_shows opened left inputs replies
-all_answered shows is_clean is_sound may_leave left_shows opened left inputs replies began count spelled are leaves alone reports turns = record {
+pub all_answered : {K Left : Type 0} (meaning : Meaning K Register Left StoreFault) (opened left : K) (inputs : List (List ℕ)) (replies : List Reply)
+    → (meaning.is_clean left → meaning.is_clean opened) → length replies ≡ length inputs → ((spelled : List Spelled) × AreSpelled (served inputs replies) spelled)
+    → Promised meaning opened left (λ r. IsLegal r → IsReplayed (meaning.shows left) r inputs replies)
+    → InTurn meaning opened left inputs replies → AreAnswers meaning opened left inputs replies
+all_answered meaning opened left inputs replies began count spelled run turns = record {
   began = began;
-  answers = λ r shown clean legal. record {
-    replies_to = record {
-      count = count;
-      spelled = spelled.0;
-      spells = spelled.1;
-      replied = are r shown clean legal spelled.0 spelled.1;
-      alone = alone r shown clean legal spelled.0 spelled.1;
-      reports = reports r shown clean legal spelled.0 spelled.1;
-    };
-    left = leaves r shown clean legal spelled.0 spelled.1;
-  };
+  answers = λ r shown clean legal. record { count = count; spelled = spelled.0; spells = spelled.1; run = run r shown clean legal spelled.0 spelled.1 };
   in_turn = turns;
+}
+
+-- they are the replies, whatever is left
+pub whatever_left : (Shown : Register → Type 0) (r : Register) (inputs : List (List ℕ)) (replies : List Reply) → IsLegal r → AreRepliesLeaving Shown r inputs replies → AreRepliesTo r inputs replies
+whatever_left Shown r inputs replies legal are = record {
+  count = are.count;
+  spelled = are.spelled;
+  spells = are.spells;
+  run = run_over (λ q. ⊤) r are.spelled (full replies) legal are.run.replies tt;
 }
 
 -- ---- exit statuses

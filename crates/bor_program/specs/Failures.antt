@@ -1,6 +1,9 @@
 -- The lines that are printed of failures.
 use Rattle.std.specs.Prelude.{◌≡◌, ◌⊎◌, ⊤, ℕ, List, [], ◌∷◌, ◌++◌, Option, codes, map}
 use Rattle.std.specs.Io.KnownBytes.{Appends, Keeps}
+use Rattle.bor_desk.specs.Operations.Outcomes.{IsFaultOf, IsTellable}
+use Rattle.bor_records.specs.Promises.{Meaning, Promised}
+use Rattle.bor_register.specs.Register.{Register}
 use Rattle.bor_register.specs.declared.fault.StoreFault.{StoreFault}
 use Rattle.bor_register.specs.declared.fault.StoreFault.TheVariants.{Memory as WantOfMemory}
 use Rattle.bor_register.specs.declared.fault.StoreFault.TheVariants.{Store as StoreFailed, Damaged}
@@ -17,6 +20,14 @@ use Rattle.bor_program.specs.Words.{AsksForCheck, file_of}
 use Rattle.clap.specs.Words.{Text}
 use Rattle.std.specs.Borrow.{Bor}
 use Rattle.std.specs.Fmt.{signed_decimal}
+
+-- a call on a keep of this meaning, which led from one state to another, may have returned this
+-- fault
+abbrev pub MayTell : {K W : Type 0} → Meaning K Register W StoreFault → K → StoreFault → K → Type 0
+MayTell meaning old fault new =
+    IsFaultOf (meaning.fault_count old) (meaning.fault_count new) fault
+    × Promised meaning old new (λ r.
+    IsTellable meaning.may_tell (meaning.fault_count old) (meaning.fault_count new) fault)
 
 -- the texts one after the other
 abbrev pub joined : List (List ℕ) → List ℕ

@@ -1,5 +1,6 @@
 pub mod Words
 pub mod Streams
+pub mod Courses
 pub mod Program
 pub mod Failures
 pub mod Inputs

@@ -46,6 +46,7 @@ route_path asks.Published = paths.Published
 route_path asks.Snapshot = paths.Snapshot
 route_path asks.Chains = paths.Chains
 route_path asks.Evidence = paths.Evidence
+route_path asks.Entities = paths.Entities
 route_path asks.Day = paths.Day
 route_path asks.Enrol = paths.Agents
 
@@ -58,6 +59,7 @@ route_method asks.Published = codes "GET"
 route_method asks.Snapshot = codes "GET"
 route_method asks.Chains = codes "GET"
 route_method asks.Evidence = codes "GET"
+route_method asks.Entities = codes "GET"
 route_method asks.Day = codes "POST"
 route_method asks.Enrol = codes "POST"
 

@@ -1,18 +1,18 @@
 -- Which replies `bor exchange` prints, and how it ends.
+use Rattle.bor_register.specs.declared.fault.StoreFault.{StoreFault}
 use Rattle.std.specs.Prelude.{◌≡◌, ◌≤◌, ◌⊎◌, ℕ, List, [], ◌∷◌, ◌++◌, Bool, Option, Result}
-use Rattle.std.specs.Prelude.{MatchResult, if◌then◌else◌, false, length, max, nat_le, slice_get}
+use Rattle.std.specs.Prelude.{MatchResult, if◌then◌else◌, false, length, max, nat_le, slice_get, ⊤}
 use Rattle.std.specs.Option.{option_map_or}
 use Rattle.std.specs.Borrow.{Bor}
 use Rattle.std.specs.Io.KnownBytes.{Appends, Keeps}
-use Rattle.bor_records.specs.Promises.{Promised}
+use Rattle.bor_records.specs.Promises.{Meaning, Promised}
 use Rattle.bor_register.specs.Register.{Register}
 use Rattle.bor_desk.specs.Operations.Legality.{IsLegal}
 use Rattle.bor_wire.specs.Spelling.Spell.{Spelled}
 use Rattle.bor_wire.specs.declared.replies.Reply.{Reply}
 use Rattle.bor_wire.specs.declared.replies.Reply.TheVariants.{Full, Unavailable}
-use Rattle.bor_wire.specs.Runs.{AreReplies, AreSpelled, full, register_left, served}
-use Rattle.bor_wire.specs.Histories.{IsAlone}
-use Rattle.bor_wire.specs.Reports.{AreReports}
+use Rattle.bor_wire.specs.Runs.{AreSpelled, full, served}
+use Rattle.bor_wire.specs.Replays.{IsRunOver}
 use Rattle.bor_wire.specs.Turns.{InTurn, sent_as}
 use Rattle.clap.specs.Words.{Text}
 use Rattle.bor_program.specs.Inputs.{AreReadOf}
@@ -53,35 +53,28 @@ IsSentOrCutOff replies before after status =
 -- ---- which replies they are
 
 -- The replies to these inputs from this register on: one for each, and without what was not served,
--- those of the run over what the others spell. What each agent receives follows from its own
--- exchanges alone, and a report with status 200 names exactly the joined.
-pub record AreRepliesTo (r : Register) (inputs : List (List ℕ))
+-- those of the run over what the others spell. The register that it leaves is shown.
+pub record AreRepliesLeaving (Shown : Register → Type 0) (r : Register) (inputs : List (List ℕ))
     (replies : List Reply) : Type 0 where
   pub count : length replies ≡ length inputs
   pub spelled : List Spelled
   pub spells : AreSpelled (served inputs replies) spelled
-  pub replied : AreReplies r spelled (full replies)
-  pub alone : (name : List ℕ) → IsAlone name r spelled (full replies)
-  pub reports : AreReports r spelled (full replies)
+  pub run : IsRunOver Shown r spelled (full replies)
 
--- The same, and the register that the run leaves is shown.
-pub record AreRepliesLeaving (Shown : Register → Type 0) (r : Register) (inputs : List (List ℕ))
-    (replies : List Reply) : Type 0 where
-  pub replies_to : AreRepliesTo r inputs replies
-  pub left : Shown (register_left r replies_to.spelled)
+-- The same, whatever is left.
+abbrev pub AreRepliesTo : Register → List (List ℕ) → List Reply → Type 0
+AreRepliesTo r inputs replies = AreRepliesLeaving (λ q. ⊤) r inputs replies
 
 -- Of a register that was opened and what is left of it, which ends clean only if it began clean:
 -- each legal register that it showed has these replies to these inputs, and what is left shows the
 -- register after them. Whatever becomes of it, as where its store shuts, the replies are those of
 -- exchanges in turn, and up to each request that was answered these are a run.
-pub record AreAnswers {K Left : Type 0} (shows : K → Register → Type 0)
-    (is_clean is_sound : K → Type 0) (may_leave : K → Left → Type 0)
-    (left_shows : Left → Register → Type 0) (opened left : K) (inputs : List (List ℕ))
-    (replies : List Reply) : Type 0 where
-  pub began : is_clean left → is_clean opened
-  pub answers : Promised shows is_clean opened left
-      (λ r. IsLegal r → AreRepliesLeaving (shows left) r inputs replies)
-  pub in_turn : InTurn shows is_clean is_sound may_leave left_shows opened left inputs replies
+pub record AreAnswers {K Left : Type 0} (meaning : Meaning K Register Left StoreFault)
+    (opened left : K) (inputs : List (List ℕ)) (replies : List Reply) : Type 0 where
+  pub began : meaning.is_clean left → meaning.is_clean opened
+  pub answers : Promised meaning opened left
+      (λ r. IsLegal r → AreRepliesLeaving (meaning.shows left) r inputs replies)
+  pub in_turn : InTurn meaning opened left inputs replies
 
 -- ---- how they are sent
 

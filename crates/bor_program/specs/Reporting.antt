@@ -1,8 +1,9 @@
 -- The text that `bor report` prints.
+use Rattle.bor_register.specs.declared.fault.StoreFault.{StoreFault}
 use Rattle.std.specs.Prelude.{◌⊎◌, ℤ, ℕ, List, Option, Some, None, Result, MatchResult}
 use Rattle.std.specs.Prelude.{if◌then◌else◌}
 use Rattle.std.specs.Io.KnownBytes.{Keeps}
-use Rattle.bor_records.specs.Promises.{Promised}
+use Rattle.bor_records.specs.Promises.{Meaning, Promised}
 use Rattle.bor_records.specs.declared.links.node.Node.{Node}
 use Rattle.bor_register.specs.Register.{Register}
 use Rattle.bor_desk.specs.Operations.Sight.{seen_by}
@@ -36,10 +37,10 @@ IsReportOf asked r text = IsTextOf (report_answer asked r) text
 
 -- of a register that was opened and what is left of it: the text says it of each register that was
 -- shown
-abbrev pub IsToldOf : {K : Type 0} → (K → Register → Type 0) → (K → Type 0) → K → K
+abbrev pub IsToldOf : {K W : Type 0} → Meaning K Register W StoreFault → K → K
     → Report → Text → Type 0
-IsToldOf shows is_clean opened left asked text =
-    Promised shows is_clean opened left (λ r. IsReportOf asked r text)
+IsToldOf meaning opened left asked text =
+    Promised meaning opened left (λ r. IsReportOf asked r text)
 
 -- a text was written of which P holds; or it failed, and a front of such was written, or nothing
 abbrev pub EndsTelling : {F : Type 0} → (Text → Type 0) → Option (List ℕ) → Option (List ℕ)

@@ -3,6 +3,23 @@ use Rattle.std.specs.Prelude.{◌≡◌, ◌≤◌, ◌+◌, ℕ, List, Option, 
 use Rattle.std.specs.Io.KnownBytes.{Appends, Consumes}
 use Rattle.bor_desk.specs.Limits.{file_limit}
 
+-- the bytes of a stream, where they are known
+abbrev pub Known : Type 0
+Known = Option (List ℕ)
+
+-- The streams that a command writes to: the bytes on its output and on its errors, before it and
+-- after it; and its exit status.
+pub record Streams : Type 0 where
+  pub output : Known
+  pub printed : Known
+  pub errors : Known
+  pub told : Known
+  pub status : ℕ
+
+abbrev pub streams_of : (output printed errors told : Known) (status : ℕ) → Streams
+streams_of output printed errors told status =
+    record { output = output; printed = printed; errors = errors; told = told; status = status }
+
 -- so many bytes of a file are read at most: one more than the greatest has that is taken
 abbrev pub part_limit : ℕ
 part_limit = file_limit + 1

@@ -8,7 +8,7 @@ use Rattle.bor_words.specs.Words.{entered_by, file_at}
 abbrev pub file_of : List Text → Option Text
 file_of words = file_at (entered_by words)
 
--- the words ask for a check
+-- the words ask for a check: by its name, or by no command at all
 abbrev pub AsksForCheck : List Text → Type 0
 AsksForCheck words = IsCommand words × EntersCheck (entered_by words)
 

@@ -8,7 +8,7 @@ ghost use Rattle.bor_program.specs.Inputs.{IsReadOf};
 ghost use Rattle.bor_program.specs.Performing.{Exchanges, ExchangesOnceTold};
 ghost use Rattle.bor_program.specs.Program.{exit_code};
 ghost use Rattle.bor_program.specs.Replying.{AreAnswers, EndsFiles, EndsSending, replies_status, reply_status, sent};
-ghost use Rattle.bor_program.specs.Streams.{AppendsPart};
+ghost use Rattle.bor_program.specs.Streams.{AppendsPart, streams_of};
 
 use crate::failure::Failure;
 use crate::host::{NamedFiles, OpenRegister, Opened, Registers, Stage};
@@ -32,10 +32,9 @@ pub fn exchange<R: NamedFiles + AllocGlobal, H: Registers, O: Output, E: Write>(
     errors: &mut E,
 ) -> Status
     ensures done { ExchangesOnceTold (IsReadOf (R.opens rt.now) R.File.remaining)
-        H.Register.shows H.Register.is_clean H.Register.is_sound H.Register.may_leave
-        H.Register.left_shows H.does host.old host.new
-        asked.entry (O.contents output.old) (O.contents output.new) (E.contents errors.old)
-        (E.contents errors.new) (exit_code result) }
+        H.Register.meaning (record { does = H.does; begun = host.old; ended = host.new })
+        asked.entry (streams_of (O.contents output.old) (O.contents output.new)
+        (E.contents errors.old) (E.contents errors.new) (exit_code result)) }
     ensures flushed { exit_code result ≤ 1 → O.is_flushed output.new }
 {
     let Exchange {
@@ -69,10 +68,9 @@ fn exchange_told<R: NamedFiles + AllocGlobal, H: Registers, O: Output, E: Write>
     errors: &mut E,
 ) -> Status
     ensures done { Exchanges (IsReadOf (R.opens rt.now) R.File.remaining request_limit)
-        H.Register.shows H.Register.is_clean H.Register.is_sound H.Register.may_leave
-        H.Register.left_shows H.does host.old host.new
-        asked.entry (O.contents output.old) (O.contents output.new) (E.contents errors.old)
-        (E.contents errors.new) (exit_code result) }
+        H.Register.meaning (record { does = H.does; begun = host.old; ended = host.new })
+        asked.entry (streams_of (O.contents output.old) (O.contents output.new)
+        (E.contents errors.old) (E.contents errors.new) (exit_code result)) }
     ensures flushed { exit_code result ≤ 1 → O.is_flushed output.new }
 {
     let Exchanging {
@@ -122,7 +120,7 @@ fn exchange_files<R: NamedFiles + AllocGlobal, H: Registers, K: OpenRegister, O:
     errors: &mut E,
 ) -> Status
     ensures ends { EndsFiles
-        (AreAnswers K.shows K.is_clean K.is_sound K.may_leave K.left_shows register.old
+        (AreAnswers K.meaning register.old
         register.new) (IsReadOf (R.opens rt.now) R.File.remaining request_limit) files.now
         (O.contents output.old) (O.contents output.new) (exit_code result) }
     ensures flushed { exit_code result ≤ 1 → O.is_flushed output.new }
@@ -155,7 +153,7 @@ pub fn exchange_on<'a, K: OpenRegister, O: Output>(
     output: &mut O,
 ) -> Result<Status, Failure<'a>>
     ensures sent { EndsSending
-        (AreAnswers K.shows K.is_clean K.is_sound K.may_leave K.left_shows register.old
+        (AreAnswers K.meaning register.old
         register.new) (map (λ v. v.items) inputs.now)
         (O.contents output.old) (O.contents output.new) result }
     ensures flushed { OnOk result (O.is_flushed output.new) }

@@ -3,19 +3,17 @@
 ghost use Rattle.std.specs.Prelude.{◌≡◌, ⊤, ℕ, List, Bool, IfErr, IfOk, IfSome, OnErr, OnOk, length, map};
 ghost use Rattle.std.specs.Borrow.{Bor};
 ghost use Rattle.clap.specs.Words.{Text as Words};
-ghost use Rattle.bor_records.specs.Promises.{Kept, Promised};
+ghost use Rattle.bor_records.specs.Promises.{Kept, Meaning, Promised};
 ghost use Rattle.bor_register.specs.Register.{Register};
 ghost use Rattle.bor_register.specs.declared.fault.StoreFault.{StoreFault};
 ghost use Rattle.bor_desk.specs.Operations.Legality.{IsLegal};
-ghost use Rattle.bor_desk.specs.Operations.Outcomes.{IsFaultOf, IsTellable};
 ghost use Rattle.bor_program.specs.Connections.Serving.{IsServed, IsServedOver};
-ghost use Rattle.bor_program.specs.Connections.Streams.{IsOf};
+ghost use Rattle.bor_program.specs.Connections.Streams.{IsOf, wire_of};
 ghost use Rattle.bor_program.specs.declared.connections.limits.Limits.{Limits};
 ghost use Rattle.bor_wire.specs.Spelling.Spell.{Spelled};
-ghost use Rattle.bor_wire.specs.Histories.{IsAlone};
-ghost use Rattle.bor_wire.specs.Reports.{AreReports};
+ghost use Rattle.bor_wire.specs.Replays.{IsReplayed};
 ghost use Rattle.bor_wire.specs.Turns.{InTurn};
-ghost use Rattle.bor_wire.specs.Runs.{AreReplies, AreSpelled, full, register_left, served};
+ghost use Rattle.bor_wire.specs.Runs.{AreSpelled, served};
 ghost use Rattle.bor_program.specs.Deeds.{ComesToBe, Deed, Closes, Fails, Moves, Opens};
 ghost use Rattle.bor_program.specs.Failures.{IsOpeningOf};
 ghost use Rattle.bor_program.specs.Reporting.{IsReportOf};
@@ -24,7 +22,7 @@ use crate::connections::{Limits, Watch, serve_within};
 use crate::failure::Failure;
 use crate::report::report_in;
 use bor_desk::Text;
-use bor_desk::operations::{Keep, StoreFault};
+use bor_desk::operations::{Keep, ListKeep, StoreFault};
 use bor_terms::{Day, Token};
 use bor_wire::{Reply, replay};
 use bor_words::Report;
@@ -65,23 +63,11 @@ impl<R: Files> NamedFiles for R {
 /// A register that is open, whatever keeps it. What it shows, when it is sound and clean, and what
 /// a stop leaves are as a keep's are.
 pub trait OpenRegister {
-    /// The state shows this register.
-    ghost shows: { Self → Register → Type 0 };
-
-    /// Its store has returned what was written, and is open.
-    ghost is_clean: { Self → Type 0 };
-
-    /// Its store has returned what was written. It may have shut since.
-    ghost is_sound: { Self → Type 0 };
-
-    /// The state that a stop leaves for the next one to open.
+    /// The states that a stop leaves for the next one to open.
     ghost Left: { Type 0 };
 
-    /// A stop in this state may leave this.
-    ghost may_leave: { Self → Left → Type 0 };
-
-    /// The state that is left shows this register to the next one to open it.
-    ghost left_shows: { Left → Register → Type 0 };
+    /// What the states mean.
+    ghost meaning: { Meaning Self Register Left StoreFault };
 
     /// A call led from one state to another, and may have returned this fault.
     ghost tells: { Self → StoreFault → Self → Type 0 };
@@ -91,39 +77,22 @@ pub trait OpenRegister {
     ghost serves: { {L : Type 0} → Self → L → Limits → ℕ → Self → ℕ → Type 0 };
 
     /// The replies to inputs, each answered from the register that the one before it left. What
-    /// each agent receives follows from its own exchanges alone, and a report on chains with status
-    /// 200 names exactly the persons joined to the entity.
+    /// each agent receives follows from its own exchanges alone, a report on chains with status 200
+    /// names exactly the persons joined to the entity, and a reply with a status of 400 or more
+    /// leaves the register as it was.
     ///
     /// # Errors
     ///
     /// There is no memory for the list of replies or for the paths; nothing was asked.
     fn replay(&mut self, alloc: Global, inputs: &[Vec<u8>]) -> Result<Vec<Reply>, AllocError>
-        ensures began { is_clean self.new → is_clean self.old }
+        ensures began { meaning.is_clean self.new → meaning.is_clean self.old }
         ensures count { IfOk result (λ replies. length replies.items ≡ length inputs.now) }
         ensures spelled { IfOk result (λ replies. (spelled : List Spelled)
             × AreSpelled (served (map (λ v. v.items) inputs.now) replies.items) spelled) }
-        ensures replies { Promised shows is_clean self.old self.new (λ r.
-            IsLegal r → IfOk result (λ replies.
-            (spelled : List Spelled)
-            → AreSpelled (served (map (λ v. v.items) inputs.now) replies.items) spelled →
-            AreReplies r spelled (full replies.items))) }
-        ensures left { Promised shows is_clean self.old self.new (λ r.
-            IsLegal r → IfOk result (λ replies.
-            (spelled : List Spelled)
-            → AreSpelled (served (map (λ v. v.items) inputs.now) replies.items) spelled →
-            shows self.new (register_left r spelled))) }
-        ensures alone { Promised shows is_clean self.old self.new (λ r.
-            IsLegal r → IfOk result (λ replies.
-            (spelled : List Spelled)
-            → AreSpelled (served (map (λ v. v.items) inputs.now) replies.items) spelled →
-            (name : List ℕ) → IsAlone name r spelled (full replies.items))) }
-        ensures reports { Promised shows is_clean self.old self.new (λ r.
-            IsLegal r → IfOk result (λ replies.
-            (spelled : List Spelled)
-            → AreSpelled (served (map (λ v. v.items) inputs.now) replies.items) spelled →
-            AreReports r spelled (full replies.items))) }
-        ensures in_turn { IfOk result (λ replies. InTurn shows is_clean is_sound may_leave
-            left_shows self.old self.new (map (λ v. v.items) inputs.now) replies.items) }
+        ensures run { Promised meaning self.old self.new (λ r. IsLegal r → IfOk result (λ replies.
+            IsReplayed (meaning.shows self.new) r (map (λ v. v.items) inputs.now) replies.items)) }
+        ensures in_turn { IfOk result (λ replies.
+            InTurn meaning self.old self.new (map (λ v. v.items) inputs.now) replies.items) }
         ensures err { OnErr result (self.new ≡ self.old) };
 
     /// The text that tells who stands behind an entity.
@@ -132,8 +101,8 @@ pub trait OpenRegister {
     ///
     /// The keep failed, or memory was wanting.
     fn report(&mut self, alloc: Global, asked: &Report<'_>) -> Result<Text, StoreFault>
-        ensures kept { Kept shows is_clean is_sound may_leave self.old self.new }
-        ensures text { Promised shows is_clean self.old self.new (λ r.
+        ensures kept { Kept meaning self.old self.new }
+        ensures text { Promised meaning self.old self.new (λ r.
             IfOk result (IsReportOf asked.now r)) }
         ensures err { IfErr result (λ fault. tells self.old fault self.new) };
 
@@ -152,43 +121,33 @@ pub trait OpenRegister {
     where
         L::Stream: Read + Write + OpenStream,
         ensures within { serves self.old listener.now limits connections self.new result }
-        ensures served { IsServed shows is_clean is_sound may_leave left_shows self.old self.new
-            connections result }
-        ensures streams { IsServedOver shows is_clean is_sound may_leave left_shows
-            (IsOf L.Stream.remaining L.Stream.contents) W.does
-            self.old self.new watch.old watch.new connections result };
+        ensures served { IsServed meaning self.old self.new connections result }
+        ensures streams { IsServedOver meaning
+            (IsOf (wire_of L.Stream.remaining L.Stream.contents))
+            (record { does = W.does; begun = watch.old; ended = watch.new })
+            self.old self.new connections result };
 
     /// Answered changes last: the state that a stop of a clean one leaves shows each register that
     /// it showed.
-    ghost lasting: { (k : Self) → is_clean k → (left : Left) → may_leave k left
-        → (r : Register) → shows k r → left_shows left r };
+    ghost lasting: { (k : Self) → meaning.is_clean k → (left : Left) → meaning.may_leave k left
+        → (r : Register) → meaning.shows k r → meaning.left_shows left r };
 }
 
-impl<K: Keep> OpenRegister for K {
-    ghost shows = { K.shows };
-
-    ghost is_clean = { K.is_clean };
-
-    ghost is_sound = { K.is_sound };
-
+impl<K: Answering> OpenRegister for K {
     ghost Left = { K.Left };
 
-    ghost may_leave = { K.may_leave };
+    ghost meaning = { K.meaning };
 
-    ghost left_shows = { K.left_shows };
+    ghost tells = { K.tells };
 
-    ghost tells = { λ old fault new. IsFaultOf (K.fault_count old) (K.fault_count new) fault
-        × Promised K.shows K.is_clean old new (λ r.
-        IsTellable K.may_tell (K.fault_count old) (K.fault_count new) fault) };
-
-    ghost serves = { λ _ _ _ _ _ _. ⊤ };
+    ghost serves = { K.serves };
 
     fn replay(&mut self, alloc: Global, inputs: &[Vec<u8>]) -> Result<Vec<Reply>, AllocError> {
-        replay(alloc, self, inputs)
+        self.answer_all(alloc, inputs)
     }
 
     fn report(&mut self, alloc: Global, asked: &Report<'_>) -> Result<Text, StoreFault> {
-        report_in(alloc, self, asked)
+        self.tell(alloc, asked)
     }
 
     fn serve<R: Clock + AllocGlobal, L: OpenListener, W: Watch<L>>(
@@ -202,10 +161,120 @@ impl<K: Keep> OpenRegister for K {
     where
         L::Stream: Read + Write + OpenStream,
     {
-        serve_within(rt, self, listener, watch, connections, limits)
+        self.attend(rt, listener, watch, connections, limits)
     }
 
     ghost lasting = { K.lasting };
+}
+
+/// A kind of register that answers for itself. Whatever does so is an [`OpenRegister`], which
+/// promises the same: a program that names its register meets the prover's limit where these are
+/// one.
+pub trait Answering {
+    /// The states that a stop leaves for the next one to open.
+    ghost Left: { Type 0 };
+
+    /// What the states mean.
+    ghost meaning: { Meaning Self Register Left StoreFault };
+
+    /// A call led from one state to another, and may have returned this fault.
+    ghost tells: { Self → StoreFault → Self → Type 0 };
+
+    /// So many connections of this listener were served within these limits, which led from one
+    /// state to another, with this status.
+    ghost serves: { {L : Type 0} → Self → L → Limits → ℕ → Self → ℕ → Type 0 };
+
+    /// The replies to inputs, each answered from the register that the one before it left. What
+    /// each agent receives follows from its own exchanges alone, a report on chains with status 200
+    /// names exactly the persons joined to the entity, and a reply with a status of 400 or more
+    /// leaves the register as it was.
+    ///
+    /// # Errors
+    ///
+    /// There is no memory for the list of replies or for the paths; nothing was asked.
+    fn answer_all(&mut self, alloc: Global, inputs: &[Vec<u8>]) -> Result<Vec<Reply>, AllocError>
+        ensures began { meaning.is_clean self.new → meaning.is_clean self.old }
+        ensures count { IfOk result (λ replies. length replies.items ≡ length inputs.now) }
+        ensures spelled { IfOk result (λ replies. (spelled : List Spelled)
+            × AreSpelled (served (map (λ v. v.items) inputs.now) replies.items) spelled) }
+        ensures run { Promised meaning self.old self.new (λ r. IsLegal r → IfOk result (λ replies.
+            IsReplayed (meaning.shows self.new) r (map (λ v. v.items) inputs.now) replies.items)) }
+        ensures in_turn { IfOk result (λ replies.
+            InTurn meaning self.old self.new (map (λ v. v.items) inputs.now) replies.items) }
+        ensures err { OnErr result (self.new ≡ self.old) };
+
+    /// The text that tells who stands behind an entity.
+    ///
+    /// # Errors
+    ///
+    /// The keep failed, or memory was wanting.
+    fn tell(&mut self, alloc: Global, asked: &Report<'_>) -> Result<Text, StoreFault>
+        ensures kept { Kept meaning self.old self.new }
+        ensures text { Promised meaning self.old self.new (λ r.
+            IfOk result (IsReportOf asked.now r)) }
+        ensures err { IfErr result (λ fault. tells self.old fault self.new) };
+
+    /// Serves so many connections of a listener, each client within these limits, and gives 0, or
+    /// 3 where one of them failed, as [`serve_within`] does. A connection has no client only where
+    /// one couldn't be let in, or where serving ended early: clients couldn't be watched for, or
+    /// waiting failed for good.
+    fn attend<R: Clock + AllocGlobal, L: OpenListener, W: Watch<L>>(
+        &mut self,
+        rt: &R,
+        listener: &L,
+        watch: &mut W,
+        connections: u32,
+        limits: Limits,
+    ) -> u8
+    where
+        L::Stream: Read + Write + OpenStream,
+        ensures within { serves self.old listener.now limits connections self.new result }
+        ensures served { IsServed meaning self.old self.new connections result }
+        ensures streams { IsServedOver meaning
+            (IsOf (wire_of L.Stream.remaining L.Stream.contents))
+            (record { does = W.does; begun = watch.old; ended = watch.new })
+            self.old self.new connections result };
+
+    /// Answered changes last: the state that a stop of a clean one leaves shows each register that
+    /// it showed.
+    ghost lasting: { (k : Self) → meaning.is_clean k → (left : Left) → meaning.may_leave k left
+        → (r : Register) → meaning.shows k r → meaning.left_shows left r };
+}
+
+impl Answering for ListKeep {
+    ghost use Rattle.bor_program.specs.Failures.{MayTell};
+
+    ghost Left = { ⟦<ListKeep as Keep>⟧.Left };
+
+    ghost meaning = { ⟦<ListKeep as Keep>⟧.meaning };
+
+    ghost tells = { MayTell ⟦<ListKeep as Keep>⟧.meaning };
+
+    ghost serves = { λ _ _ _ _ _ _. ⊤ };
+
+    fn answer_all(&mut self, alloc: Global, inputs: &[Vec<u8>]) -> Result<Vec<Reply>, AllocError> {
+        replay(alloc, self, inputs)
+    }
+
+    fn tell(&mut self, alloc: Global, asked: &Report<'_>) -> Result<Text, StoreFault> {
+        report_in(alloc, self, asked)
+    }
+
+    fn attend<R: Clock + AllocGlobal, L: OpenListener, W: Watch<L>>(
+        &mut self,
+        rt: &R,
+        listener: &L,
+        watch: &mut W,
+        connections: u32,
+        limits: Limits,
+    ) -> u8
+    where
+        L::Stream: Read + Write + OpenStream,
+    {
+        serve_within(rt, self, listener, watch, connections, limits)
+    }
+
+    ghost lasting = { λ k clean left may. absurd may };
 }
 
 /// How a register came to be open.
@@ -283,7 +352,7 @@ pub trait Registers {
         day: Day,
     ) -> Result<Opened<Self::Register>, Failure<'a>>
         ensures ok { IfOk result (λ opened.
-            ComesToBe Self.Register.shows Self.Register.is_clean path.entry registrar.now day
+            ComesToBe Self.Register.meaning path.entry registrar.now day
             opened.register opened.origin (λ deed. does self.old deed self.new)) }
         ensures err { IfErr result (λ failure. does self.old (Fails path.entry failure) self.new) }
         ensures cause { IfErr result (IsOpeningOf path.entry) };

@@ -5,6 +5,7 @@ ghost use Rattle.std.specs.Io.KnownBytes.{Keeps};
 ghost use Rattle.bor_program.specs.Inputs.{IsReadOf};
 ghost use Rattle.bor_program.specs.Performing.{EndsSettingUp, Inits, InitsOnceTold, IsDoneOrFailed};
 ghost use Rattle.bor_program.specs.Program.{exit_code};
+ghost use Rattle.bor_program.specs.Streams.{streams_of};
 
 use crate::failure::Failure;
 use crate::host::{NamedFiles, Opened, Origin, Registers, Stage};
@@ -25,10 +26,10 @@ pub fn init<R: NamedFiles + AllocGlobal, H: Registers, O: Output, E: Write>(
     output: &mut O,
     errors: &mut E,
 ) -> Status
-    ensures done { InitsOnceTold (IsReadOf (R.opens rt.now) R.File.remaining)
-        H.Register.shows H.Register.is_clean H.does host.old host.new
-        asked.entry (O.contents output.old) (O.contents output.new) (E.contents errors.old)
-        (E.contents errors.new) (exit_code result) }
+    ensures done { InitsOnceTold (IsReadOf (R.opens rt.now) R.File.remaining) H.Register.meaning
+        (record { does = H.does; begun = host.old; ended = host.new }) asked.entry
+        (streams_of (O.contents output.old) (O.contents output.new)
+        (E.contents errors.old) (E.contents errors.new) (exit_code result)) }
     ensures flushed { exit_code result ≤ 1 → O.is_flushed output.new }
 {
     let Init { db, registrar, day } = asked;
@@ -49,9 +50,10 @@ fn init_told<H: Registers, O: Output, E: Write>(
     output: &mut O,
     errors: &mut E,
 ) -> Status
-    ensures done { Inits H.Register.shows H.Register.is_clean H.does host.old host.new path.entry
-        registrar.now day (O.contents output.old) (O.contents output.new) (E.contents errors.old)
-        (E.contents errors.new) (exit_code result) }
+    ensures done { Inits H.Register.meaning
+        (record { does = H.does; begun = host.old; ended = host.new }) path.entry registrar.now day
+        (streams_of (O.contents output.old) (O.contents output.new)
+        (E.contents errors.old) (E.contents errors.new) (exit_code result)) }
     ensures flushed { exit_code result ≤ 1 → O.is_flushed output.new }
 {
     host.reach(Stage::Opening(path));

@@ -30,11 +30,12 @@ mod serve;
 mod split;
 mod status;
 
-pub use bor_words::joined;
+pub use bor_wire::{Reply, replay};
+pub use bor_words::{Report, joined};
 pub use exchange::exchange_on;
 pub use failure::Failure;
-pub use host::{NamedFiles, OpenRegister, Opened, Origin, Ports, Registers, Stage};
+pub use host::{Answering, NamedFiles, OpenRegister, Opened, Origin, Ports, Registers, Stage};
 pub use output::Output;
 pub use program::run;
-pub use report::report_on;
+pub use report::{report_in, report_on};
 pub use status::Status;

@@ -192,6 +192,7 @@ fn line_of(route: Route) -> (Path, &'static str)
         Route::Snapshot => (Path::Snapshot, "GET"),
         Route::Chains => (Path::Chains, "GET"),
         Route::Evidence => (Path::Evidence, "GET"),
+        Route::Entities => (Path::Entities, "GET"),
         Route::Day => (Path::Day, "POST"),
         Route::Enrol => (Path::Agents, "POST"),
     }
@@ -209,6 +210,7 @@ fn path_text(path: Path) -> &'static str
         Path::Snapshot => "/snapshot",
         Path::Chains => "/chains",
         Path::Evidence => "/evidence",
+        Path::Entities => "/entities",
         Path::Day => "/day",
         Path::Agents => "/agents",
     }

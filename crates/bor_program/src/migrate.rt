@@ -5,7 +5,7 @@ ghost use Rattle.std.specs.Io.KnownBytes.{Keeps};
 ghost use Rattle.bor_program.specs.Failures.{failure_line};
 ghost use Rattle.bor_program.specs.Performing.{Migrates, migrated};
 ghost use Rattle.bor_program.specs.Program.{IsWrittenOrCutOff, exit_code};
-ghost use Rattle.bor_program.specs.Streams.{AppendsPart};
+ghost use Rattle.bor_program.specs.Streams.{AppendsPart, streams_of};
 
 use crate::failure::Failure;
 use crate::host::{Registers, Stage};
@@ -21,9 +21,9 @@ pub fn migrate<H: Registers, O: Output, E: Write>(
     output: &mut O,
     errors: &mut E,
 ) -> Status
-    ensures done { Migrates H.does host.old host.new asked.entry (O.contents output.old)
-        (O.contents output.new)
-        (E.contents errors.old) (E.contents errors.new) (exit_code result) }
+    ensures done { Migrates (record { does = H.does; begun = host.old; ended = host.new })
+        asked.entry (streams_of (O.contents output.old) (O.contents output.new)
+        (E.contents errors.old) (E.contents errors.new) (exit_code result)) }
     ensures flushed { exit_code result ≤ 1 → O.is_flushed output.new }
 {
     host.reach(Stage::Opening(asked.db));

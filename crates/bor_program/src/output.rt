@@ -23,6 +23,8 @@ pub trait Output: Write {
         ensures flushed { OnOk result (is_flushed self.new) };
 }
 
+/// Any writer. At a type with a name `is_flushed` says nothing; in clauses over each `O: Output` it
+/// says that [`Output::hand_on`] did well, and that nothing was written since.
 impl<W: Write> Output for W {
     ghost is_flushed = { λ _. ⊤ };
 

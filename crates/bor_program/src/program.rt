@@ -7,13 +7,13 @@ ghost use Rattle.bor_words.specs.Help.{help_for};
 ghost use Rattle.bor_words.specs.Unread.{kind_of_answer};
 ghost use Rattle.bor_words.specs.Words.{entered_by};
 ghost use Rattle.bor_words.specs.declared.command.Command.{Command as Asked};
-ghost use Rattle.bor_program.specs.Connections.Streams.{IsOf};
+ghost use Rattle.bor_program.specs.Connections.Streams.{IsOf, wire_of};
 ghost use Rattle.bor_program.specs.Failures.{IsMetBy, IsMetOn, IsMetPrinting, IsFailureWritten, IsWantOfMemory};
-ghost use Rattle.bor_program.specs.Hosting.{IsHosted};
+ghost use Rattle.bor_program.specs.Hosting.{IsHosted, hosting_of};
 ghost use Rattle.bor_program.specs.Inputs.{IsReadOf};
 ghost use Rattle.bor_program.specs.Performing.{Checks, Performs, PrintsRefusal};
 ghost use Rattle.bor_program.specs.Program.{EndsReport, EndsReportOf, IfFile, IsReportedOf, IsReportedOrCutOff, exit_code};
-ghost use Rattle.bor_program.specs.Streams.{AppendsPart, TakesAtMostPart, TakesPart, part_limit, part_read};
+ghost use Rattle.bor_program.specs.Streams.{AppendsPart, TakesAtMostPart, TakesPart, part_limit, part_read, streams_of};
 ghost use Rattle.bor_program.specs.Words.{AsksForCheck, ChecksInput, file_of};
 
 use crate::check::check;
@@ -37,9 +37,13 @@ use std::time::Clock;
 ///
 /// 0: done, or help was asked for; 1: refused, or a reply to an exchange is a refusal; 2: the words
 /// ask for nothing that there is, or a value doesn't fit; 3: a file, memory, the store or the
-/// network failed. Standard output has the text of a command, or the help; with status 3 a front of
-/// it. Standard error has what is wrong with the words, or a line on what failed; that line is
-/// missing where it was standard output that failed, or a reply or a connection.
+/// network failed, or the file is none for this: it has no register, one already, or other tables.
+/// Standard output has the text of a command, or the help; with status 3 a front of it. Standard
+/// error has what is wrong with the words (no clause says so), or a line on what failed, of an
+/// exchange one for each file that can't be read; that line is missing where it was standard output
+/// that failed, or a reply or a connection. What the host tells there by itself isn't meant.
+///
+/// Of a stream whose bytes aren't known (`None`) no clause says which bytes it took or gave.
 pub fn run<R: NamedFiles + Clock + AllocGlobal, H: Ports, S: AsStr, I: Read, O: Output, E: Write>(
     rt: &R,
     host: &mut H,
@@ -52,27 +56,31 @@ where
     <H::Listener as OpenListener>::Stream: Read + Write + OpenStream,
     ensures at_most { result ≤ 3 }
 
-    // Words that ask for a command have it done, as it is stated of each command, or memory is
-    // wanting, which its line says.
+    // Words that ask for a command have it done or fail, as `Performs` says of each, or memory is
+    // wanting: status 3, nothing is opened or printed but a front of the line that says so.
     ensures performed { IsCommand (map S.text words.now) → ((result ≡ 3) × (host.new ≡ host.old)
         × Keeps (O.contents output.old) (O.contents output.new)
         × IsFailureWritten IsWantOfMemory (E.contents errors.old) (E.contents errors.new))
         ⊎ ((asked : Asked) × IsAsked (entered_by (map S.text words.now)) asked
-        × Performs (IsReadOf (R.opens rt.now) R.File.remaining)
-        (IsHosted H.Register.shows H.Register.is_clean H.Register.is_sound H.Register.may_leave
-        H.Register.left_shows H.Register.serves H.listens H.waits H.Waiter.does
-        (IsOf H.Listener.Stream.remaining H.Listener.Stream.contents))
-        H.Register.shows H.Register.is_clean H.Register.is_sound H.Register.may_leave
-        H.Register.left_shows H.Register.tells H.does host.old host.new asked
+        × Performs
+        (record {
+          reads = IsReadOf (R.opens rt.now) R.File.remaining;
+          hosts = IsHosted H.Register.meaning
+              (hosting_of H.listens H.waits H.Waiter.does H.Register.serves
+              (IsOf (wire_of H.Listener.Stream.remaining H.Listener.Stream.contents)));
+          meaning = H.Register.meaning;
+          tells = H.Register.tells;
+        })
+        (record { does = H.does; begun = host.old; ended = host.new }) asked
         (I.remaining input.old) (I.remaining input.new)
-        (O.contents output.old) (O.contents output.new) (E.contents errors.old)
-        (E.contents errors.new) result) }
+        (streams_of (O.contents output.old) (O.contents output.new)
+        (E.contents errors.old) (E.contents errors.new) result)) }
 
-    // Words that ask for a check have its text written, or the run fails and wrote a front of it.
+    // Words that ask for a check have the report on some bytes written, or a front where it fails.
     ensures check { AsksForCheck (map S.text words.now) → (bytes : List ℕ)
         × IsReportedOrCutOff bytes (O.contents output.old) (O.contents output.new) result }
 
-    // Where standard input is checked and its bytes are known, the text is the report on them,
+    // Where standard input is checked and known, the report is on the part that is read of it,
     ensures check_input { ChecksInput (map S.text words.now)
         → IfSome (I.remaining input.old) (λ bytes.
         IsReportedOrCutOff (part_read bytes) (O.contents output.old)
@@ -94,23 +102,23 @@ where
     // Where no command is asked for, the registers in files are left alone,
     ensures unopened { ¬ IsCommand (map S.text words.now) → host.new ≡ host.old }
 
-    // and nothing is written on standard output but the help that these words ask for, or a front
+    // and nothing is written on standard output but the help on these words, all of it or a front
     // of it.
     ensures help { ¬ IsCommand (map S.text words.now)
         → AppendsPart (O.contents output.old) (O.contents output.new)
         (help_for (map S.text words.now)) }
 
-    // Whatever the words, status 1 stands for a refusal that was written,
+    // Whatever the words, status 1 comes of a command alone, whose output may be a refusal,
     ensures refused { result ≡ 1 → IsCommand (map S.text words.now)
         × PrintsRefusal (O.contents output.old) (O.contents output.new) }
 
-    // status 0 for a command, or for help that was written whole,
+    // status 0 of a command, or of help that was written whole,
     ensures done { result ≡ 0
         → IsCommand (map S.text words.now) ⊎ (MayAskForHelp (map S.text words.now)
         × Appends (O.contents output.old) (O.contents output.new)
         (help_for (map S.text words.now))) }
 
-    // and status 2 for words with a fault: nothing was read, and no output written.
+    // and status 2 of words that may have a fault: nothing was read, and no output written.
     ensures usage { result ≡ 2 → IsWrong (map S.text words.now)
         × Keeps (I.remaining input.old) (I.remaining input.new)
         × Keeps (O.contents output.old) (O.contents output.new) }
@@ -125,18 +133,18 @@ where
     // and nothing is added to known bytes on standard error,
     ensures silent { result ≤ 1 → Keeps (E.contents errors.old) (E.contents errors.new) }
 
-    // and with status 3, of a check or where no command is asked for, the front of the line of the
-    // failure that was met: all of it, some or nothing.
+    // and with status 3, of a check or where no command is asked for, a front of the line of one of
+    // the failures that may be met there (`IsMetBy`): all of it, some or nothing.
     ensures told { AsksForCheck (map S.text words.now) ⊎ (¬ IsCommand (map S.text words.now))
         → result ≡ 3
-        → IsFailureWritten (IsMetBy (map S.text words.now) (O.contents output.old) (O.contents output.new))
+        → IsFailureWritten
+        (IsMetBy (map S.text words.now) (O.contents output.old) (O.contents output.new))
         (E.contents errors.old) (E.contents errors.new) }
 {
-    let status = match Command::read(rt.alloc(), words) {
-        Ok(command) => perform(rt, host, command, input, output, errors),
-        Err(unread) => answer(unread, help_for(words), output, errors),
-    };
-    status.code()
+    match Command::read(rt.alloc(), words) {
+        Ok(command) => perform(rt, host, command, input, output, errors).code(),
+        Err(unread) => answer(unread, help_for(words), output, errors).code(),
+    }
 }
 
 // Does what is asked, and tells on standard error why it could not be done.
@@ -150,15 +158,19 @@ fn perform<R: NamedFiles + Clock + AllocGlobal, H: Ports, I: Read, O: Output, E:
 ) -> Status
 where
     <H::Listener as OpenListener>::Stream: Read + Write + OpenStream,
-    ensures done { Performs (IsReadOf (R.opens rt.now) R.File.remaining)
-        (IsHosted H.Register.shows H.Register.is_clean H.Register.is_sound H.Register.may_leave
-        H.Register.left_shows H.Register.serves H.listens H.waits H.Waiter.does
-        (IsOf H.Listener.Stream.remaining H.Listener.Stream.contents))
-        H.Register.shows H.Register.is_clean H.Register.is_sound H.Register.may_leave
-        H.Register.left_shows H.Register.tells H.does host.old host.new command.entry
+    ensures done { Performs
+        (record {
+          reads = IsReadOf (R.opens rt.now) R.File.remaining;
+          hosts = IsHosted H.Register.meaning
+              (hosting_of H.listens H.waits H.Waiter.does H.Register.serves
+              (IsOf (wire_of H.Listener.Stream.remaining H.Listener.Stream.contents)));
+          meaning = H.Register.meaning;
+          tells = H.Register.tells;
+        })
+        (record { does = H.does; begun = host.old; ended = host.new }) command.entry
         (I.remaining input.old) (I.remaining input.new)
-        (O.contents output.old) (O.contents output.new) (E.contents errors.old)
-        (E.contents errors.new) (exit_code result) }
+        (streams_of (O.contents output.old) (O.contents output.new)
+        (E.contents errors.old) (E.contents errors.new) (exit_code result)) }
     ensures flushed { exit_code result ≤ 1 → O.is_flushed output.new }
 {
     match command {
@@ -180,25 +192,11 @@ fn check_told<R: NamedFiles + AllocGlobal, H: Registers, I: Read, O: Output, E: 
     output: &mut O,
     errors: &mut E,
 ) -> Status
-    ensures report { (bytes : List ℕ)
-        × IsReportedOrCutOff bytes (O.contents output.old) (O.contents output.new)
-        (exit_code result) }
-    ensures known { name_of source.entry ≡ None → IfSome (I.remaining input.old) (λ bytes.
-        IsReportedOrCutOff (part_read bytes) (O.contents output.old) (O.contents output.new)
-        (exit_code result)) }
-    ensures of_file { IfFile (λ name.
-        IsReportedOf (IsReadOf (R.opens rt.now) R.File.remaining part_limit name)
-        (O.contents output.old) (O.contents output.new) (exit_code result)) source.entry }
-    ensures taken { name_of source.entry ≡ None → exit_code result ≤ 1
-        → TakesPart (I.remaining input.old) (I.remaining input.new) }
-    ensures at_most { TakesAtMostPart (I.remaining input.old) (I.remaining input.new) }
-    ensures unread { IsSome (name_of source.entry)
-        → Keeps (I.remaining input.old) (I.remaining input.new) }
+    ensures done { Checks (IsReadOf (R.opens rt.now) R.File.remaining) source.entry
+        (I.remaining input.old) (I.remaining input.new)
+        (streams_of (O.contents output.old) (O.contents output.new)
+        (E.contents errors.old) (E.contents errors.new) (exit_code result)) }
     ensures flushed { exit_code result ≤ 1 → O.is_flushed output.new }
-    ensures silent { exit_code result ≤ 1 → Keeps (E.contents errors.old) (E.contents errors.new) }
-    ensures told { exit_code result ≡ 3
-        → IsFailureWritten (IsMetOn source.entry (O.contents output.old) (O.contents output.new))
-        (E.contents errors.old) (E.contents errors.new) }
 {
     match check_source(rt, host, source, input, output) {
         Ok(status) => status,

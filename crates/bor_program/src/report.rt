@@ -2,11 +2,12 @@
 
 ghost use Rattle.std.specs.Prelude.{◌≡◌, ◌≤◌, IfOk, IfErr, OnOk, Some};
 ghost use Rattle.bor_records.specs.Promises.{Kept, Promised};
-ghost use Rattle.bor_desk.specs.Operations.Outcomes.{IsAccounted, TellsFaultOf};
+ghost use Rattle.bor_desk.specs.Operations.Outcomes.{Accounts, store_fault};
 ghost use Rattle.bor_program.specs.Failures.{IsMetOnKeep};
 ghost use Rattle.bor_program.specs.Performing.{Reports};
 ghost use Rattle.bor_program.specs.Program.{exit_code};
 ghost use Rattle.bor_program.specs.Reporting.{EndsTelling, IsReportOf, IsToldOf, entity_of};
+ghost use Rattle.bor_program.specs.Streams.{streams_of};
 
 use crate::check::text_status;
 use crate::failure::Failure;
@@ -28,10 +29,10 @@ pub fn report<H: Registers, O: Output, E: Write>(
     output: &mut O,
     errors: &mut E,
 ) -> Status
-    ensures done { Reports H.Register.shows H.Register.is_clean H.Register.is_sound
-        H.Register.may_leave H.Register.tells H.does host.old host.new asked.now
-        (O.contents output.old) (O.contents output.new) (E.contents errors.old)
-        (E.contents errors.new) (exit_code result) }
+    ensures done { Reports H.Register.meaning H.Register.tells
+        (record { does = H.does; begun = host.old; ended = host.new }) asked.now
+        (streams_of (O.contents output.old) (O.contents output.new)
+        (E.contents errors.old) (E.contents errors.new) (exit_code result)) }
     ensures flushed { exit_code result ≤ 1 → O.is_flushed output.new }
 {
     host.reach(Stage::Opening(asked.db));
@@ -61,8 +62,8 @@ pub fn report_on<'a, K: OpenRegister, O: Output>(
     asked: &Report<'_>,
     output: &mut O,
 ) -> Result<Status, Failure<'a>>
-    ensures kept { Kept K.shows K.is_clean K.is_sound K.may_leave register.old register.new }
-    ensures told { EndsTelling (IsToldOf K.shows K.is_clean register.old register.new asked.now)
+    ensures kept { Kept K.meaning register.old register.new }
+    ensures told { EndsTelling (IsToldOf K.meaning register.old register.new asked.now)
         (O.contents output.old) (O.contents output.new) result }
     ensures flushed { OnOk result (O.is_flushed output.new) }
     ensures err { IfErr result (IsMetOnKeep (λ fault. K.tells register.old fault register.new)
@@ -83,12 +84,10 @@ pub fn report_in<K: Keep>(
     keep: &mut K,
     asked: &Report<'_>,
 ) -> Result<Text, StoreFault>
-    ensures kept { Kept K.shows K.is_clean K.is_sound K.may_leave keep.old keep.new }
-    ensures text { Promised K.shows K.is_clean keep.old keep.new (λ r.
+    ensures kept { Kept K.meaning keep.old keep.new }
+    ensures text { Promised K.meaning keep.old keep.new (λ r.
         IfOk result (IsReportOf asked.now r)) }
-    ensures accounted { IsAccounted Some result (K.fault_count keep.old) (K.fault_count keep.new) }
-    ensures told { Promised K.shows K.is_clean keep.old keep.new (λ r.
-        TellsFaultOf Some K.may_tell result (K.fault_count keep.old) (K.fault_count keep.new)) }
+    ensures accounted { Accounts K.meaning keep.old keep.new (store_fault Some result) }
 {
     let entity = entity_of(alloc, asked)?;
     let day = date_or_day(keep, asked.date)?;

@@ -3,12 +3,12 @@
 ghost use Rattle.std.specs.Prelude.{◌≡◌, ◌≤◌, ◌⊎◌, IfErr, IfOk, OnErr, OnOk};
 ghost use Rattle.std.specs.Io.KnownBytes.{Appends};
 ghost use Rattle.bor_program.specs.Connections.Serving.{IsServed};
-ghost use Rattle.bor_program.specs.Connections.Streams.{IsOf};
+ghost use Rattle.bor_program.specs.Connections.Streams.{IsOf, wire_of};
 ghost use Rattle.bor_program.specs.Failures.{IsMetListening};
-ghost use Rattle.bor_program.specs.Hosting.{IsHosted};
+ghost use Rattle.bor_program.specs.Hosting.{IsHosted, hosting_of};
 ghost use Rattle.bor_program.specs.Performing.{Serves, listening};
 ghost use Rattle.bor_program.specs.Program.{exit_code};
-ghost use Rattle.bor_program.specs.Streams.{AppendsPart};
+ghost use Rattle.bor_program.specs.Streams.{AppendsPart, streams_of};
 
 use crate::connections::Limits;
 use crate::failure::Failure;
@@ -34,13 +34,11 @@ pub fn serve<R: Clock + AllocGlobal, H: Ports, O: Output, E: Write>(
 where
     <H::Listener as OpenListener>::Stream: Read + Write + OpenStream,
     ensures done { Serves
-        (IsHosted H.Register.shows H.Register.is_clean H.Register.is_sound H.Register.may_leave
-        H.Register.left_shows H.Register.serves H.listens H.waits H.Waiter.does
-        (IsOf H.Listener.Stream.remaining H.Listener.Stream.contents))
-        H.Register.shows H.Register.is_clean H.Register.is_sound H.Register.may_leave
-        H.Register.left_shows H.does host.old host.new asked.entry
-        (O.contents output.old) (O.contents output.new) (E.contents errors.old)
-        (E.contents errors.new) (exit_code result) }
+        (IsHosted H.Register.meaning (hosting_of H.listens H.waits H.Waiter.does H.Register.serves
+        (IsOf (wire_of H.Listener.Stream.remaining H.Listener.Stream.contents))))
+        H.Register.meaning (record { does = H.does; begun = host.old; ended = host.new })
+        asked.entry (streams_of (O.contents output.old) (O.contents output.new)
+        (E.contents errors.old) (E.contents errors.new) (exit_code result)) }
     ensures flushed { exit_code result ≤ 1 → O.is_flushed output.new }
 {
     host.reach(Stage::Opening(asked.db));
@@ -67,14 +65,13 @@ fn listen<'a, R: Clock + AllocGlobal, H: Ports, O: Output>(
 ) -> Result<Status, Failure<'a>>
 where
     <H::Listener as OpenListener>::Stream: Read + Write + OpenStream,
-    ensures hosted { IfOk result (λ status.
-        IsHosted H.Register.shows H.Register.is_clean H.Register.is_sound H.Register.may_leave
-        H.Register.left_shows H.Register.serves H.listens H.waits H.Waiter.does
-        (IsOf H.Listener.Stream.remaining H.Listener.Stream.contents)
+    ensures hosted { IfOk result (λ status. IsHosted H.Register.meaning
+        (hosting_of H.listens H.waits H.Waiter.does H.Register.serves
+        (IsOf (wire_of H.Listener.Stream.remaining H.Listener.Stream.contents)))
         asked.entry register.old register.new (exit_code status)) }
     ensures ok { IfOk result (λ status.
-        IsServed H.Register.shows H.Register.is_clean H.Register.is_sound H.Register.may_leave
-        H.Register.left_shows register.old register.new asked.entry.connections (exit_code status)
+        IsServed H.Register.meaning register.old register.new asked.entry.connections
+        (exit_code status)
         × Appends (O.contents output.old) (O.contents output.new) (listening asked.entry.port)) }
     ensures part { AppendsPart (O.contents output.old) (O.contents output.new)
         (listening asked.entry.port) }

@@ -1,10 +1,10 @@
 -- One read after another.
 use Rattle.std.proofs.Common.{inl, inr}
-use Rattle.bor_records.specs.Promises.{Kept, Leaves, StaysClean}
+use Rattle.bor_records.specs.Promises.{Kept, Leaves, Meaning, StaysClean}
 
-pub kept_then : {S V W : Type 0} (shows : S → V → Type 0) (is_clean is_sound : S → Type 0) (may_leave : S → W → Type 0) (a b c : S) →
-    Kept shows is_clean is_sound may_leave a b → Kept shows is_clean is_sound may_leave b c → Kept shows is_clean is_sound may_leave a c
-kept_then shows is_clean is_sound may_leave a b c p q = record {
+pub kept_then : {S V W F : Type 0} (meaning : Meaning S V W F) (a b c : S) →
+    Kept meaning a b → Kept meaning b c → Kept meaning a c
+kept_then meaning a b c p q = record {
   began = λ clean. p.began (q.began clean);
   same = λ clean v. (λ is. (q.same clean v).0 ((p.same (q.began clean) v).0 is), λ is. (p.same (q.began clean) v).1 ((q.same clean v).1 is));
   sound = λ sound. p.sound (q.sound sound);
@@ -12,9 +12,9 @@ kept_then shows is_clean is_sound may_leave a b c p q = record {
 }
 
 -- A promise on each value that was shown may be made of another one.
-pub leaves_so : {S V W : Type 0} (shows : S → V → Type 0) (is_clean is_sound : S → Type 0) (may_leave : S → W → Type 0) (a b : S) (IsMade IsSo : V → W → Type 0) →
-    (is_clean a → (v : V) → shows a v → (left : W) → IsMade v left → IsSo v left) → Leaves shows is_clean is_sound may_leave a b IsMade → Leaves shows is_clean is_sound may_leave a b IsSo
-leaves_so shows is_clean is_sound may_leave a b IsMade IsSo so leaves = record {
+pub leaves_so : {S V W F : Type 0} (meaning : Meaning S V W F) (a b : S) (IsMade IsSo : V → W → Type 0) →
+    (meaning.is_clean a → (v : V) → meaning.shows a v → (left : W) → IsMade v left → IsSo v left) → Leaves meaning a b IsMade → Leaves meaning a b IsSo
+leaves_so meaning a b IsMade IsSo so leaves = record {
   began = leaves.began;
   sound = leaves.sound;
   stops = λ sound left may. elim (leaves.stops sound left may) [
@@ -24,12 +24,12 @@ leaves_so shows is_clean is_sound may_leave a b IsMade IsSo so leaves = record {
 }
 
 -- what is asked of no call
-pub same_lasts : {S : Type 0} (is_clean is_sound : S → Type 0) (a : S) → StaysClean is_clean is_sound a a
-same_lasts is_clean is_sound a = record { sound = λ sound. sound; clean = λ sound clean. clean }
+pub same_lasts : {S V W F : Type 0} (meaning : Meaning S V W F) (a : S) → StaysClean meaning a a
+same_lasts meaning a = record { sound = λ sound. sound; clean = λ sound clean. clean }
 
 -- one answer after the other
-pub lasts_then : {S : Type 0} (is_clean is_sound : S → Type 0) (a b c : S) → StaysClean is_clean is_sound a b → StaysClean is_clean is_sound b c → StaysClean is_clean is_sound a c
-lasts_then is_clean is_sound a b c first second = record {
+pub lasts_then : {S V W F : Type 0} (meaning : Meaning S V W F) (a b c : S) → StaysClean meaning a b → StaysClean meaning b c → StaysClean meaning a c
+lasts_then meaning a b c first second = record {
   sound = λ sound. first.sound (second.sound sound);
   clean = λ sound clean. second.clean sound (first.clean (second.sound sound) clean);
 }

@@ -1,11 +1,11 @@
 -- A change that fits each value that a clean state shows is one of which nothing else has to be known, and the other way round.
-use Rattle.std.proofs.Common.{◌≡◌, ℕ, Result, Ok, Err, IfOk, inl, inr}
+use Rattle.std.proofs.Common.{Result, Ok, Err, IfOk, inl, inr}
 use Rattle.std.specs.Prelude.{◌⊎◌, IfErr}
-use Rattle.bor_records.specs.Promises.{Changes, ChangesWhere, Sure, left_by}
+use Rattle.bor_records.specs.Promises.{Changes, ChangesWhere, Meaning, Sure, left_by}
 
-module _ {S V W T F : Type 0} (shows : S → V → Type 0) (is_clean is_sound : S → Type 0) (may_leave : S → W → Type 0) (left_shows : W → V → Type 0) (faults : S → ℕ) (may_tell : F → Type 0) where
-  pub sure_changes : {old new : S} {result : Result T F} {Fits : V → Type 0} {change : V → V} → Sure shows is_clean old Fits
-      → ChangesWhere shows is_clean is_sound may_leave left_shows faults may_tell old new result Fits change → Changes shows is_clean is_sound may_leave left_shows faults may_tell old new result change
+module _ {S V W T F : Type 0} (meaning : Meaning S V W F) where
+  pub sure_changes : {old new : S} {result : Result T F} {Fits : V → Type 0} {change : V → V} → Sure meaning old Fits
+      → ChangesWhere meaning old new result Fits change → Changes meaning old new result change
   sure_changes {old} {new} {result} {Fits} {change} sure where_fits = record {
     leaves = record {
       began = where_fits.leaves.began;
@@ -18,17 +18,17 @@ module _ {S V W T F : Type 0} (shows : S → V → Type 0) (is_clean is_sound : 
     changed = λ v shown clean. either result v (where_fits.failed v shown clean) (where_fits.made v shown clean (sure v shown (where_fits.leaves.began clean)));
   }
     where
-      stopped : (left : W) → may_leave old left ⊎ (is_clean old × ((v : V) → shows old v → Fits v → left_shows left (change v))) → may_leave old left ⊎ (is_clean old × ((v : V) → shows old v → left_shows left (change v)))
+      stopped : (left : W) → meaning.may_leave old left ⊎ (meaning.is_clean old × ((v : V) → meaning.shows old v → Fits v → meaning.left_shows left (change v))) → meaning.may_leave old left ⊎ (meaning.is_clean old × ((v : V) → meaning.shows old v → meaning.left_shows left (change v)))
       stopped left (inl was) = inl was
       stopped left (inr made) = inr (made.0, λ v shown. made.1 v shown (sure v shown made.0))
 
-      either : (answer : Result T F) (v : V) → IfErr answer (λ e. shows new v) → IfOk answer (λ x. shows new (change v)) → shows new (left_by answer (change v) v)
+      either : (answer : Result T F) (v : V) → IfErr answer (λ e. meaning.shows new v) → IfOk answer (λ x. meaning.shows new (change v)) → meaning.shows new (left_by answer (change v) v)
       either (Ok x) v failed made = made
       either (Err e) v failed made = failed
 
   -- a change of which nothing has to be known fits each value
-  pub changes_always : {old new : S} {result : Result T F} {change : V → V} → Changes shows is_clean is_sound may_leave left_shows faults may_tell old new result change
-      → ChangesWhere shows is_clean is_sound may_leave left_shows faults may_tell old new result (λ v. Unit {0}) change
+  pub changes_always : {old new : S} {result : Result T F} {change : V → V} → Changes meaning old new result change
+      → ChangesWhere meaning old new result (λ v. Unit {0}) change
   changes_always {old} {new} {result} {change} changes = record {
     leaves = record {
       began = changes.leaves.began;
@@ -42,14 +42,14 @@ module _ {S V W T F : Type 0} (shows : S → V → Type 0) (is_clean is_sound : 
     made = λ v shown clean fits. where_ok result v (changes.changed v shown clean);
   }
     where
-      stopped : (left : W) → may_leave old left ⊎ (is_clean old × ((v : V) → shows old v → left_shows left (change v))) → may_leave old left ⊎ (is_clean old × ((v : V) → shows old v → Unit {0} → left_shows left (change v)))
+      stopped : (left : W) → meaning.may_leave old left ⊎ (meaning.is_clean old × ((v : V) → meaning.shows old v → meaning.left_shows left (change v))) → meaning.may_leave old left ⊎ (meaning.is_clean old × ((v : V) → meaning.shows old v → Unit {0} → meaning.left_shows left (change v)))
       stopped left (inl was) = inl was
       stopped left (inr made) = inr (made.0, λ v shown fits. made.1 v shown)
 
-      where_err : (answer : Result T F) (v : V) → shows new (left_by answer (change v) v) → IfErr answer (λ e. shows new v)
+      where_err : (answer : Result T F) (v : V) → meaning.shows new (left_by answer (change v) v) → IfErr answer (λ e. meaning.shows new v)
       where_err (Ok x) v h = tt
       where_err (Err e) v h = h
 
-      where_ok : (answer : Result T F) (v : V) → shows new (left_by answer (change v) v) → IfOk answer (λ x. shows new (change v))
+      where_ok : (answer : Result T F) (v : V) → meaning.shows new (left_by answer (change v) v) → IfOk answer (λ x. meaning.shows new (change v))
       where_ok (Ok x) v h = h
       where_ok (Err e) v h = tt

@@ -8,7 +8,7 @@ use Rattle.bor_register.specs.Register.{new_member, with_filings, with_member}
 use Rattle.bor_register.specs.Withdrawal.{with_withdrawn}
 
 -- The agent is enrolled, has room for one more filing and none under the key, and its live
--- statements leave room for these.
+-- statements may have these beside them (`AreNew`).
 pub record MayFile (agent key : List ℕ) (statements : List Statement) (r : Register) : Type 0 where
   pub enrolled : is_enrolled agent r.members ≡ true
   pub room : length (filings_of agent r.members) < filings_limit

@@ -26,7 +26,7 @@ accepted own key due bytes statements =
       statements = statements;
     }
 
--- Statements that an agent may add to its live ones: each has its status, no identifier comes
+-- Statements that an agent may add to its live ones: each has a status, no identifier comes
 -- twice, and none is a live statement's.
 pub record AreNew (live : List Live) (statements : List Statement) : Type 0 where
   pub settled : All (λ s. IsSome s.status) statements

@@ -8,13 +8,13 @@ use Rattle.sqlite.specs.declared.error.Error.{Error}
 use Rattle.bor_register.specs.Register.{Register}
 use Rattle.bor_store_sql.specs.Rows.Encoding.{contents}
 use Rattle.bor_store_sql.specs.Rows.Stored.{IsStored}
-use Rattle.bor_store_sql.specs.Found.{FindsBoth}
+use Rattle.bor_store_sql.specs.Found.{FindsRows}
 use Rattle.bor_store_sql.specs.Shown.{HasFirst, HasLists, ShowsFirst, ShowsLists, first_contents}
 use Rattle.bor_store_reads.specs.Answering.{IsNoDamage}
 use Rattle.bor_store_reads.specs.declared.fault.ReadError.{ReadError}
 use Rattle.bor_store.specs.Migrating.{AnswersEither}
 
-module _ {X : Type 0} (columns : X → Row) (is_formed : X → Type 0) (old new : State) (found : Result (Vec Row Global) Error) (rows_of : Register → List Row) (finds : FindsBoth old new found rows_of)
+module _ {X : Type 0} (columns : X → Row) (is_formed : X → Type 0) (old new : State) (found : Result (Vec Row Global) Error) (rows_of : Register → List Row) (finds : FindsRows ShowsLists old new found rows_of)
     (xs_of : Register → List X) (are : (r : Register) → rows_of r ≡ map columns (xs_of r)) (formed : (r : Register) → IsStored r → All is_formed (xs_of r)) where
   -- what is told of rows that are those of formed values
   pub told_either : {Y : Type 0} (result : Result Y ReadError) (Q : List X → Y → Type 0)

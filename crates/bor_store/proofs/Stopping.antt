@@ -1,5 +1,5 @@
 -- The states that a stop may leave.
-use Rattle.std.proofs.Common.{◌≡◌, ◌⊎◌, ◌∙◌, inl, inr, List, subst}
+use Rattle.std.proofs.Common.{◌≡◌, ◌⊎◌, ◌∙◌, ℕ, inl, inr, List, subst}
 use Rattle.sqlite.specs.State.{HasCleanDisk, State}
 use Rattle.sqlite.specs.Tree.{Trees}
 use Rattle.bor_records.specs.Promises.{Leaves}
@@ -9,7 +9,8 @@ use Rattle.bor_store_sql.specs.Changing.{all_periods}
 use Rattle.bor_store_sql.specs.Shown.{IsClean, LeavesAtMost, ShowsFirst, ShowsIn, ShowsLists, Stands}
 use Rattle.bor_store_sql.specs.declared.rows.typed.PeriodRow.{PeriodRow}
 use Rattle.bor_store_sql.proofs.BothReads.{of_first}
-use Rattle.bor_store_reads.specs.Answering.{ReadsOnly}
+use Rattle.bor_store_sql.specs.Found.{ReadsOnly}
+use Rattle.bor_store.specs.Tables.{of_tables}
 use Rattle.bor_store.specs.Migrating.{FilesSay}
 use Rattle.bor_store.proofs.Either.{still_first}
 use Rattle.bor_store.proofs.Legals.{files_say}
@@ -37,10 +38,10 @@ moves_legal old mid new days given is reads says sound stops =
 -- ---- of a keep
 
 -- what a change of a keep's tables leaves
-pub keep_leaves : {K : Type 0} (state_of : K → State) (old new : K) (before after : State) → before ≡ state_of old → state_of new ≡ after → (HasCleanDisk after → HasCleanDisk before) → (IsClean after → IsClean before)
+pub keep_leaves : {K : Type 0} (state_of : K → State) (faults : K → ℕ) (old new : K) (before after : State) → before ≡ state_of old → state_of new ≡ after → (HasCleanDisk after → HasCleanDisk before) → (IsClean after → IsClean before)
     → (Made : Trees → Type 0) → LeavesAtMost Made before after → (change : Register → Register) → (IsClean before → (r : Register) → ShowsIn r before → (trees : Trees) → Made trees → Stands (change r) trees)
-    → Leaves (λ k r. ShowsIn r (state_of k)) (λ k. IsClean (state_of k)) (λ k. HasCleanDisk (state_of k)) (λ k trees. (state_of k).may_leave trees) old new (λ r trees. Stands (change r) trees)
-keep_leaves state_of old new before after begins ends sound began Made stops change so = record {
+    → Leaves (of_tables state_of faults) old new (λ r trees. Stands (change r) trees)
+keep_leaves state_of faults old new before after begins ends sound began Made stops change so = record {
   began = λ clean. subst IsClean begins (began (subst IsClean ends clean));
   sound = λ clean. subst HasCleanDisk begins (sound (subst HasCleanDisk ends clean));
   stops = λ clean trees may.
@@ -52,10 +53,10 @@ keep_leaves state_of old new before after begins ends sound began Made stops cha
 }
 
 -- the same, told of those registers alone that the change fits
-pub keep_leaves_where : {K : Type 0} (state_of : K → State) (old new : K) (before after : State) → before ≡ state_of old → state_of new ≡ after → (HasCleanDisk after → HasCleanDisk before) → (IsClean after → IsClean before)
+pub keep_leaves_where : {K : Type 0} (state_of : K → State) (faults : K → ℕ) (old new : K) (before after : State) → before ≡ state_of old → state_of new ≡ after → (HasCleanDisk after → HasCleanDisk before) → (IsClean after → IsClean before)
     → (Made : Trees → Type 0) → LeavesAtMost Made before after → (Fits : Register → Type 0) (change : Register → Register) → ((r : Register) → ShowsIn r before → Fits r → (trees : Trees) → Made trees → Stands (change r) trees)
-    → Leaves (λ k r. ShowsIn r (state_of k)) (λ k. IsClean (state_of k)) (λ k. HasCleanDisk (state_of k)) (λ k trees. (state_of k).may_leave trees) old new (λ r trees. Fits r → Stands (change r) trees)
-keep_leaves_where state_of old new before after begins ends sound began Made stops Fits change so = record {
+    → Leaves (of_tables state_of faults) old new (λ r trees. Fits r → Stands (change r) trees)
+keep_leaves_where state_of faults old new before after begins ends sound began Made stops Fits change so = record {
   began = λ clean. subst IsClean begins (began (subst IsClean ends clean));
   sound = λ clean. subst HasCleanDisk begins (sound (subst HasCleanDisk ends clean));
   stops = λ clean trees may.

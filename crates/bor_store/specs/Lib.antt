@@ -3,3 +3,4 @@ pub mod Telling
 pub mod Stopping
 pub mod Opening
 pub mod Migrating
+pub mod Tables

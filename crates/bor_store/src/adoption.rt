@@ -7,9 +7,8 @@ ghost use Rattle.sqlite.specs.State.{HasCleanDisk};
 ghost use Rattle.sqlite_schema.specs.Names.{same_name, column_named};
 ghost use Rattle.bor_register.specs.Register.{Register};
 ghost use Rattle.bor_store_sql.specs.Rows.Encoding.{tables_version};
-ghost use Rattle.bor_store_sql.specs.Found.{Asked};
 ghost use Rattle.bor_store_sql.specs.Shown.{IsClean, IsUp, ShowsFirst, ShowsIn};
-ghost use Rattle.bor_store_reads.specs.Answering.{ReadsOnly};
+ghost use Rattle.bor_store_sql.specs.Found.{Asked, ReadsOnly};
 ghost use Rattle.bor_store.specs.Opening.{AreVersions, IsFailure, IsFaithful, IsJudged, IsRegister, RefusesFirst, has_all, has_first, is_versioned, version_in, version_text};
 ghost use Rattle.bor_store.specs.declared.open_fault.OpenFault.TheVariants as faults;
 

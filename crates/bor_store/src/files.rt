@@ -10,7 +10,7 @@ ghost use Rattle.bor_register.specs.Register.{Register};
 ghost use Rattle.bor_register.specs.declared.filing.AcceptedFiling.{AcceptedFiling};
 ghost use Rattle.bor_store_sql.specs.Rows.Placed.{filing_lines};
 ghost use Rattle.bor_store_sql.specs.Shown.{IsClean, ShowsLists};
-ghost use Rattle.bor_store_reads.specs.Answering.{ReadsOnly};
+ghost use Rattle.bor_store_sql.specs.Found.{ReadsOnly};
 ghost use Rattle.bor_store_reads.specs.declared.fault.ReadError.TheVariants as errors;
 ghost use Rattle.bor_store.specs.Migrating.{AnswersEither, FileSays, FilesSay, Gathers, GathersAll, LineSays, LinesSay, filed_at};
 
@@ -31,7 +31,6 @@ fn found_file<S: Alter>(
     agent: &AgentName,
     number: u32,
 ) -> Result<Option<Filing>, ReadError>
-    requires { conn.old.in_transaction ≡ false }
     ensures reads { ReadsOnly (state S.Store conn.old) (state S.Store conn.new) }
     ensures answer { AnswersEither (state S.Store conn.old)
         (state S.Store conn.new) result (λ r file.
@@ -45,7 +44,6 @@ fn found_lines<S: Alter>(
     conn: &mut Connection<S>,
     alloc: Global,
 ) -> Result<Vec<FilingRow>, ReadError>
-    requires { conn.old.in_transaction ≡ false }
     ensures reads { ReadsOnly (state S.Store conn.old) (state S.Store conn.new) }
     ensures answer { AnswersEither (state S.Store conn.old)
         (state S.Store conn.new) result (λ r lines.
@@ -76,7 +74,6 @@ fn add_file<S: Alter>(
     number: u32,
     bytes: &[u8],
 ) -> Result<(), ReadError>
-    requires { conn.old.in_transaction ≡ false }
     ensures reads { ReadsOnly (state S.Store conn.old) (state S.Store conn.new) }
     ensures gathered { IsClean (state S.Store conn.new)
         → (r : Register) → ShowsLists r (state S.Store conn.old)
@@ -98,7 +95,6 @@ fn add_line<S: Alter>(
     days: &mut Vec<PeriodRow>,
     line: &FilingRow,
 ) -> Result<(), ReadError>
-    requires { conn.old.in_transaction ≡ false }
     ensures reads { ReadsOnly (state S.Store conn.old) (state S.Store conn.new) }
     ensures gathered { IsClean (state S.Store conn.new)
         → (r : Register) → ShowsLists r (state S.Store conn.old)
@@ -126,7 +122,6 @@ fn gather<S: Alter>(
     alloc: Global,
     lines: &[FilingRow],
 ) -> Result<Vec<PeriodRow>, ReadError>
-    requires { conn.old.in_transaction ≡ false }
     ensures reads { ReadsOnly (state S.Store conn.old) (state S.Store conn.new) }
     ensures gathered { IsClean (state S.Store conn.new)
         → (r : Register) → ShowsLists r (state S.Store conn.old)
@@ -146,7 +141,6 @@ pub(crate) fn days_in_files<S: Alter>(
     conn: &mut Connection<S>,
     alloc: Global,
 ) -> Result<Vec<PeriodRow>, ReadError>
-    requires { conn.old.in_transaction ≡ false }
     ensures reads { ReadsOnly (state S.Store conn.old) (state S.Store conn.new) }
     ensures gathered { IsClean (state S.Store conn.new)
         → (r : Register) → ShowsLists r (state S.Store conn.old)

@@ -18,7 +18,6 @@ mod migration;
 mod open_fault;
 mod opening;
 mod room;
-mod served_keep;
 mod setup;
 mod sql_keep;
 
@@ -27,6 +26,5 @@ pub use migration::migrate;
 pub use open_fault::OpenFault;
 pub use opening::{close_files, connect};
 pub use room::statements_within;
-pub use served_keep::{Notice, ServedKeep};
 pub use setup::set_up;
 pub use sql_keep::SqlKeep;

@@ -6,7 +6,7 @@ ghost use Rattle.sqlite.specs.State.{HasCleanDisk};
 ghost use Rattle.bor_desk.specs.Operations.Legality.{IsLegal};
 ghost use Rattle.bor_register.specs.Register.{Register};
 ghost use Rattle.bor_store_sql.specs.Shown.{IsClean, LeavesAtMost, ShowsFirst, ShowsIn, Stands};
-ghost use Rattle.bor_store_reads.specs.Answering.{ReadsOnly};
+ghost use Rattle.bor_store_sql.specs.Found.{ReadsOnly};
 ghost use Rattle.bor_store.specs.Opening.{IsFailure, is_period_used, is_used, is_versioned, version_in};
 ghost use Rattle.bor_store.specs.Migrating.{IsMoveJudged, IsVersionJudged, Migrates, TellsVersion};
 ghost use Rattle.bor_store.specs.declared.open_fault.OpenFault.TheVariants as faults;

@@ -1,24 +1,25 @@
 //! A register in tables.
 
-ghost use Rattle.std.specs.Prelude.{◌≡◌, false, IfOk};
+ghost use Rattle.std.specs.Prelude.{◌≡◌, false};
 ghost use Rattle.std.proofs.Common.{sym};
 ghost use Rattle.sqlite.specs.Held.{state};
-ghost use Rattle.sqlite.specs.State.{HasCleanDisk};
 ghost use Rattle.sqlite.specs.Tree.{Trees};
 ghost use Rattle.bor_records.specs.Promises.{counted};
-ghost use Rattle.bor_store_sql.specs.Shown.{IsClean, ShowsIn, Stands};
 ghost use Rattle.bor_store_sql.proofs.Ending.{stands_in};
-ghost use Rattle.bor_store.specs.Telling.{tells, tells_made, store_fault_of, TellsNoDamage};
+ghost use Rattle.bor_store.specs.Tables.{of_tables};
+ghost use Rattle.bor_store.specs.Telling.{tells, tells_made, store_fault_of};
 
 use crate::lodging::add_next_filing;
-use bods_read::Statement;
+use bods_read::{Identifier, Statement};
 use bor_desk::memory::ListKeep;
 use bor_desk::mirror::MirrorStore;
 use bor_records::links::{Link, Node, NodeInfo};
 use bor_records::{Last, Row};
 use bor_register::keeping::Keep;
 use bor_register::{Caller, Filing, FilingLine, Outward, StoreFault};
-use bor_store_keys::{Lookup, read_aliases, read_links_into, read_node, read_open_row, read_same};
+use bor_store_keys::{
+    Lookup, read_aliases, read_identified, read_links_into, read_node, read_open_row, read_same,
+};
 use bor_store_reads::{
     ReadError, filing_count, has_agent, has_file, has_statement, has_successor, read_day,
     read_filing, read_filings, read_last, read_line, read_published, read_rows_of, read_visible,
@@ -83,21 +84,9 @@ fn fault_of(error: Error) -> StoreFault
 
 #[tactic(auto, using(bor_store_reads::proofs::Found::still_shows, crate::proofs::Kept::still_kept, crate::proofs::Lasting::lasts_told, crate::proofs::Lasting::up_told, crate::proofs::Undamaged::undamaged_told))]
 impl<S: Alter + Drop> Keep for SqlKeep<S> {
-    ghost shows = { λ k r. ShowsIn r (state S.Store k.conn) };
-
-    ghost is_clean = { λ k. IsClean (state S.Store k.conn) };
-
-    ghost is_sound = { λ k. HasCleanDisk (state S.Store k.conn) };
-
     ghost Left = { Trees };
 
-    ghost may_leave = { λ k trees. (state S.Store k.conn).may_leave trees };
-
-    ghost left_shows = { λ trees r. Stands r trees };
-
-    ghost fault_count = { λ k. k.faults };
-
-    ghost may_tell = { TellsNoDamage };
+    ghost meaning = { of_tables (λ k. state S.Store k.conn) (λ k. k.faults) };
 
     fn faults(&self) -> u64 {
         self.faults
@@ -225,6 +214,16 @@ impl<S: Alter + Drop> Keep for SqlKeep<S> {
 
     fn same(&mut self, viewer: &AgentName, day: Day, node: &Node) -> Result<Vec<Node>, StoreFault> {
         let answer = read_same(&mut self.conn, self.alloc, viewer, day, node);
+        self.told(answer)
+    }
+
+    fn identified(
+        &mut self,
+        viewer: &AgentName,
+        day: Day,
+        identifier: &Identifier,
+    ) -> Result<Vec<Node>, StoreFault> {
+        let answer = read_identified(&mut self.conn, self.alloc, viewer, day, identifier);
         self.told(answer)
     }
 

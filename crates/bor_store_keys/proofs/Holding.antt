@@ -9,9 +9,10 @@ use Rattle.sqlite.specs.State.{State}
 use Rattle.bor_records.specs.Links.Nodes.{text_cmp}
 use Rattle.bor_register.specs.Register.{Register}
 use Rattle.bor_store_sql.proofs.Lists.{where_ok}
+use Rattle.bor_store_sql.specs.Found.{ReadsOnly}
 use Rattle.bor_store_sql.specs.Shown.{IsClean, StaysUp}
 use Rattle.bor_store_reads.specs.declared.fault.ReadError.{ReadError}
-use Rattle.bor_store_reads.specs.Answering.{Answers, ReadsAs, ReadsOnly}
+use Rattle.bor_store_reads.specs.Answering.{Answers, ReadsAs}
 use Rattle.bor_store_reads.proofs.Found.{still_shows}
 use Rattle.bor_store_keys.specs.declared.found.FilingKey.{FilingKey}
 use Rattle.bor_store_keys.specs.declared.found.Found.{Found}

@@ -2,7 +2,6 @@
 
 ghost use Rattle.std.specs.Prelude.{◌≡◌, ◌∷◌, [], false, map};
 ghost use Rattle.std.specs.BTreeSet.{contains};
-ghost use Rattle.sqlite.specs.Held.{state};
 ghost use Rattle.bor_records.specs.Links.Answers.{AreAliases, AreSame};
 ghost use Rattle.bor_records.specs.Links.ByKey.{node_at};
 ghost use Rattle.bor_records.specs.Links.Growth.{Grown};
@@ -10,7 +9,7 @@ ghost use Rattle.bor_records.specs.Links.Shown.{is_like};
 ghost use Rattle.bor_records.specs.Links.Signs.{by_identifier, sign_cmp, signs};
 ghost use Rattle.bor_chains.specs.Candidates.{IsAlike, IsAlikeIn};
 ghost use Rattle.bor_register.specs.Seen.{seen_at};
-ghost use Rattle.bor_store_reads.specs.Answering.{ReadsAs};
+ghost use Rattle.bor_store_reads.specs.Answering.{Reads};
 ghost use Rattle.bor_chains.specs.Alike.{Expands, Follows};
 ghost use Rattle.bor_store_keys.specs.Viewed.{rows_seen, seen};
 
@@ -36,9 +35,7 @@ fn is_alike<S: Alter + Drop>(
     one: &OpenNode,
     candidate: &Node,
 ) -> Result<bool, ReadError>
-    requires { lookup.old.in_transaction ≡ false }
-    ensures { ReadsAs (state S.Store lookup.old)
-        (state S.Store lookup.new) result (λ r alike.
+    ensures { Reads S.Store lookup.old lookup.new result (λ r alike.
         alike ≡ is_like one.now (node_at view.now.day candidate.now (rows_seen view.now r))) }
 {
     match node_in(lookup, alloc, view, candidate)? {
@@ -56,10 +53,9 @@ fn add_if_alike<S: Alter + Drop>(
     one: &OpenNode,
     candidate: &Node,
 ) -> Result<(), ReadError>
-    requires { lookup.old.in_transaction ≡ false }
-    ensures { ReadsAs (state S.Store lookup.old) (state S.Store lookup.new) result (λ r _.
-        Grown (IsAlike view.now.day (rows_seen view.now r) one.now candidate.now)
-        class.old class.new) }
+    ensures { Reads S.Store lookup.old lookup.new result (λ r _.
+        Grown
+        (IsAlike view.now.day (rows_seen view.now r) one.now candidate.now) class.old class.new) }
 {
     if class.has(candidate) {
         return Ok(());
@@ -80,10 +76,10 @@ fn add_alike<S: Alter + Drop>(
     one: &OpenNode,
     candidates: &[Node],
 ) -> Result<(), ReadError>
-    requires { lookup.old.in_transaction ≡ false }
-    ensures { ReadsAs (state S.Store lookup.old) (state S.Store lookup.new) result (λ r _.
-        Grown (IsAlikeIn view.now.day (rows_seen view.now r) one.now candidates.now)
-        class.old class.new) }
+    ensures { Reads S.Store lookup.old lookup.new result (λ r _.
+        Grown
+        (IsAlikeIn view.now.day
+        (rows_seen view.now r) one.now candidates.now) class.old class.new) }
 {
     for candidate in candidates {
         add_if_alike(lookup, alloc, view, class, one, candidate)?;
@@ -101,8 +97,7 @@ fn add_signed<S: Alter + Drop>(
     one: &OpenNode,
     sign: Sign,
 ) -> Result<(), ReadError>
-    requires { lookup.old.in_transaction ≡ false }
-    ensures { ReadsAs (state S.Store lookup.old) (state S.Store lookup.new) result (λ r _.
+    ensures { Reads S.Store lookup.old lookup.new result (λ r _.
         Expands view.now.day (rows_seen view.now r) one.now (sign ∷ []) class.old class.new
         (λ k. contains sign_cmp looked.old k) (λ k. contains sign_cmp looked.new k)) }
 {
@@ -125,8 +120,7 @@ fn add_identified<S: Alter + Drop>(
     one: &OpenNode,
     identifiers: &[Identifier],
 ) -> Result<(), ReadError>
-    requires { lookup.old.in_transaction ≡ false }
-    ensures { ReadsAs (state S.Store lookup.old) (state S.Store lookup.new) result (λ r _.
+    ensures { Reads S.Store lookup.old lookup.new result (λ r _.
         Expands view.now.day (rows_seen view.now r) one.now
         (map by_identifier identifiers.now) class.old class.new
         (λ k. contains sign_cmp looked.old k) (λ k. contains sign_cmp looked.new k)) }
@@ -147,8 +141,7 @@ fn add_signs<S: Alter + Drop>(
     looked: &mut BTreeSet<Sign>,
     one: &OpenNode,
 ) -> Result<(), ReadError>
-    requires { lookup.old.in_transaction ≡ false }
-    ensures { ReadsAs (state S.Store lookup.old) (state S.Store lookup.new) result (λ r _.
+    ensures { Reads S.Store lookup.old lookup.new result (λ r _.
         Expands view.now.day (rows_seen view.now r) one.now (signs one.now) class.old class.new
         (λ k. contains sign_cmp looked.old k) (λ k. contains sign_cmp looked.new k)) }
 {
@@ -174,8 +167,7 @@ fn add_aliases<S: Alter + Drop>(
     looked: &mut BTreeSet<Sign>,
     node: &Node,
 ) -> Result<(), ReadError>
-    requires { lookup.old.in_transaction ≡ false }
-    ensures { ReadsAs (state S.Store lookup.old) (state S.Store lookup.new) result (λ r _.
+    ensures { Reads S.Store lookup.old lookup.new result (λ r _.
         Follows (seen view.now r) node.now class.old class.new (λ k. contains sign_cmp looked.old k)
         (λ k. contains sign_cmp looked.new k)) }
 {
@@ -195,9 +187,7 @@ fn aliases_in<S: Alter + Drop>(
     view: &View,
     node: &Node,
 ) -> Result<Vec<Node>, ReadError>
-    requires { lookup.old.in_transaction ≡ false }
-    ensures { ReadsAs (state S.Store lookup.old)
-        (state S.Store lookup.new) result (λ r nodes.
+    ensures { Reads S.Store lookup.old lookup.new result (λ r nodes.
         AreAliases (seen view.now r) node.now nodes.items) }
 {
     let mut class = Class::new(alloc);
@@ -215,9 +205,7 @@ pub fn read_aliases<S: Alter + Drop>(
     day: Day,
     node: &Node,
 ) -> Result<Vec<Node>, ReadError>
-    requires { lookup.old.in_transaction ≡ false }
-    ensures { ReadsAs (state S.Store lookup.old)
-        (state S.Store lookup.new) result (λ r nodes.
+    ensures { Reads S.Store lookup.old lookup.new result (λ r nodes.
         AreAliases (seen_at viewer.now day r) node.now nodes.items) }
 {
     let view = view_of(lookup, alloc, viewer, day)?;
@@ -231,9 +219,7 @@ fn same_in<S: Alter + Drop>(
     view: &View,
     node: &Node,
 ) -> Result<Vec<Node>, ReadError>
-    requires { lookup.old.in_transaction ≡ false }
-    ensures { ReadsAs (state S.Store lookup.old)
-        (state S.Store lookup.new) result (λ r nodes.
+    ensures { Reads S.Store lookup.old lookup.new result (λ r nodes.
         AreSame (seen view.now r) node.now nodes.items) }
 {
     let mut class = Class::new(alloc);
@@ -255,9 +241,7 @@ fn same_told<S: Alter + Drop>(
     view: &View,
     node: &Node,
 ) -> Result<Vec<Node>, ReadError>
-    requires { lookup.old.in_transaction ≡ false }
-    ensures { ReadsAs (state S.Store lookup.old)
-        (state S.Store lookup.new) result (λ r nodes.
+    ensures { Reads S.Store lookup.old lookup.new result (λ r nodes.
         AreSame (seen view.now r) node.now nodes.items) }
 {
     lookup.list_where_many(alloc, view)?;
@@ -277,9 +261,7 @@ pub fn read_same<S: Alter + Drop>(
     day: Day,
     node: &Node,
 ) -> Result<Vec<Node>, ReadError>
-    requires { lookup.old.in_transaction ≡ false }
-    ensures { ReadsAs (state S.Store lookup.old)
-        (state S.Store lookup.new) result (λ r nodes.
+    ensures { Reads S.Store lookup.old lookup.new result (λ r nodes.
         AreSame (seen_at viewer.now day r) node.now nodes.items) }
 {
     let view = view_of(lookup, alloc, viewer, day)?;

@@ -2,10 +2,9 @@
 
 ghost use Rattle.std.specs.Prelude.{◌≡◌, false, filter, None, option_map};
 ghost use Rattle.std.specs.List.{last_or};
-ghost use Rattle.sqlite.specs.Held.{state};
 ghost use Rattle.bor_records.specs.Links.Series.{open_at};
 ghost use Rattle.bor_register.specs.Register.{filings_of};
-ghost use Rattle.bor_store_reads.specs.Answering.{ReadsAs};
+ghost use Rattle.bor_store_reads.specs.Answering.{Reads};
 ghost use Rattle.bor_store_keys.specs.Latest.{bare_row, is_row_seen, stored_unless_closed};
 ghost use Rattle.bor_store_keys.specs.Viewed.{rows_seen};
 
@@ -28,8 +27,7 @@ fn is_told<S: Alter + Drop>(
     agent: &AgentName,
     row: &StatementRow,
 ) -> Result<bool, ReadError>
-    requires { lookup.old.in_transaction ≡ false }
-    ensures { ReadsAs (state S.Store lookup.old) (state S.Store lookup.new) result (λ r told.
+    ensures { Reads S.Store lookup.old lookup.new result (λ r told.
         told ≡ is_row_seen view.now agent.now (filings_of agent.now r.members) row.now) }
 {
     if view.day < row.day {
@@ -46,8 +44,7 @@ fn last_told<S: Alter + Drop>(
     agent: &AgentName,
     mut rows: Vec<StatementRow>,
 ) -> Result<Option<StatementRow>, ReadError>
-    requires { lookup.old.in_transaction ≡ false }
-    ensures { ReadsAs (state S.Store lookup.old) (state S.Store lookup.new) result (λ r last.
+    ensures { Reads S.Store lookup.old lookup.new result (λ r last.
         last ≡ last_or None
         (filter (is_row_seen view.now agent.now (filings_of agent.now r.members)) rows.items)) }
 {
@@ -76,8 +73,7 @@ pub(crate) fn open_statement<S: Alter + Drop>(
     view: &View,
     node: &Node,
 ) -> Result<Option<StatementRow>, ReadError>
-    requires { lookup.old.in_transaction ≡ false }
-    ensures { ReadsAs (state S.Store lookup.old) (state S.Store lookup.new) result (λ r row.
+    ensures { Reads S.Store lookup.old lookup.new result (λ r row.
         row ≡ option_map bare_row (open_at view.now.day node.now (rows_seen view.now r))) }
 {
     let rows = lookup.series(alloc, node)?;

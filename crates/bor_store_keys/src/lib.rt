@@ -7,10 +7,11 @@
 //! (`bor_chains`) answer the rest. Where the connection shows a register (`bor_store_sql`), the
 //! answers are those of the nodes and links of all rows that the viewer sees
 //! (`bor_records::links`), or memory or the store failed.
-#![tactic(auto)]
+#![tactic(auto, using(bor_store_reads::proofs::Reading::read_fails, bor_store_reads::proofs::Reading::read_wants))]
 
 mod alike;
 mod found;
+mod identified;
 mod latest;
 mod links;
 mod list;
@@ -23,6 +24,7 @@ mod view;
 mod views;
 
 pub use alike::{read_aliases, read_same};
+pub use identified::read_identified;
 pub use links::read_links_into;
 pub use lookup::Lookup;
 pub use nodes::read_node;

@@ -1,14 +1,13 @@
 //! The links into a node.
 
-ghost use Rattle.std.specs.Prelude.{◌≡◌, false, true};
+ghost use Rattle.std.specs.Prelude.{◌≡◌, true};
 ghost use Rattle.std.specs.List.{filter_map};
-ghost use Rattle.sqlite.specs.Held.{state};
 ghost use Rattle.bor_records.specs.Links.Answers.{AreLinksInto, only_into};
 ghost use Rattle.bor_records.specs.Links.Rows.{is_entity_info, link_between, nodes_of};
 ghost use Rattle.bor_records.specs.Links.Shown.{info_of};
 ghost use Rattle.bor_chains.specs.Candidates.{link_at, link_into};
 ghost use Rattle.bor_register.specs.Seen.{seen_at};
-ghost use Rattle.bor_store_reads.specs.Answering.{ReadsAs};
+ghost use Rattle.bor_store_reads.specs.Answering.{Reads};
 ghost use Rattle.bor_store_keys.specs.Viewed.{rows_seen, seen};
 
 use crate::list::push_some;
@@ -39,10 +38,8 @@ fn link_between<S: Alter + Drop>(
     subject: Node,
     interests: &[Interest],
 ) -> Result<Option<Link>, ReadError>
-    requires { lookup.old.in_transaction ≡ false }
-    ensures { ReadsAs (state S.Store lookup.old) (state S.Store lookup.new) result (λ r link.
-        is_entity_info (info_of (seen view.now r) node.now) ≡ true
-        → link ≡ only_into node.now
+    ensures { Reads S.Store lookup.old lookup.new result (λ r link.
+        is_entity_info (info_of (seen view.now r) node.now) ≡ true → link ≡ only_into node.now
         (link_between view.now.day
         (nodes_of view.now.day (rows_seen view.now r)) rec party subject interests.now)) }
 {
@@ -69,10 +66,9 @@ fn link_into<S: Alter + Drop>(
     node: &Node,
     row: &Row,
 ) -> Result<Option<Link>, ReadError>
-    requires { lookup.old.in_transaction ≡ false }
-    ensures { ReadsAs (state S.Store lookup.old) (state S.Store lookup.new) result (λ r link.
-        is_entity_info (info_of (seen view.now r) node.now) ≡ true
-        → link ≡ link_into view.now.day (rows_seen view.now r) node.now row.now) }
+    ensures { Reads S.Store lookup.old lookup.new result (λ r link.
+        is_entity_info (info_of (seen view.now r) node.now) ≡ true → link ≡ link_into view.now.day
+        (rows_seen view.now r) node.now row.now) }
 {
     match &row.statement.details {
         Details::Relationship {
@@ -106,10 +102,9 @@ fn link_at<S: Alter + Drop>(
     node: &Node,
     rec: &Node,
 ) -> Result<Option<Link>, ReadError>
-    requires { lookup.old.in_transaction ≡ false }
-    ensures { ReadsAs (state S.Store lookup.old) (state S.Store lookup.new) result (λ r link.
-        is_entity_info (info_of (seen view.now r) node.now) ≡ true
-        → link ≡ link_at view.now.day (rows_seen view.now r) node.now rec.now) }
+    ensures { Reads S.Store lookup.old lookup.new result (λ r link.
+        is_entity_info (info_of (seen view.now r) node.now) ≡ true → link ≡ link_at view.now.day
+        (rows_seen view.now r) node.now rec.now) }
 {
     match open_row(lookup, alloc, view, rec)? {
         Some(row) => link_into(lookup, alloc, view, node, &row),
@@ -125,12 +120,9 @@ fn links_of<S: Alter + Drop>(
     node: &Node,
     records: &[Node],
 ) -> Result<Vec<Link>, ReadError>
-    requires { lookup.old.in_transaction ≡ false }
-    ensures { ReadsAs (state S.Store lookup.old)
-        (state S.Store lookup.new) result (λ r links.
-        is_entity_info (info_of (seen view.now r) node.now) ≡ true
-        → links.items
-        ≡ filter_map (link_at view.now.day (rows_seen view.now r) node.now) records.now) }
+    ensures { Reads S.Store lookup.old lookup.new result (λ r links.
+        is_entity_info (info_of (seen view.now r) node.now) ≡ true → links.items ≡ filter_map
+        (link_at view.now.day (rows_seen view.now r) node.now) records.now) }
 {
     let mut links = Vec::new(alloc);
     for one in records {
@@ -147,9 +139,7 @@ fn links_into<S: Alter + Drop>(
     view: &View,
     node: &Node,
 ) -> Result<Vec<Link>, ReadError>
-    requires { lookup.old.in_transaction ≡ false }
-    ensures { ReadsAs (state S.Store lookup.old)
-        (state S.Store lookup.new) result (λ r links.
+    ensures { Reads S.Store lookup.old lookup.new result (λ r links.
         AreLinksInto (seen view.now r) node.now links.items) }
 {
     if !is_entity(lookup, alloc, view, node)? {
@@ -166,9 +156,7 @@ fn links_told<S: Alter + Drop>(
     view: &View,
     node: &Node,
 ) -> Result<Vec<Link>, ReadError>
-    requires { lookup.old.in_transaction ≡ false }
-    ensures { ReadsAs (state S.Store lookup.old)
-        (state S.Store lookup.new) result (λ r links.
+    ensures { Reads S.Store lookup.old lookup.new result (λ r links.
         AreLinksInto (seen view.now r) node.now links.items) }
 {
     lookup.list_where_many(alloc, view)?;
@@ -187,9 +175,7 @@ pub fn read_links_into<S: Alter + Drop>(
     day: Day,
     node: &Node,
 ) -> Result<Vec<Link>, ReadError>
-    requires { lookup.old.in_transaction ≡ false }
-    ensures { ReadsAs (state S.Store lookup.old)
-        (state S.Store lookup.new) result (λ r links.
+    ensures { Reads S.Store lookup.old lookup.new result (λ r links.
         AreLinksInto (seen_at viewer.now day r) node.now links.items) }
 {
     let view = view_of(lookup, alloc, viewer, day)?;

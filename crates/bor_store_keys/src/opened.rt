@@ -1,11 +1,10 @@
 //! The row that a record shows on a day, with the lists of its statement.
 
-ghost use Rattle.std.specs.Prelude.{◌≡◌, false, map};
-ghost use Rattle.sqlite.specs.Held.{state};
+ghost use Rattle.std.specs.Prelude.{◌≡◌, map};
 ghost use Rattle.bor_records.specs.Links.Series.{open_at};
 ghost use Rattle.bor_register.specs.Rows.{visible};
 ghost use Rattle.bor_store_sql.specs.Selected.{identifiers_at, interests_at};
-ghost use Rattle.bor_store_reads.specs.Answering.{ReadsAs};
+ghost use Rattle.bor_store_reads.specs.Answering.{Reads};
 ghost use Rattle.bor_store_keys.specs.Latest.{listed_row};
 ghost use Rattle.bor_store_keys.specs.Viewed.{rows_seen};
 
@@ -28,9 +27,7 @@ fn interests<S: Alter + Drop>(
     alloc: Global,
     at: &At,
 ) -> Result<Vec<Interest>, ReadError>
-    requires { lookup.old.in_transaction ≡ false }
-    ensures { ReadsAs (state S.Store lookup.old) (state S.Store lookup.new) result
-        (λ r interests.
+    ensures { Reads S.Store lookup.old lookup.new result (λ r interests.
         interests.items ≡ map (λ row. row.interest) (interests_at at.now r.members)) }
 {
     let rows = lookup.interests(alloc, at)?;
@@ -43,9 +40,7 @@ fn identifiers<S: Alter + Drop>(
     alloc: Global,
     at: &At,
 ) -> Result<Vec<Identifier>, ReadError>
-    requires { lookup.old.in_transaction ≡ false }
-    ensures { ReadsAs (state S.Store lookup.old) (state S.Store lookup.new) result
-        (λ r identifiers.
+    ensures { Reads S.Store lookup.old lookup.new result (λ r identifiers.
         identifiers.items ≡ map (λ row. row.identifier) (identifiers_at at.now r.members)) }
 {
     let rows = lookup.identifiers(alloc, at)?;
@@ -58,9 +53,7 @@ fn with_lists<S: Alter + Drop>(
     alloc: Global,
     row: StatementRow,
 ) -> Result<Row, ReadError>
-    requires { lookup.old.in_transaction ≡ false }
-    ensures { ReadsAs (state S.Store lookup.old) (state S.Store lookup.new) result
-        (λ r listed.
+    ensures { Reads S.Store lookup.old lookup.new result (λ r listed.
         listed ≡ listed_row r.members row) }
 {
     match &row.part {
@@ -83,8 +76,7 @@ pub(crate) fn open_row<S: Alter + Drop>(
     view: &View,
     node: &Node,
 ) -> Result<Option<Row>, ReadError>
-    requires { lookup.old.in_transaction ≡ false }
-    ensures { ReadsAs (state S.Store lookup.old) (state S.Store lookup.new) result (λ r row.
+    ensures { Reads S.Store lookup.old lookup.new result (λ r row.
         row ≡ open_at view.now.day node.now (rows_seen view.now r)) }
 {
     match open_statement(lookup, alloc, view, node)? {
@@ -105,8 +97,7 @@ pub fn read_open_row<S: Alter + Drop>(
     day: Day,
     node: &Node,
 ) -> Result<Option<Row>, ReadError>
-    requires { lookup.old.in_transaction ≡ false }
-    ensures { ReadsAs (state S.Store lookup.old) (state S.Store lookup.new) result (λ r row.
+    ensures { Reads S.Store lookup.old lookup.new result (λ r row.
         row ≡ open_at day node.now (visible viewer.now r.day r.members)) }
 {
     let view = view_of(lookup, alloc, viewer, day)?;

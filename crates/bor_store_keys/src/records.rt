@@ -1,11 +1,10 @@
 //! The records of statements that are found by what they name.
 
-ghost use Rattle.std.specs.Prelude.{◌≡◌, false, IfOk, map};
+ghost use Rattle.std.specs.Prelude.{◌≡◌, IfOk, map};
 ghost use Rattle.std.specs.List.{filter_map};
-ghost use Rattle.sqlite.specs.Held.{state};
 ghost use Rattle.bor_store_sql.specs.Rows.Placed.{placed};
 ghost use Rattle.bor_store_sql.specs.Selected.{in_record, placed_of, with_subject};
-ghost use Rattle.bor_store_reads.specs.Answering.{ReadsAs};
+ghost use Rattle.bor_store_reads.specs.Answering.{Reads};
 ghost use Rattle.bor_store_keys.specs.Recorded.{CoverRecords, record_at};
 ghost use Rattle.bor_store_keys.specs.Signed.{record_standing, with_identifier, with_sign};
 
@@ -41,11 +40,10 @@ pub(crate) fn records_into<S: Alter + Drop>(
     alloc: Global,
     node: &Node,
 ) -> Result<Vec<Node>, ReadError>
-    requires { lookup.old.in_transaction ≡ false }
-    ensures { ReadsAs (state S.Store lookup.old) (state S.Store lookup.new) result
-        (λ r records.
-        CoverRecords (with_subject node.now.declaration node.now.rec (placed_of node.now.agent r))
-        records.items) }
+    ensures { Reads S.Store lookup.old lookup.new result (λ r records.
+        CoverRecords
+        (with_subject node.now.declaration node.now.rec
+        (placed_of node.now.agent r)) records.items) }
 {
     let rows = lookup.naming(alloc, node)?;
     let records = records_at(alloc, rows)?;
@@ -58,8 +56,7 @@ fn record_read<S: Alter + Drop>(
     alloc: Global,
     at: &At,
 ) -> Result<Option<Node>, ReadError>
-    requires { lookup.old.in_transaction ≡ false }
-    ensures { ReadsAs (state S.Store lookup.old) (state S.Store lookup.new) result (λ r one.
+    ensures { Reads S.Store lookup.old lookup.new result (λ r one.
         one ≡ record_standing r.members at.now) }
 {
     match lookup.standing(alloc, at)? {
@@ -74,8 +71,7 @@ fn record_standing<S: Alter + Drop>(
     alloc: Global,
     at: &At,
 ) -> Result<Option<Node>, ReadError>
-    requires { lookup.old.in_transaction ≡ false }
-    ensures { ReadsAs (state S.Store lookup.old) (state S.Store lookup.new) result (λ r one.
+    ensures { Reads S.Store lookup.old lookup.new result (λ r one.
         one ≡ record_standing r.members at.now) }
 {
     match lookup.placed(alloc, at)? {
@@ -90,9 +86,7 @@ fn records_standing<S: Alter + Drop>(
     alloc: Global,
     rows: &[IdentifierRow],
 ) -> Result<Vec<Node>, ReadError>
-    requires { lookup.old.in_transaction ≡ false }
-    ensures { ReadsAs (state S.Store lookup.old) (state S.Store lookup.new) result
-        (λ r records.
+    ensures { Reads S.Store lookup.old lookup.new result (λ r records.
         records.items ≡ filter_map (λ row. record_standing r.members row.at) rows.now) }
 {
     let mut records = Vec::new(alloc);
@@ -110,9 +104,7 @@ fn records_identified<S: Alter + Drop>(
     scheme: &str,
     id: &str,
 ) -> Result<Vec<Node>, ReadError>
-    requires { lookup.old.in_transaction ≡ false }
-    ensures { ReadsAs (state S.Store lookup.old) (state S.Store lookup.new) result
-        (λ r records.
+    ensures { Reads S.Store lookup.old lookup.new result (λ r records.
         CoverRecords (with_identifier scheme.now id.now (placed r.members)) records.items) }
 {
     let rows = lookup.identified(alloc, scheme, id)?;
@@ -127,9 +119,7 @@ fn records_named<S: Alter + Drop>(
     agent: &str,
     rec: &str,
 ) -> Result<Vec<Node>, ReadError>
-    requires { lookup.old.in_transaction ≡ false }
-    ensures { ReadsAs (state S.Store lookup.old) (state S.Store lookup.new) result
-        (λ r records.
+    ensures { Reads S.Store lookup.old lookup.new result (λ r records.
         CoverRecords (in_record rec.now (placed_of agent.now r)) records.items) }
 {
     let rows = lookup.recorded(alloc, agent, rec)?;
@@ -143,9 +133,7 @@ pub(crate) fn records_with<S: Alter + Drop>(
     alloc: Global,
     sign: &Sign,
 ) -> Result<Vec<Node>, ReadError>
-    requires { lookup.old.in_transaction ≡ false }
-    ensures { ReadsAs (state S.Store lookup.old) (state S.Store lookup.new) result
-        (λ r records.
+    ensures { Reads S.Store lookup.old lookup.new result (λ r records.
         CoverRecords (with_sign sign.now r) records.items) }
 {
     if sign.of_record {

@@ -1,9 +1,8 @@
 //! A viewer's view, and which filings it has: what was found is not read again.
 
-ghost use Rattle.std.specs.Prelude.{◌≡◌, false};
-ghost use Rattle.sqlite.specs.Held.{state};
+ghost use Rattle.std.specs.Prelude.{◌≡◌};
 ghost use Rattle.bor_register.specs.Register.{filings_of};
-ghost use Rattle.bor_store_reads.specs.Answering.{ReadsAs};
+ghost use Rattle.bor_store_reads.specs.Answering.{Reads};
 ghost use Rattle.bor_store_reads.specs.Asking.{is_number_seen};
 
 use crate::found::FilingKey;
@@ -21,8 +20,7 @@ fn view_read<S: Alter + Drop>(
     viewer: &AgentName,
     day: Day,
 ) -> Result<View, ReadError>
-    requires { lookup.old.in_transaction ≡ false }
-    ensures { ReadsAs (state S.Store lookup.old) (state S.Store lookup.new) result (λ r view.
+    ensures { Reads S.Store lookup.old lookup.new result (λ r view.
         view ≡ record { viewer = viewer.now; today = r.day; day = day }) }
 {
     let today = lookup.read_today(alloc)?;
@@ -39,8 +37,7 @@ pub(crate) fn view_of<S: Alter + Drop>(
     viewer: &AgentName,
     day: Day,
 ) -> Result<View, ReadError>
-    requires { lookup.old.in_transaction ≡ false }
-    ensures { ReadsAs (state S.Store lookup.old) (state S.Store lookup.new) result (λ r view.
+    ensures { Reads S.Store lookup.old lookup.new result (λ r view.
         view ≡ record { viewer = viewer.now; today = r.day; day = day }) }
 {
     match lookup.today(viewer, day) {
@@ -59,8 +56,7 @@ fn filing_read<S: Alter + Drop>(
     view: &View,
     key: FilingKey,
 ) -> Result<bool, ReadError>
-    requires { lookup.old.in_transaction ≡ false }
-    ensures { ReadsAs (state S.Store lookup.old) (state S.Store lookup.new) result (λ r seen.
+    ensures { Reads S.Store lookup.old lookup.new result (λ r seen.
         seen ≡ is_number_seen view.now.viewer view.now.today key.agent
         (filings_of key.agent r.members) key.number) }
 {
@@ -77,8 +73,7 @@ pub(crate) fn is_filing_seen<S: Alter + Drop>(
     agent: &AgentName,
     number: u32,
 ) -> Result<bool, ReadError>
-    requires { lookup.old.in_transaction ≡ false }
-    ensures { ReadsAs (state S.Store lookup.old) (state S.Store lookup.new) result (λ r seen.
+    ensures { Reads S.Store lookup.old lookup.new result (λ r seen.
         seen ≡ is_number_seen view.now.viewer view.now.today agent.now
         (filings_of agent.now r.members) number) }
 {

@@ -11,16 +11,12 @@ use Rattle.bor_register.specs.Register.{Register}
 use Rattle.bor_store_sql.specs.Rows.Stored.{IsStored}
 use Rattle.bor_store_sql.specs.Rows.Encoding.{truth, contents}
 use Rattle.bor_store_sql.specs.Shown.{Has, IsUp, ShowsIn, StaysUp}
-use Rattle.bor_store_sql.specs.Found.{Finds}
+use Rattle.bor_store_sql.specs.Found.{FindsRows}
 use Rattle.bor_store_reads.specs.declared.fault.ReadError.{ReadError}
-use Rattle.bor_store_reads.specs.Answering.{IsNoDamage, ReadsAs, ReadsOnly}
-
--- a query changes nothing
-asked : (old new : State) (found : Result (Vec Row Global) Error) (rows_of : Register → List Row) → new.in_transaction ≡ false → Finds old new found rows_of → ReadsOnly old new
-asked old new found rows_of settled finds = record { mode = settled; clean = finds.clean; stops = finds.stops; began = finds.began; kept = finds.kept }
+use Rattle.bor_store_reads.specs.Answering.{IsNoDamage, ReadsAs}
 
 -- what is made of rows comes from a connection that is open
-pub made_up : {Y : Type 0} (old new : State) (found : Result (Vec Row Global) Error) (rows_of : Register → List Row) (result : Result Y ReadError) → Finds old new found rows_of → OnOk result (IsOk found) → IfOk result (λ y. IsUp new)
+pub made_up : {Y : Type 0} (old new : State) (found : Result (Vec Row Global) Error) (rows_of : Register → List Row) (result : Result Y ReadError) → FindsRows ShowsIn old new found rows_of → OnOk result (IsOk found) → IfOk result (λ y. IsUp new)
 made_up old new (Ok rows) rows_of (Ok y) finds is_ok = finds.up
 made_up old new (Err e) rows_of (Ok y) finds is_ok = absurd (true≢false (sym is_ok))
 made_up old new found rows_of (Err e) finds is_ok = tt
@@ -29,22 +25,22 @@ stays : {Y : Type 0} (old new : State) (result : Result Y ReadError) → IfOk re
 stays old new (Ok y) up = λ clean was. up clean
 stays old new (Err e) up = tt
 
-module _ {X : Type 0} (columns : X → Row) (is_formed : X → Type 0) (old new : State) (found : Result (Vec Row Global) Error) (rows_of : Register → List Row) (settled : new.in_transaction ≡ false) (finds : Finds old new found rows_of)
+module _ {X : Type 0} (columns : X → Row) (is_formed : X → Type 0) (old new : State) (found : Result (Vec Row Global) Error) (rows_of : Register → List Row) (finds : FindsRows ShowsIn old new found rows_of)
     (xs_of : Register → List X) (are : (r : Register) → rows_of r ≡ map columns (xs_of r)) (formed : (r : Register) → IsStored r → All is_formed (xs_of r)) where
   -- what is told of rows that are those of formed values
   pub told : {Y : Type 0} (result : Result Y ReadError) (Q : List X → Y → Type 0)
       → ((xs : List X) → IfOk found (λ rows. rows.items ≡ map columns xs) → All is_formed xs → MatchResult result (Q xs) IsNoDamage) → OnOk result (IsOk found) → ReadsAs old new result (λ r. Q (xs_of r))
   told result Q h is_ok = record {
-    reads = asked old new found rows_of settled finds;
+    reads = finds.reads;
     up = stays old new result (made_up old new found rows_of result finds is_ok);
     answer = λ clean r shows. h (xs_of r) (subst (λ l. IfOk found (λ rows. rows.items ≡ l)) (are r) (finds.rows clean r shows)) (formed r shows.stored);
   }
 
 -- what is told of whether rows are found
-pub told_any : (old new : State) (found : Result (Vec Row Global) Error) (rows_of : Register → List Row) → new.in_transaction ≡ false → Finds old new found rows_of → (has : Register → Bool) → ((r : Register) → not (length (rows_of r) == 0) ≡ has r)
+pub told_any : (old new : State) (found : Result (Vec Row Global) Error) (rows_of : Register → List Row) → FindsRows ShowsIn old new found rows_of → (has : Register → Bool) → ((r : Register) → not (length (rows_of r) == 0) ≡ has r)
     → (result : Result Bool ReadError) → ((xs : List Row) → IfOk found (λ rows. rows.items ≡ xs) → MatchResult result (λ any. any ≡ not (length xs == 0)) IsNoDamage) → OnOk result (IsOk found) → ReadsAs old new result (λ r any. any ≡ has r)
-told_any old new found rows_of settled finds has is result h is_ok = record {
-  reads = asked old new found rows_of settled finds;
+told_any old new found rows_of finds has is result h is_ok = record {
+  reads = finds.reads;
   up = stays old new result (made_up old new found rows_of result finds is_ok);
   answer = λ clean r shows. subst (λ b. MatchResult result (λ any. any ≡ b) IsNoDamage) (is r) (h (rows_of r) (finds.rows clean r shows));
 }
@@ -91,11 +87,11 @@ still_shows r old new same shows = record { has = subst (Has (contents r)) (sym 
 -- ---- flags
 
 -- what is told of the first row's truth value
-pub told_flag : (old new : State) (found : Result (Vec Row Global) Error) (rows_of : Register → List Row) → new.in_transaction ≡ false → Finds old new found rows_of → (bs_of : Register → List Bool) → ((r : Register) → rows_of r ≡ map (λ b. truth b ∷ []) (bs_of r))
+pub told_flag : (old new : State) (found : Result (Vec Row Global) Error) (rows_of : Register → List Row) → FindsRows ShowsIn old new found rows_of → (bs_of : Register → List Bool) → ((r : Register) → rows_of r ≡ map (λ b. truth b ∷ []) (bs_of r))
     → (has : Register → Bool) → ((r : Register) → unwrap_or (slice_get (bs_of r) 0) false ≡ has r) → (result : Result Bool ReadError)
     → ((bs : List Bool) → IfOk found (λ rows. rows.items ≡ map (λ b. truth b ∷ []) bs) → MatchResult result (λ flag. flag ≡ unwrap_or (slice_get bs 0) false) IsNoDamage) → OnOk result (IsOk found) → ReadsAs old new result (λ r flag. flag ≡ has r)
-told_flag old new found rows_of settled finds bs_of are has is result h is_ok = record {
-  reads = asked old new found rows_of settled finds;
+told_flag old new found rows_of finds bs_of are has is result h is_ok = record {
+  reads = finds.reads;
   up = stays old new result (made_up old new found rows_of result finds is_ok);
   answer = λ clean r shows.
       subst (λ b. MatchResult result (λ flag. flag ≡ b) IsNoDamage) (is r) (h (bs_of r) (subst (λ l. IfOk found (λ rows. rows.items ≡ l)) (are r) (finds.rows clean r shows)));

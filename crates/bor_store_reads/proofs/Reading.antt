@@ -1,5 +1,5 @@
 -- One read after another, and what is made of what was read.
-use Rattle.std.proofs.Common.{◌≡◌, ◌∙◌, false, refl, sym, subst, Result, Ok, Err, IfOk, MatchResult}
+use Rattle.std.proofs.Common.{◌≡◌, sym, subst, Result, Ok, Err, IfOk, MatchResult}
 use Rattle.std.specs.Prelude.{IsErrAnd}
 use Rattle.sqlite.specs.State.{State, HasCleanDisk}
 use Rattle.bor_register.specs.Register.{Register}
@@ -7,20 +7,10 @@ use Rattle.bor_store_sql.specs.Rows.Stored.{IsStored}
 use Rattle.bor_store_sql.specs.Shown.{IsClean, ShowsIn, StaysUp}
 use Rattle.bor_store_reads.specs.declared.fault.ReadError.{ReadError}
 use Rattle.bor_store_reads.specs.declared.fault.ReadError.TheVariants as errors
-use Rattle.bor_store_reads.specs.Answering.{IsNoDamage, ReadsAs, ReadsOnly}
+use Rattle.bor_store_reads.specs.Answering.{IsNoDamage, ReadsAs}
+use Rattle.bor_store_sql.proofs.Finding.{nothing_read, read_on}
+use Rattle.bor_store_sql.specs.Found.{ReadsOnly}
 use Rattle.bor_store_reads.proofs.Found.{answered, still_shows}
-
-pub nothing_read : {s : State} → s.in_transaction ≡ false → ReadsOnly s s
-nothing_read settled = record { mode = settled; clean = λ clean. clean; stops = λ clean trees left. left; began = λ clean. clean; kept = λ clean. refl }
-
-pub read_on : {old mid new : State} → ReadsOnly old mid → ReadsOnly mid new → ReadsOnly old new
-read_on first second = record {
-  mode = second.mode;
-  clean = λ clean. first.clean (second.clean clean);
-  stops = λ clean trees left. first.stops (second.clean clean) trees (second.stops clean trees left);
-  began = λ clean. first.began (second.began clean);
-  kept = λ clean. second.kept clean ∙ first.kept (second.began clean);
-}
 
 pub same_up : (s : State) → StaysUp s s
 same_up s clean was = was
@@ -39,12 +29,12 @@ not_answered P Q (Ok x) told = absurd told
 not_answered P Q (Err e) told = tt
 
 -- without a read
-pub unread : {X : Type 0} {s : State} {x : X} {P : Register → X → Type 0} → s.in_transaction ≡ false → ((r : Register) → IsStored r → P r x) → ReadsAs s s (Ok x) P
-unread {X} {s} settled so = record { reads = nothing_read settled; up = same_up s; answer = λ clean r shows. so r shows.stored }
+pub unread : {X : Type 0} {s : State} {x : X} {P : Register → X → Type 0} → ((r : Register) → IsStored r → P r x) → ReadsAs s s (Ok x) P
+unread {X} {s} so = record { reads = nothing_read; up = same_up s; answer = λ clean r shows. so r shows.stored }
 
 -- what was found before
-pub read_before : {X : Type 0} {s : State} {x : X} {P : Register → X → Type 0} → s.in_transaction ≡ false → (IsClean s → (r : Register) → ShowsIn r s → P r x) → ReadsAs s s (Ok x) P
-read_before {X} {s} settled found = record { reads = nothing_read settled; up = same_up s; answer = found }
+pub read_before : {X : Type 0} {s : State} {x : X} {P : Register → X → Type 0} → (IsClean s → (r : Register) → ShowsIn r s → P r x) → ReadsAs s s (Ok x) P
+read_before {X} {s} found = record { reads = nothing_read; up = same_up s; answer = found }
 
 -- memory is wanting
 wanting : {X : Type 0} (result : Result X ReadError) (Q : X → Type 0) → IsErrAnd result (λ e. e ≡ errors.Memory) → MatchResult result Q IsNoDamage

@@ -1,12 +1,14 @@
 -- The answers of reads.
-use Rattle.std.specs.Prelude.{◌≡◌, ◌≢◌, false, Result, IfOk, MatchResult}
-use Rattle.sqlite.specs.State.{State, HasCleanDisk}
+use Rattle.std.specs.Prelude.{◌≢◌, Result, IfOk, MatchResult}
+use Rattle.sqlite.specs.Held.{Held, state}
+use Rattle.sqlite.specs.State.{State}
+use Rattle.sqlite.specs.Store.{Ghosts}
 use Rattle.bor_register.specs.Register.{Register}
 use Rattle.bor_register.specs.declared.fault.StoreFault.{StoreFault}
 use Rattle.bor_register.specs.declared.fault.StoreFault.TheVariants as store_faults
 use Rattle.bor_store_sql.specs.declared.rows.fault.RowFault.{RowFault}
 use Rattle.bor_store_sql.specs.declared.rows.fault.RowFault.TheVariants as row_faults
-use Rattle.bor_store_sql.specs.Ran.{LeavesNoMore}
+use Rattle.bor_store_sql.specs.Found.{ReadsOnly}
 use Rattle.bor_store_sql.specs.Shown.{IsClean, ShowsIn, StaysUp}
 use Rattle.bor_store_reads.specs.declared.fault.ReadError.{ReadError}
 use Rattle.bor_store_reads.specs.declared.fault.ReadError.TheVariants as errors
@@ -19,16 +21,6 @@ IsNoDamage error = error ≢ errors.Damaged
 abbrev pub of_row : RowFault → ReadError
 of_row row_faults.Memory = errors.Memory
 of_row row_faults.Damaged = errors.Damaged
-
--- Reading changes nothing: no transaction is left open; a disk that has returned what was written
--- had done so before, and a stop leaves nothing that one before might not have left; a connection
--- that ends clean began clean, and what was written stays as it was.
-pub record ReadsOnly (old new : State) : Type 0 where
-  pub mode : new.in_transaction ≡ false
-  pub clean : HasCleanDisk new → HasCleanDisk old
-  pub stops : LeavesNoMore old new
-  pub began : IsClean new → IsClean old
-  pub kept : IsClean new → new.committed ≡ old.committed
 
 -- Where the connection ended clean and showed a register, this holds of an answer, and no error is
 -- of damage.
@@ -44,6 +36,11 @@ pub record ReadsAs {X : Type 0} (old new : State) (result : Result X ReadError)
   pub reads : ReadsOnly old new
   pub up : IfOk result (λ x. StaysUp old new)
   pub answer : Answers old new result P
+
+-- the same of a connection
+abbrev pub Reads : {S X : Type 0} → Ghosts S → Held S → Held S → Result X ReadError
+    → (Register → X → Type 0) → Type 0
+Reads g old new result P = ReadsAs (state g old) (state g new) result P
 
 -- the fault of a keep for an error
 abbrev pub told_as : ReadError → StoreFault

@@ -1,10 +1,10 @@
 //! Agents, by name and by token.
 
-ghost use Rattle.std.specs.Prelude.{◌≡◌, false, IfOk, option_map};
+ghost use Rattle.std.specs.Prelude.{◌≡◌, IfOk, option_map};
 ghost use Rattle.sqlite.specs.Held.{state};
 ghost use Rattle.bor_register.specs.Register.{agent_with, caller_of, is_enrolled};
 ghost use Rattle.bor_store_sql.specs.Shown.{IsUp};
-ghost use Rattle.bor_store_reads.specs.Answering.{ReadsAs};
+ghost use Rattle.bor_store_reads.specs.Answering.{Reads};
 
 use crate::fault::ReadError;
 use crate::register::read_register;
@@ -22,8 +22,7 @@ fn found_agent<S: Alter>(
     alloc: Global,
     token: &Token,
 ) -> Result<Option<AgentRow>, ReadError>
-    requires { conn.old.in_transaction ≡ false }
-    ensures { ReadsAs (state S.Store conn.old) (state S.Store conn.new) result (λ r agent.
+    ensures { Reads S.Store conn.old conn.new result (λ r agent.
         option_map (λ a. a.name) agent ≡ agent_with token.now r.members) }
 {
     first_value(alloc, agent_by_token(conn, token.as_str()))
@@ -36,8 +35,7 @@ pub fn read_who<S: Alter>(
     alloc: Global,
     token: &Token,
 ) -> Result<Option<Caller>, ReadError>
-    requires { conn.old.in_transaction ≡ false }
-    ensures reads { ReadsAs (state S.Store conn.old) (state S.Store conn.new) result (λ r caller.
+    ensures reads { Reads S.Store conn.old conn.new result (λ r caller.
         caller ≡ caller_of token.now r) }
     ensures up { IfOk result (λ _. IsUp (state S.Store conn.new)) }
 {
@@ -52,8 +50,7 @@ pub fn read_who<S: Alter>(
 
 /// Whether an agent has the name.
 pub fn has_agent<S: Alter>(conn: &mut Connection<S>, agent: &AgentName) -> Result<bool, ReadError>
-    requires { conn.old.in_transaction ≡ false }
-    ensures { ReadsAs (state S.Store conn.old) (state S.Store conn.new) result (λ r has.
+    ensures { Reads S.Store conn.old conn.new result (λ r has.
         has ≡ is_enrolled agent.now r.members) }
 {
     any(agent_by_name(conn, agent.as_str()))

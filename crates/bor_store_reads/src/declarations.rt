@@ -2,13 +2,12 @@
 
 ghost use Rattle.std.specs.Prelude.{◌≡◌, ◌++◌, ◌∷◌, [], if◌then◌else◌, false, filter, map, MatchResult};
 ghost use Rattle.std.specs.List.{flat_map};
-ghost use Rattle.sqlite.specs.Held.{state};
 ghost use Rattle.bor_register.specs.Register.{filings_of};
 ghost use Rattle.bor_register.specs.Rows.{rows_of};
 ghost use Rattle.bor_store_sql.specs.Rows.Placed.{bare, interest_line, period_rows};
 ghost use Rattle.bor_store_sql.specs.Rows.Seen.{is_seen, row_placed};
 ghost use Rattle.bor_store_sql.specs.Selected.{identifiers_at, in_declaration, interests_at, placed_of};
-ghost use Rattle.bor_store_reads.specs.Answering.{IsNoDamage, ReadsAs};
+ghost use Rattle.bor_store_reads.specs.Answering.{IsNoDamage, Reads};
 ghost use Rattle.bor_store_reads.specs.Asking.{part_identifiers, part_interests};
 
 use crate::fault::ReadError;
@@ -35,8 +34,7 @@ fn statements<S: Alter>(
     agent: &AgentName,
     declaration: &Ident,
 ) -> Result<Vec<StatementRow>, ReadError>
-    requires { conn.old.in_transaction ≡ false }
-    ensures { ReadsAs (state S.Store conn.old) (state S.Store conn.new) result (λ r rows.
+    ensures { Reads S.Store conn.old conn.new result (λ r rows.
         rows.items ≡ map bare (in_declaration declaration.now (placed_of agent.now r))) }
 {
     all_values(
@@ -51,8 +49,7 @@ fn lines_of_one<S: Alter>(
     alloc: Global,
     at: &At,
 ) -> Result<Vec<InterestLine>, ReadError>
-    requires { conn.old.in_transaction ≡ false }
-    ensures { ReadsAs (state S.Store conn.old) (state S.Store conn.new) result (λ r rows.
+    ensures { Reads S.Store conn.old conn.new result (λ r rows.
         rows.items ≡ map interest_line (interests_at at.now r.members)) }
 {
     all_values(
@@ -67,8 +64,7 @@ fn periods_of_one<S: Alter>(
     alloc: Global,
     at: &At,
 ) -> Result<Vec<PeriodRow>, ReadError>
-    requires { conn.old.in_transaction ≡ false }
-    ensures { ReadsAs (state S.Store conn.old) (state S.Store conn.new) result (λ r rows.
+    ensures { Reads S.Store conn.old conn.new result (λ r rows.
         rows.items ≡ flat_map period_rows (interests_at at.now r.members)) }
 {
     all_values(
@@ -83,8 +79,7 @@ pub fn interests_of_one<S: Alter>(
     alloc: Global,
     at: &At,
 ) -> Result<Vec<InterestRow>, ReadError>
-    requires { conn.old.in_transaction ≡ false }
-    ensures { ReadsAs (state S.Store conn.old) (state S.Store conn.new) result (λ r rows.
+    ensures { Reads S.Store conn.old conn.new result (λ r rows.
         rows.items ≡ interests_at at.now r.members) }
 {
     let lines = lines_of_one(conn, alloc, at)?;
@@ -99,8 +94,7 @@ fn interests_of_row<S: Alter>(
     alloc: Global,
     row: &StatementRow,
 ) -> Result<Vec<InterestRow>, ReadError>
-    requires { conn.old.in_transaction ≡ false }
-    ensures { ReadsAs (state S.Store conn.old) (state S.Store conn.new) result (λ r rows.
+    ensures { Reads S.Store conn.old conn.new result (λ r rows.
         rows.items ≡ part_interests row.now.part row.now.at r.members) }
 {
     match row.part {
@@ -116,9 +110,7 @@ fn interests_of<S: Alter>(
     alloc: Global,
     rows: &[StatementRow],
 ) -> Result<Vec<InterestRow>, ReadError>
-    requires { conn.old.in_transaction ≡ false }
-    ensures { ReadsAs (state S.Store conn.old) (state S.Store conn.new) result
-        (λ r interests.
+    ensures { Reads S.Store conn.old conn.new result (λ r interests.
         interests.items ≡ flat_map (λ row. part_interests row.part row.at r.members) rows.now) }
 {
     let mut interests = Vec::new(alloc);
@@ -135,8 +127,7 @@ pub fn identifiers_of_one<S: Alter>(
     alloc: Global,
     at: &At,
 ) -> Result<Vec<IdentifierRow>, ReadError>
-    requires { conn.old.in_transaction ≡ false }
-    ensures { ReadsAs (state S.Store conn.old) (state S.Store conn.new) result (λ r rows.
+    ensures { Reads S.Store conn.old conn.new result (λ r rows.
         rows.items ≡ identifiers_at at.now r.members) }
 {
     all_values(
@@ -152,8 +143,7 @@ fn identifiers_of_row<S: Alter>(
     alloc: Global,
     row: &StatementRow,
 ) -> Result<Vec<IdentifierRow>, ReadError>
-    requires { conn.old.in_transaction ≡ false }
-    ensures { ReadsAs (state S.Store conn.old) (state S.Store conn.new) result (λ r rows.
+    ensures { Reads S.Store conn.old conn.new result (λ r rows.
         rows.items ≡ part_identifiers row.now.part row.now.at r.members) }
 {
     match row.part {
@@ -169,9 +159,7 @@ fn identifiers_of<S: Alter>(
     alloc: Global,
     rows: &[StatementRow],
 ) -> Result<Vec<IdentifierRow>, ReadError>
-    requires { conn.old.in_transaction ≡ false }
-    ensures { ReadsAs (state S.Store conn.old) (state S.Store conn.new) result
-        (λ r identifiers.
+    ensures { Reads S.Store conn.old conn.new result (λ r identifiers.
         identifiers.items ≡ flat_map (λ row. part_identifiers row.part row.at r.members) rows.now) }
 {
     let mut identifiers = Vec::new(alloc);
@@ -189,8 +177,7 @@ fn placed<S: Alter>(
     agent: &AgentName,
     declaration: &Ident,
 ) -> Result<Vec<Placed>, ReadError>
-    requires { conn.old.in_transaction ≡ false }
-    ensures { ReadsAs (state S.Store conn.old) (state S.Store conn.new) result (λ r placed.
+    ensures { Reads S.Store conn.old conn.new result (λ r placed.
         placed.items ≡ in_declaration declaration.now (placed_of agent.now r)) }
 {
     let statements = statements(conn, alloc, agent, declaration)?;
@@ -224,12 +211,10 @@ fn seen<S: Alter>(
     day: Day,
     statements: Vec<Placed>,
 ) -> Result<Vec<Row>, ReadError>
-    requires { conn.old.in_transaction ≡ false }
-    ensures { ReadsAs (state S.Store conn.old) (state S.Store conn.new) result (λ r rows.
-        rows.items
-        ≡ map row_placed
-        (filter (is_seen viewer.now day agent.now (filings_of agent.now r.members))
-        statements.items)) }
+    ensures { Reads S.Store conn.old conn.new result (λ r rows.
+        rows.items ≡ map row_placed
+        (filter (is_seen viewer.now day agent.now
+        (filings_of agent.now r.members)) statements.items)) }
 {
     let mut rows = Vec::new(alloc);
     // Filings are numbered from 1 on.
@@ -253,10 +238,9 @@ pub fn read_rows_of<S: Alter>(
     agent: &AgentName,
     declaration: &Ident,
 ) -> Result<Vec<Row>, ReadError>
-    requires { conn.old.in_transaction ≡ false }
-    ensures { ReadsAs (state S.Store conn.old) (state S.Store conn.new) result (λ r rows.
-        rows.items
-        ≡ rows_of viewer.now r.day agent.now declaration.now (filings_of agent.now r.members)) }
+    ensures { Reads S.Store conn.old conn.new result (λ r rows.
+        rows.items ≡ rows_of viewer.now r.day agent.now declaration.now
+        (filings_of agent.now r.members)) }
 {
     let day = read_day(conn, alloc)?;
     let statements = placed(conn, alloc, agent, declaration)?;

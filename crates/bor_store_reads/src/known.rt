@@ -1,9 +1,8 @@
 //! Which filings of an agent a viewer sees. The one that was asked for last isn't asked for again.
 
 ghost use Rattle.std.specs.Prelude.{◌≡◌, false, IfOk};
-ghost use Rattle.sqlite.specs.Held.{state};
 ghost use Rattle.bor_register.specs.Register.{filings_of};
-ghost use Rattle.bor_store_reads.specs.Answering.{ReadsAs};
+ghost use Rattle.bor_store_reads.specs.Answering.{Reads};
 ghost use Rattle.bor_store_reads.specs.Asking.{is_number_seen, IsKnown};
 
 use crate::fault::ReadError;
@@ -28,8 +27,7 @@ pub fn is_number_seen<S: Alter>(
     day: Day,
     number: u32,
 ) -> Result<bool, ReadError>
-    requires { conn.old.in_transaction ≡ false }
-    ensures { ReadsAs (state S.Store conn.old) (state S.Store conn.new) result (λ r seen.
+    ensures { Reads S.Store conn.old conn.new result (λ r seen.
         seen ≡ is_number_seen viewer.now day agent.now (filings_of agent.now r.members) number) }
 {
     match found_filing(conn, alloc, agent, number)? {
@@ -48,9 +46,8 @@ pub(crate) fn known_of<S: Alter>(
     last: Known,
     number: u32,
 ) -> Result<Known, ReadError>
-    requires { conn.old.in_transaction ≡ false }
     ensures number { IfOk result (λ known. known.number ≡ number) }
-    ensures reads { ReadsAs (state S.Store conn.old) (state S.Store conn.new) result (λ r known.
+    ensures reads { Reads S.Store conn.old conn.new result (λ r known.
         IsKnown viewer.now day agent.now (filings_of agent.now r.members) last
         → IsKnown viewer.now day agent.now (filings_of agent.now r.members) known) }
 {

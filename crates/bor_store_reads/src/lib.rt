@@ -6,7 +6,7 @@
 //! what `Keep` of `bor_register::keeping` says of that register, or, of the reads of single rows,
 //! the rows that a definition names; or memory or the store failed: [`ReadError::Damaged`] is never
 //! answered of such tables (`specs/Answering`).
-#![tactic(auto)]
+#![tactic(auto, using(crate::proofs::Reading::read_fails))]
 
 mod agents;
 mod declarations;

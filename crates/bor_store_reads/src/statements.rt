@@ -1,16 +1,15 @@
 //! An agent's live statements, by identifier and by record.
 
-ghost use Rattle.std.specs.Prelude.{◌≡◌, false, option_map, slice_get};
+ghost use Rattle.std.specs.Prelude.{◌≡◌, option_map, slice_get};
 ghost use Rattle.std.specs.List.{last_or};
 ghost use Rattle.std.specs.Prelude.{None};
-ghost use Rattle.sqlite.specs.Held.{state};
 ghost use Rattle.bor_records.specs.Admission.{last_of};
 ghost use Rattle.bor_records.specs.Settling.{has_id};
 ghost use Rattle.bor_register.specs.Register.{filings_of};
 ghost use Rattle.bor_register.specs.Live.{live_of};
 ghost use Rattle.bor_store_sql.specs.Rows.Placed.{bare, filing_row};
 ghost use Rattle.bor_store_sql.specs.Selected.{in_series, numbered, placed_of};
-ghost use Rattle.bor_store_reads.specs.Answering.{ReadsAs};
+ghost use Rattle.bor_store_reads.specs.Answering.{Reads};
 
 use crate::fault::ReadError;
 use crate::values::{any, first_value};
@@ -27,8 +26,7 @@ pub fn has_statement<S: Alter>(
     agent: &AgentName,
     id: &Ident,
 ) -> Result<bool, ReadError>
-    requires { conn.old.in_transaction ≡ false }
-    ensures { ReadsAs (state S.Store conn.old) (state S.Store conn.new) result (λ r has.
+    ensures { Reads S.Store conn.old conn.new result (λ r has.
         has ≡ has_id id.now (live_of (filings_of agent.now r.members))) }
 {
     any(statement_by_id(conn, agent.as_str(), id.as_str()))
@@ -42,8 +40,7 @@ pub(crate) fn found_statement<S: Alter>(
     declaration: &Ident,
     rec: &Ident,
 ) -> Result<Option<StatementRow>, ReadError>
-    requires { conn.old.in_transaction ≡ false }
-    ensures { ReadsAs (state S.Store conn.old) (state S.Store conn.new) result (λ r row.
+    ensures { Reads S.Store conn.old conn.new result (λ r row.
         row ≡ option_map bare
         (last_or None (in_series declaration.now rec.now (placed_of agent.now r)))) }
 {
@@ -60,8 +57,7 @@ pub(crate) fn found_filing<S: Alter>(
     agent: &AgentName,
     number: u32,
 ) -> Result<Option<FilingRow>, ReadError>
-    requires { conn.old.in_transaction ≡ false }
-    ensures { ReadsAs (state S.Store conn.old) (state S.Store conn.new) result (λ r row.
+    ensures { Reads S.Store conn.old conn.new result (λ r row.
         row ≡ option_map (filing_row agent.now)
         (slice_get (numbered number (filings_of agent.now r.members)) 0)) }
 {
@@ -77,8 +73,7 @@ pub fn read_last<S: Alter>(
     declaration: &Ident,
     rec: &Ident,
 ) -> Result<Option<Last>, ReadError>
-    requires { conn.old.in_transaction ≡ false }
-    ensures { ReadsAs (state S.Store conn.old) (state S.Store conn.new) result (λ r last.
+    ensures { Reads S.Store conn.old conn.new result (λ r last.
         last ≡ last_of declaration.now rec.now (live_of (filings_of agent.now r.members))) }
 {
     let Some(row) = found_statement(conn, alloc, agent, declaration, rec)? else {

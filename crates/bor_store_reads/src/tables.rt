@@ -1,13 +1,13 @@
 //! Whole tables, whether there are more statements than a number, and the members of the register
 //! that the tables are.
 
-ghost use Rattle.std.specs.Prelude.{◌≡◌, ◌<◌, false, IfOk, MatchOption, length, map, nat_le, not};
+ghost use Rattle.std.specs.Prelude.{◌≡◌, ◌<◌, IfOk, MatchOption, length, map, nat_le, not};
 ghost use Rattle.std.specs.List.{flat_map};
 ghost use Rattle.sqlite.specs.Held.{state};
 ghost use Rattle.bor_store_sql.specs.Rows.Placed.{agent_row, bare, filing_lines, identifier_rows, interest_rows, interest_line, period_rows, placed};
 ghost use Rattle.bor_register.specs.Bare.{without_files};
 ghost use Rattle.bor_store_sql.specs.Shown.{IsUp};
-ghost use Rattle.bor_store_reads.specs.Answering.{ReadsAs};
+ghost use Rattle.bor_store_reads.specs.Answering.{Reads};
 
 use crate::fault::ReadError;
 use crate::register::read_register;
@@ -38,8 +38,7 @@ pub struct WholeRegister {
 
 // The rows of all agents, by name.
 fn agents<S: Alter>(conn: &mut Connection<S>, alloc: Global) -> Result<Vec<AgentRow>, ReadError>
-    requires { conn.old.in_transaction ≡ false }
-    ensures { ReadsAs (state S.Store conn.old) (state S.Store conn.new) result (λ r rows.
+    ensures { Reads S.Store conn.old conn.new result (λ r rows.
         rows.items ≡ map agent_row r.members) }
 {
     all_values(alloc, all_agents(conn))
@@ -47,8 +46,7 @@ fn agents<S: Alter>(conn: &mut Connection<S>, alloc: Global) -> Result<Vec<Agent
 
 // The rows of all filings without their files, by agent and number.
 fn filings<S: Alter>(conn: &mut Connection<S>, alloc: Global) -> Result<Vec<FilingRow>, ReadError>
-    requires { conn.old.in_transaction ≡ false }
-    ensures { ReadsAs (state S.Store conn.old) (state S.Store conn.new) result (λ r rows.
+    ensures { Reads S.Store conn.old conn.new result (λ r rows.
         rows.items ≡ filing_lines r.members) }
 {
     all_values(alloc, all_filings(conn))
@@ -59,8 +57,7 @@ fn statements<S: Alter>(
     conn: &mut Connection<S>,
     alloc: Global,
 ) -> Result<Vec<StatementRow>, ReadError>
-    requires { conn.old.in_transaction ≡ false }
-    ensures { ReadsAs (state S.Store conn.old) (state S.Store conn.new) result (λ r rows.
+    ensures { Reads S.Store conn.old conn.new result (λ r rows.
         rows.items ≡ map bare (placed r.members)) }
 {
     all_values(alloc, all_statements(conn))
@@ -71,8 +68,7 @@ fn interest_lines<S: Alter>(
     conn: &mut Connection<S>,
     alloc: Global,
 ) -> Result<Vec<InterestLine>, ReadError>
-    requires { conn.old.in_transaction ≡ false }
-    ensures { ReadsAs (state S.Store conn.old) (state S.Store conn.new) result (λ r rows.
+    ensures { Reads S.Store conn.old conn.new result (λ r rows.
         rows.items ≡ map interest_line (flat_map interest_rows (placed r.members))) }
 {
     all_values(alloc, all_interests(conn))
@@ -80,8 +76,7 @@ fn interest_lines<S: Alter>(
 
 // The rows of the days of all interests, by the place of their statement.
 fn periods<S: Alter>(conn: &mut Connection<S>, alloc: Global) -> Result<Vec<PeriodRow>, ReadError>
-    requires { conn.old.in_transaction ≡ false }
-    ensures { ReadsAs (state S.Store conn.old) (state S.Store conn.new) result (λ r rows.
+    ensures { Reads S.Store conn.old conn.new result (λ r rows.
         rows.items ≡ flat_map period_rows (flat_map interest_rows (placed r.members))) }
 {
     all_values(alloc, all_periods(conn))
@@ -92,8 +87,7 @@ fn interests<S: Alter>(
     conn: &mut Connection<S>,
     alloc: Global,
 ) -> Result<Vec<InterestRow>, ReadError>
-    requires { conn.old.in_transaction ≡ false }
-    ensures { ReadsAs (state S.Store conn.old) (state S.Store conn.new) result (λ r rows.
+    ensures { Reads S.Store conn.old conn.new result (λ r rows.
         rows.items ≡ flat_map interest_rows (placed r.members)) }
 {
     let lines = interest_lines(conn, alloc)?;
@@ -106,8 +100,7 @@ fn identifiers<S: Alter>(
     conn: &mut Connection<S>,
     alloc: Global,
 ) -> Result<Vec<IdentifierRow>, ReadError>
-    requires { conn.old.in_transaction ≡ false }
-    ensures { ReadsAs (state S.Store conn.old) (state S.Store conn.new) result (λ r rows.
+    ensures { Reads S.Store conn.old conn.new result (λ r rows.
         rows.items ≡ flat_map identifier_rows (placed r.members)) }
 {
     all_values(alloc, all_identifiers(conn))
@@ -115,9 +108,7 @@ fn identifiers<S: Alter>(
 
 // All live statements, by agent, filing and place.
 fn placed<S: Alter>(conn: &mut Connection<S>, alloc: Global) -> Result<Vec<Placed>, ReadError>
-    requires { conn.old.in_transaction ≡ false }
-    ensures { ReadsAs (state S.Store conn.old) (state S.Store conn.new) result
-        (λ r statements.
+    ensures { Reads S.Store conn.old conn.new result (λ r statements.
         statements.items ≡ placed r.members) }
 {
     let statements = statements(conn, alloc)?;
@@ -134,8 +125,7 @@ fn placed<S: Alter>(conn: &mut Connection<S>, alloc: Global) -> Result<Vec<Place
 /// Whether there are more live statements than so many. Only a connection that is open answers, if
 /// its disk has returned what was written.
 pub fn has_more<S: Alter>(conn: &mut Connection<S>, most: u32) -> Result<bool, ReadError>
-    requires { conn.old.in_transaction ≡ false }
-    ensures reads { ReadsAs (state S.Store conn.old) (state S.Store conn.new) result (λ r more.
+    ensures reads { Reads S.Store conn.old conn.new result (λ r more.
         more ≡ not (nat_le (length (placed r.members)) most)) }
     ensures up { IfOk result (λ _. IsUp (state S.Store conn.new)) }
 {
@@ -147,8 +137,7 @@ pub(crate) fn members<S: Alter>(
     conn: &mut Connection<S>,
     alloc: Global,
 ) -> Result<Vec<Member>, ReadError>
-    requires { conn.old.in_transaction ≡ false }
-    ensures { ReadsAs (state S.Store conn.old) (state S.Store conn.new) result (λ r members.
+    ensures { Reads S.Store conn.old conn.new result (λ r members.
         members.items ≡ without_files r.members) }
 {
     let agents = agents(conn, alloc)?;
@@ -164,10 +153,9 @@ pub(crate) fn members<S: Alter>(
 
 // The register, each filing without its file.
 fn whole<S: Alter>(conn: &mut Connection<S>, alloc: Global) -> Result<WholeRegister, ReadError>
-    requires { conn.old.in_transaction ≡ false }
-    ensures reads { ReadsAs (state S.Store conn.old) (state S.Store conn.new) result (λ r whole.
-        (whole.day ≡ r.day) × (whole.registrar ≡ r.registrar)
-        × (whole.members.items ≡ without_files r.members)) }
+    ensures reads { Reads S.Store conn.old conn.new result (λ r whole.
+        (whole.day ≡ r.day) × (whole.registrar ≡ r.registrar) ×
+        (whole.members.items ≡ without_files r.members)) }
     ensures up { IfOk result (λ _. IsUp (state S.Store conn.new)) }
 {
     let row = read_register(conn, alloc)?;
@@ -186,11 +174,10 @@ pub fn read_whole<S: Alter>(
     alloc: Global,
     most: u32,
 ) -> Result<Option<WholeRegister>, ReadError>
-    requires { conn.old.in_transaction ≡ false }
-    ensures reads { ReadsAs (state S.Store conn.old) (state S.Store conn.new) result (λ r whole.
-        MatchOption whole (most < length (placed r.members)) (λ whole.
-        (whole.day ≡ r.day) × (whole.registrar ≡ r.registrar)
-        × (whole.members.items ≡ without_files r.members))) }
+    ensures reads { Reads S.Store conn.old conn.new result (λ r whole.
+        MatchOption whole (most < length (placed r.members))
+        (λ whole. (whole.day ≡ r.day) × (whole.registrar ≡ r.registrar) ×
+        (whole.members.items ≡ without_files r.members))) }
     ensures up { IfOk result (λ _. IsUp (state S.Store conn.new)) }
 {
     if has_more(conn, most)? {

@@ -1,10 +1,9 @@
 //! The rows that a viewer sees, and what is published.
 
-ghost use Rattle.std.specs.Prelude.{◌≡◌, false};
-ghost use Rattle.sqlite.specs.Held.{state};
+ghost use Rattle.std.specs.Prelude.{◌≡◌};
 ghost use Rattle.bor_register.specs.Publication.{published};
 ghost use Rattle.bor_register.specs.Rows.{visible};
-ghost use Rattle.bor_store_reads.specs.Answering.{ReadsAs};
+ghost use Rattle.bor_store_reads.specs.Answering.{Reads};
 
 use crate::fault::ReadError;
 use crate::register::read_day;
@@ -24,8 +23,7 @@ pub fn read_visible<S: Alter>(
     alloc: Global,
     viewer: &AgentName,
 ) -> Result<Vec<Row>, ReadError>
-    requires { conn.old.in_transaction ≡ false }
-    ensures { ReadsAs (state S.Store conn.old) (state S.Store conn.new) result (λ r rows.
+    ensures { Reads S.Store conn.old conn.new result (λ r rows.
         rows.items ≡ visible viewer.now r.day r.members) }
 {
     let day = read_day(conn, alloc)?;
@@ -40,8 +38,7 @@ pub fn read_published<S: Alter>(
     conn: &mut Connection<S>,
     alloc: Global,
 ) -> Result<Vec<Outward>, ReadError>
-    requires { conn.old.in_transaction ≡ false }
-    ensures { ReadsAs (state S.Store conn.old) (state S.Store conn.new) result (λ r outwards.
+    ensures { Reads S.Store conn.old conn.new result (λ r outwards.
         outwards.items ≡ published r.day r.members) }
 {
     let day = read_day(conn, alloc)?;

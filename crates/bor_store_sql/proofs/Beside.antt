@@ -9,7 +9,7 @@ use Rattle.bor_store_sql.proofs.OnTexts.TableMeanings.{period_is}
 use Rattle.bor_store_sql.specs.Rows.Encoding.{Contents}
 use Rattle.bor_store_sql.specs.Kept.{Keeps}
 use Rattle.bor_store_sql.specs.Moving.{MakesPeriod}
-use Rattle.bor_store_sql.specs.Ran.{Moves, Ran}
+use Rattle.bor_store_sql.specs.Ran.{MovesTo, Ran}
 use Rattle.bor_store_sql.specs.Shown.{Has, HasFirst}
 use Rattle.bor_store_sql.proofs.Creating.{none_kept, table_added}
 use Rattle.bor_store_sql.proofs.Moves.{moves_by}
@@ -32,5 +32,5 @@ period_made old new count t has h =
       periods = none_kept _ it.empty;
     }
 
-pub period_made_beside : (given : Row) (old new : State) (result : Result (Unit {0}) Error) → Ran PERIOD_TABLE.now given old new result → given ≡ [] → Moves MakesPeriod old new result
+pub period_made_beside : (given : Row) (old new : State) (result : Result (Unit {0}) Error) → Ran PERIOD_TABLE.now given old new result → given ≡ [] → MovesTo MakesPeriod old new result
 period_made_beside given old new result ran is = moves_by MakesPeriod PERIOD_TABLE.now given [] old new result ran is (λ count h t has. period_made old new count t has h)

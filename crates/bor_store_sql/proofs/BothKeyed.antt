@@ -18,7 +18,7 @@ use Rattle.bor_store_sql.specs.declared.rows.places.At.{At}
 use Rattle.bor_store_sql.specs.declared.rows.typed.IdentifierRow.{IdentifierRow}
 use Rattle.bor_store_sql.specs.declared.rows.typed.InterestRow.{InterestRow}
 use Rattle.bor_store_sql.specs.declared.rows.typed.Placed.{Placed}
-use Rattle.bor_store_sql.specs.Found.{Asked, FindsBoth}
+use Rattle.bor_store_sql.specs.Found.{Asked, FindsRows}
 use Rattle.bor_store_sql.specs.Selected.{identifiers_at, in_filing, interests_at, placed_of}
 use Rattle.bor_store_sql.specs.Shown.{ShowsLists}
 use Rattle.bor_store_sql.proofs.BothReads.{answered, finds_both, lists_now}
@@ -70,19 +70,19 @@ module _ (r : Register) (old new : State) (shows : ShowsLists r old) (rows : Lis
 -- ---- each finds what it is said to find
 
 pub statements_of_filing_finds : (agent : List ℕ) (number : ℕ) (old new : State) (result : Result (Vec Row Global) Error) → Asked statements_of_filing_text (Text agent ∷ Int (pos number) ∷ []) old new result
-    → FindsBoth old new result (λ r. map (λ p. statement_columns (bare p)) (in_filing number (placed_of agent r)))
+    → FindsRows ShowsLists old new result (λ r. map (λ p. statement_columns (bare p)) (in_filing number (placed_of agent r)))
 statements_of_filing_finds agent number old new result asked =
     finds_both statements_of_filing_text (Text agent ∷ Int (pos number) ∷ []) (Text agent ∷ Int (pos number) ∷ []) (λ r. map (λ p. statement_columns (bare p)) (in_filing number (placed_of agent r))) old new result asked refl
     (λ r rows shows h. statements_of_filing_found r old new shows rows agent number h)
 
 pub interests_of_statement_finds : (agent : List ℕ) (number place : ℕ) (old new : State) (result : Result (Vec Row Global) Error) → Asked interests_of_statement_text (Text agent ∷ Int (pos number) ∷ Int (pos place) ∷ []) old new result
-    → FindsBoth old new result (λ r. map interest_columns (interests_at (record { agent = agent; filing = number; place = place }) r.members))
+    → FindsRows ShowsLists old new result (λ r. map interest_columns (interests_at (record { agent = agent; filing = number; place = place }) r.members))
 interests_of_statement_finds agent number place old new result asked =
     let at : At = record { agent = agent; filing = number; place = place } in
     finds_both interests_of_statement_text (place_params at) (place_params at) (λ r. map interest_columns (interests_at at r.members)) old new result asked refl (λ r rows shows h. interests_of_statement_found r old new shows rows at h)
 
 pub identifiers_of_statement_finds : (agent : List ℕ) (number place : ℕ) (old new : State) (result : Result (Vec Row Global) Error) → Asked identifiers_of_statement_text (Text agent ∷ Int (pos number) ∷ Int (pos place) ∷ []) old new result
-    → FindsBoth old new result (λ r. map identifier_columns (identifiers_at (record { agent = agent; filing = number; place = place }) r.members))
+    → FindsRows ShowsLists old new result (λ r. map identifier_columns (identifiers_at (record { agent = agent; filing = number; place = place }) r.members))
 identifiers_of_statement_finds agent number place old new result asked =
     let at : At = record { agent = agent; filing = number; place = place } in
     finds_both identifiers_of_statement_text (place_params at) (place_params at) (λ r. map identifier_columns (identifiers_at at r.members)) old new result asked refl (λ r rows shows h. identifiers_of_statement_found r old new shows rows at h)

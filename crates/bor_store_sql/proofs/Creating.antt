@@ -29,10 +29,10 @@ use Rattle.bor_store_sql.specs.Texts.Changes.{insert_register_text, insert_regis
 use Rattle.bor_store_sql.proofs.OnTexts.ChangeMeanings.{insert_register_is}
 use Rattle.bor_store_sql.specs.Rows.Encoding.{contents, register_columns, tables_version}
 use Rattle.bor_store_sql.specs.Rows.Stored.{IsStored}
-use Rattle.bor_store_sql.specs.Blank.{IsBlank, Leads, no_contents}
+use Rattle.bor_store_sql.specs.Blank.{IsBlank, LeadsTo, no_contents}
 use Rattle.bor_store_sql.specs.Kept.{Keeps}
 use Rattle.bor_store_sql.specs.Moving.{MakesPeriod}
-use Rattle.bor_store_sql.specs.Ran.{Moves}
+use Rattle.bor_store_sql.specs.Ran.{MovesTo}
 use Rattle.bor_store_sql.specs.Shown.{Has, HasFirst}
 use Rattle.bor_store_sql.proofs.Inserts.{inserts, went, same_value, cast_int}
 use Rattle.bor_store_sql.proofs.Others.{with_register}
@@ -107,11 +107,11 @@ blank_has db blank = record {
 }
 
 -- one after the other
-pub both_lead : (first between last : Database → Type 0) (old mid new : State) (result : Result (Unit {0}) Error) → Leads first between old mid (Ok (tt {0})) → Leads between last mid new result → Leads first last old new result
+pub both_lead : (first between last : Database → Type 0) (old mid new : State) (result : Result (Unit {0}) Error) → LeadsTo first between old mid (Ok (tt {0})) → LeadsTo between last mid new result → LeadsTo first last old new result
 both_lead first between last old mid new result one two = both_move _ _ _ old mid new result (λ to_between to_last is. to_last (to_between is)) one two
 
 -- the table period, beside six without rows
-pub period_leads : (old new : State) (result : Result (Unit {0}) Error) → Moves MakesPeriod old new result → Leads (IsBlank first_schema) (Has no_contents) old new result
+pub period_leads : (old new : State) (result : Result (Unit {0}) Error) → MovesTo MakesPeriod old new result → LeadsTo (IsBlank first_schema) (Has no_contents) old new result
 period_leads old new result one = in_other_words MakesPeriod _ old new result (λ makes blank. makes no_contents (blank_has old.now blank)) one
 
 -- what the INSERT of the register's row is given

@@ -9,10 +9,10 @@ use Rattle.sqlite.specs.Store.{Ghosts}
 use Rattle.sqlite.specs.Tree.{Trees}
 use Rattle.sqlite.specs.declared.error.Error.{Error}
 use Rattle.bor_register.specs.Register.{Register}
-use Rattle.bor_store_sql.specs.Ran.{Ends, Moved, Moves, RanOpen}
+use Rattle.bor_store_sql.specs.Ran.{Ends, Moved, MovesTo, RanOpenIn}
 use Rattle.bor_store_sql.specs.Rows.Encoding.{contents}
 use Rattle.bor_store_sql.specs.Rows.Stored.{IsStored}
-use Rattle.bor_store_sql.specs.Shown.{Has, IsClean, IsUp, LeavesAtMost, Stands}
+use Rattle.bor_store_sql.specs.Shown.{AltersTo, Commits, Has, IsClean, IsUp, LeavesAtMost, Stands}
 use Rattle.bor_store_sql.proofs.Moves.{no_more, was_clean}
 
 -- what was done failed, and is undone
@@ -115,28 +115,28 @@ of_ok P (Err e) went h = absurd (true≢false (sym went))
 
 -- what a caller knows of a transaction of its own
 pub record Ended (Makes : Database → Database → Type 0) (old new : State) (result : Result (Unit {0}) Error) : Type 0 where
-  pub clean : HasCleanDisk new → HasCleanDisk old
-  pub up : OnOk result (IsUp new)
-  pub began : IsClean new → IsClean old
-  pub kept : IsClean new → OnErr result (new.committed ≡ old.committed)
+  pub commits : Commits old new result
   pub made : IsClean new → OnOk result (Makes old.committed new.committed)
   pub stops : LeavesAtMost (IsMadeOf Makes old.committed) old new
 
 -- `began` is the connection once the transaction was begun
 pub ended : {S : Type 0} (g : Ghosts S) (Makes : Database → Database → Type 0) (was began : Held S) (mid new : State) (done result : Result (Unit {0}) Error) → (IsTrue (state g was).is_open → (state g was).now ≡ (state g was).committed)
-    → began ≡ record was { in_transaction = true } → Moves Makes (state g began) mid done → RanOpen (state g began) mid done → Ends mid new done result → Ended Makes (state g was) new result
-ended g Makes was began mid new done result settled begun moves opened ends =
-    by_moves g Makes was mid new done result settled (subst (λ h. Moves Makes (state g h) mid done) begun moves) (subst (λ h. RanOpen (state g h) mid done) begun opened) ends
+    → began ≡ record was { in_transaction = true } → MovesTo Makes (state g began) mid done → RanOpenIn (state g began) mid done → new.in_transaction ≡ false → Ends mid new done result → Ended Makes (state g was) new result
+ended g Makes was began mid new done result settled begun moves opened mode ends =
+    by_moves g Makes was mid new done result settled (subst (λ h. MovesTo Makes (state g h) mid done) begun moves) (subst (λ h. RanOpenIn (state g h) mid done) begun opened) mode ends
   where
     by_moves : {S : Type 0} (g : Ghosts S) (Makes : Database → Database → Type 0) (was : Held S) (mid new : State) (done result : Result (Unit {0}) Error) → (IsTrue (state g was).is_open → (state g was).now ≡ (state g was).committed)
-        → Moves Makes (record (state g was) { in_transaction = true }) mid done → RanOpen (record (state g was) { in_transaction = true }) mid done → Ends mid new done result → Ended Makes (state g was) new result
-    by_moves g Makes was mid new done result settled moves opened ends =
+        → MovesTo Makes (record (state g was) { in_transaction = true }) mid done → RanOpenIn (record (state g was) { in_transaction = true }) mid done → new.in_transaction ≡ false → Ends mid new done result → Ended Makes (state g was) new result
+    by_moves g Makes was mid new done result settled moves opened mode ends =
         let start = record (state g was) { in_transaction = true } in
         record {
-          clean = λ clean. moves.clean (ends.clean clean);
-          up = where_up mid new done result ends;
-          began = λ clean. (moves.clean (ends.clean clean.0), (moves.inside (ends.clean clean.0) refl).was_open (ends.was_open clean.0 clean.1));
-          kept = λ clean. left_by Makes start mid new done result clean.0 clean.1 (moves.inside (ends.clean clean.0) refl) ends;
+          commits = record {
+            mode = λ before. mode;
+            clean = λ clean. moves.clean (ends.clean clean);
+            up = where_up mid new done result ends;
+            began = λ clean. (moves.clean (ends.clean clean.0), (moves.inside (ends.clean clean.0) refl).was_open (ends.was_open clean.0 clean.1));
+            kept = λ clean. left_by Makes start mid new done result clean.0 clean.1 (moves.inside (ends.clean clean.0) refl) ends;
+          };
           made = λ clean. made_by Makes start mid new done result (state g was).committed settled clean.0 clean.1 (moves.inside (ends.clean clean.0) refl) ends;
           stops = λ clean trees left. elim (ends.stops clean trees left) [
             | inl before ↦ inl (moves.stops (ends.clean clean) trees before)
@@ -157,3 +157,12 @@ stopped_in Makes Made old new stands stops clean trees left = elim (stops clean 
 pub on_ok : {P Q : Type 0} (result : Result (Unit {0}) Error) → OnOk result P → (P → Q) → OnOk result Q
 on_ok (Ok x) p follows = follows p
 on_ok (Err e) p follows = tt
+
+-- what a change of the register that is shown makes of it
+pub alters : (Makes : Database → Database → Type 0) (Shows : Register → State → Type 0) (Fits : Register → Type 0) (change : Register → Register) {old new : State} {result : Result (Unit {0}) Error}
+    → ((r : Register) → Shows r old → Fits r → (db : Database) → Makes old.committed db → Has (contents (change r)) db × IsStored (change r)) → Ended Makes old new result → AltersTo Shows Fits change old new result
+alters Makes Shows Fits change {old} {new} {result} so it = record {
+  commits = it.commits;
+  made = λ clean r shows fits. on_ok result (it.made clean) (λ makes. let is = so r shows fits new.committed makes in record { has = is.0; stored = is.1 });
+  stops = stopped_in Makes (λ trees. (r : Register) → Shows r old → Fits r → Stands (change r) trees) old new (λ trees m r shows fits. stands_in (change r) m.after trees m.trees_are (so r shows fits m.after m.made)) it.stops;
+}

@@ -1,5 +1,5 @@
 -- The rows that a query gives of a register that is shown.
-use Rattle.std.proofs.Common.{◌≡◌, ℕ, List, [], Vec, Ok, Err, Result, IfOk, sym, subst}
+use Rattle.std.proofs.Common.{◌≡◌, ℕ, List, [], Vec, Ok, Err, Result, IfOk, refl, sym, subst, ◌∙◌}
 use Rattle.std.specs.declared.alloc.Global.{Global}
 use Rattle.sqlite.specs.declared.types.Value.TheVariants.{Null}
 use Rattle.sqlite.specs.declared.error.Error.{Error}
@@ -14,7 +14,7 @@ use Rattle.bor_store_sql.specs.Texts.Queries.{shows_rows}
 use Rattle.bor_store_sql.specs.Texts.Meanings.{Asks}
 use Rattle.bor_store_sql.specs.Rows.Encoding.{contents}
 use Rattle.bor_store_sql.specs.Shown.{Has, ShowsIn}
-use Rattle.bor_store_sql.specs.Found.{Asked, Finds}
+use Rattle.bor_store_sql.specs.Found.{Asked, FindsRows, ReadsOnly}
 
 -- what a text shows of the last commit
 abbrev pub Shows : List ℕ → Row → State → State → List Row → Type 0
@@ -27,13 +27,10 @@ settled_shown text params old new settled (Err e) h = tt
 
 -- what is asked is found, if the query is given what it is said to be given
 pub finds : (text : List ℕ) (params given : Row) (rows_of : Register → List Row) (old new : State) (result : Result (Vec Row Global) Error) → Asked text given old new result → given ≡ params
-    → ((r : Register) (rows : List Row) → ShowsIn r old → Shows text params old new rows → rows ≡ rows_of r) → Finds old new result rows_of
+    → ((r : Register) (rows : List Row) → ShowsIn r old → Shows text params old new rows → rows ≡ rows_of r) → FindsRows ShowsIn old new result rows_of
 finds text params given rows_of old new result asked is found = record {
-  clean = asked.clean;
-  stops = asked.stops;
+  reads = asked.reads;
   up = asked.up;
-  began = asked.began;
-  kept = asked.kept;
   rows = λ clean r shows. go result r shows (subst (λ row. IfOk result (λ rows. Shows text row old new rows.items)) is (asked.shown clean));
 }
   where
@@ -48,3 +45,17 @@ module _ (r : Register) (old new : State) (shows : ShowsIn r old) (settled : old
   -- the rows are the query's answer
   pub answers : (text : List ℕ) (params : Row) (query : Query) (names : List (List ℕ)) → Asks text (shows_rows query names) → (rows : List Row) → Shown text params old new rows → IsAnswer query (overlay old.now.trees []) params rows
   answers text params query names is rows h = (reads_as text params old new keep_schema has_now.schema (shows_rows query names) is.0 is.1 is.2 rows h).answer Null
+
+-- ---- reads change nothing
+
+pub nothing_read : {s : State} → ReadsOnly s s
+nothing_read = record { mode = λ settled. settled; clean = λ clean. clean; stops = λ clean trees left. left; began = λ clean. clean; kept = λ clean. refl }
+
+pub read_on : {old mid new : State} → ReadsOnly old mid → ReadsOnly mid new → ReadsOnly old new
+read_on first second = record {
+  mode = λ settled. second.mode (first.mode settled);
+  clean = λ clean. first.clean (second.clean clean);
+  stops = λ clean trees left. first.stops (second.clean clean) trees (second.stops clean trees left);
+  began = λ clean. first.began (second.began clean);
+  kept = λ clean. second.kept clean ∙ first.kept (second.began clean);
+}

@@ -8,9 +8,9 @@ use Rattle.sqlite.specs.State.{State, ExecutesInside, Executes, HasCleanDisk, Is
 use Rattle.sqlite.specs.Tree.{Trees}
 use Rattle.bor_store_sql.specs.Changing.{Any}
 use Rattle.bor_store_sql.specs.Moving.{PutsPeriods}
-use Rattle.bor_store_sql.specs.Ran.{LeavesNoMore, Moved, Moves, Ran, RunsInside, RanOpen}
+use Rattle.bor_store_sql.specs.Ran.{LeavesNoMore, Moved, MovesTo, Ran, RunsInside, RanOpenIn}
 use Rattle.bor_store_sql.specs.Rows.Encoding.{Contents, period_columns}
-use Rattle.bor_store_sql.specs.Shown.{Changes, Has, Steps}
+use Rattle.bor_store_sql.specs.Shown.{Changes, Has, StepsTo}
 use Rattle.bor_store_sql.specs.declared.rows.typed.PeriodRow.{PeriodRow}
 
 -- ---- one text
@@ -63,7 +63,7 @@ one_move Makes sql params old new (Err e) h does = record { was_open = ended_ope
 
 -- what a statement makes that is given what it is said to be given
 pub moves_by : (Makes : Database → Database → Type 0) (sql : List ℕ) (given params : Row) (old new : State) (result : Result (Unit {0}) Error) → Ran sql given old new result → given ≡ params
-    → ((count : ℕ) → Executes sql params old new (Ok count) → Makes old.now new.now) → Moves Makes old new result
+    → ((count : ℕ) → Executes sql params old new (Ok count) → Makes old.now new.now) → MovesTo Makes old new result
 moves_by Makes sql given params old new result ran is does = record {
   clean = ran.clean;
   stops = ran.stops;
@@ -89,7 +89,7 @@ both_moved First Then All old mid new (Err e) chain one two = record {
 
 -- one that went well, and another, which may fail
 pub both_move : (First Then All : Database → Database → Type 0) (old mid new : State) (result : Result (Unit {0}) Error) → (First old.now mid.now → Then mid.now new.now → All old.now new.now)
-    → Moves First old mid (Ok (tt {0})) → Moves Then mid new result → Moves All old new result
+    → MovesTo First old mid (Ok (tt {0})) → MovesTo Then mid new result → MovesTo All old new result
 both_move First Then All old mid new result chain one two = record {
   clean = λ clean. one.clean (two.clean clean);
   stops = λ clean trees left. one.stops (two.clean clean) trees (two.stops clean trees left);
@@ -99,7 +99,7 @@ both_move First Then All old mid new result chain one two = record {
 }
 
 -- a failure makes nothing, whatever was to be made
-pub fails : (Then All : Database → Database → Type 0) (old new : State) (e : Error) (result : Result (Unit {0}) Error) → IsErr result → Moves Then old new (Err e) → Moves All old new result
+pub fails : (Then All : Database → Database → Type 0) (old new : State) (e : Error) (result : Result (Unit {0}) Error) → IsErr result → MovesTo Then old new (Err e) → MovesTo All old new result
 fails Then All old new e (Ok x) err one = absurd (true≢false (sym err))
 fails Then All old new e (Err why) err one = record {
   clean = one.clean;
@@ -113,11 +113,11 @@ abbrev Whatever : Database → Database → Type 0
 Whatever old new = Unit {0}
 
 -- one that went well, and another that failed
-pub then_fails : (First Then All : Database → Database → Type 0) (old mid new : State) (e : Error) (result : Result (Unit {0}) Error) → IsErr result → Moves First old mid (Ok (tt {0})) → Moves Then mid new (Err e) → Moves All old new result
+pub then_fails : (First Then All : Database → Database → Type 0) (old mid new : State) (e : Error) (result : Result (Unit {0}) Error) → IsErr result → MovesTo First old mid (Ok (tt {0})) → MovesTo Then mid new (Err e) → MovesTo All old new result
 then_fails First Then All old mid new e result err one two = fails Whatever All old new e result err (both_move First Then Whatever old mid new (Err e) (λ a b. tt {0}) one two)
 
 -- what was made, in other words
-pub in_other_words : (Makes All : Database → Database → Type 0) (old new : State) (result : Result (Unit {0}) Error) → (Makes old.now new.now → All old.now new.now) → Moves Makes old new result → Moves All old new result
+pub in_other_words : (Makes All : Database → Database → Type 0) (old new : State) (result : Result (Unit {0}) Error) → (Makes old.now new.now → All old.now new.now) → MovesTo Makes old new result → MovesTo All old new result
 in_other_words Makes All old new (Ok x) turn one = record {
   clean = one.clean;
   stops = one.stops;
@@ -128,12 +128,12 @@ in_other_words Makes All old new (Ok x) turn one = record {
 in_other_words Makes All old new (Err e) turn one = fails Makes All old new e (Err e) refl one
 
 -- what is known of all that went well
-pub with_known : (P : Type 0) (Makes : Database → Database → Type 0) (old new : State) (result : Result (Unit {0}) Error) → IfOk result (λ x. P) → Moves Makes old new result → Moves (λ was is. Makes was is × P) old new result
+pub with_known : (P : Type 0) (Makes : Database → Database → Type 0) (old new : State) (result : Result (Unit {0}) Error) → IfOk result (λ x. P) → MovesTo Makes old new result → MovesTo (λ was is. Makes was is × P) old new result
 with_known P Makes old new (Ok x) known one = in_other_words Makes (λ was is. Makes was is × P) old new (Ok x) (λ made. (made, known)) one
 with_known P Makes old new (Err e) known one = fails Makes (λ was is. Makes was is × P) old new e (Err e) refl one
 
 -- nothing is done
-pub none_moves : (Makes : Database → Database → Type 0) (old : State) → Makes old.now old.now → Moves Makes old old (Ok (tt {0}))
+pub none_moves : (Makes : Database → Database → Type 0) (old : State) → Makes old.now old.now → MovesTo Makes old old (Ok (tt {0}))
 none_moves Makes old same = record {
   clean = λ clean. clean;
   stops = λ clean trees left. left;
@@ -146,7 +146,7 @@ none_moves Makes old same = record {
 }
 
 -- no further one was run
-pub breaks_off : (First All : Database → Database → Type 0) (old new : State) (result : Result (Unit {0}) Error) → IsErr result → Moves First old new (Ok (tt {0})) → Moves All old new result
+pub breaks_off : (First All : Database → Database → Type 0) (old new : State) (result : Result (Unit {0}) Error) → IsErr result → MovesTo First old new (Ok (tt {0})) → MovesTo All old new result
 breaks_off First All old new (Ok x) err one = absurd (true≢false (sym err))
 breaks_off First All old new (Err e) err one = record {
   clean = one.clean;
@@ -158,16 +158,16 @@ breaks_off First All old new (Err e) err one = record {
 
 -- ---- on a connection that was open
 
-pub run_open : (sql : List ℕ) (params : Row) (old new : State) (result : Result (Unit {0}) Error) → Ran sql params old new result → RanOpen old new result
+pub run_open : (sql : List ℕ) (params : Row) (old new : State) (result : Result (Unit {0}) Error) → Ran sql params old new result → RanOpenIn old new result
 run_open sql params old new (Ok x) ran clean inside = (ran.inside clean inside).1.1.was_open
 run_open sql params old new (Err e) ran clean inside = tt
 
-pub err_open : (old new : State) (result : Result (Unit {0}) Error) → IsErr result → RanOpen old new result
+pub err_open : (old new : State) (result : Result (Unit {0}) Error) → IsErr result → RanOpenIn old new result
 err_open old new (Ok x) err = absurd (true≢false (sym err))
 err_open old new (Err e) err = λ clean inside. tt
 
 -- the first went well
-pub first_open : (old mid new : State) (result : Result (Unit {0}) Error) → RanOpen old mid (Ok (tt {0})) → (HasCleanDisk new → HasCleanDisk mid) → RanOpen old new result
+pub first_open : (old mid new : State) (result : Result (Unit {0}) Error) → RanOpenIn old mid (Ok (tt {0})) → (HasCleanDisk new → HasCleanDisk mid) → RanOpenIn old new result
 first_open old mid new (Ok x) first sound clean inside = first (sound clean) inside
 first_open old mid new (Err e) first sound clean inside = tt
 
@@ -178,11 +178,11 @@ pub chained : (fits : Contents → Type 0) (f g h : Contents → Contents) (old 
 chained fits f g h old mid new same one two t has fit = subst (λ x. Has x new) (same t) (two (f t) (one t has fit) (tt {0}))
 
 -- one change after the other
-pub both_step : (fits : Contents → Type 0) (f g : Contents → Contents) (old mid new : State) (result : Result (Unit {0}) Error) → Steps fits f old mid (Ok (tt {0})) → Steps Any g mid new result → Steps fits (λ t. g (f t)) old new result
+pub both_step : (fits : Contents → Type 0) (f g : Contents → Contents) (old mid new : State) (result : Result (Unit {0}) Error) → StepsTo fits f old mid (Ok (tt {0})) → StepsTo Any g mid new result → StepsTo fits (λ t. g (f t)) old new result
 both_step fits f g old mid new result one two = both_move (Changes fits f) (Changes Any g) (Changes fits (λ t. g (f t))) old mid new result (λ to_f to_g t has fit. to_g (f t) (to_f t has fit) (tt {0})) one two
 
 -- the same in other words
-pub one_more : (f g h : Contents → Contents) (old mid new : State) → ((t : Contents) → g (f t) ≡ h t) → Steps Any f old mid (Ok (tt {0})) → Steps Any g mid new (Ok (tt {0})) → Steps Any h old new (Ok (tt {0}))
+pub one_more : (f g h : Contents → Contents) (old mid new : State) → ((t : Contents) → g (f t) ≡ h t) → StepsTo Any f old mid (Ok (tt {0})) → StepsTo Any g mid new (Ok (tt {0})) → StepsTo Any h old new (Ok (tt {0}))
 one_more f g h old mid new same one two = both_move (Changes Any f) (Changes Any g) (Changes Any h) old mid new (Ok (tt {0})) (chained Any f g h old.now mid.now new.now same) one two
 
 -- nothing is a change that leaves the rows

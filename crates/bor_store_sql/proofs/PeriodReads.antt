@@ -1,5 +1,5 @@
 -- The rows that the queries on days of interests find, and the one on files.
-use Rattle.std.proofs.Common.{◌≡◌, ℕ, ℤ, pos, Bool, true, false, cond, ◌&&◌, ◌==◌, Option, Some, None, List, [], ◌∷◌, ◌++◌, map, filter, Vec, Result, refl, sym, ap, ap₂, ◌∙◌}
+use Rattle.std.proofs.Common.{◌≡◌, ℕ, ℤ, pos, Bool, true, false, cond, ◌&&◌, Option, Some, None, List, [], ◌∷◌, ◌++◌, map, filter, Vec, Result, refl, sym, ap, ap₂, ◌∙◌}
 use Rattle.std.specs.Prelude.{is_some, ◌||◌}
 use Rattle.std.specs.List.{flat_map}
 use Rattle.std.specs.declared.alloc.Global.{Global}
@@ -14,30 +14,27 @@ use Rattle.sqlite.specs.declared.error.Error.{Error}
 use Rattle.sqlite.specs.declared.types.Value.TheVariants.{Null, Int, Text}
 use Rattle.sqlite_keyed.proofs.ListLemmas.{ascending-filter}
 use Rattle.sqlite_tied.specs.Compute.{everything}
-use Rattle.bor_register.specs.Publication.{filing_shown}
-use Rattle.bor_register.specs.Register.{Register, filings_of}
+use Rattle.bor_register.specs.Register.{Register}
 use Rattle.bor_register.specs.declared.member.Member.{Member}
-use Rattle.bor_terms.specs.Texts.{is_same}
 use Rattle.bor_store_sql.specs.Texts.Meanings.{Asks}
-use Rattle.bor_store_sql.specs.Texts.Queries.{all_periods_query, all_periods_text, file_by_number_query, file_by_number_text, periods_of_statement_query, periods_of_statement_text, rising, shows_rows, table_query}
-use Rattle.bor_store_sql.proofs.OnTexts.QueryMeanings.{all_periods_is, file_by_number_is, periods_of_statement_is}
-use Rattle.bor_store_sql.specs.Rows.Encoding.{contents, period_columns, shown_columns}
+use Rattle.bor_store_sql.specs.Texts.Queries.{all_periods_query, all_periods_text, file_by_number_text, periods_of_statement_query, periods_of_statement_text, rising, shows_rows, table_query}
+use Rattle.bor_store_sql.proofs.OnTexts.QueryMeanings.{all_periods_is, periods_of_statement_is}
+use Rattle.bor_store_sql.specs.Rows.Encoding.{contents, period_columns}
 use Rattle.bor_store_sql.specs.Rows.Placed.{if_said, interest_rows, interests_of, period_of, period_rows, placed, same_place}
 use Rattle.bor_store_sql.specs.declared.rows.places.At.{At}
 use Rattle.bor_store_sql.specs.declared.rows.typed.InterestRow.{InterestRow}
 use Rattle.bor_store_sql.specs.declared.rows.typed.PeriodRow.{PeriodRow}
 use Rattle.bor_store_sql.specs.declared.rows.typed.Placed.{Placed}
 use Rattle.bor_store_sql.specs.Changing.{days_of, row_passes}
-use Rattle.bor_store_sql.specs.Found.{Asked, Finds, IsQuery}
-use Rattle.bor_store_sql.specs.Selected.{interests_at, numbered}
+use Rattle.bor_store_sql.specs.Found.{Asked, FindsRows, IsQuery}
+use Rattle.bor_store_sql.specs.Selected.{interests_at}
 use Rattle.bor_store_sql.specs.Shown.{ShowsIn}
 use Rattle.bor_store_sql.proofs.Finding.{Shows, answers, finds, has_now}
-use Rattle.bor_store_sql.proofs.FromTables.{from_filings}
 use Rattle.bor_store_sql.proofs.Orders.{IsInterestBefore, interest_rows_rise}
 use Rattle.bor_store_sql.proofs.Picking.{all_pass, picked_rows}
 use Rattle.bor_store_sql.proofs.Plain.{understood_never}
 use Rattle.bor_store_sql.proofs.Selects.{env, int_test, keeps, text_test}
-use Rattle.bor_store_sql.proofs.Selecting.{interests_stand, number_test, own_filings, rows_at}
+use Rattle.bor_store_sql.proofs.Selecting.{interests_stand, number_test, rows_at}
 
 pub all_periods_asks : IsQuery all_periods_text
 unfolding everything
@@ -125,26 +122,14 @@ module _ (r : Register) (old new : State) (shows : ShowsIn r old) (rows : List R
       ∙ ap (filter is_said) (rows_at (λ (i : InterestRow). i.at) (λ a. same_place a at) interest_rows (λ p. interests_stand p.at 1 (interests_of p.statement.details)) (placed r.members)))
       ∙ sym (listed (interests_at at r.members))
 
-  file_by_number_found : (agent : List ℕ) (number : ℕ) → Shows file_by_number_text (Text agent ∷ Int (pos number) ∷ []) old new rows → rows ≡ map (λ f. shown_columns (filing_shown f)) (numbered number (filings_of agent r.members))
-  file_by_number_found agent number h =
-      from_filings r old new shows rows file_by_number_text (Text agent ∷ Int (pos number) ∷ []) _ file_by_number_query.filter file_by_number_query.project h (λ o. shown_columns (filing_shown o.filing)) (λ o. is_same o.agent agent && o.filing.number == number)
-      (λ o. ap₂ (λ x y. x && y) (text_test o.agent agent) (and-true _ ∙ int_test (pos o.filing.number) (pos number) ∙ number_test o.filing.number number)) file_by_number_is (λ id x. refl) (λ id x. refl) (λ o. refl)
-      ∙ own_filings agent r.members shows.stored.ordered (λ f. f.number == number) (λ o. shown_columns (filing_shown o.filing))
-
 -- ---- each finds what it is said to find
 
-pub all_periods_finds : (given : Row) (old new : State) (result : Result (Vec Row Global) Error) → Asked all_periods_text given old new result → given ≡ [] → Finds old new result (λ r. map period_columns (flat_map period_rows (flat_map interest_rows (placed r.members))))
+pub all_periods_finds : (given : Row) (old new : State) (result : Result (Vec Row Global) Error) → Asked all_periods_text given old new result → given ≡ [] → FindsRows ShowsIn old new result (λ r. map period_columns (flat_map period_rows (flat_map interest_rows (placed r.members))))
 all_periods_finds given old new result asked is =
     finds all_periods_text [] given (λ r. map period_columns (flat_map period_rows (flat_map interest_rows (placed r.members)))) old new result asked is (λ r rows shows h. all_periods_found r old new shows rows h)
 
 pub periods_of_statement_finds : (agent : List ℕ) (number place : ℕ) (old new : State) (result : Result (Vec Row Global) Error) → Asked periods_of_statement_text (Text agent ∷ Int (pos number) ∷ Int (pos place) ∷ []) old new result
-    → Finds old new result (λ r. map period_columns (flat_map period_rows (interests_at (record { agent = agent; filing = number; place = place }) r.members)))
+    → FindsRows ShowsIn old new result (λ r. map period_columns (flat_map period_rows (interests_at (record { agent = agent; filing = number; place = place }) r.members)))
 periods_of_statement_finds agent number place old new result asked =
     finds periods_of_statement_text (Text agent ∷ Int (pos number) ∷ Int (pos place) ∷ []) (Text agent ∷ Int (pos number) ∷ Int (pos place) ∷ []) (λ r. map period_columns (flat_map period_rows (interests_at (record { agent = agent; filing = number; place = place }) r.members)))
     old new result asked refl (λ r rows shows h. periods_of_statement_found r old new shows rows (record { agent = agent; filing = number; place = place }) h)
-
-pub file_by_number_finds : (agent : List ℕ) (number : ℕ) (old new : State) (result : Result (Vec Row Global) Error) → Asked file_by_number_text (Text agent ∷ Int (pos number) ∷ []) old new result
-    → Finds old new result (λ r. map (λ f. shown_columns (filing_shown f)) (numbered number (filings_of agent r.members)))
-file_by_number_finds agent number old new result asked =
-    finds file_by_number_text (Text agent ∷ Int (pos number) ∷ []) (Text agent ∷ Int (pos number) ∷ []) (λ r. map (λ f. shown_columns (filing_shown f)) (numbered number (filings_of agent r.members))) old new result asked refl
-    (λ r rows shows h. file_by_number_found r old new shows rows agent number h)

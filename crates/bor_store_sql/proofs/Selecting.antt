@@ -28,15 +28,15 @@ use Rattle.bor_register.specs.declared.filing.AcceptedFiling.{AcceptedFiling}
 use Rattle.bor_register.specs.declared.member.Member.{Member}
 use Rattle.bor_register.specs.Register.{Register, IsOrdered, filings_of}
 use Rattle.bor_register.specs.Publication.{filing_shown}
-use Rattle.bor_store_sql.specs.Texts.Queries.{falling, all_register_text, all_register_query, all_agents_text, all_agents_query, all_filings_text, all_filings_query, all_statements_text, all_statements_query, all_interests_text, all_interests_query, all_identifiers_text, all_identifiers_query, more_statements_text, more_statements_query, agent_by_name_text, agent_by_name_query, agent_by_token_text, agent_by_token_query, filing_by_key_text, filing_by_key_query, line_by_key_text, line_by_key_query, line_by_number_text, line_by_number_query, same_bytes_text, same_bytes_query, filings_of_agent_text, filings_of_agent_query, last_filing_text, last_filing_query, last_of_series_text, last_of_series_query, statement_by_id_text, statement_by_id_query, statements_of_filing_text, statements_of_filing_query, statements_of_declaration_text, statements_of_declaration_query, interests_of_statement_text, interests_of_statement_query, identifiers_of_statement_text, identifiers_of_statement_query, statements_of_series_text, statements_of_series_query, statements_of_record_text, statements_of_record_query, statements_of_subject_text, statements_of_subject_query, statement_by_place_text, statement_by_place_query, identifiers_by_id_text, identifiers_by_id_query}
-use Rattle.bor_store_sql.proofs.OnTexts.QueryMeanings.{all_register_is, all_agents_is, all_filings_is, all_statements_is, all_interests_is, all_identifiers_is, more_statements_is, agent_by_name_is, agent_by_token_is, filing_by_key_is, line_by_key_is, line_by_number_is, same_bytes_is, filings_of_agent_is, last_filing_is, last_of_series_is, statement_by_id_is, statements_of_filing_is, statements_of_declaration_is, interests_of_statement_is, identifiers_of_statement_is, statements_of_series_is, statements_of_record_is, statements_of_subject_is, statement_by_place_is, identifiers_by_id_is}
+use Rattle.bor_store_sql.specs.Texts.Queries.{falling, all_register_text, all_register_query, all_agents_text, all_agents_query, all_statements_text, all_statements_query, all_interests_text, all_interests_query, all_identifiers_text, all_identifiers_query, more_statements_text, more_statements_query, agent_by_name_text, agent_by_name_query, agent_by_token_text, agent_by_token_query, filing_by_key_text, filing_by_key_query, line_by_key_text, line_by_key_query, line_by_number_text, line_by_number_query, same_bytes_text, same_bytes_query, filings_of_agent_text, filings_of_agent_query, last_filing_text, last_filing_query, last_of_series_text, last_of_series_query, statement_by_id_text, statement_by_id_query, statements_of_declaration_text, statements_of_declaration_query, statements_of_series_text, statements_of_series_query, statements_of_record_text, statements_of_record_query, statements_of_subject_text, statements_of_subject_query, statement_by_place_text, statement_by_place_query, identifiers_by_id_text, identifiers_by_id_query}
+use Rattle.bor_store_sql.proofs.OnTexts.QueryMeanings.{all_register_is, all_agents_is, all_statements_is, all_interests_is, all_identifiers_is, more_statements_is, agent_by_name_is, agent_by_token_is, filing_by_key_is, line_by_key_is, line_by_number_is, same_bytes_is, filings_of_agent_is, last_filing_is, last_of_series_is, statement_by_id_is, statements_of_declaration_is, statements_of_series_is, statements_of_record_is, statements_of_subject_is, statement_by_place_is, identifiers_by_id_is}
 use Rattle.bor_store_sql.specs.declared.rows.places.At.{At}
 use Rattle.bor_store_sql.specs.declared.rows.typed.Placed.{Placed}
 use Rattle.bor_store_sql.specs.declared.rows.typed.InterestRow.{InterestRow}
 use Rattle.bor_store_sql.specs.declared.rows.typed.IdentifierRow.{IdentifierRow}
-use Rattle.bor_store_sql.specs.Rows.Placed.{same_place, bare, filing_row, filing_lines, placed, placed_by, interest_rows, identifier_rows, interests_from, identifiers_from, interests_of, identifiers_of}
+use Rattle.bor_store_sql.specs.Rows.Placed.{same_place, bare, filing_row, filing_lines, placed, placed_by, interest_rows, identifier_rows, interests_from, identifiers_from}
 use Rattle.bor_store_sql.specs.Rows.Encoding.{truth, register_columns, agent_columns, filing_rows, line_columns, shown_columns, statement_columns, interest_columns, identifier_columns}
-use Rattle.bor_store_sql.specs.Selected.{members_named, with_token, keyed, numbered, last, placed_of, in_filing, in_declaration, in_series, identified, interests_at, identifiers_at, place_columns, in_record, names_subject, with_subject, standing_at, identified_by}
+use Rattle.bor_store_sql.specs.Selected.{members_named, with_token, keyed, numbered, last, placed_of, in_declaration, in_series, identified, place_columns, in_record, names_subject, with_subject, standing_at, identified_by}
 use Rattle.bor_store_sql.specs.Changing.{row_passes}
 use Rattle.bor_store_sql.specs.Shown.{ShowsIn}
 use Rattle.bor_store_sql.proofs.Finding.{Shows, answers, has_now}
@@ -176,11 +176,6 @@ module _ (r : Register) (old new : State) (shows : ShowsIn r old) (rows : List R
   all_agents_found h =
       from_agents r old new shows rows all_agents_text [] _ all_agents_query.filter all_agents_query.project h (λ m. true) (λ m. refl) all_agents_is (λ id x. refl) (λ id x. refl) (λ m. refl) ∙ ap (map agent_columns) (all_pass r.members)
 
-  pub all_filings_found : Shows all_filings_text [] old new rows → rows ≡ map line_columns (filing_lines r.members)
-  all_filings_found h =
-      from_filings r old new shows rows all_filings_text [] _ all_filings_query.filter all_filings_query.project h (λ o. line_columns (filing_row o.agent o.filing)) (λ o. true) (λ o. refl) all_filings_is (λ id x. refl) (λ id x. refl) (λ o. refl)
-      ∙ ap (map (λ (o : Owned). line_columns (filing_row o.agent o.filing))) (all_pass (owned r.members)) ∙ lines_are r.members
-
   pub all_statements_found : Shows all_statements_text [] old new rows → rows ≡ map (λ p. statement_columns (bare p)) (placed r.members)
   all_statements_found h =
       from_statements r old new shows rows all_statements_text [] _ all_statements_query.filter all_statements_query.project h (λ p. statement_columns (bare p)) (λ p. true) (λ p. refl) all_statements_is (λ id x. refl) (λ id x. refl) (λ p. statement_shown (bare p))
@@ -273,13 +268,6 @@ module _ (r : Register) (old new : State) (shows : ShowsIn r old) (rows : List R
       (λ p. ap₂ (λ x y. x && y) (text_test p.at.agent agent) (and-true _ ∙ text_test p.statement.id id)) statement_by_id_is (λ id x. refl) (λ id x. refl) (λ p. refl)
       ∙ ap (map place_columns) (own_statements agent r.members shows.stored.ordered (λ p. is_same p.statement.id id))
 
-  pub statements_of_filing_found : (agent : List ℕ) (number : ℕ) → Shows statements_of_filing_text (Text agent ∷ Int (pos number) ∷ []) old new rows
-      → rows ≡ map (λ p. statement_columns (bare p)) (in_filing number (placed_of agent r))
-  statements_of_filing_found agent number h =
-      from_statements r old new shows rows statements_of_filing_text (Text agent ∷ Int (pos number) ∷ []) _ statements_of_filing_query.filter statements_of_filing_query.project h (λ p. statement_columns (bare p)) (λ p. is_same p.at.agent agent && p.at.filing == number)
-      (λ p. ap₂ (λ x y. x && y) (text_test p.at.agent agent) (and-true _ ∙ int_test (pos p.at.filing) (pos number) ∙ number_test p.at.filing number)) statements_of_filing_is (λ id x. refl) (λ id x. refl) (λ p. statement_shown (bare p))
-      ∙ ap (map (λ p. statement_columns (bare p))) (own_statements agent r.members shows.stored.ordered (λ p. p.at.filing == number))
-
   pub statements_of_declaration_found : (agent declaration : List ℕ) → Shows statements_of_declaration_text (Text agent ∷ Text declaration ∷ []) old new rows
       → rows ≡ map (λ p. statement_columns (bare p)) (in_declaration declaration (placed_of agent r))
   statements_of_declaration_found agent declaration h =
@@ -318,20 +306,6 @@ module _ (r : Register) (old new : State) (shows : ShowsIn r old) (rows : List R
   module _ (at : At) where
     abbrev place_params : Row
     place_params = Text at.agent ∷ Int (pos at.filing) ∷ Int (pos at.place) ∷ []
-
-    pub interests_of_statement_found : Shows interests_of_statement_text place_params old new rows → rows ≡ map interest_columns (interests_at at r.members)
-    interests_of_statement_found h =
-        from_interests r old new shows rows interests_of_statement_text place_params _ interests_of_statement_query.filter interests_of_statement_query.project h (λ i. same_place i.at at)
-        (λ i. ap₂ (λ x y. x && y) (text_test i.at.agent at.agent) (ap₂ (λ x y. x && y) (int_test (pos i.at.filing) (pos at.filing) ∙ number_test i.at.filing at.filing) (and-true _ ∙ int_test (pos i.at.place) (pos at.place) ∙ number_test i.at.place at.place)))
-        interests_of_statement_is (λ id x. refl) (λ id x. refl) interest_shown
-        ∙ ap (map interest_columns) (rows_at (λ (i : InterestRow). i.at) (λ a. same_place a at) interest_rows (λ p. interests_stand p.at 1 (interests_of p.statement.details)) (placed r.members))
-
-    pub identifiers_of_statement_found : Shows identifiers_of_statement_text place_params old new rows → rows ≡ map identifier_columns (identifiers_at at r.members)
-    identifiers_of_statement_found h =
-        from_identifiers r old new shows rows identifiers_of_statement_text place_params _ identifiers_of_statement_query.filter identifiers_of_statement_query.project h (λ i. same_place i.at at)
-        (λ i. ap₂ (λ x y. x && y) (text_test i.at.agent at.agent) (ap₂ (λ x y. x && y) (int_test (pos i.at.filing) (pos at.filing) ∙ number_test i.at.filing at.filing) (and-true _ ∙ int_test (pos i.at.place) (pos at.place) ∙ number_test i.at.place at.place)))
-        identifiers_of_statement_is (λ id x. refl) (λ id x. refl) (λ i. refl)
-        ∙ ap (map identifier_columns) (rows_at (λ (i : IdentifierRow). i.at) (λ a. same_place a at) identifier_rows (λ p. identifiers_stand p.at 1 (identifiers_of p.statement.details)) (placed r.members))
 
     pub statement_by_place_found : Shows statement_by_place_text place_params old new rows → rows ≡ map (λ p. statement_columns (bare p)) (standing_at at r.members)
     statement_by_place_found h =

@@ -1,6 +1,6 @@
 -- The tables after the changes.
-use Rattle.std.specs.Prelude.{◌≤◌, ℕ, ℤ, pos, Bool, false, not, cond, List, [], ◌∷◌, ◌++◌, map}
-use Rattle.std.specs.Prelude.{filter, length}
+use Rattle.std.specs.Prelude.{◌≡◌, ◌≤◌, ◌<◌, ◌+◌, ℕ, ℤ, pos, Bool, true, false, not, cond, List, []}
+use Rattle.std.specs.Prelude.{◌∷◌, ◌++◌, All, map, filter, length}
 use Rattle.std.specs.List.{list_all, flat_map}
 use Rattle.sqlite.specs.declared.types.Value.TheVariants.{Null, Int, Text, Blob}
 use Rattle.sqlite.specs.Order.{Row, column}
@@ -9,7 +9,10 @@ use Rattle.sqlite.specs.Cast.{cast_all}
 use Rattle.bor_store_sql.specs.Texts.Tables.{register_table, filing_table}
 use Rattle.bor_store_sql.specs.Texts.Queries.{equals}
 use Rattle.bor_store_sql.specs.Texts.Changes.{equals_number}
+use Rattle.bods_read.specs.Forms.{IsFormedStatement}
+use Rattle.bor_register.specs.Limits.{filings_limit}
 use Rattle.bor_register.specs.Register.{Register, with_filings, filings_of, new_member, with_member}
+use Rattle.bor_register.specs.Register.{is_enrolled}
 use Rattle.bor_register.specs.Live.{accepted}
 use Rattle.bor_register.specs.Withdrawal.{with_withdrawn}
 use Rattle.bods_read.specs.declared.statement.Statement.{Statement}
@@ -24,6 +27,15 @@ use Rattle.bor_store_sql.specs.Rows.Placed.{bare, interest_rows, identifier_rows
 use Rattle.bor_store_sql.specs.Rows.Placed.{placed, placed_from}
 use Rattle.bor_store_sql.specs.Rows.Encoding.{Contents, filing_columns, statement_columns}
 use Rattle.bor_store_sql.specs.Rows.Encoding.{interest_columns, identifier_columns, period_columns}
+
+-- The agent is enrolled, has room for one more filing, and the number is that of its next; the
+-- statements have their form.
+pub record MayAdd (agent : List ℕ) (number : ℕ) (statements : List Statement) (r : Register)
+    : Type 0 where
+  pub enrolled : is_enrolled agent r.members ≡ true
+  pub room : length (filings_of agent r.members) < filings_limit
+  pub next : number ≡ length (filings_of agent r.members) + 1
+  pub formed : All IsFormedStatement statements
 
 -- the register once the agent's filing with this number is withdrawn
 abbrev pub withdrawn : List ℕ → ℕ → Register → Register

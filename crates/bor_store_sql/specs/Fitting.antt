@@ -2,8 +2,10 @@
 use Rattle.std.specs.Prelude.{◌≡◌, ◌⊎◌, ◌↔◌, ◌+◌, ℕ, Bool, IsTrue, List, [], ◌∷◌, map, Option, Some}
 use Rattle.std.specs.Prelude.{None, Result, IfOk, slice_set}
 use Rattle.std.specs.List.{flat_map}
+use Rattle.sqlite.specs.Held.{Held, state}
 use Rattle.sqlite.specs.Order.{Row, column}
-use Rattle.sqlite.specs.State.{State, HasCleanDisk}
+use Rattle.sqlite.specs.State.{State}
+use Rattle.sqlite.specs.Store.{Ghosts}
 use Rattle.sqlite.specs.Values.{bound_value}
 use Rattle.sqlite.specs.declared.error.Error.{Error}
 use Rattle.bods_read.specs.declared.statement.Statement.{Statement}
@@ -15,7 +17,7 @@ use Rattle.bor_store_sql.specs.Rows.Placed.{bare, interest_rows, identifier_rows
 use Rattle.bor_store_sql.specs.Rows.Encoding.{statement_columns, interest_columns}
 use Rattle.bor_store_sql.specs.Rows.Encoding.{identifier_columns}
 use Rattle.bor_store_sql.specs.Selected.{numbered, interests_at, identifiers_at}
-use Rattle.bor_store_sql.specs.Ran.{LeavesNoMore}
+use Rattle.bor_store_sql.specs.Found.{ReadsOnly}
 use Rattle.bor_store_sql.specs.Shown.{IsClean, ShowsLists}
 
 -- ---- fitting statements
@@ -60,16 +62,17 @@ statements_kept agent number r =
 
 -- ---- answers
 
--- The tables, of either version, are asked whether something holds of the register. They are left
--- as they were, and a stop leaves nothing more. The answer is whether it holds, or there is an
--- error.
-pub record Tells (old new : State) (result : Result Bool Error)
+-- The tables, of either version, are asked whether something holds of the register. The answer is
+-- whether it holds, or there is an error.
+pub record TellsWhether (old new : State) (result : Result Bool Error)
     (Holds : Register → Type 0) : Type 0 where
-  pub clean : HasCleanDisk new → HasCleanDisk old
-  pub stops : LeavesNoMore old new
-  pub began : IsClean new → IsClean old
-  pub kept : IsClean new → new.committed ≡ old.committed
+  pub reads : ReadsOnly old new
   pub told : IsClean new → (r : Register) → ShowsLists r old → IfOk result (λ b. IsTrue b ↔ Holds r)
+
+-- the same of a connection
+abbrev pub Tells : {S : Type 0} → Ghosts S → Held S → Held S → Result Bool Error
+    → (Register → Type 0) → Type 0
+Tells g old new result Holds = TellsWhether (state g old) (state g new) result Holds
 
 -- ---- row by row, for clauses of private functions alone
 

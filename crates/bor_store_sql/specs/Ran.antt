@@ -1,8 +1,10 @@
 -- The effects of a transaction, for clauses of private functions alone.
 use Rattle.std.specs.Prelude.{◌≡◌, ◌⊎◌, ℕ, List, Ok, Err, Result, OnOk, OnErr, IsOk, IsTrue}
 use Rattle.sqlite.specs.Effect.{Database}
+use Rattle.sqlite.specs.Held.{Held, state}
 use Rattle.sqlite.specs.Order.{Row}
 use Rattle.sqlite.specs.State.{State, HasCleanDisk, ExecutesInside, IsUnchanged, IsRolledBack}
+use Rattle.sqlite.specs.Store.{Ghosts}
 use Rattle.sqlite.specs.Tree.{Trees}
 use Rattle.sqlite.specs.declared.error.Error.{Error}
 
@@ -35,7 +37,7 @@ pub record Moved (Makes : Database → Database → Type 0) (old new : State)
 
 -- Statements of a transaction that was under way, on a disk that has returned what was written,
 -- make such a change of the database.
-pub record Moves (Makes : Database → Database → Type 0) (old new : State)
+pub record MovesTo (Makes : Database → Database → Type 0) (old new : State)
     (result : Result (Unit {0}) Error) : Type 0 where
   pub clean : HasCleanDisk new → HasCleanDisk old
   pub stops : LeavesNoMore old new
@@ -43,9 +45,20 @@ pub record Moves (Makes : Database → Database → Type 0) (old new : State)
 
 -- On a disk that has returned what was written, statements of a transaction that was under way went
 -- well only where the connection was open.
-abbrev pub RanOpen : State → State → Result (Unit {0}) Error → Type 0
-RanOpen old new result =
+abbrev pub RanOpenIn : State → State → Result (Unit {0}) Error → Type 0
+RanOpenIn old new result =
     HasCleanDisk new → IsTrue old.in_transaction → OnOk result (IsTrue old.is_open)
+
+-- ---- the same of a connection
+
+abbrev pub Moves : {S : Type 0} → Ghosts S → Held S → Held S → Result (Unit {0}) Error
+    → (Database → Database → Type 0) → Type 0
+Moves g old new result Makes = MovesTo Makes (state g old) (state g new) result
+
+abbrev pub RanOpen : {S : Type 0} → Ghosts S → Held S → Held S → Result (Unit {0}) Error → Type 0
+RanOpen g old new result = RanOpenIn (state g old) (state g new) result
+
+-- ---- the end
 
 -- A transaction ends: it is committed where all went well that was done in it, and the connection
 -- is open then; else it is undone. A stop leaves what it might have left before or, where all went

@@ -1,8 +1,10 @@
 -- The register that a connection shows.
-use Rattle.std.specs.Prelude.{◌≡◌, ◌⊎◌, [], ◌∷◌, IsTrue, Result}
+use Rattle.std.specs.Prelude.{◌≡◌, ◌⊎◌, [], ◌∷◌, false, IsTrue, OnErr, OnOk, Result}
 use Rattle.sqlite.specs.Effect.{Database, IsDatabase}
+use Rattle.sqlite.specs.Held.{Held, state}
 use Rattle.sqlite.specs.Schema.{Schema}
 use Rattle.sqlite.specs.State.{State, HasCleanDisk}
+use Rattle.sqlite.specs.Store.{Ghosts}
 use Rattle.sqlite.specs.Tree.{Trees}
 use Rattle.sqlite.specs.declared.error.Error.{Error}
 use Rattle.bor_register.specs.Register.{Register}
@@ -11,7 +13,7 @@ use Rattle.bor_store_sql.specs.Kept.{Keeps}
 use Rattle.bor_store_sql.specs.Rows.Encoding.{Contents, contents, first_version, versioned_columns}
 use Rattle.bor_store_sql.specs.Rows.Placed.{register_row}
 use Rattle.bor_store_sql.specs.Rows.Stored.{IsStored}
-use Rattle.bor_store_sql.specs.Ran.{Moves}
+use Rattle.bor_store_sql.specs.Ran.{MovesTo}
 
 -- the database is sound, and has the seven tables with these rows
 pub record Has (t : Contents) (db : Database) : Type 0 where
@@ -54,14 +56,50 @@ LeavesAtMost Made old new =
     HasCleanDisk new → (trees : Trees) → new.may_leave trees
     → old.may_leave trees ⊎ (IsClean old × Made trees)
 
+-- A change in a transaction of its own. A transaction is open afterwards only where one was before;
+-- a disk that has returned what was written had done so before; where all went well the connection
+-- is open, and a failure leaves what the last commit left.
+pub record Commits {X E : Type 0} (old new : State) (result : Result X E) : Type 0 where
+  pub mode : old.in_transaction ≡ false → new.in_transaction ≡ false
+  pub clean : HasCleanDisk new → HasCleanDisk old
+  pub up : OnOk result (IsUp new)
+  pub began : IsClean new → IsClean old
+  pub kept : IsClean new → OnErr result (new.committed ≡ old.committed)
+
+-- Such a change of a register that is shown in this way and that the change fits. Where all went
+-- well the changed one is shown, and a stop leaves it, or what a stop before might have left.
+pub record AltersTo (Shows : Register → State → Type 0) (Fits : Register → Type 0)
+    (change : Register → Register) (old new : State) (result : Result (Unit {0}) Error) : Type 0
+  where
+    pub commits : Commits old new result
+    pub made : IsClean new → (r : Register) → Shows r old → Fits r
+        → OnOk result (ShowsIn (change r) new)
+    pub stops : LeavesAtMost
+        (λ trees. (r : Register) → Shows r old → Fits r → Stands (change r) trees) old new
+
+-- the change fits each register
+abbrev pub Always : Register → Type 0
+Always r = Unit {0}
+
+-- the same of a connection
+abbrev pub Alters : {S : Type 0} → Ghosts S → Held S → Held S → Result (Unit {0}) Error
+    → (Register → Type 0) → (Register → Register) → Type 0
+Alters g old new result Fits change =
+    AltersTo ShowsIn Fits change (state g old) (state g new) result
+
 -- tables that have rows which the change fits have the changed rows
 abbrev pub Changes : (Contents → Type 0) → (Contents → Contents) → Database → Database → Type 0
 Changes fits change old new = (t : Contents) → Has t old → fits t → Has (change t) new
 
 -- statements of a transaction make this change
-abbrev pub Steps : (Contents → Type 0) → (Contents → Contents) → State → State
+abbrev pub StepsTo : (Contents → Type 0) → (Contents → Contents) → State → State
     → Result (Unit {0}) Error → Type 0
-Steps fits change old new result = Moves (Changes fits change) old new result
+StepsTo fits change old new result = MovesTo (Changes fits change) old new result
+
+-- the same of a connection
+abbrev pub Steps : {S : Type 0} → Ghosts S → Held S → Held S → Result (Unit {0}) Error
+    → (Contents → Type 0) → (Contents → Contents) → Type 0
+Steps g old new result fits change = StepsTo fits change (state g old) (state g new) result
 
 -- ---- version 1
 

@@ -1,16 +1,12 @@
 //! Adding an agent, and a filing with its statements.
 
-ghost use Rattle.std.specs.Prelude.{◌≡◌, ◌+◌, ◌<◌, ◌^◌, false, true, [], ◌∷◌, All, is_some, ◌||◌, length, IfOk, OnOk, OnErr};
-ghost use Rattle.sqlite.specs.Held.{state};
-ghost use Rattle.sqlite.specs.State.{HasCleanDisk};
+ghost use Rattle.std.specs.Prelude.{◌≡◌, ◌+◌, ◌<◌, ◌^◌, [], ◌∷◌, is_some, ◌||◌, length, IfOk};
 ghost use Rattle.bor_store_sql.specs.Rows.Placed.{bare, period_of, placed_from, interests_from, identifiers_from, interests_of, identifiers_of};
+ghost use Rattle.bor_store_sql.specs.Fitting.{standing};
 ghost use Rattle.bor_store_sql.specs.Ran.{RanOpen};
-ghost use Rattle.bor_store_sql.specs.Shown.{Steps, IsClean, ShowsIn, IsUp, LeavesAtMost, Stands};
-ghost use Rattle.bor_store_sql.specs.Changing.{Any, live_filing, with_filing_row, with_statement_row, with_interest_rows, with_identifier_rows, with_period_row, with_period_rows, with_one_placed, with_placed, with_live_filing, added};
-ghost use Rattle.bor_register.specs.Register.{Register, is_enrolled, filings_of};
+ghost use Rattle.bor_store_sql.specs.Shown.{Alters, Steps};
+ghost use Rattle.bor_store_sql.specs.Changing.{Any, live_filing, with_filing_row, with_statement_row, with_interest_rows, with_identifier_rows, with_period_row, with_period_rows, with_one_placed, with_placed, with_live_filing, added, MayAdd};
 ghost use Rattle.bor_store_sql.specs.Rows.Stored.{IsCounted, AreCounted};
-ghost use Rattle.bods_read.specs.Forms.{IsFormedStatement};
-ghost use Rattle.bor_register.specs.Limits.{filings_limit};
 
 use crate::columns::{
     filing_values, identifier_values, interest_values, period_values, statement_values,
@@ -32,11 +28,9 @@ fn insert_filing<S: Alter>(
     bytes: &[u8],
 ) -> Result<(), Error>
     ensures same_reference { tx.new.conn.ghost_name ≡ tx.old.conn.ghost_name }
-    ensures ran_open { RanOpen (state S.Store tx.old.conn.now)
-        (state S.Store tx.new.conn.now) result }
-    ensures steps { Steps Any
-        (with_filing_row agent.now (live_filing number key.now due bytes.now []))
-        (state S.Store tx.old.conn.now) (state S.Store tx.new.conn.now) result }
+    ensures ran_open { RanOpen S.Store tx.old.conn.now tx.new.conn.now result }
+    ensures steps { Steps S.Store tx.old.conn.now tx.new.conn.now result Any
+        (with_filing_row agent.now (live_filing number key.now due bytes.now [])) }
 {
     run(
         tx,
@@ -53,13 +47,8 @@ fn insert_statement<S: Alter>(
     statement: &Statement,
 ) -> Result<(), Error>
     ensures same_reference { tx.new.conn.ghost_name ≡ tx.old.conn.ghost_name }
-    ensures steps { Steps Any
-        (with_statement_row
-        (bare (record {
-          at = record { agent = agent.now; filing = number; place = place };
-          statement = statement.now;
-        })))
-        (state S.Store tx.old.conn.now) (state S.Store tx.new.conn.now) result }
+    ensures steps { Steps S.Store tx.old.conn.now tx.new.conn.now result Any
+        (with_statement_row (bare (standing agent.now number place statement.now))) }
 {
     run(
         tx,
@@ -77,14 +66,9 @@ fn insert_interest<S: Alter>(
     interest: &Interest,
 ) -> Result<(), Error>
     ensures same_reference { tx.new.conn.ghost_name ≡ tx.old.conn.ghost_name }
-    ensures steps { Steps Any
-        (with_interest_rows
-        (record {
-          at = record { agent = agent.now; filing = number; place = place };
-          item = item;
-          interest = interest.now;
-        } ∷ []))
-        (state S.Store tx.old.conn.now) (state S.Store tx.new.conn.now) result }
+    ensures steps { Steps S.Store tx.old.conn.now tx.new.conn.now result Any
+        (with_interest_rows (interests_from
+        (record { agent = agent.now; filing = number; place = place }) item (interest.now ∷ []))) }
 {
     run(
         tx,
@@ -102,15 +86,13 @@ fn put_period<S: Alter>(
     interest: &Interest,
 ) -> Result<(), Error>
     ensures same_reference { tx.new.conn.ghost_name ≡ tx.old.conn.ghost_name }
-    ensures steps { Steps Any
-        (with_period_row
-        (period_of
+    ensures steps { Steps S.Store tx.old.conn.now tx.new.conn.now result Any
+        (with_period_row (period_of
         (record {
           at = record { agent = agent.now; filing = number; place = place };
           item = item;
           interest = interest.now;
-        })))
-        (state S.Store tx.old.conn.now) (state S.Store tx.new.conn.now) result }
+        }))) }
 {
     run(
         tx,
@@ -136,14 +118,9 @@ fn insert_period<S: Alter>(
     interest: &Interest,
 ) -> Result<(), Error>
     ensures same_reference { tx.new.conn.ghost_name ≡ tx.old.conn.ghost_name }
-    ensures steps { Steps Any
-        (with_period_rows
-        (record {
-          at = record { agent = agent.now; filing = number; place = place };
-          item = item;
-          interest = interest.now;
-        } ∷ []))
-        (state S.Store tx.old.conn.now) (state S.Store tx.new.conn.now) result }
+    ensures steps { Steps S.Store tx.old.conn.now tx.new.conn.now result Any
+        (with_period_rows (interests_from
+        (record { agent = agent.now; filing = number; place = place }) item (interest.now ∷ []))) }
 {
     if !has_days(interest) {
         return Ok(());
@@ -160,14 +137,10 @@ fn insert_identifier<S: Alter>(
     identifier: &Identifier,
 ) -> Result<(), Error>
     ensures same_reference { tx.new.conn.ghost_name ≡ tx.old.conn.ghost_name }
-    ensures steps { Steps Any
+    ensures steps { Steps S.Store tx.old.conn.now tx.new.conn.now result Any
         (with_identifier_rows
-        (record {
-          at = record { agent = agent.now; filing = number; place = place };
-          item = item;
-          identifier = identifier.now;
-        } ∷ []))
-        (state S.Store tx.old.conn.now) (state S.Store tx.new.conn.now) result }
+        (identifiers_from (record { agent = agent.now; filing = number; place = place }) item
+        (identifier.now ∷ []))) }
 {
     run(
         tx,
@@ -219,11 +192,9 @@ fn insert_interests<S: Alter>(
     interests: &[Interest],
 ) -> Result<(), Error>
     ensures same_reference { tx.new.conn.ghost_name ≡ tx.old.conn.ghost_name }
-    ensures steps { Steps Any
-        (with_interest_rows
-        (interests_from (record { agent = agent.now; filing = number; place = place })
-        1 interests.now))
-        (state S.Store tx.old.conn.now) (state S.Store tx.new.conn.now) result }
+    ensures steps { Steps S.Store tx.old.conn.now tx.new.conn.now result Any
+        (with_interest_rows (interests_from
+        (record { agent = agent.now; filing = number; place = place }) 1 interests.now)) }
     ensures counted { IfOk result (λ _. length interests.now < 2 ^ 32) }
 {
     let mut item = 0;
@@ -242,11 +213,9 @@ fn insert_periods<S: Alter>(
     interests: &[Interest],
 ) -> Result<(), Error>
     ensures same_reference { tx.new.conn.ghost_name ≡ tx.old.conn.ghost_name }
-    ensures steps { Steps Any
-        (with_period_rows
-        (interests_from (record { agent = agent.now; filing = number; place = place })
-        1 interests.now))
-        (state S.Store tx.old.conn.now) (state S.Store tx.new.conn.now) result }
+    ensures steps { Steps S.Store tx.old.conn.now tx.new.conn.now result Any
+        (with_period_rows (interests_from
+        (record { agent = agent.now; filing = number; place = place }) 1 interests.now)) }
 {
     let mut item = 0;
     for interest in interests {
@@ -264,11 +233,10 @@ fn insert_identifiers<S: Alter>(
     identifiers: &[Identifier],
 ) -> Result<(), Error>
     ensures same_reference { tx.new.conn.ghost_name ≡ tx.old.conn.ghost_name }
-    ensures steps { Steps Any
+    ensures steps { Steps S.Store tx.old.conn.now tx.new.conn.now result Any
         (with_identifier_rows
-        (identifiers_from (record { agent = agent.now; filing = number; place = place })
-        1 identifiers.now))
-        (state S.Store tx.old.conn.now) (state S.Store tx.new.conn.now) result }
+        (identifiers_from (record { agent = agent.now; filing = number; place = place }) 1
+        identifiers.now)) }
     ensures counted { IfOk result (λ _. length identifiers.now < 2 ^ 32) }
 {
     let mut item = 0;
@@ -288,13 +256,8 @@ fn insert_placed<S: Alter>(
     statement: &Statement,
 ) -> Result<(), Error>
     ensures same_reference { tx.new.conn.ghost_name ≡ tx.old.conn.ghost_name }
-    ensures steps { Steps Any
-        (with_one_placed
-        (record {
-          at = record { agent = agent.now; filing = number; place = place };
-          statement = statement.now;
-        }))
-        (state S.Store tx.old.conn.now) (state S.Store tx.new.conn.now) result }
+    ensures steps { Steps S.Store tx.old.conn.now tx.new.conn.now result Any
+        (with_one_placed (standing agent.now number place statement.now)) }
     ensures counted { IfOk result (λ _. IsCounted statement.now) }
 {
     insert_statement(tx, agent, number, place, statement)?;
@@ -310,8 +273,8 @@ fn insert_statements<S: Alter>(
     statements: &[Statement],
 ) -> Result<(), Error>
     ensures same_reference { tx.new.conn.ghost_name ≡ tx.old.conn.ghost_name }
-    ensures steps { Steps Any (with_placed (placed_from agent.now number 1 statements.now))
-        (state S.Store tx.old.conn.now) (state S.Store tx.new.conn.now) result }
+    ensures steps { Steps S.Store tx.old.conn.now tx.new.conn.now result Any
+        (with_placed (placed_from agent.now number 1 statements.now)) }
     ensures counted { IfOk result (λ _. AreCounted statements.now) }
 {
     let mut place = 0;
@@ -333,11 +296,9 @@ fn insert_rows<S: Alter>(
     statements: &[Statement],
 ) -> Result<(), Error>
     ensures same_reference { tx.new.conn.ghost_name ≡ tx.old.conn.ghost_name }
-    ensures ran_open { RanOpen (state S.Store tx.old.conn.now)
-        (state S.Store tx.new.conn.now) result }
-    ensures steps { Steps Any
-        (with_live_filing agent.now number key.now due bytes.now statements.now)
-        (state S.Store tx.old.conn.now) (state S.Store tx.new.conn.now) result }
+    ensures ran_open { RanOpen S.Store tx.old.conn.now tx.new.conn.now result }
+    ensures steps { Steps S.Store tx.old.conn.now tx.new.conn.now result Any
+        (with_live_filing agent.now number key.now due bytes.now statements.now) }
     ensures counted { IfOk result (λ _. AreCounted statements.now) }
 {
     insert_filing(tx, agent, number, key, due, bytes)?;
@@ -355,32 +316,13 @@ pub fn add_filing<S: Alter>(
     bytes: &[u8],
     statements: &[Statement],
 ) -> Result<(), Error>
-    requires { conn.old.in_transaction ≡ false }
-    ensures mode { conn.new.in_transaction ≡ false }
-    ensures clean { HasCleanDisk (state S.Store conn.new) → HasCleanDisk (state S.Store conn.old) }
-    ensures up { OnOk result (IsUp (state S.Store conn.new)) }
-    ensures began { IsClean (state S.Store conn.new) → IsClean (state S.Store conn.old) }
-    ensures made { IsClean (state S.Store conn.new) → (r : Register)
-        → ShowsIn r (state S.Store conn.old)
-        → is_enrolled agent.now r.members ≡ true
-        → length (filings_of agent.now r.members) < filings_limit
-        → number ≡ length (filings_of agent.now r.members) + 1
-        → All IsFormedStatement statements.now
-        → OnOk result
-        (ShowsIn (added agent.now key.now due bytes.now statements.now r)
-        (state S.Store conn.new)) }
-    ensures kept { IsClean (state S.Store conn.new)
-        → OnErr result ((state S.Store conn.new).committed ≡ (state S.Store conn.old).committed) }
-    ensures stops { LeavesAtMost (λ trees. (r : Register) → ShowsIn r (state S.Store conn.old)
-        → is_enrolled agent.now r.members ≡ true
-        → length (filings_of agent.now r.members) < filings_limit
-        → number ≡ length (filings_of agent.now r.members) + 1
-        → All IsFormedStatement statements.now
-        → Stands (added agent.now key.now due bytes.now statements.now r) trees)
-        (state S.Store conn.old) (state S.Store conn.new) }
+    ensures { Alters S.Store conn.old conn.new result
+        (MayAdd agent.now number statements.now)
+        (added agent.now key.now due bytes.now statements.now) }
 {
-    // Its clause says that the connection shows what the last commit left.
-    let _settled = conn.is_autocommit();
+    if !conn.is_autocommit() {
+        return Err(Error::SqliteFailure(ErrorCode::TransactionState));
+    }
     // Their clauses say that the key has its form, and that the number is that of a day.
     let lodge_key = key.as_str();
     let _known = due.number();

@@ -1,8 +1,7 @@
 //! Making the tables.
 
-ghost use Rattle.std.specs.Prelude.{◌≡◌, false, [], ◌∷◌, ◌++◌, OnOk, OnErr};
+ghost use Rattle.std.specs.Prelude.{◌≡◌, [], ◌∷◌, ◌++◌, OnOk};
 ghost use Rattle.sqlite.specs.Held.{state};
-ghost use Rattle.sqlite.specs.State.{HasCleanDisk};
 ghost use Rattle.bor_register.specs.Register.{empty_register};
 ghost use Rattle.bor_store_sql.specs.Texts.Tables.{no_schema, schema_3, schema_6, first_schema, period_table};
 ghost use Rattle.bor_store_sql.specs.Rows.Encoding.{contents};
@@ -10,7 +9,7 @@ ghost use Rattle.bor_store_sql.specs.Beside.{Adds, AddsIndexes, PutsRegister, Se
 ghost use Rattle.bor_store_sql.specs.Blank.{IsBlank, Leads, no_contents};
 ghost use Rattle.bor_store_sql.specs.Moving.{MakesPeriod};
 ghost use Rattle.bor_store_sql.specs.Ran.{Moves, RanOpen};
-ghost use Rattle.bor_store_sql.specs.Shown.{Has, IsClean, IsUp, LeavesAtMost, ShowsIn, Stands};
+ghost use Rattle.bor_store_sql.specs.Shown.{Commits, Has, IsClean, LeavesAtMost, ShowsIn, Stands};
 
 use crate::columns::register_values;
 use crate::running::{finish, run};
@@ -20,29 +19,25 @@ use crate::texts::tables::{
     PERIOD_TABLE, RECORD_INDEX, REGISTER_TABLE, STATEMENT_TABLE, SUBJECT_INDEX,
 };
 use bor_terms::{Day, Token};
-use sqlite::{Alter, Connection, Error, Transaction};
+use sqlite::{Alter, Connection, Error, ErrorCode, Transaction};
 
 /// Makes the table `period` beside those of version 1, whatever rows they have.
 pub(crate) fn create_period<S: Alter>(tx: &mut Transaction<'_, S>) -> Result<(), Error>
     ensures same_reference { tx.new.conn.ghost_name ≡ tx.old.conn.ghost_name }
-    ensures ran_open { RanOpen (state S.Store tx.old.conn.now)
-        (state S.Store tx.new.conn.now) result }
-    ensures moves { Moves MakesPeriod (state S.Store tx.old.conn.now)
-        (state S.Store tx.new.conn.now) result }
-    ensures adds { Moves (Adds (blank period_table ∷ []) []) (state S.Store tx.old.conn.now)
-        (state S.Store tx.new.conn.now) result }
+    ensures ran_open { RanOpen S.Store tx.old.conn.now tx.new.conn.now result }
+    ensures moves { Moves S.Store tx.old.conn.now tx.new.conn.now result MakesPeriod }
+    ensures adds { Moves S.Store tx.old.conn.now tx.new.conn.now result
+        (Adds (blank period_table ∷ []) []) }
 {
     run(tx, PERIOD_TABLE, &[])
 }
 
 fn create_lists<S: Alter>(tx: &mut Transaction<'_, S>) -> Result<(), Error>
     ensures same_reference { tx.new.conn.ghost_name ≡ tx.old.conn.ghost_name }
-    ensures ran_open { RanOpen (state S.Store tx.old.conn.now)
-        (state S.Store tx.new.conn.now) result }
-    ensures leads { Leads (IsBlank no_schema) (IsBlank schema_3) (state S.Store tx.old.conn.now)
-        (state S.Store tx.new.conn.now) result }
-    ensures adds { Moves (Adds lists []) (state S.Store tx.old.conn.now)
-        (state S.Store tx.new.conn.now) result }
+    ensures ran_open { RanOpen S.Store tx.old.conn.now tx.new.conn.now result }
+    ensures leads { Leads S.Store tx.old.conn.now tx.new.conn.now result (IsBlank no_schema)
+        (IsBlank schema_3) }
+    ensures adds { Moves S.Store tx.old.conn.now tx.new.conn.now result (Adds lists []) }
 {
     run(tx, REGISTER_TABLE, &[])?;
     run(tx, AGENT_TABLE, &[])?;
@@ -51,10 +46,9 @@ fn create_lists<S: Alter>(tx: &mut Transaction<'_, S>) -> Result<(), Error>
 
 fn create_details<S: Alter>(tx: &mut Transaction<'_, S>) -> Result<(), Error>
     ensures same_reference { tx.new.conn.ghost_name ≡ tx.old.conn.ghost_name }
-    ensures leads { Leads (IsBlank schema_3) (IsBlank schema_6) (state S.Store tx.old.conn.now)
-        (state S.Store tx.new.conn.now) result }
-    ensures adds { Moves (Adds details []) (state S.Store tx.old.conn.now)
-        (state S.Store tx.new.conn.now) result }
+    ensures leads { Leads S.Store tx.old.conn.now tx.new.conn.now result (IsBlank schema_3)
+        (IsBlank schema_6) }
+    ensures adds { Moves S.Store tx.old.conn.now tx.new.conn.now result (Adds details []) }
 {
     run(tx, STATEMENT_TABLE, &[])?;
     run(tx, INTEREST_TABLE, &[])?;
@@ -63,10 +57,9 @@ fn create_details<S: Alter>(tx: &mut Transaction<'_, S>) -> Result<(), Error>
 
 fn create_indexes<S: Alter>(tx: &mut Transaction<'_, S>) -> Result<(), Error>
     ensures same_reference { tx.new.conn.ghost_name ≡ tx.old.conn.ghost_name }
-    ensures leads { Leads (IsBlank schema_6) (IsBlank first_schema) (state S.Store tx.old.conn.now)
-        (state S.Store tx.new.conn.now) result }
-    ensures adds { Moves (AddsIndexes four_indexes) (state S.Store tx.old.conn.now)
-        (state S.Store tx.new.conn.now) result }
+    ensures leads { Leads S.Store tx.old.conn.now tx.new.conn.now result (IsBlank schema_6)
+        (IsBlank first_schema) }
+    ensures adds { Moves S.Store tx.old.conn.now tx.new.conn.now result (AddsIndexes four_indexes) }
 {
     run(tx, RECORD_INDEX, &[])?;
     run(tx, SUBJECT_INDEX, &[])?;
@@ -77,12 +70,11 @@ fn create_indexes<S: Alter>(tx: &mut Transaction<'_, S>) -> Result<(), Error>
 // The tables of version 1.
 fn create_tables<S: Alter>(tx: &mut Transaction<'_, S>) -> Result<(), Error>
     ensures same_reference { tx.new.conn.ghost_name ≡ tx.old.conn.ghost_name }
-    ensures ran_open { RanOpen (state S.Store tx.old.conn.now)
-        (state S.Store tx.new.conn.now) result }
-    ensures leads { Leads (IsBlank no_schema) (IsBlank first_schema) (state S.Store tx.old.conn.now)
-        (state S.Store tx.new.conn.now) result }
-    ensures adds { Moves (Adds (lists ++ details) four_indexes) (state S.Store tx.old.conn.now)
-        (state S.Store tx.new.conn.now) result }
+    ensures ran_open { RanOpen S.Store tx.old.conn.now tx.new.conn.now result }
+    ensures leads { Leads S.Store tx.old.conn.now tx.new.conn.now result (IsBlank no_schema)
+        (IsBlank first_schema) }
+    ensures adds { Moves S.Store tx.old.conn.now tx.new.conn.now result
+        (Adds (lists ++ details) four_indexes) }
 {
     create_lists(tx)?;
     create_details(tx)?;
@@ -95,10 +87,10 @@ fn insert_register<S: Alter>(
     day: Day,
 ) -> Result<(), Error>
     ensures same_reference { tx.new.conn.ghost_name ≡ tx.old.conn.ghost_name }
-    ensures leads { Leads (Has no_contents) (Has (contents (empty_register registrar.now day)))
-        (state S.Store tx.old.conn.now) (state S.Store tx.new.conn.now) result }
-    ensures puts { Moves (PutsRegister (empty_register registrar.now day))
-        (state S.Store tx.old.conn.now) (state S.Store tx.new.conn.now) result }
+    ensures leads { Leads S.Store tx.old.conn.now tx.new.conn.now result (Has no_contents)
+        (Has (contents (empty_register registrar.now day))) }
+    ensures puts { Moves S.Store tx.old.conn.now tx.new.conn.now result
+        (PutsRegister (empty_register registrar.now day)) }
 {
     run(tx, INSERT_REGISTER, &register_values(day, registrar))
 }
@@ -109,12 +101,11 @@ fn make_register<S: Alter>(
     day: Day,
 ) -> Result<(), Error>
     ensures same_reference { tx.new.conn.ghost_name ≡ tx.old.conn.ghost_name }
-    ensures ran_open { RanOpen (state S.Store tx.old.conn.now)
-        (state S.Store tx.new.conn.now) result }
-    ensures leads { Leads (IsBlank no_schema) (Has (contents (empty_register registrar.now day)))
-        (state S.Store tx.old.conn.now) (state S.Store tx.new.conn.now) result }
-    ensures sets_up { Moves (SetsUpSound (empty_register registrar.now day))
-        (state S.Store tx.old.conn.now) (state S.Store tx.new.conn.now) result }
+    ensures ran_open { RanOpen S.Store tx.old.conn.now tx.new.conn.now result }
+    ensures leads { Leads S.Store tx.old.conn.now tx.new.conn.now result (IsBlank no_schema)
+        (Has (contents (empty_register registrar.now day))) }
+    ensures sets_up { Moves S.Store tx.old.conn.now tx.new.conn.now result
+        (SetsUpSound (empty_register registrar.now day)) }
 {
     create_tables(tx)?;
     create_period(tx)?;
@@ -125,16 +116,10 @@ fn make_register<S: Alter>(
 /// else that the store has stays as it was. Where it had nothing, the connection shows the
 /// register.
 pub fn set_up<S: Alter>(conn: &mut Connection<S>, registrar: &Token, day: Day) -> Result<(), Error>
-    requires { conn.old.in_transaction ≡ false }
-    ensures mode { conn.new.in_transaction ≡ false }
-    ensures clean { HasCleanDisk (state S.Store conn.new) → HasCleanDisk (state S.Store conn.old) }
-    ensures up { OnOk result (IsUp (state S.Store conn.new)) }
-    ensures began { IsClean (state S.Store conn.new) → IsClean (state S.Store conn.old) }
+    ensures commits { Commits (state S.Store conn.old) (state S.Store conn.new) result }
     ensures made { IsClean (state S.Store conn.new)
         → (state S.Store conn.old).committed.schema ≡ no_schema
         → OnOk result (ShowsIn (empty_register registrar.now day) (state S.Store conn.new)) }
-    ensures kept { IsClean (state S.Store conn.new)
-        → OnErr result ((state S.Store conn.new).committed ≡ (state S.Store conn.old).committed) }
     ensures stops { LeavesAtMost (λ trees. (state S.Store conn.old).committed.schema ≡ no_schema
         → Stands (empty_register registrar.now day) trees)
         (state S.Store conn.old) (state S.Store conn.new) }
@@ -145,8 +130,10 @@ pub fn set_up<S: Alter>(conn: &mut Connection<S>, registrar: &Token, day: Day) -
         (SetsUpIn (empty_register registrar.now day) (state S.Store conn.old).committed)
         (state S.Store conn.old) (state S.Store conn.new) }
 {
-    // Their clauses say that the connection shows what the last commit left, which is sound.
-    let _settled = conn.is_autocommit();
+    if !conn.is_autocommit() {
+        return Err(Error::SqliteFailure(ErrorCode::TransactionState));
+    }
+    // Its clause says that what the last commit left is sound.
     let _live = conn.schema();
     // Their clauses say that the token has its form, and that the number is that of a day.
     let token = registrar.as_str();

@@ -1,7 +1,6 @@
 //! Comparing the statements of a file with those that the tables have of its filing.
 
 ghost use Rattle.std.specs.Prelude.{◌≡◌, ◌↔◌, false, map, IsTrue, IfOk};
-ghost use Rattle.sqlite.specs.Held.{state};
 ghost use Rattle.sqlite.specs.Values.{bound, bound_value};
 ghost use Rattle.sqlite_value.specs.Value.{owned};
 ghost use Rattle.bor_store_sql.specs.declared.rows.places.At.{At};
@@ -128,10 +127,8 @@ fn keeps_interests<S: Alter>(
     place: u32,
     interests: &[Interest],
 ) -> Result<bool, Error>
-    requires { conn.old.in_transaction ≡ false }
-    ensures mode { conn.new.in_transaction ≡ false }
-    ensures tells { let at : At = record { agent = agent.now; filing = number; place = place } in
-        Tells (state S.Store conn.old) (state S.Store conn.new) result (λ r.
+    ensures { let at : At = record { agent = agent.now; filing = number; place = place } in
+        Tells S.Store conn.old conn.new result (λ r.
         map interest_columns (interests_from at 1 interests.now)
         ≡ map interest_columns (interests_at at r.members)) }
 {
@@ -147,10 +144,8 @@ fn keeps_identifiers<S: Alter>(
     place: u32,
     identifiers: &[Identifier],
 ) -> Result<bool, Error>
-    requires { conn.old.in_transaction ≡ false }
-    ensures mode { conn.new.in_transaction ≡ false }
-    ensures tells { let at : At = record { agent = agent.now; filing = number; place = place } in
-        Tells (state S.Store conn.old) (state S.Store conn.new) result (λ r.
+    ensures { let at : At = record { agent = agent.now; filing = number; place = place } in
+        Tells S.Store conn.old conn.new result (λ r.
         map identifier_columns (identifiers_from at 1 identifiers.now)
         ≡ map identifier_columns (identifiers_at at r.members)) }
 {
@@ -166,9 +161,7 @@ fn keeps_lists<S: Alter>(
     place: u32,
     statement: &Statement,
 ) -> Result<bool, Error>
-    requires { conn.old.in_transaction ≡ false }
-    ensures mode { conn.new.in_transaction ≡ false }
-    ensures tells { Tells (state S.Store conn.old) (state S.Store conn.new) result (λ r.
+    ensures { Tells S.Store conn.old conn.new result (λ r.
         HasListsOf (standing agent.now number place statement.now) r.members) }
 {
     let details = &statement.details;
@@ -187,9 +180,7 @@ fn keeps_statement<S: Alter>(
     place: u32,
     statement: &Statement,
 ) -> Result<bool, Error>
-    requires { conn.old.in_transaction ≡ false }
-    ensures mode { conn.new.in_transaction ≡ false }
-    ensures tells { Tells (state S.Store conn.old) (state S.Store conn.new) result (λ r.
+    ensures { Tells S.Store conn.old conn.new result (λ r.
         IsKept agent.now number r.members place statement.now row.now) }
 {
     if !is_statement(row, agent, number, place, statement) {
@@ -206,9 +197,7 @@ fn keeps_rows<S: Alter>(
     number: u32,
     statements: &[Statement],
 ) -> Result<bool, Error>
-    requires { conn.old.in_transaction ≡ false }
-    ensures mode { conn.new.in_transaction ≡ false }
-    ensures tells { Tells (state S.Store conn.old) (state S.Store conn.new) result (λ r.
+    ensures { Tells S.Store conn.old conn.new result (λ r.
         Pairwise (IsKept agent.now number r.members) 1 statements.now rows.now) }
 {
     if rows.len() != statements.len() {
@@ -233,9 +222,7 @@ pub fn keeps_statements<S: Alter>(
     number: u32,
     statements: &[Statement],
 ) -> Result<bool, Error>
-    requires { conn.old.in_transaction ≡ false }
-    ensures mode { conn.new.in_transaction ≡ false }
-    ensures tells { Tells (state S.Store conn.old) (state S.Store conn.new) result (λ r.
+    ensures { Tells S.Store conn.old conn.new result (λ r.
         Fit agent.now number 1 statements.now (statements_kept agent.now number r)) }
 {
     let rows = statements_of_filing(conn, agent, number)?;

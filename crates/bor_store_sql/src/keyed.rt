@@ -1,8 +1,7 @@
 //! Reading rows by key.
 
-ghost use Rattle.std.specs.Prelude.{◌≡◌, false, [], ◌∷◌, map};
+ghost use Rattle.std.specs.Prelude.{[], ◌∷◌, map};
 ghost use Rattle.std.specs.List.{flat_map};
-ghost use Rattle.sqlite.specs.Held.{state};
 ghost use Rattle.bor_terms.specs.Texts.{is_same};
 ghost use Rattle.bor_register.specs.Register.{filings_of};
 ghost use Rattle.bor_register.specs.Publication.{filing_shown};
@@ -23,9 +22,7 @@ use sqlite::{Alter, Connection, Error, Row};
 
 /// The agent of this name with its token; no row where there is none.
 pub fn agent_by_name<S: Alter>(conn: &mut Connection<S>, name: &str) -> Result<Vec<Row>, Error>
-    requires { conn.old.in_transaction ≡ false }
-    ensures mode { conn.new.in_transaction ≡ false }
-    ensures finds { Finds (state S.Store conn.old) (state S.Store conn.new) result (λ r.
+    ensures { Finds S.Store conn.old conn.new result (λ r.
         map agent_columns (members_named name.now r.members)) }
 {
     query(conn, AGENT_BY_NAME, &one_text(name))
@@ -33,9 +30,7 @@ pub fn agent_by_name<S: Alter>(conn: &mut Connection<S>, name: &str) -> Result<V
 
 /// The agents that have this token, by name.
 pub fn agent_by_token<S: Alter>(conn: &mut Connection<S>, token: &str) -> Result<Vec<Row>, Error>
-    requires { conn.old.in_transaction ≡ false }
-    ensures mode { conn.new.in_transaction ≡ false }
-    ensures finds { Finds (state S.Store conn.old) (state S.Store conn.new) result (λ r.
+    ensures { Finds S.Store conn.old conn.new result (λ r.
         map agent_columns (with_token token.now r.members)) }
 {
     query(conn, AGENT_BY_TOKEN, &one_text(token))
@@ -48,9 +43,7 @@ pub fn filing_by_key<S: Alter>(
     agent: &str,
     key: &str,
 ) -> Result<Vec<Row>, Error>
-    requires { conn.old.in_transaction ≡ false }
-    ensures mode { conn.new.in_transaction ≡ false }
-    ensures finds { Finds (state S.Store conn.old) (state S.Store conn.new) result (λ r.
+    ensures { Finds S.Store conn.old conn.new result (λ r.
         map (λ f. shown_columns (filing_shown f))
         (keyed key.now (filings_of agent.now r.members))) }
 {
@@ -63,9 +56,7 @@ pub fn line_by_key<S: Alter>(
     agent: &str,
     key: &str,
 ) -> Result<Vec<Row>, Error>
-    requires { conn.old.in_transaction ≡ false }
-    ensures mode { conn.new.in_transaction ≡ false }
-    ensures finds { Finds (state S.Store conn.old) (state S.Store conn.new) result (λ r.
+    ensures { Finds S.Store conn.old conn.new result (λ r.
         map (λ f. line_columns (filing_row agent.now f))
         (keyed key.now (filings_of agent.now r.members))) }
 {
@@ -78,9 +69,7 @@ pub fn line_by_number<S: Alter>(
     agent: &str,
     number: u32,
 ) -> Result<Vec<Row>, Error>
-    requires { conn.old.in_transaction ≡ false }
-    ensures mode { conn.new.in_transaction ≡ false }
-    ensures finds { Finds (state S.Store conn.old) (state S.Store conn.new) result (λ r.
+    ensures { Finds S.Store conn.old conn.new result (λ r.
         map (λ f. line_columns (filing_row agent.now f))
         (numbered number (filings_of agent.now r.members))) }
 {
@@ -94,9 +83,7 @@ pub fn same_bytes<S: Alter>(
     key: &str,
     bytes: &[u8],
 ) -> Result<Vec<Row>, Error>
-    requires { conn.old.in_transaction ≡ false }
-    ensures mode { conn.new.in_transaction ≡ false }
-    ensures finds { Finds (state S.Store conn.old) (state S.Store conn.new) result (λ r.
+    ensures { Finds S.Store conn.old conn.new result (λ r.
         map (λ f. truth (is_same f.bytes bytes.now) ∷ [])
         (keyed key.now (filings_of agent.now r.members))) }
 {
@@ -105,9 +92,7 @@ pub fn same_bytes<S: Alter>(
 
 /// The agent's filings without their files, by number.
 pub fn filings_of_agent<S: Alter>(conn: &mut Connection<S>, agent: &str) -> Result<Vec<Row>, Error>
-    requires { conn.old.in_transaction ≡ false }
-    ensures mode { conn.new.in_transaction ≡ false }
-    ensures finds { Finds (state S.Store conn.old) (state S.Store conn.new) result (λ r.
+    ensures { Finds S.Store conn.old conn.new result (λ r.
         map (λ f. line_columns (filing_row agent.now f)) (filings_of agent.now r.members)) }
 {
     query(conn, FILINGS_OF_AGENT, &one_text(agent))
@@ -115,9 +100,7 @@ pub fn filings_of_agent<S: Alter>(conn: &mut Connection<S>, agent: &str) -> Resu
 
 /// The agent's last filing, without its file; no row where it has none.
 pub fn last_filing<S: Alter>(conn: &mut Connection<S>, agent: &str) -> Result<Vec<Row>, Error>
-    requires { conn.old.in_transaction ≡ false }
-    ensures mode { conn.new.in_transaction ≡ false }
-    ensures finds { Finds (state S.Store conn.old) (state S.Store conn.new) result (λ r.
+    ensures { Finds S.Store conn.old conn.new result (λ r.
         map (λ f. line_columns (filing_row agent.now f)) (last (filings_of agent.now r.members))) }
 {
     query(conn, LAST_FILING, &one_text(agent))
@@ -130,9 +113,7 @@ pub fn last_of_series<S: Alter>(
     declaration: &str,
     rec: &str,
 ) -> Result<Vec<Row>, Error>
-    requires { conn.old.in_transaction ≡ false }
-    ensures mode { conn.new.in_transaction ≡ false }
-    ensures finds { Finds (state S.Store conn.old) (state S.Store conn.new) result (λ r.
+    ensures { Finds S.Store conn.old conn.new result (λ r.
         map (λ p. statement_columns (bare p))
         (last (in_series declaration.now rec.now (placed_of agent.now r)))) }
 {
@@ -145,9 +126,7 @@ pub fn statement_by_id<S: Alter>(
     agent: &str,
     id: &str,
 ) -> Result<Vec<Row>, Error>
-    requires { conn.old.in_transaction ≡ false }
-    ensures mode { conn.new.in_transaction ≡ false }
-    ensures finds { Finds (state S.Store conn.old) (state S.Store conn.new) result (λ r.
+    ensures { Finds S.Store conn.old conn.new result (λ r.
         map place_columns (identified id.now (placed_of agent.now r))) }
 {
     query(conn, STATEMENT_BY_ID, &two_texts(agent, id))
@@ -159,11 +138,7 @@ pub fn statements_of_filing<S: Alter>(
     agent: &str,
     number: u32,
 ) -> Result<Vec<Row>, Error>
-    requires { conn.old.in_transaction ≡ false }
-    ensures mode { conn.new.in_transaction ≡ false }
-    ensures finds { Finds (state S.Store conn.old) (state S.Store conn.new) result (λ r.
-        map (λ p. statement_columns (bare p)) (in_filing number (placed_of agent.now r))) }
-    ensures both { FindsBoth (state S.Store conn.old) (state S.Store conn.new) result (λ r.
+    ensures { FindsBoth S.Store conn.old conn.new result (λ r.
         map (λ p. statement_columns (bare p)) (in_filing number (placed_of agent.now r))) }
 {
     query(conn, STATEMENTS_OF_FILING, &filing_key(agent, number))
@@ -175,9 +150,7 @@ pub fn statements_of_declaration<S: Alter>(
     agent: &str,
     declaration: &str,
 ) -> Result<Vec<Row>, Error>
-    requires { conn.old.in_transaction ≡ false }
-    ensures mode { conn.new.in_transaction ≡ false }
-    ensures finds { Finds (state S.Store conn.old) (state S.Store conn.new) result (λ r.
+    ensures { Finds S.Store conn.old conn.new result (λ r.
         map (λ p. statement_columns (bare p))
         (in_declaration declaration.now (placed_of agent.now r))) }
 {
@@ -195,16 +168,9 @@ pub fn interests_of_statement<S: Alter>(
     number: u32,
     place: u32,
 ) -> Result<Vec<Row>, Error>
-    requires { conn.old.in_transaction ≡ false }
-    ensures mode { conn.new.in_transaction ≡ false }
-    ensures finds { Finds (state S.Store conn.old) (state S.Store conn.new) result (λ r.
+    ensures { FindsBoth S.Store conn.old conn.new result (λ r.
         map interest_columns
-        (interests_at (record { agent = agent.now; filing = number; place = place })
-        r.members)) }
-    ensures both { FindsBoth (state S.Store conn.old) (state S.Store conn.new) result (λ r.
-        map interest_columns
-        (interests_at (record { agent = agent.now; filing = number; place = place })
-        r.members)) }
+        (interests_at (record { agent = agent.now; filing = number; place = place }) r.members)) }
 {
     query(
         conn,
@@ -220,13 +186,10 @@ pub fn periods_of_statement<S: Alter>(
     number: u32,
     place: u32,
 ) -> Result<Vec<Row>, Error>
-    requires { conn.old.in_transaction ≡ false }
-    ensures mode { conn.new.in_transaction ≡ false }
-    ensures finds { Finds (state S.Store conn.old) (state S.Store conn.new) result (λ r.
+    ensures { Finds S.Store conn.old conn.new result (λ r.
         map period_columns
         (flat_map period_rows
-        (interests_at (record { agent = agent.now; filing = number; place = place })
-        r.members))) }
+        (interests_at (record { agent = agent.now; filing = number; place = place }) r.members))) }
 {
     query(
         conn,
@@ -241,12 +204,7 @@ pub fn file_by_number<S: Alter>(
     agent: &str,
     number: u32,
 ) -> Result<Vec<Row>, Error>
-    requires { conn.old.in_transaction ≡ false }
-    ensures mode { conn.new.in_transaction ≡ false }
-    ensures finds { Finds (state S.Store conn.old) (state S.Store conn.new) result (λ r.
-        map (λ f. shown_columns (filing_shown f))
-        (numbered number (filings_of agent.now r.members))) }
-    ensures both { FindsBoth (state S.Store conn.old) (state S.Store conn.new) result (λ r.
+    ensures { FindsBoth S.Store conn.old conn.new result (λ r.
         map (λ f. shown_columns (filing_shown f))
         (numbered number (filings_of agent.now r.members))) }
 {
@@ -260,16 +218,9 @@ pub fn identifiers_of_statement<S: Alter>(
     number: u32,
     place: u32,
 ) -> Result<Vec<Row>, Error>
-    requires { conn.old.in_transaction ≡ false }
-    ensures mode { conn.new.in_transaction ≡ false }
-    ensures finds { Finds (state S.Store conn.old) (state S.Store conn.new) result (λ r.
+    ensures { FindsBoth S.Store conn.old conn.new result (λ r.
         map identifier_columns
-        (identifiers_at (record { agent = agent.now; filing = number; place = place })
-        r.members)) }
-    ensures both { FindsBoth (state S.Store conn.old) (state S.Store conn.new) result (λ r.
-        map identifier_columns
-        (identifiers_at (record { agent = agent.now; filing = number; place = place })
-        r.members)) }
+        (identifiers_at (record { agent = agent.now; filing = number; place = place }) r.members)) }
 {
     query(
         conn,

@@ -4,7 +4,7 @@
 //! [`texts`] with the rows of [`rows`], in any order. A change that returns `Ok` shows the changed
 //! register, and one that fails leaves what the last commit left, unless the store shut in its
 //! commit. A read leaves it too, and gives the rows of the part that is asked for; [`rows`] reads
-//! their values.
+//! their values. Where a transaction is open, a change and a read are refused.
 #![tactic(auto)]
 
 mod additions;

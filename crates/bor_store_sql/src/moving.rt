@@ -1,25 +1,23 @@
 //! Moving the tables of version 1 to those of version 2.
 
-ghost use Rattle.std.specs.Prelude.{◌≡◌, false, OnOk, OnErr, [], ◌∷◌};
+ghost use Rattle.std.specs.Prelude.{◌≡◌, [], ◌∷◌};
 ghost use Rattle.sqlite.specs.Held.{state};
-ghost use Rattle.sqlite.specs.State.{HasCleanDisk};
-ghost use Rattle.bor_register.specs.Register.{Register};
 ghost use Rattle.bor_store_sql.specs.Changing.{all_periods};
 ghost use Rattle.bor_store_sql.specs.Moving.{PutsPeriods, SetsVersion, MovesRows};
 ghost use Rattle.bor_store_sql.specs.Ran.{Moves, RanOpen};
-ghost use Rattle.bor_store_sql.specs.Shown.{IsClean, IsUp, LeavesAtMost, ShowsFirst, ShowsIn, Stands};
+ghost use Rattle.bor_store_sql.specs.Shown.{AltersTo, ShowsFirst};
 
 use crate::columns::{period_values, version_value};
 use crate::creation::create_period;
 use crate::rows::PeriodRow;
 use crate::running::{finish, run};
 use crate::texts::changes::{INSERT_PERIOD, UPDATE_VERSION};
-use sqlite::{Alter, Connection, Error, Transaction};
+use sqlite::{Alter, Connection, Error, ErrorCode, Transaction};
 
 fn put_row<S: Alter>(tx: &mut Transaction<'_, S>, period: &PeriodRow) -> Result<(), Error>
     ensures same_reference { tx.new.conn.ghost_name ≡ tx.old.conn.ghost_name }
-    ensures moves { Moves (PutsPeriods (period.now ∷ [])) (state S.Store tx.old.conn.now)
-        (state S.Store tx.new.conn.now) result }
+    ensures moves { Moves S.Store tx.old.conn.now tx.new.conn.now result
+        (PutsPeriods (period.now ∷ [])) }
 {
     run(
         tx,
@@ -37,8 +35,7 @@ fn put_row<S: Alter>(tx: &mut Transaction<'_, S>, period: &PeriodRow) -> Result<
 
 fn put_rows<S: Alter>(tx: &mut Transaction<'_, S>, periods: &[PeriodRow]) -> Result<(), Error>
     ensures same_reference { tx.new.conn.ghost_name ≡ tx.old.conn.ghost_name }
-    ensures moves { Moves (PutsPeriods periods.now) (state S.Store tx.old.conn.now)
-        (state S.Store tx.new.conn.now) result }
+    ensures moves { Moves S.Store tx.old.conn.now tx.new.conn.now result (PutsPeriods periods.now) }
 {
     for period in periods {
         put_row(tx, period)?;
@@ -48,8 +45,7 @@ fn put_rows<S: Alter>(tx: &mut Transaction<'_, S>, periods: &[PeriodRow]) -> Res
 
 fn set_version<S: Alter>(tx: &mut Transaction<'_, S>) -> Result<(), Error>
     ensures same_reference { tx.new.conn.ghost_name ≡ tx.old.conn.ghost_name }
-    ensures moves { Moves SetsVersion (state S.Store tx.old.conn.now)
-        (state S.Store tx.new.conn.now) result }
+    ensures moves { Moves S.Store tx.old.conn.now tx.new.conn.now result SetsVersion }
 {
     run(tx, UPDATE_VERSION, &version_value())
 }
@@ -57,10 +53,8 @@ fn set_version<S: Alter>(tx: &mut Transaction<'_, S>) -> Result<(), Error>
 // Makes the table `period` with these rows, and sets the version.
 fn move_rows<S: Alter>(tx: &mut Transaction<'_, S>, periods: &[PeriodRow]) -> Result<(), Error>
     ensures same_reference { tx.new.conn.ghost_name ≡ tx.old.conn.ghost_name }
-    ensures ran_open { RanOpen (state S.Store tx.old.conn.now)
-        (state S.Store tx.new.conn.now) result }
-    ensures moves { Moves (MovesRows periods.now) (state S.Store tx.old.conn.now)
-        (state S.Store tx.new.conn.now) result }
+    ensures ran_open { RanOpen S.Store tx.old.conn.now tx.new.conn.now result }
+    ensures moves { Moves S.Store tx.old.conn.now tx.new.conn.now result (MovesRows periods.now) }
 {
     create_period(tx)?;
     put_rows(tx, periods)?;
@@ -71,22 +65,12 @@ fn move_rows<S: Alter>(tx: &mut Transaction<'_, S>, periods: &[PeriodRow]) -> Re
 /// in a transaction of its own. After a failure the tables are as they were, unless the store shut
 /// in its commit.
 pub fn move_tables<S: Alter>(conn: &mut Connection<S>, periods: &[PeriodRow]) -> Result<(), Error>
-    requires { conn.old.in_transaction ≡ false }
-    ensures mode { conn.new.in_transaction ≡ false }
-    ensures clean { HasCleanDisk (state S.Store conn.new) → HasCleanDisk (state S.Store conn.old) }
-    ensures up { OnOk result (IsUp (state S.Store conn.new)) }
-    ensures began { IsClean (state S.Store conn.new) → IsClean (state S.Store conn.old) }
-    ensures made { IsClean (state S.Store conn.new) → (r : Register)
-        → ShowsFirst r (state S.Store conn.old)
-        → periods.now ≡ all_periods r.members → OnOk result (ShowsIn r (state S.Store conn.new)) }
-    ensures kept { IsClean (state S.Store conn.new)
-        → OnErr result ((state S.Store conn.new).committed ≡ (state S.Store conn.old).committed) }
-    ensures stops { LeavesAtMost (λ trees. (r : Register) → ShowsFirst r (state S.Store conn.old)
-        → periods.now ≡ all_periods r.members → Stands r trees)
-        (state S.Store conn.old) (state S.Store conn.new) }
+    ensures { AltersTo ShowsFirst (λ r. periods.now ≡ all_periods r.members) (λ r. r)
+        (state S.Store conn.old) (state S.Store conn.new) result }
 {
-    // Its clause says that the connection shows what the last commit left.
-    let _settled = conn.is_autocommit();
+    if !conn.is_autocommit() {
+        return Err(Error::SqliteFailure(ErrorCode::TransactionState));
+    }
     let mut tx = conn.transaction();
     let done = move_rows(&mut tx, periods);
     finish(tx, done)

@@ -1,7 +1,6 @@
 //! Reading the statements of records by key: by series, by record, by subject and by identifier.
 
-ghost use Rattle.std.specs.Prelude.{◌≡◌, false, map};
-ghost use Rattle.sqlite.specs.Held.{state};
+ghost use Rattle.std.specs.Prelude.{map};
 ghost use Rattle.bor_store_sql.specs.Rows.Placed.{bare};
 ghost use Rattle.bor_store_sql.specs.Rows.Encoding.{statement_columns, identifier_columns};
 ghost use Rattle.bor_store_sql.specs.Found.{Finds};
@@ -22,9 +21,7 @@ pub fn statements_of_series<S: Alter>(
     declaration: &str,
     rec: &str,
 ) -> Result<Vec<Row>, Error>
-    requires { conn.old.in_transaction ≡ false }
-    ensures mode { conn.new.in_transaction ≡ false }
-    ensures finds { Finds (state S.Store conn.old) (state S.Store conn.new) result (λ r.
+    ensures { Finds S.Store conn.old conn.new result (λ r.
         map (λ p. statement_columns (bare p))
         (in_series declaration.now rec.now (placed_of agent.now r))) }
 {
@@ -42,9 +39,7 @@ pub fn statements_of_record<S: Alter>(
     agent: &str,
     rec: &str,
 ) -> Result<Vec<Row>, Error>
-    requires { conn.old.in_transaction ≡ false }
-    ensures mode { conn.new.in_transaction ≡ false }
-    ensures finds { Finds (state S.Store conn.old) (state S.Store conn.new) result (λ r.
+    ensures { Finds S.Store conn.old conn.new result (λ r.
         map (λ p. statement_columns (bare p)) (in_record rec.now (placed_of agent.now r))) }
 {
     query(conn, STATEMENTS_OF_RECORD, &two_texts(agent, rec))
@@ -58,9 +53,7 @@ pub fn statements_of_subject<S: Alter>(
     declaration: &str,
     rec: &str,
 ) -> Result<Vec<Row>, Error>
-    requires { conn.old.in_transaction ≡ false }
-    ensures mode { conn.new.in_transaction ≡ false }
-    ensures finds { Finds (state S.Store conn.old) (state S.Store conn.new) result (λ r.
+    ensures { Finds S.Store conn.old conn.new result (λ r.
         map (λ p. statement_columns (bare p))
         (with_subject declaration.now rec.now (placed_of agent.now r))) }
 {
@@ -79,12 +72,9 @@ pub fn statement_by_place<S: Alter>(
     number: u32,
     place: u32,
 ) -> Result<Vec<Row>, Error>
-    requires { conn.old.in_transaction ≡ false }
-    ensures mode { conn.new.in_transaction ≡ false }
-    ensures finds { Finds (state S.Store conn.old) (state S.Store conn.new) result (λ r.
+    ensures { Finds S.Store conn.old conn.new result (λ r.
         map (λ p. statement_columns (bare p))
-        (standing_at (record { agent = agent.now; filing = number; place = place })
-        r.members)) }
+        (standing_at (record { agent = agent.now; filing = number; place = place }) r.members)) }
 {
     query(
         conn,
@@ -100,9 +90,7 @@ pub fn identifiers_by_id<S: Alter>(
     scheme: &str,
     id: &str,
 ) -> Result<Vec<Row>, Error>
-    requires { conn.old.in_transaction ≡ false }
-    ensures mode { conn.new.in_transaction ≡ false }
-    ensures finds { Finds (state S.Store conn.old) (state S.Store conn.new) result (λ r.
+    ensures { Finds S.Store conn.old conn.new result (λ r.
         map identifier_columns (identified_by scheme.now id.now r.members)) }
 {
     query(conn, IDENTIFIERS_BY_ID, &two_texts(scheme, id))

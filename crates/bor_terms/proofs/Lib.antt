@@ -5,6 +5,7 @@ pub mod Shown
 pub mod Years
 pub mod Digits
 pub mod Texts
+pub mod Fronts
 pub mod Examples
 pub mod DayTexts
 pub mod Spelling

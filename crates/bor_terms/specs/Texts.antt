@@ -1,7 +1,9 @@
 -- The four texts of the register (this register's profile): which bytes each may have and how many,
 -- and how two texts compare.
-use Rattle.std.specs.Prelude.{ℕ, List, length, Bool, not, ◌&&◌, ◌||◌, ◌==◌, nat_le}
+use Rattle.std.specs.Prelude.{ℕ, ◌<◌, List, length, slice_index, Bool, not, ◌&&◌, ◌||◌, ◌==◌}
+use Rattle.std.specs.Prelude.{nat_le}
 use Rattle.std.specs.List.{list_all}
+use Rattle.std.specs.Int.{w64, from_be_bytes}
 use Rattle.std.specs.Str.{bytes_eq, is_utf8}
 use Rattle.std.specs.Ordering.{nat_cmp, is_lt}
 use Rattle.std.specs.Cmp.Lexicographic.{slice_cmp}
@@ -55,6 +57,14 @@ is_ident bytes = has_length 1 255 bytes && list_all is_printed bytes && is_utf8 
 -- the token by which a caller is known
 unfoldable pub is_token : List ℕ → Bool
 is_token bytes = has_length 16 64 bytes && list_all is_visible_byte bytes
+
+-- each byte is below 256
+abbrev pub AreBytes : List ℕ → Type 0
+AreBytes bytes = (k : ℕ) → slice_index bytes k < 256
+
+-- the first eight bytes as a number, the first of them the highest; a byte that is missing is 0
+unfoldable pub front_of : List ℕ → ℕ
+front_of bytes = from_be_bytes w64 bytes
 
 -- two texts are the same where their bytes are
 abbrev pub is_same : List ℕ → List ℕ → Bool

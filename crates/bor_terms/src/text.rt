@@ -1,10 +1,10 @@
 //! Texts of a form.
 
-ghost use Rattle.std.specs.Prelude.{◌≡◌, ℕ, List, Bool, true, false, IsOk, IfOk, Some, None, if◌then◌else◌, string_bytes, refl};
+ghost use Rattle.std.specs.Prelude.{◌≡◌, ℕ, List, Bool, true, false, IsOk, IfOk, Some, None, if◌then◌else◌, string_bytes, slice_index, refl};
 ghost use Rattle.std.specs.Ordering.{nat_cmp};
 ghost use Rattle.std.specs.Cmp.{partial_equiv_from_equiv};
 ghost use Rattle.std.specs.Cmp.Lexicographic.{slice_cmp, nat_list_eq_equiv, nat_list_cmp_total, texts_ties, texts_po};
-ghost use Rattle.bor_terms.specs.Texts.{is_same};
+ghost use Rattle.bor_terms.specs.Texts.{is_same, front_of, AreBytes};
 
 use std::alloc::{AllocError, Global};
 use std::cmp::Ordering;
@@ -31,18 +31,22 @@ pub trait Form {
 /// a text share its bytes.
 #[derive(Drop)]
 pub struct Text<F: Form> {
+    // The first eight bytes as a number. Two texts of different numbers are compared by these
+    // alone.
+    front: u64,
     text: Rc<String>,
     form: PhantomData<F>,
 }
 
 impl<F: Form> Model for Text<F> {
     ghost use Rattle.std.specs.Prelude.{◌≡◌, List, ℕ, true, string_bytes};
+    ghost use Rattle.bor_terms.specs.Texts.{front_of, AreBytes};
 
     ghost Value = { List ℕ };
 
     ghost view = { λ a. string_bytes a.text.value };
 
-    ghost invariant = { λ a. F.is_form (string_bytes a.text.value) ≡ true };
+    ghost invariant = { λ a. (F.is_form (string_bytes a.text.value) ≡ true) × (a.front ≡ front_of (string_bytes a.text.value)) × AreBytes (string_bytes a.text.value) };
 }
 
 impl<F: Form> Text<F> {
@@ -71,7 +75,9 @@ impl<F: Form> Text<F> {
         requires { F.is_form (string_bytes text) ≡ true }
         ensures { IfOk result (λ made. made ≡ string_bytes text) }
     {
+        let front = front_of(text.as_bytes());
         Ok(Text {
+            front,
             text: Rc::new(alloc, text)?,
             form: PhantomData,
         })
@@ -98,6 +104,7 @@ impl<F: Form> Text<F> {
         ensures { IfOk result (λ copied. copied ≡ self.now) }
     {
         Ok(Text {
+            front: self.front,
             text: self.text.clone()?,
             form: PhantomData,
         })
@@ -110,7 +117,7 @@ impl<F: Form> PartialEq for Text<F> {
     ghost laws = { partial_equiv_from_equiv nat_list_eq_equiv };
 
     fn eq(&self, other: &Text<F>) -> bool {
-        self.text == other.text
+        self.front == other.front && self.text == other.text
     }
 }
 
@@ -138,8 +145,34 @@ impl<F: Form> Ord for Text<F> {
     ghost matches_eq = { texts_ties };
 
     fn cmp(&self, other: &Text<F>) -> Ordering {
+        if self.front != other.front {
+            return self.front.cmp(&other.front);
+        }
         self.text.cmp(&other.text)
     }
+}
+
+// The first eight bytes as a number, the first of them the highest; a byte that is missing is 0.
+fn front_of(bytes: &[u8]) -> u64
+    ensures front { result ≡ front_of bytes.now }
+    ensures bytes { AreBytes bytes.now }
+{
+    u64::from_be_bytes([
+        byte_at(bytes, 0),
+        byte_at(bytes, 1),
+        byte_at(bytes, 2),
+        byte_at(bytes, 3),
+        byte_at(bytes, 4),
+        byte_at(bytes, 5),
+        byte_at(bytes, 6),
+        byte_at(bytes, 7),
+    ])
+}
+
+fn byte_at(bytes: &[u8], place: usize) -> u8
+    ensures { result ≡ slice_index bytes.now place }
+{
+    if place < bytes.len() { bytes[place] } else { 0 }
 }
 
 /// Writes the text itself, or what its form shows in its place.

@@ -3,14 +3,21 @@
 ghost use Rattle.std.specs.Prelude.{◌≡◌};
 ghost use Rattle.bor_records.specs.Promises.{counted};
 
-use bods_read::Statement;
+use bods_read::{Identifier, Statement};
 use bor_chains::{Link, Node, NodeInfo};
+use bor_desk::Text;
 use bor_desk::operations::{Caller, Filing, FilingLine, Keep, Outward, StoreFault};
+use bor_program::connections::{Limits, Watch, serve_within};
+use bor_program::{Answering, Reply, Report, replay, report_in};
 use bor_records::{Last, Row};
 use bor_terms::{AgentName, Day, Ident, LodgeKey, Token};
-use std::alloc::Global;
+use std::alloc::{AllocError, Global};
+use std::io::{Read, Write};
+use std::net::{OpenListener, OpenStream};
+use std::time::Clock;
 
-/// A keep that notes each call and hands on as many as are left, and then answers each by the fault.
+/// A keep that notes each call and hands on as many as are left, and then answers each by the
+/// fault.
 #[derive(Drop)]
 pub(crate) struct FailingKeep<K> {
     /// The keep that calls are handed on to.
@@ -75,21 +82,17 @@ impl<K> FailingKeep<K> {
 }
 
 impl<K: Keep> Keep for FailingKeep<K> {
-    ghost shows = { λ k r. K.shows k.keep r };
-
-    ghost is_clean = { λ k. K.is_clean k.keep };
-
-    ghost is_sound = { λ k. K.is_sound k.keep };
-
     ghost Left = { K.Left };
 
-    ghost may_leave = { λ k left. K.may_leave k.keep left };
-
-    ghost left_shows = { K.left_shows };
-
-    ghost fault_count = { λ k. k.faults };
-
-    ghost may_tell = { λ fault. Unit {0} };
+    ghost meaning = { record {
+      shows = λ k r. K.meaning.shows k.keep r;
+      is_clean = λ k. K.meaning.is_clean k.keep;
+      is_sound = λ k. K.meaning.is_sound k.keep;
+      may_leave = λ k left. K.meaning.may_leave k.keep left;
+      left_shows = K.meaning.left_shows;
+      fault_count = λ k. k.faults;
+      may_tell = λ fault. Unit {0};
+    } };
 
     fn faults(&self) -> u64 {
         self.faults
@@ -231,6 +234,17 @@ impl<K: Keep> Keep for FailingKeep<K> {
         self.end(told)
     }
 
+    fn identified(
+        &mut self,
+        viewer: &AgentName,
+        day: Day,
+        identifier: &Identifier,
+    ) -> Result<Vec<Node>, StoreFault> {
+        self.begin("identified")?;
+        let told = self.keep.identified(viewer, day, identifier);
+        self.end(told)
+    }
+
     fn links_into(
         &mut self,
         viewer: &AgentName,
@@ -277,6 +291,43 @@ impl<K: Keep> Keep for FailingKeep<K> {
         self.begin("add_agent")?;
         let told = self.keep.add_agent(agent, token);
         self.end(told)
+    }
+
+    ghost lasting = { λ k clean left may r shows. K.lasting k.keep clean left may r shows };
+}
+
+impl<K: Keep> Answering for FailingKeep<K> {
+    ghost use Rattle.std.specs.Prelude.{⊤};
+    ghost use Rattle.bor_program.specs.Failures.{MayTell};
+
+    ghost Left = { K.Left };
+
+    ghost meaning = { ⟦<FailingKeep<K> as Keep>⟧.meaning };
+
+    ghost tells = { MayTell ⟦<FailingKeep<K> as Keep>⟧.meaning };
+
+    ghost serves = { λ _ _ _ _ _ _. ⊤ };
+
+    fn answer_all(&mut self, alloc: Global, inputs: &[Vec<u8>]) -> Result<Vec<Reply>, AllocError> {
+        replay(alloc, self, inputs)
+    }
+
+    fn tell(&mut self, alloc: Global, asked: &Report<'_>) -> Result<Text, StoreFault> {
+        report_in(alloc, self, asked)
+    }
+
+    fn attend<R: Clock + AllocGlobal, L: OpenListener, W: Watch<L>>(
+        &mut self,
+        rt: &R,
+        listener: &L,
+        watch: &mut W,
+        connections: u32,
+        limits: Limits,
+    ) -> u8
+    where
+        L::Stream: Read + Write + OpenStream,
+    {
+        serve_within(rt, self, listener, watch, connections, limits)
     }
 
     ghost lasting = { λ k clean left may r shows. K.lasting k.keep clean left may r shows };

@@ -145,6 +145,7 @@ agent_fits s (ask.Chains entity date) =
 agent_fits s (ask.Evidence entity date) =
     let day : ℤ = unwrap_or date s.day in
     evidence_fits s.seen entity day (is_entity_info (info_of (shown_of day s.seen) entity))
+agent_fits s (ask.Entities identifier date) = λ reply told. subst (λ x. desk_status x < 400) (sym told.2) (omega arith)
 agent_fits s (ask.Day date) = refl
 agent_fits s (ask.Enrol name token) = refl
 
@@ -171,6 +172,7 @@ registrar_fits r ask.Published = refl
 registrar_fits r (ask.Snapshot agent declaration date) = refl
 registrar_fits r (ask.Chains entity date) = refl
 registrar_fits r (ask.Evidence entity date) = refl
+registrar_fits r (ask.Entities identifier date) = refl
 
 caller_fits : (r : Register) (caller : Option Caller) (request : Request) → Fits (register_refusals r caller request) (step r caller request).answer
 caller_fits r None request = refl

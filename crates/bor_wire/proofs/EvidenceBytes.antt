@@ -1,12 +1,12 @@
--- The bytes of evidence determine its persons and its links, since JSON is read back as it was written.
-use Rattle.std.proofs.Common.{◌≡◌, ℕ, suc, arith, ℤ, ◌<◌, ◌^◌, List, [], ◌∷◌, Option, Some, None, map, refl, sym, ap, ap₂, ◌∙◌, decimal}
+-- The bytes of evidence determine its persons and its links, and those of entities their records, since JSON is read back as it was written.
+use Rattle.std.proofs.Common.{◌≡◌, ℕ, suc, arith, ℤ, ◌<◌, ◌^◌, List, [], ◌∷◌, Option, Some, None, map, refl, sym, ap, ap₂, ◌∙◌}
 use Rattle.std.specs.Prelude.{All}
+use Rattle.std.specs.List.{AllZip}
 use Rattle.std.proofs.lemmas.Fmt.{decimal_injective}
 use Rattle.json.specs.Json as json
 use Rattle.json.specs.Json.{Json}
 use Rattle.json.specs.Tree.{HasNumbers, ItemsHaveNumbers}
 use Rattle.json.proofs.Printed.Decimals.{IsNumber-decimal}
-use Rattle.serde_json.specs.Data.{Data, string}
 use Rattle.serde_json.specs.View.{items_of}
 use Rattle.serde_json.specs.Written.{outline, items_outline}
 use Rattle.bor_terms.specs.Span.{Range}
@@ -20,11 +20,11 @@ use Rattle.bor_desk.specs.declared.evidence.lines.LinkEvidence.{LinkEvidence}
 use Rattle.bor_desk.specs.declared.evidence.lines.PersonEvidence.{PersonEvidence}
 use Rattle.bor_desk.specs.declared.evidence.lines.RecordEvidence.{RecordEvidence}
 use Rattle.bor_desk.specs.declared.reply.DeskReply.TheVariants as tell
-use Rattle.bor_wire.specs.Rendering.Values.{maybe_data, key_data, person_evidence_data, link_evidence_data, record_evidence_data, evidence_data, identifier_data, interest_data, share_data, details_data}
-use Rattle.bor_wire.specs.Rendering.Bodies.{evidence_text}
+use Rattle.bor_wire.specs.Rendering.Values.{maybe_data, key_data, person_evidence_data, link_evidence_data, record_evidence_data, evidence_data, entities_data, identifier_data, interest_data, share_data, details_data}
+use Rattle.bor_wire.specs.Rendering.Bodies.{evidence_text, entities_text}
 use Rattle.bor_wire.specs.Rendering.Replies.{answered}
 use Rattle.bor_wire.specs.Rendering.Laws.{behind_head}
-use Rattle.bor_wire.specs.ReportBytes.{IsShareCounted, AreSharesCounted, IsCounted, IsSameEvidence, BytesGiveEvidence}
+use Rattle.bor_wire.specs.ReportBytes.{IsShareCounted, AreSharesCounted, AreRecordsCounted, IsCounted, IsSameEvidence, BytesGiveEvidence, IsSameRecord, AreSameEntities, BytesGiveEntities}
 use Rattle.bor_wire.proofs.OnRendering.LengthTold.{length_is_told}
 use Rattle.bor_wire.proofs.OnRendering.ReadBack.{same_text}
 use Rattle.bor_wire.proofs.ReportBytes.{name_once, name_numbers}
@@ -173,7 +173,7 @@ details_numbers (Entity kind name identifiers) few = (identifiers_numbers identi
 details_numbers (Person kind name) few = (tt, (name_numbers name, tt))
 details_numbers (Relationship subject party interests) few = (name_numbers party, (interests_numbers interests few, (name_numbers subject, tt)))
 
-records_numbers : (xs : List RecordEvidence) → All (λ x. AreSharesCounted x.entry.statement.details) xs → ItemsHaveNumbers (items_outline (items_of (map record_evidence_data xs)))
+records_numbers : (xs : List RecordEvidence) → AreRecordsCounted xs → ItemsHaveNumbers (items_outline (items_of (map record_evidence_data xs)))
 records_numbers [] few = tt
 records_numbers (x ∷ xs) few =
     ((tt, (tt, (tt, (details_numbers x.entry.statement.details (few 0 x (omega arith)), (tt, (tt, (tt, (tt, tt)))))))), records_numbers xs (λ k d h. few (suc k) d (omega arith)))
@@ -199,3 +199,40 @@ evidence_given entity other day date told said few small same =
     sym (length_is_told.body (answered (tell.Evidence entity day told))) ∙ ap behind_head same ∙ length_is_told.body (answered (tell.Evidence other date said)) in
     evidence_once entity other day date told said few small
     (same_text (evidence_data entity day told) (evidence_data other date said) (evidence_numbers entity day told few) (evidence_numbers other date said small) body)
+
+-- ---- the entities of an identifier
+
+identifier_once : (a b : Identifier) → a.scheme ≡ b.scheme → a.id ≡ b.id → a ≡ b
+identifier_once a b scheme id = ap (λ x. record a { scheme = x }) scheme ∙ ap (λ x. record b { id = x }) id
+
+record_once : (x y : RecordEvidence) → outline (record_evidence_data x) ≡ outline (record_evidence_data y) → IsSameRecord x y
+record_once x y h = record {
+  agent_is = ap (λ j. text (value j)) h;
+  declaration_is = ap (λ j. text (third j)) h;
+  record_is = ap (λ j. text (sixth j)) h;
+  id_is = ap (λ j. text (fifth j)) h;
+}
+
+records_once : (xs ys : List RecordEvidence) → items_outline (items_of (map record_evidence_data xs)) ≡ items_outline (items_of (map record_evidence_data ys)) → AllZip IsSameRecord xs ys
+records_once [] [] h = tt
+records_once [] (y ∷ ys) h = absurd cc
+records_once (x ∷ xs) [] h = absurd cc
+records_once (x ∷ xs) (y ∷ ys) h = (record_once x y (ap first_item h), records_once xs ys (ap other_items h))
+
+entities_numbers : (identifier : Identifier) (day : ℤ) (records : List RecordEvidence) → AreRecordsCounted records → HasNumbers (outline (entities_data identifier day records))
+entities_numbers identifier day records few = (tt, (records_numbers records few, (tt, (tt, tt))))
+
+entities_once : (identifier other : Identifier) (day date : ℤ) (records found : List RecordEvidence) → outline (entities_data identifier day records) ≡ outline (entities_data other date found) → AreSameEntities identifier other day date records found
+entities_once identifier other day date records found h = record {
+  identifier_is = identifier_once identifier other (ap (λ j. text (fourth j)) h) (ap (λ j. text (third j)) h);
+  day_is = ap (λ j. text (value j)) h;
+  records_are = records_once records found (ap (λ j. items (second j)) h);
+}
+
+pub entities_given : BytesGiveEntities
+unfolding entities_text
+entities_given identifier other day date records found few small same =
+    let body : entities_text identifier day records ≡ entities_text other date found =
+    sym (length_is_told.body (answered (tell.Entities identifier day records))) ∙ ap behind_head same ∙ length_is_told.body (answered (tell.Entities other date found)) in
+    entities_once identifier other day date records found
+    (same_text (entities_data identifier day records) (entities_data other date found) (entities_numbers identifier day records few) (entities_numbers other date found small) body)

@@ -12,7 +12,7 @@ use Rattle.bor_wire.specs.declared.replies.Reply.TheVariants.{Full, Unavailable}
 use Rattle.bor_wire.specs.Runs.{AreReplies, register_left, served, full}
 use Rattle.bor_wire.specs.Histories.{asked_in, replies_to_requests}
 use Rattle.bor_wire.specs.Exchanges.{IsExchanged, read_faults, write_faults}
-use Rattle.bor_wire.proofs.Exchanged.{exchanged, no_status, some_status, unread}
+use Rattle.bor_wire.proofs.Exchanged.{exchanged_so, no_status, some_status, unread}
 
 -- ---- which inputs are in a run
 
@@ -87,8 +87,7 @@ no_path r = record {
 
 -- The writer failed after nine bytes of it.
 cut_off : (r : Register) → IsExchanged (WriteFailed 404) (λ q. q ≡ r) r None (Some []) (Some (take 9 (bytes_of (refused NoPath))))
-cut_off r = exchanged (WriteFailed 404) (λ q. q ≡ r) r None (Err NoPath) 404 (bytes_of (refused NoPath)) (Some []) (Some (take 9 (bytes_of (refused NoPath))))
-    (λ is. absurd (omega arith)) tt (refused NoPath, refl, refl, refl, refl) (refl, 9, refl)
+cut_off r = exchanged_so (λ q. q ≡ r) r None (WriteFailed 404) 404 (bytes_of (refused NoPath)) (Some []) (Some (take 9 (bytes_of (refused NoPath)))) (refl, 9, refl) (no_path r)
 
 -- The reader failed: nothing changed and nothing was written.
 not_read : (r : Register) → IsExchanged ReadFailed (λ q. q ≡ r) r None (Some (codes "HTTP")) (Some (codes "HTTP"))

@@ -1,8 +1,10 @@
 -- The effects of an exchange, from the reply that went out.
-use Rattle.std.proofs.Common.{◌≡◌, ◌≢◌, ◌≤◌, ℕ, List, [], ◌∷◌, Option, Some, None, sym, ap, subst, ◌∙◌, refl}
-use Rattle.std.specs.Io.KnownBytes.{Keeps}
-use Rattle.bor_records.specs.Promises.{Promised}
-use Rattle.bor_register.specs.Register.{Register, IsOrdered}
+use Rattle.bor_register.specs.declared.fault.StoreFault.{StoreFault}
+use Rattle.std.proofs.Common.{◌≡◌, ◌≢◌, ◌≤◌, ℕ, List, [], ◌∷◌, Option, Some, None, Err, take, sym, ap, subst, ◌∙◌, refl}
+use Rattle.std.specs.Io.KnownBytes.{Appends, Keeps}
+use Rattle.bor_records.specs.Promises.{Meaning}
+use Rattle.bor_records.proofs.KeptLaws.{leaves_so}
+use Rattle.bor_register.specs.Register.{Register}
 use Rattle.bor_http.specs.declared.incoming.fault.Refusal.{Refusal}
 use Rattle.bor_wire.specs.Spelling.Spell.{Spelled}
 use Rattle.bor_wire.specs.Rendering.Replies.{refused, status_of, bytes_of}
@@ -11,9 +13,13 @@ use Rattle.bor_wire.specs.declared.outcome.Outcome.{Outcome}
 use Rattle.bor_wire.specs.declared.outcome.Outcome.TheVariants.{Replied, ReadFailed, WriteFailed}
 use Rattle.bor_wire.specs.declared.outgoing.Outgoing.{Outgoing}
 use Rattle.bor_wire.specs.declared.outgoing.Outgoing.TheVariants as outgoing
-use Rattle.bor_wire.specs.Exchanges.{ByOutgoing, HasStatus, UnlessUnavailable, IfRefused, IsResponse, IsSpelled, IsSent, IsExchanged, IsWritten, IsWrittenBy, TellsUnavailable, TellsRefusal, WithoutReply, OnRefusal, status_told}
+use Rattle.bor_wire.specs.Inputs.{after}
+use Rattle.bor_wire.specs.Answering.{AnswersOne, GoesOutFor, Responds}
+use Rattle.bor_wire.specs.Exchanges.{GoesOut, HasStatus, IfAsked, IfFull, IfRefused, IfRefusing, IsExchanged, IsRefusal, IsReplied, IsSpelled, IsWritten, IsWrittenBy, OnRefusal, ShowsAfter, TellsRefusal, TellsUnavailable, UnlessUnavailable, bytes_out, status_out, status_told}
+use Rattle.bor_wire.proofs.OnSpelling.Messages.{one_spelling}
 use Rattle.bor_wire.proofs.HistoryLaws.{alone}
 use Rattle.bor_wire.proofs.ReportLaws.{exact}
+use Rattle.bor_wire.proofs.Outgoings.{asked_all, asked_so, asks_nothing, on_any, on_spelled_so, on_this, same_leaves}
 
 pub some_status : (a b : ℕ) → Some a ≡ Some b → a ≡ b
 some_status a b e = cc
@@ -21,50 +27,13 @@ some_status a b e = cc
 pub no_status : (a : ℕ) → Some a ≡ None → ⊥
 no_status a e = cc
 
--- a reply with another status than 503, of which the bytes or a front of them were written
-replied : (outcome : Outcome) (shown : Register → Type 0) (r : Register) (known : Option (List ℕ)) (s : Spelled) (status : ℕ) (bytes : List ℕ) (old new : Option (List ℕ))
-    → status_told outcome ≡ Some status → status ≢ 503 → IsSpelled known s → IsSent shown r s status bytes → IsWrittenBy outcome old new bytes
-    → IsExchanged outcome shown r known old new
-replied outcome shown r known s status bytes old new told sure spells sent written = record {
-  unread = λ none. absurd (no_status status (sym told ∙ none));
-  unavailable = λ e. absurd (sure (some_status status 503 (sym told ∙ e)));
-  replied = λ other is _. record {
-    spelled = s;
-    spells = spells;
-    said = sent.0;
-    tells = sent.1;
-    status_is = some_status other status (sym is ∙ told) ∙ sent.3;
-    bytes = bytes;
-    bytes_are = sent.2;
-    written = written;
-    left = sent.4;
-    exact = exact r s sent.0 sent.1;
-    alone = λ legal name. alone name r (s ∷ []) (bytes ∷ []) legal ((sent.0, sent.1, sent.2), tt);
-  };
+-- without a whole reply nothing changed
+unavailable : (shown : Register → Type 0) (r : Register) (known : Option (List ℕ)) → shown r → IsExchanged (Replied 503) shown r known (Some []) (Some UNAVAILABLE.now)
+unavailable shown r known is = record {
+  unread = λ none. absurd (no_status 503 none);
+  unavailable = λ _. (is, refl);
+  replied = λ status e other. absurd (other (sym (some_status 503 status e)));
 }
-
-pub exchanged : (outcome : Outcome) (shown : Register → Type 0) (r : Register) (known : Option (List ℕ)) (s : Spelled) (status : ℕ) (bytes : List ℕ) (old new : Option (List ℕ)) → status ≢ 503
-    → IsSpelled known s → IsSent shown r s status bytes → IsWritten outcome status bytes old new → IsExchanged outcome shown r known old new
-exchanged (Replied told) shown r known s status bytes old new sure spells sent w =
-    replied (Replied told) shown r known s status bytes old new (ap Some w.0) sure spells sent w.1
-exchanged ReadFailed shown r known s status bytes old new sure spells sent w = absurd w
-exchanged (WriteFailed told) shown r known s status bytes old new sure spells sent w =
-    replied (WriteFailed told) shown r known s status bytes old new (ap Some w.0) sure spells sent (w.1, w.2)
-
--- nothing changed, and UNAVAILABLE or a front of it was written
-unreplied : (outcome : Outcome) (shown : Register → Type 0) (r : Register) (known old new : Option (List ℕ)) → status_told outcome ≡ Some 503 → shown r → IsWrittenBy outcome old new UNAVAILABLE.now
-    → IsExchanged outcome shown r known old new
-unreplied outcome shown r known old new told is written = record {
-  unread = λ none. absurd (no_status 503 (sym told ∙ none));
-  unavailable = λ _. (is, written);
-  replied = λ status e other. absurd (other (some_status status 503 (sym e ∙ told)));
-}
-
-pub unavailable : (outcome : Outcome) (shown : Register → Type 0) (r : Register) (known old new : Option (List ℕ)) → shown r → IsWritten outcome 503 UNAVAILABLE.now old new
-    → IsExchanged outcome shown r known old new
-unavailable (Replied told) shown r known old new is w = unreplied (Replied told) shown r known old new (ap Some w.0) is w.1
-unavailable ReadFailed shown r known old new is w = absurd w
-unavailable (WriteFailed told) shown r known old new is w = unreplied (WriteFailed told) shown r known old new (ap Some w.0) is (w.1, w.2)
 
 -- the reader failed
 none_told : (a : ℕ) → None ≡ Some a → ⊥
@@ -77,81 +46,163 @@ unread shown r known old new is keeps = record {
   replied = λ status e _. absurd (none_told status e);
 }
 
--- ---- what was written, whatever the register
+-- ---- the keep was asked nothing
 
-pub unavailable_told : (outcome : Outcome) (old new : Option (List ℕ)) → IsWritten outcome 503 UNAVAILABLE.now old new → TellsUnavailable outcome old new
-unavailable_told (Replied told) old new w = λ _. w.1
-unavailable_told ReadFailed old new w = absurd w
-unavailable_told (WriteFailed told) old new w = λ _. (w.1, w.2)
+pub on_refusals : (known : Option (List ℕ)) (P : Refusal → Type 0) → ((why : Refusal) → P why) → OnRefusal known P
+on_refusals None P h = tt
+on_refusals (Some input) P h = λ why spells. h why
 
-pub available_told : (outcome : Outcome) (status : ℕ) (bytes : List ℕ) (old new : Option (List ℕ)) → status ≢ 503 → IsWritten outcome status bytes old new → TellsUnavailable outcome old new
-available_told (Replied told) status bytes old new sure w = λ e. absurd (sure (sym w.0 ∙ e))
-available_told ReadFailed status bytes old new sure w = absurd w
-available_told (WriteFailed told) status bytes old new sure w = λ e. absurd (sure (sym w.0 ∙ e))
+pub unasked : {K W : Type 0} (meaning : Meaning K Register W StoreFault) (keep : K) (known : Option (List ℕ)) → Responds meaning keep keep known outgoing.Unavailable
+unasked meaning keep known = record {
+  leaves = same_leaves meaning keep (ShowsAfter meaning.left_shows known);
+  exchanged = λ r is clean ordered. unavailable (meaning.shows keep) r known is;
+  refused_kept = λ r is clean least. is;
+  up = on_any known _ (λ spelled. asked_all _ spelled (λ other. absurd (other refl)));
+  unavailable = λ told. refl;
+  refused = on_refusals known _ (λ why other. absurd (other refl));
+  spells = λ other. absurd (other refl);
+}
 
--- what holds whatever was written
-pub without_reply : (outcome : Outcome) (P : Type 0) → P → WithoutReply outcome P
-without_reply (Replied told) P h = λ _. h
-without_reply ReadFailed P h = h
-without_reply (WriteFailed told) P h = λ _. h
+pub read_failed : {K W : Type 0} (meaning : Meaning K Register W StoreFault) (keep : K) (known held holds : Option (List ℕ)) → Keeps held holds
+    → AnswersOne meaning keep keep ReadFailed known held holds
+read_failed meaning keep known held holds keeps = record {
+  leaves = same_leaves meaning keep (ShowsAfter meaning.left_shows known);
+  exchanged = λ r is clean ordered. unread (meaning.shows keep) r known held holds is keeps;
+  refused_kept = λ r is clean. is;
+  up = on_any known _ (λ spelled. asks_nothing spelled);
+  unavailable = keeps;
+  refused = on_refusals known _ (λ why. keeps);
+  spells = tt;
+}
 
-pub if_refused : (outcome : Outcome) (P : Type 0) → P → IfRefused outcome P
-if_refused (Replied told) P h = λ _. h
-if_refused ReadFailed P h = h
-if_refused (WriteFailed told) P h = λ _. h
+-- ---- what goes out for what an input spells goes out for the input
 
--- what holds where the status that was written is a refusal's
-pub refused_kept : (outcome : Outcome) (status : ℕ) (bytes : List ℕ) (old new : Option (List ℕ)) (P : Type 0) → (400 ≤ status → P) → IsWritten outcome status bytes old new → IfRefused outcome P
-refused_kept (Replied told) status bytes old new P h w = λ least. h (subst (λ n. 400 ≤ n) w.0 least)
-refused_kept ReadFailed status bytes old new P h w = absurd w
-refused_kept (WriteFailed told) status bytes old new P h w = λ least. h (subst (λ n. 400 ≤ n) w.0 least)
+effects : (out : Outgoing) (shown : Register → Type 0) (r : Register) (known : Option (List ℕ)) (s : Spelled) → IsSpelled known s → HasStatus out → GoesOut out shown r s
+    → IsExchanged (Replied (status_out out)) shown r known (Some []) (Some (bytes_out out))
+effects (outgoing.Full status bytes) shown r known s spells sure sent = record {
+  unread = λ none. absurd (no_status status none);
+  unavailable = λ is. absurd (sure.served (some_status status 503 is));
+  replied = λ other is _. record {
+    spelled = s;
+    spells = spells;
+    said = sent.0;
+    tells = sent.1;
+    status_is = sym (some_status status other is) ∙ sent.3;
+    bytes = bytes.items;
+    bytes_are = sent.2;
+    written = refl;
+    left = sent.4;
+    exact = exact r s sent.0 sent.1;
+    alone = λ legal name. alone name r (s ∷ []) (bytes.items ∷ []) legal ((sent.0, sent.1, sent.2), tt);
+  };
+}
+effects outgoing.Unavailable shown r known s spells sure is = unavailable shown r known is
 
--- with another status than 503 there is a reply
-pub with_reply : (outcome : Outcome) (status : ℕ) (bytes : List ℕ) (old new : Option (List ℕ)) (P : Type 0) → status ≢ 503 → IsWritten outcome status bytes old new → WithoutReply outcome P
-with_reply (Replied told) status bytes old new P sure w = λ e. absurd (sure (sym w.0 ∙ e))
-with_reply ReadFailed status bytes old new P sure w = absurd w
-with_reply (WriteFailed told) status bytes old new P sure w = λ e. absurd (sure (sym w.0 ∙ e))
+refusing : (out : Outgoing) (P : Type 0) → IfRefusing out P → IfRefused (Replied (status_out out)) P
+refusing (outgoing.Full status bytes) P h = h
+refusing outgoing.Unavailable P h = λ least. h
 
--- the refusal is told where it went out
-refusal_told : (outcome : Outcome) (why : Refusal) (status : ℕ) (bytes : List ℕ) (old new : Option (List ℕ)) → (status ≡ status_of (refused why)) × (bytes ≡ bytes_of (refused why))
-    → IsWritten outcome status bytes old new → TellsRefusal outcome why old new
-refusal_told (Replied told) why status bytes old new is w = λ _. (w.0 ∙ is.0, rw (← is.1) w.1)
-refusal_told ReadFailed why status bytes old new is w = absurd w
-refusal_told (WriteFailed told) why status bytes old new is w = λ _. (w.0 ∙ is.0, (w.1, rw (← is.1) w.2))
+full_answers : (out : Outgoing) (P : Type 0) → IfFull out P → UnlessUnavailable (Replied (status_out out)) P
+full_answers (outgoing.Full status bytes) P h = λ other. h
+full_answers outgoing.Unavailable P h = λ other. absurd (other refl)
 
-no_refusal_told : (outcome : Outcome) (why : Refusal) (old new : Option (List ℕ)) → IsWritten outcome 503 UNAVAILABLE.now old new → TellsRefusal outcome why old new
-no_refusal_told (Replied told) why old new w = λ other. absurd (other w.0)
-no_refusal_told ReadFailed why old new w = absurd w
-no_refusal_told (WriteFailed told) why old new w = λ other. absurd (other w.0)
+tells_unavailable : (out : Outgoing) → HasStatus out → TellsUnavailable (Replied (status_out out)) (Some []) (Some (bytes_out out))
+tells_unavailable (outgoing.Full status bytes) sure = λ told. absurd (sure.served told)
+tells_unavailable outgoing.Unavailable sure = λ told. refl
 
-pub refusals_told : (outcome : Outcome) (known : Option (List ℕ)) (status : ℕ) (bytes : List ℕ) (old new : Option (List ℕ))
-    → OnRefusal known (λ why. (status ≡ status_of (refused why)) × (bytes ≡ bytes_of (refused why))) → IsWritten outcome status bytes old new
-    → OnRefusal known (λ why. TellsRefusal outcome why old new)
-refusals_told outcome None status bytes old new is w = tt
-refusals_told outcome (Some input) status bytes old new is w = λ why spells. refusal_told outcome why status bytes old new (is why spells) w
+tells_refusal : (out : Outgoing) (why : Refusal) → IsRefusal out why → TellsRefusal (Replied (status_out out)) why (Some []) (Some (bytes_out out))
+tells_refusal (outgoing.Full status bytes) why is = λ other. is
+tells_refusal outgoing.Unavailable why is = λ other. absurd (other refl)
 
-pub no_refusals_told : (outcome : Outcome) (known : Option (List ℕ)) (old new : Option (List ℕ)) → IsWritten outcome 503 UNAVAILABLE.now old new → OnRefusal known (λ why. TellsRefusal outcome why old new)
-no_refusals_told outcome None old new w = tt
-no_refusals_told outcome (Some input) old new w = λ why spells. no_refusal_told outcome why old new w
+on_refusal : (known : Option (List ℕ)) (s : Spelled) (P : Refusal → Type 0) → IsSpelled known s → ((why : Refusal) → s ≡ Err why → P why) → OnRefusal known P
+on_refusal None s P is h = tt
+on_refusal (Some input) s P is h = λ why spells. h why (one_spelling input s (Err why) is spells)
 
--- ---- what goes out in memory
+pub goes_out : {K W : Type 0} (meaning : Meaning K Register W StoreFault) (old new : K) (named : Option (List ℕ)) (out : Outgoing) (known : Option (List ℕ)) (s : Spelled) → IsSpelled known s
+    → GoesOutFor meaning old new named out s → Responds meaning old new known out
+goes_out meaning old new named out known s spells h = record {
+  leaves = leaves_so meaning old new (λ r left. meaning.left_shows left (after r s)) (ShowsAfter meaning.left_shows known) (λ clean r is left made. (s, spells, made)) h.leaves;
+  exchanged = λ r is clean ordered. effects out (meaning.shows new) r known s spells h.status (h.reply r is clean ordered);
+  refused_kept = λ r is clean. refusing out (meaning.shows new r) (h.kept r is clean);
+  up =
+      on_this known s (λ t. IfAsked t (UnlessUnavailable (Replied (status_out out)) (meaning.is_sound new → meaning.is_clean new))) spells
+      (asked_so _ _ s (full_answers out (meaning.is_sound new → meaning.is_clean new)) h.up);
+  unavailable = tells_unavailable out h.status;
+  refused = on_refusal known s (λ why. TellsRefusal (Replied (status_out out)) why (Some []) (Some (bytes_out out))) spells (λ why e. tells_refusal out why (h.refused why e));
+  spells = λ other. (s, spells);
+}
 
--- without a whole reply nothing changed
-pub response_unavailable : (shown : Register → Type 0) (r : Register) (input : List ℕ) → shown r → IsResponse shown r input outgoing.Unavailable
-response_unavailable shown r input is = unavailable (Replied 503) shown r (Some input) (Some []) (Some UNAVAILABLE.now) is (refl, refl)
+-- ---- a reply in memory that is written
 
-pub responded : {K : Type 0} (shows : K → Register → Type 0) (is_clean : K → Type 0) (old new : K) (input : List ℕ) (out : Outgoing)
-    → ByOutgoing (Some out) (Some input) (λ spelled status bytes. Promised shows is_clean old new (λ r. IsOrdered r.members → IsSent (shows new) r spelled status bytes)) (Promised shows is_clean old new (shows new))
-    → HasStatus out → Promised shows is_clean old new (λ r. IsOrdered r.members → IsResponse (shows new) r input out)
-responded shows is_clean old new input (outgoing.Full status bytes) h sure = λ r is clean ordered.
-    exchanged (Replied status) (shows new) r (Some input) h.0 status bytes.items (Some []) (Some bytes.items) sure.served h.1 (h.2 r is clean ordered) (refl, refl)
-responded shows is_clean old new input outgoing.Unavailable h sure = λ r is clean ordered.
-    response_unavailable (shows new) r input (h r is clean)
+told : (o : Outcome) (status : ℕ) (bytes : List ℕ) (held holds : Option (List ℕ)) → IsWritten o status bytes held holds → status_told o ≡ Some status
+told (Replied n) status bytes held holds w = ap Some w.0
+told ReadFailed status bytes held holds w = absurd w
+told (WriteFailed n) status bytes held holds w = ap Some w.0
 
--- ---- where a request is answered
+written_by : (o : Outcome) (status : ℕ) (bytes : List ℕ) (held holds : Option (List ℕ)) → IsWritten o status bytes held holds → IsWrittenBy o held holds bytes
+written_by (Replied n) status bytes held holds w = w.1
+written_by ReadFailed status bytes held holds w = absurd w
+written_by (WriteFailed n) status bytes held holds w = (w.1, w.2)
 
--- what was written of a reply with this status
-pub written_answers : (P : Type 0) (outcome : Outcome) (status : ℕ) (bytes : List ℕ) (old new : Option (List ℕ)) → IsWritten outcome status bytes old new → (status ≢ 503 → P) → UnlessUnavailable outcome P
-written_answers P (Replied told) status bytes old new w h = λ other. h (λ e. other (w.0 ∙ e))
-written_answers P ReadFailed status bytes old new w h = tt
-written_answers P (WriteFailed told) status bytes old new w h = λ other. h (λ e. other (w.0 ∙ e))
+-- what holds of the reply's status holds of the one that was written
+answers_so : (P : Type 0) (o : Outcome) (status : ℕ) (bytes : List ℕ) (held holds : Option (List ℕ)) → IsWritten o status bytes held holds → (status ≢ 503 → P) → UnlessUnavailable o P
+answers_so P (Replied n) status bytes held holds w h = λ other. h (λ e. other (w.0 ∙ e))
+answers_so P ReadFailed status bytes held holds w h = tt
+answers_so P (WriteFailed n) status bytes held holds w h = λ other. h (λ e. other (w.0 ∙ e))
+
+refused_so : (P : Type 0) (o : Outcome) (status : ℕ) (bytes : List ℕ) (held holds : Option (List ℕ)) → IsWritten o status bytes held holds → (400 ≤ status → P) → IfRefused o P
+refused_so P (Replied n) status bytes held holds w h = λ least. h (subst (λ n. 400 ≤ n) w.0 least)
+refused_so P ReadFailed status bytes held holds w h = absurd w
+refused_so P (WriteFailed n) status bytes held holds w h = λ least. h (subst (λ n. 400 ≤ n) w.0 least)
+
+unavailable_so : (o : Outcome) (status : ℕ) (bytes : List ℕ) (held holds : Option (List ℕ)) → IsWritten o status bytes held holds → (status ≡ 503 → bytes ≡ UNAVAILABLE.now) → TellsUnavailable o held holds
+unavailable_so (Replied n) status bytes held holds w h = λ is. subst (Appends held holds) (h (sym w.0 ∙ is)) w.1
+unavailable_so ReadFailed status bytes held holds w h = absurd w
+unavailable_so (WriteFailed n) status bytes held holds w h = λ is. (w.1, subst (λ bs. Appends held holds (take w.1 bs)) (h (sym w.0 ∙ is)) w.2)
+
+refusal_so : (why : Refusal) (o : Outcome) (status : ℕ) (bytes : List ℕ) (held holds : Option (List ℕ)) → IsWritten o status bytes held holds
+    → (status ≢ 503 → (status ≡ status_of (refused why)) × (bytes ≡ bytes_of (refused why))) → TellsRefusal o why held holds
+refusal_so why (Replied n) status bytes held holds w h = λ other. let is = h (λ e. other (w.0 ∙ e)) in (w.0 ∙ is.0, subst (Appends held holds) is.1 w.1)
+refusal_so why ReadFailed status bytes held holds w h = absurd w
+refusal_so why (WriteFailed n) status bytes held holds w h = λ other. let is = h (λ e. other (w.0 ∙ e)) in (w.0 ∙ is.0, (w.1, subst (λ bs. Appends held holds (take w.1 bs)) is.1 w.2))
+
+refusals_so : (known : Option (List ℕ)) (P Q : Refusal → Type 0) → ((why : Refusal) → P why → Q why) → OnRefusal known P → OnRefusal known Q
+refusals_so None P Q so h = tt
+refusals_so (Some input) P Q so h = λ why spells. so why (h why spells)
+
+pub exchanged_so : (shown : Register → Type 0) (r : Register) (known : Option (List ℕ)) (o : Outcome) (status : ℕ) (bytes : List ℕ) (held holds : Option (List ℕ)) → IsWritten o status bytes held holds
+    → IsExchanged (Replied status) shown r known (Some []) (Some bytes) → IsExchanged o shown r known held holds
+exchanged_so shown r known o status bytes held holds w h =
+    let is = told o status bytes held holds w in
+    let by = written_by o status bytes held holds w in
+    record {
+      unread = λ none. absurd (no_status status (sym is ∙ none));
+      unavailable = λ e. let was = h.unavailable (sym is ∙ e) in (was.0, subst (IsWrittenBy o held holds) was.1 by);
+      replied = λ n e other.
+          let was : IsReplied (Replied status) shown r known (Some []) (Some bytes) n = h.replied n (sym is ∙ e) other in
+          record {
+            spelled = was.spelled;
+            spells = was.spells;
+            said = was.said;
+            tells = was.tells;
+            status_is = was.status_is;
+            bytes = was.bytes;
+            bytes_are = was.bytes_are;
+            written = subst (IsWrittenBy o held holds) was.written by;
+            left = was.left;
+            exact = was.exact;
+            alone = was.alone;
+          };
+    }
+
+pub written : {K W : Type 0} (meaning : Meaning K Register W StoreFault) (old new : K) (known : Option (List ℕ)) (o : Outcome) (status : ℕ) (bytes : List ℕ) (held holds : Option (List ℕ))
+    → IsWritten o status bytes held holds → AnswersOne meaning old new (Replied status) known (Some []) (Some bytes) → AnswersOne meaning old new o known held holds
+written meaning old new known o status bytes held holds w h = record {
+  leaves = h.leaves;
+  exchanged = λ r is clean ordered. exchanged_so (meaning.shows new) r known o status bytes held holds w (h.exchanged r is clean ordered);
+  refused_kept = λ r is clean. refused_so (meaning.shows new r) o status bytes held holds w (h.refused_kept r is clean);
+  up = on_spelled_so known _ _ (λ spelled. asked_so _ _ spelled (answers_so _ o status bytes held holds w)) h.up;
+  unavailable = unavailable_so o status bytes held holds w h.unavailable;
+  refused = refusals_so known _ _ (λ why. refusal_so why o status bytes held holds w) h.refused;
+  spells = answers_so _ o status bytes held holds w h.spells;
+}

@@ -85,7 +85,7 @@ invisible name registrar another day date inputs others spelled worded replies t
 
 pub invisible_in_exchanges : {K : Type 0} (shows : K → Register → Type 0) → ExchangesKeepDraftsInvisible shows
 invisible_in_exchanges shows name registrar another day date keep next exchanges others run too same =
-    same_own name registrar another day date run.spelled too.spelled run.sent too.sent run.replies too.replies same
+    same_own name registrar another day date run.spelled too.spelled run.sent too.sent run.over.replies too.over.replies same
 
 pub joined : ReportsNameTheJoined
 joined registrar day inputs spelled replies h = reports (empty_register registrar day) spelled replies h.replied

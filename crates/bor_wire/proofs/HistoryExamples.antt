@@ -24,7 +24,7 @@ use Rattle.bor_desk.specs.declared.request.Request.TheVariants as ask
 use Rattle.bor_desk.specs.declared.reply.DeskReply.{DeskReply}
 use Rattle.bor_desk.specs.declared.reply.DeskReply.TheVariants as tell
 use Rattle.bor_desk.specs.Refusals.{refusal_name}
-use Rattle.bor_desk.specs.Step.{Answer, exactly, report, evidence}
+use Rattle.bor_desk.specs.Step.{Answer, exactly, report, evidence, entities}
 use Rattle.bor_desk.specs.Outcomes.{IsTold}
 use Rattle.bor_desk.specs.Runs.{Asked, Occasion, exchange, history, solo}
 use Rattle.bor_http.specs.declared.incoming.fault.Refusal.TheVariants.{NoPath}
@@ -76,11 +76,12 @@ inputs =
     ∷ cedar ask.Filings
     ∷ []
 
--- the bytes of an answer that is exactly a reply; neither a report nor evidence is asked for here
+-- the bytes of an answer that is exactly a reply; no report, evidence or identifier is asked for here
 abbrev bytes_told : Answer → List ℕ
 bytes_told (exactly reply) = bytes_of (answered reply)
 bytes_told (report entity day shown) = []
 bytes_told (evidence entity day seen) = []
+bytes_told (entities identifier day seen) = []
 
 -- what a run sends where each request is replied to like this, by the requests before it and the register
 abbrev sent_by : (List Asked → Register → Asked → List ℕ) → List Asked → Register → List Spelled → List (List ℕ)
@@ -209,6 +210,7 @@ abbrev is_exact : Answer → Bool
 is_exact (exactly reply) = true
 is_exact (report entity day shown) = false
 is_exact (evidence entity day seen) = false
+is_exact (entities identifier day seen) = false
 
 -- whether no answer of the run is a report
 abbrev has_no_report : Register → List Spelled → Bool
@@ -227,6 +229,7 @@ by_answer : (answer : Answer) → is_exact answer ≡ true → IsReplyBy answer
 by_answer (exactly reply) h = (answered reply, (reply, refl, refl), refl)
 by_answer (report entity day shown) h = absurd cc
 by_answer (evidence entity day seen) h = absurd cc
+by_answer (entities identifier day seen) h = absurd cc
 
 own_replies : (earlier : List Asked) (r : Register) (ss : List Spelled) → has_no_report r ss ≡ true → AreReplies r ss (sent_by own earlier r ss)
 own_replies earlier r [] h = tt

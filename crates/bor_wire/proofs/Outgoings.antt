@@ -1,10 +1,10 @@
 -- The reply that goes out for an input, from the one for what it spells.
-use Rattle.std.proofs.Common.{◌≡◌, ◌≢◌, ◌≤◌, ℕ, List, true, Option, Some, None, Result, Ok, Err, refl, sym, subst, ◌∙◌, arith}
-use Rattle.std.specs.Prelude.{⊤}
+use Rattle.bor_register.specs.declared.fault.StoreFault.{StoreFault}
+use Rattle.std.proofs.Common.{◌≡◌, ◌≢◌, ◌≤◌, ℕ, List, true, Option, Some, None, Result, Ok, Err, inl, refl, sym, subst, ◌∙◌, arith}
 use Rattle.std.specs.Option.{IfSome}
-use Rattle.bor_records.specs.Promises.{Promised}
+use Rattle.bor_records.specs.Promises.{Leaves, Meaning}
 use Rattle.bor_register.specs.declared.caller.Caller.{Caller}
-use Rattle.bor_register.specs.Register.{Register, IsOrdered, caller_of}
+use Rattle.bor_register.specs.Register.{Register, caller_of}
 use Rattle.bor_desk.specs.declared.request.Request.{Request}
 use Rattle.bor_desk.specs.declared.request.Request.TheVariants as ask
 use Rattle.bor_desk.specs.declared.reply.DeskReply.{DeskReply}
@@ -24,7 +24,9 @@ use Rattle.bor_wire.specs.Rendering.Replies.{Said, refused, answered, bytes_of, 
 use Rattle.bor_wire.specs.Rendering.Statuses.{desk_status, wire_refusal_status}
 use Rattle.bor_wire.specs.declared.outgoing.Outgoing.{Outgoing}
 use Rattle.bor_wire.specs.declared.outgoing.Outgoing.TheVariants.{Full, Unavailable}
-use Rattle.bor_wire.specs.Exchanges.{ByOutgoing, GoesOut, HasStatus, IfAsked, IfRefusing, IsFor, IsRefusal, IsRendered, IsSent, IsSpelled, OnRefusal, OnSpelled}
+use Rattle.bor_wire.specs.Exchanges.{GoesOut, HasStatus, IfAsked, IfFull, IfRefusing, IsFor, IsRefusal, IsRendered, IsSpelled, OnSpelled}
+use Rattle.bor_wire.specs.Answering.{GoesOutFor}
+use Rattle.bor_wire.specs.Inputs.{after}
 use Rattle.bor_wire.specs.Refused.{IsFull}
 use Rattle.bor_wire.proofs.RefusalLaws.{line_first, refused_leaves}
 
@@ -32,13 +34,6 @@ use Rattle.bor_wire.proofs.RefusalLaws.{line_first, refused_leaves}
 pub spelled_known : (known : Option (List ℕ)) (read : Result Message Refusal) → IfSome known (λ input. IsMessage input read) → IsSpelled known (read >>= spell)
 spelled_known None read h = tt
 spelled_known (Some input) read h = message_spelled input read h
-
--- what goes out for something that the input spells goes out for the input
-pub by_outgoing : {K : Type 0} (shows : K → Register → Type 0) (is_clean : K → Type 0) (old new : K) (o : Outgoing) (known : Option (List ℕ)) (s : Spelled) → IsSpelled known s
-    → Promised shows is_clean old new (λ r. IsOrdered r.members → GoesOut o (shows new) r s) → Promised shows is_clean old new (λ r. IfRefusing o (shows new r))
-    → ByOutgoing (Some o) known (λ t status bytes. Promised shows is_clean old new (λ r. IsOrdered r.members → IsSent (shows new) r t status bytes)) (Promised shows is_clean old new (shows new))
-by_outgoing shows is_clean old new (Full status bytes) known s spells h kept = (s, spells, h)
-by_outgoing shows is_clean old new Unavailable known s spells h kept = kept
 
 -- nothing has to hold
 pub asks_nothing : (s : Spelled) → IfAsked s (Unit {0})
@@ -58,6 +53,15 @@ asked_so P Q (Err why) so h = tt
 pub if_refusing : (o : Outgoing) (P : Type 0) → P → IfRefusing o P
 if_refusing (Full status bytes) P h = λ _. h
 if_refusing Unavailable P h = h
+
+-- what holds is so of a whole reply
+pub if_full : (o : Outgoing) (P : Type 0) → P → IfFull o P
+if_full (Full status bytes) P h = h
+if_full Unavailable P h = tt
+
+-- a request is no refusal
+pub no_refusal : (asked : Asked) (why : Refusal) → ◌≡◌ {A = Spelled} (Ok asked) (Err why) → ⊥
+no_refusal asked why e = cc
 
 -- a long reply leaves the register, also where a snapshot's isn't known to be told
 pub long_leaves : (r : Register) (caller : Option Caller) (request : Request) (reply : DeskReply) → (IsOrderedFor request r → IsTold (step r caller request).answer reply) → is_long reply ≡ true
@@ -101,6 +105,10 @@ refusal_served (WrongMethod _) = λ e. absurd (omega arith)
 refusal_served NoToken = λ e. absurd (omega arith)
 refusal_served (BadQuery _) = λ e. absurd (omega arith)
 
+-- a keep that was asked nothing leaves what it might have left
+pub same_leaves : {K W : Type 0} (meaning : Meaning K Register W StoreFault) (keep : K) (IsMade : Register → W → Type 0) → Leaves meaning keep keep IsMade
+same_leaves meaning keep IsMade = record { began = λ clean. clean; sound = λ sound. sound; stops = λ sound left may. inl may }
+
 -- ---- whom it is for
 
 -- who is named beside a reply of the desk is so beside what goes out of it
@@ -114,10 +122,10 @@ pub nobody_named : (o : Outgoing) → IsFor o None None
 nobody_named (Full status bytes) = refl
 nobody_named Unavailable = tt
 
--- what holds of what was read holds of all that the input spells
-pub on_spelled : (known : Option (List ℕ)) (read : Result Message Refusal) (P : Spelled → Type 0) → IfSome known (λ input. IsMessage input read) → P (read >>= spell) → OnSpelled known P
-on_spelled None read P is h = tt
-on_spelled (Some input) read P is h = λ spelled spells. subst P (one_spelling input (read >>= spell) spelled (message_spelled input read is) spells) h
+-- what holds of something that the input spells holds of all that it spells
+pub on_this : (known : Option (List ℕ)) (s : Spelled) (P : Spelled → Type 0) → IsSpelled known s → P s → OnSpelled known P
+on_this None s P is h = tt
+on_this (Some input) s P is h = λ spelled spells. subst P (one_spelling input s spelled is spells) h
 
 -- and so does what holds of anything
 pub on_any : (known : Option (List ℕ)) (P : Spelled → Type 0) → ((spelled : Spelled) → P spelled) → OnSpelled known P
@@ -126,18 +134,8 @@ on_any (Some input) P h = λ spelled spells. h spelled
 
 -- ---- the refusal that an input spells
 
--- where anything goes out, it is of what was read
-pub refused_out : (known : Option (List ℕ)) (read : Result Message Refusal) (o : Outgoing) → IfSome known (λ input. IsMessage input read)
-    → ((why : Refusal) → (read >>= spell) ≡ Err why → IsRefusal o why) → OnRefusal known (λ why. IsRefusal o why)
-refused_out None read o is h = tt
-refused_out (Some input) read o is h = λ why spells. h why (one_spelling input (read >>= spell) (Err why) (message_spelled input read is) spells)
-
 pub is_that : (o : Outgoing) (refusal why : Refusal) (stated : Spelled) → IsRefusal o refusal → stated ≡ Err refusal → stated ≡ Err why → IsRefusal o why
 is_that o refusal why stated h is other = let same : refusal ≡ why = cc in subst (IsRefusal o) same h
-
-pub nothing_out : (known : Option (List ℕ)) → OnRefusal known (λ why. ⊤)
-nothing_out None = tt
-nothing_out (Some input) = λ why spells. tt
 
 -- a refusal goes out for what is refused so, and leaves what was shown
 pub refusal_goes : (o : Outgoing) (shown : Register → Type 0) (r : Register) (why : Refusal) → IsRefusal o why → shown r → GoesOut o shown r (Err why)
@@ -147,3 +145,28 @@ refusal_goes Unavailable shown r why h is = is
 pub on_spelled_so : (known : Option (List ℕ)) (P Q : Spelled → Type 0) → ((spelled : Spelled) → P spelled → Q spelled) → OnSpelled known P → OnSpelled known Q
 on_spelled_so None P Q so h = tt
 on_spelled_so (Some input) P Q so h = λ spelled spells. so spelled (h spelled spells)
+
+-- ---- what goes out where the keep was asked nothing
+
+pub refusal_goes_out : {K W : Type 0} (meaning : Meaning K Register W StoreFault) (keep : K) (o : Outgoing) (why : Refusal) → IsRefusal o why → HasStatus o
+    → GoesOutFor meaning keep keep None o (Err why)
+refusal_goes_out meaning keep o why h sure = record {
+  leaves = same_leaves meaning keep (λ r left. meaning.left_shows left r);
+  reply = λ r is clean ordered. refusal_goes o (meaning.shows keep) r why h is;
+  kept = λ r is clean. if_refusing o (meaning.shows keep r) is;
+  up = tt;
+  agent = λ r is clean. nobody_named o;
+  refused = λ other e. is_that o why other (Err why) h refl e;
+  status = sure;
+}
+
+pub nothing_goes_out : {K W : Type 0} (meaning : Meaning K Register W StoreFault) (keep : K) (s : Spelled) → GoesOutFor meaning keep keep None Unavailable s
+nothing_goes_out meaning keep s = record {
+  leaves = same_leaves meaning keep (λ r left. meaning.left_shows left (after r s));
+  reply = λ r is clean ordered. is;
+  kept = λ r is clean. is;
+  up = asked_all _ s tt;
+  agent = λ r is clean. tt;
+  refused = λ why e. tt;
+  status = tt;
+}

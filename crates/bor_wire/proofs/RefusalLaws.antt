@@ -7,7 +7,7 @@ use Rattle.bor_desk.specs.declared.request.Request.{Request}
 use Rattle.bor_desk.specs.declared.request.Request.TheVariants as ask
 use Rattle.bor_desk.specs.declared.reply.DeskReply.{DeskReply}
 use Rattle.bor_desk.specs.declared.reply.DeskReply.TheVariants as tell
-use Rattle.bor_desk.specs.Step.{Answer, exactly, report, evidence, step}
+use Rattle.bor_desk.specs.Step.{Answer, exactly, report, evidence, entities, step}
 use Rattle.bor_desk.specs.Outcomes.{IsTold, IsOrderedFor}
 use Rattle.bor_desk.specs.Laws.{may_tell_a_change}
 use Rattle.bor_desk.proofs.Unchanged.{refusal_leaves, reads}
@@ -34,6 +34,7 @@ refusal_tells_none (tell.Published outwards) h = refl
 refusal_tells_none (tell.Snapshot date records) h = refl
 refusal_tells_none (tell.Chains entity date persons) h = refl
 refusal_tells_none (tell.Evidence entity date told) h = refl
+refusal_tells_none (tell.Entities identifier date told) h = refl
 refusal_tells_none (tell.Day day) h = absurd (omega arith)
 refusal_tells_none (tell.Enrolled name) h = absurd (omega arith)
 refusal_tells_none (tell.Refused why) h = refl
@@ -43,6 +44,7 @@ refused_answer : (answer : Answer) (reply : DeskReply) → IsTold answer reply �
 refused_answer (exactly wanted) reply told h = refusal_tells_none wanted (subst (λ x. 400 ≤ desk_status x) told h)
 refused_answer (report entity day shown) reply told h = refl
 refused_answer (evidence entity day seen) reply told h = refl
+refused_answer (entities identifier day seen) reply told h = refl
 
 -- also where a snapshot's reply isn't known to be told
 pub refused_leaves : (r : Register) (caller : Option Caller) (request : Request) (reply : DeskReply) → (IsOrderedFor request r → IsTold (step r caller request).answer reply) → 400 ≤ desk_status reply

@@ -112,6 +112,7 @@ keyed-after s ask.Published number due key file k = k
 keyed-after s (ask.Snapshot agent declaration date) number due key file k = k
 keyed-after s (ask.Chains entity date) number due key file k = k
 keyed-after s (ask.Evidence entity date) number due key file k = k
+keyed-after s (ask.Entities identifier date) number due key file k = k
 keyed-after s (ask.Day date) number due key file k = k
 keyed-after s (ask.Enrol name token) number due key file k = k
 
@@ -161,6 +162,7 @@ caller-registrar q token caller ask.Published is = is
 caller-registrar q token caller (ask.Snapshot agent declaration date) is = is
 caller-registrar q token caller (ask.Chains entity date) is = is
 caller-registrar q token caller (ask.Evidence entity date) is = is
+caller-registrar q token caller (ask.Entities identifier date) is = is
 
 -- ---- the filing stands
 

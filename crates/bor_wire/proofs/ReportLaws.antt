@@ -1,6 +1,7 @@
--- Whom a report names and what evidence tells, from what is said.
+-- Whom a report names, what evidence tells and which entities are found, from what is said.
 use Rattle.std.proofs.Common.{◌≡◌, ℕ, ℤ, List, [], ◌∷◌, Bool, true, false, Option, Some, None, Ok, Err, refl, sym, ap, subst, ◌∙◌, arith}
 use Rattle.std.specs.Prelude.{if◌then◌else◌, unwrap_or}
+use Rattle.bods_read.specs.declared.details.Identifier.{Identifier}
 use Rattle.bor_records.specs.declared.row.Row.{Row}
 use Rattle.bor_records.specs.declared.links.node.Node.{Node}
 use Rattle.bor_records.specs.Links.Rows.{shown_of, is_entity_info}
@@ -26,7 +27,7 @@ use Rattle.bor_wire.specs.Rendering.Statuses.{desk_status}
 use Rattle.bor_wire.specs.Rendering.Replies.{Said, answered, status_of}
 use Rattle.bor_wire.specs.Inputs.{IsSaid, after}
 use Rattle.bor_wire.specs.Runs.{AreReplies}
-use Rattle.bor_wire.specs.Reports.{NamesTheJoined, TellsTheEvidence, IsExact, AreReports}
+use Rattle.bor_wire.specs.Reports.{NamesTheJoined, TellsTheEvidence, FindsTheIdentified, IsExact, AreReports}
 
 -- the reply is a report on the joined
 Names : Shown → Node → ℤ → DeskReply → Type 0
@@ -73,6 +74,15 @@ caller_tells r token (Some (Agent name)) entity date reply is told status =
     let tells : Tells seen entity day reply = evidence_tells (is_entity_info (info_of (shown_of day seen) entity)) seen entity day reply told status in
     record { name = name; caller = is; evidence = tells.0; is_evidence = tells.1; joined = names_the_joined.joined seen entity day tells.0 tells.1; told = ap answered tells.2 }
 
+-- ---- entities
+
+caller_finds : (r : Register) (token : List ℕ) (caller : Option Caller) (identifier : Identifier) (date : Option ℤ) (reply : DeskReply) → caller_of token r ≡ caller
+    → IsTold (step r caller (ask.Entities identifier date)).answer reply → desk_status reply ≡ 200 → FindsTheIdentified r token identifier date (answered reply)
+caller_finds r token None identifier date reply is told status = absurd (omega (arith, ap desk_status told, status))
+caller_finds r token (Some Registrar) identifier date reply is told status = absurd (omega (arith, ap desk_status told, status))
+caller_finds r token (Some (Agent name)) identifier date reply is told status =
+    record { name = name; caller = is; records = told.0; are_records = told.1; told = ap answered told.2 }
+
 -- ---- what is said
 
 pub exact : (r : Register) (spelled : Spelled) (said : Said) → IsSaid r spelled said → IsExact r spelled said
@@ -84,6 +94,9 @@ exact r (Ok asked) said h = record {
   evidence = λ entity date is status.
       subst (TellsTheEvidence r asked.token entity date) (sym h.2)
       (caller_tells r asked.token (caller_of asked.token r) entity date h.0 refl (told (ask.Evidence entity date) is) (sym (ap status_of h.2) ∙ status));
+  found = λ identifier date is status.
+      subst (FindsTheIdentified r asked.token identifier date) (sym h.2)
+      (caller_finds r asked.token (caller_of asked.token r) identifier date h.0 refl (told (ask.Entities identifier date) is) (sym (ap status_of h.2) ∙ status));
 }
   where
     told : (request : Request) → asked.request ≡ request → IsTold (step r (caller_of asked.token r) request).answer h.0

@@ -24,10 +24,8 @@ use Rattle.bor_wire.specs.Exchanges.{IsSpelled, IsWrittenBy}
 use Rattle.bor_wire.specs.Sequences.{AreSpelledBy, AreWritten, Exchanged, IsRun, answered, is_answered, keep_left}
 use Rattle.bor_wire.specs.Restarts.{ExchangesCompose, FilingsFollowHistory, IsLife, LivesKeepDraftsInvisible, Part, RunsCompose, filings_alone, own_in_life}
 use Rattle.bor_wire.proofs.HeadlineLaws.{invisible}
-use Rattle.bor_wire.proofs.HistoryLaws.{alone}
-use Rattle.bor_wire.proofs.ReportLaws.{reports}
-use Rattle.bor_wire.proofs.RefusalLaws.{refusals_leave}
 use Rattle.bor_wire.proofs.RunLaws.{after_legal}
+use Rattle.bor_wire.proofs.SequenceLaws.{run_over}
 
 -- ---- two runs
 
@@ -86,19 +84,14 @@ exchanges_compose {K} shows r keep next es others legal run more =
     let spelled : List Spelled = run.spelled ++ more.spelled in
     let sent : List (List ℕ) = run.sent ++ more.sent in
     let told : answered (es ++ others) ≡ answered es ++ answered others = filter-append (λ (e : Exchanged K). is_answered e.outcome) es others in
-    let replies : AreReplies r spelled sent = replies-append r run.spelled more.spelled run.sent more.sent run.replies more.replies in
+    let replies : AreReplies r spelled sent = replies-append r run.spelled more.spelled run.sent more.sent run.over.replies more.over.replies in
     let left : register_left r spelled ≡ register_left (register_left r run.spelled) more.spelled = left-append r run.spelled more.spelled in
     let both : IsRun (shows (keep_left next others)) r (es ++ others) = record {
       spelled = spelled;
       spells = subst (λ (xs : List (Exchanged K)). AreSpelledBy xs spelled) (sym told) (zip-append (λ (e : Exchanged K) s. IsSpelled e.known s) (answered es) run.spelled (answered others) more.spelled run.spells more.spells);
       sent = sent;
       written = subst (λ (xs : List (Exchanged K)). AreWritten xs sent) (sym told) (zip-append (λ (e : Exchanged K) bytes. IsWrittenBy e.outcome e.held e.holds bytes) (answered es) run.sent (answered others) more.sent run.written more.written);
-      replies = replies;
-      left = subst (shows (keep_left next others)) (sym left) more.left;
-      legal = subst IsLegal (sym left) more.legal;
-      alone = λ name. alone name r spelled sent legal replies;
-      reports = reports r spelled sent replies;
-      refused = refusals_leave r spelled sent replies;
+      over = run_over (shows (keep_left next others)) r spelled sent legal replies (subst (shows (keep_left next others)) (sym left) more.over.left);
     } in
     (both, refl, refl)
 

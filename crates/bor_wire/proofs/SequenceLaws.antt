@@ -1,4 +1,6 @@
 -- Exchanges one after the other are a run.
+use Rattle.bor_register.specs.declared.fault.StoreFault.{StoreFault}
+use Rattle.bor_records.specs.Promises.{Meaning}
 use Rattle.std.proofs.Common.{◌≡◌, ◌⊎◌, inl, inr, ℕ, List, [], ◌∷◌, Option, Some, Bool, true, false, not, refl, sym, ap, subst, ◌∙◌, ◌==◌}
 use Rattle.std.specs.Prelude.{if◌then◌else◌}
 use Rattle.std.proofs.lemmas.Bool.{eqb-true, eqb-false}
@@ -9,6 +11,7 @@ use Rattle.bor_wire.specs.declared.outcome.Outcome.{Outcome}
 use Rattle.bor_wire.specs.declared.outcome.Outcome.TheVariants.{Replied, ReadFailed, WriteFailed}
 use Rattle.bor_wire.specs.Inputs.{IsReplyTo, after}
 use Rattle.bor_wire.specs.Runs.{AreReplies, register_left}
+use Rattle.bor_wire.specs.Replays.{IsRunOver}
 use Rattle.bor_wire.specs.Exchanges.{IsReplied, IsExchanged, IsSpelled, IsWrittenBy, status_told}
 use Rattle.bor_wire.specs.Sequences.{Exchanged, AreExchanged, AreSpelledBy, AreWritten, ExchangesAreARun, answered, is_answered, keep_left}
 use Rattle.bor_wire.proofs.HistoryLaws.{alone}
@@ -49,11 +52,11 @@ record IsServed {K : Type 0} (shown : Register → Type 0) (r : Register) (excha
   replies : AreReplies r spelled sent
   left : shown (register_left r spelled)
 
-kept : {K : Type 0} (b : Bool) (e : Exchanged K) (rest : List (Exchanged K)) → b ≡ true → (if b then e ∷ rest else rest) ≡ e ∷ rest
+pub kept : {K : Type 0} (b : Bool) (e : Exchanged K) (rest : List (Exchanged K)) → b ≡ true → (if b then e ∷ rest else rest) ≡ e ∷ rest
 kept true e rest is = refl
 kept false e rest is = absurd cc
 
-dropped : {K : Type 0} (b : Bool) (e : Exchanged K) (rest : List (Exchanged K)) → b ≡ false → (if b then e ∷ rest else rest) ≡ rest
+pub dropped : {K : Type 0} (b : Bool) (e : Exchanged K) (rest : List (Exchanged K)) → b ≡ false → (if b then e ∷ rest else rest) ≡ rest
 dropped true e rest is = absurd cc
 dropped false e rest is = refl
 
@@ -83,31 +86,38 @@ no_more shown r e rest is h =
     }
 
 -- a sequence that ends clean began clean
-began : {K W : Type 0} (shows : K → Register → Type 0) (is_clean is_sound : K → Type 0) (may_leave : K → W → Type 0) (left_shows : W → Register → Type 0) (keep : K) (es : List (Exchanged K)) → AreExchanged shows is_clean is_sound may_leave left_shows keep es → is_clean (keep_left keep es) → is_clean keep
-began shows is_clean is_sound may_leave left_shows keep [] h clean = clean
-began shows is_clean is_sound may_leave left_shows keep (e ∷ rest) h clean = h.0.leaves.began (began shows is_clean is_sound may_leave left_shows e.keep rest h.1 clean)
+pub began : {K W : Type 0} (meaning : Meaning K Register W StoreFault) (keep : K) (es : List (Exchanged K)) → AreExchanged meaning keep es → meaning.is_clean (keep_left keep es) → meaning.is_clean keep
+began meaning keep [] h clean = clean
+began meaning keep (e ∷ rest) h clean = h.0.leaves.began (began meaning e.keep rest h.1 clean)
 
-served : {K W : Type 0} (shows : K → Register → Type 0) (is_clean is_sound : K → Type 0) (may_leave : K → W → Type 0) (left_shows : W → Register → Type 0) (keep : K) (es : List (Exchanged K)) → AreExchanged shows is_clean is_sound may_leave left_shows keep es
-    → (r : Register) → shows keep r → is_clean (keep_left keep es) → IsLegal r → IsServed (shows (keep_left keep es)) r es
-served shows is_clean is_sound may_leave left_shows keep [] h r is clean legal = record { spelled = []; spells = tt; sent = []; written = tt; replies = tt; left = is }
-served shows is_clean is_sound may_leave left_shows keep (e ∷ rest) h r is clean legal =
-    elim (by_outcome e.outcome (shows e.keep) r e.known e.held e.holds (h.0.exchanged r is (began shows is_clean is_sound may_leave left_shows e.keep rest h.1 clean) legal)) [
-      | inl y ↦ more (shows (keep_left e.keep rest)) r e rest y.1.0 y.1.2 y.0 y.1.1 y.1.3 y.1.4 (served shows is_clean is_sound may_leave left_shows e.keep rest h.1 (after r y.1.0) y.1.5 clean (after_legal r y.1.0 legal))
-      | inr n ↦ no_more (shows (keep_left e.keep rest)) r e rest n.0 (served shows is_clean is_sound may_leave left_shows e.keep rest h.1 r n.1 clean legal)
+served : {K W : Type 0} (meaning : Meaning K Register W StoreFault) (keep : K) (es : List (Exchanged K)) → AreExchanged meaning keep es
+    → (r : Register) → meaning.shows keep r → meaning.is_clean (keep_left keep es) → IsLegal r → IsServed (meaning.shows (keep_left keep es)) r es
+served meaning keep [] h r is clean legal = record { spelled = []; spells = tt; sent = []; written = tt; replies = tt; left = is }
+served meaning keep (e ∷ rest) h r is clean legal =
+    elim (by_outcome e.outcome (meaning.shows e.keep) r e.known e.held e.holds (h.0.exchanged r is (began meaning e.keep rest h.1 clean) legal)) [
+      | inl y ↦ more (meaning.shows (keep_left e.keep rest)) r e rest y.1.0 y.1.2 y.0 y.1.1 y.1.3 y.1.4 (served meaning e.keep rest h.1 (after r y.1.0) y.1.5 clean (after_legal r y.1.0 legal))
+      | inr n ↦ no_more (meaning.shows (keep_left e.keep rest)) r e rest n.0 (served meaning e.keep rest h.1 r n.1 clean legal)
     ]
 
-pub a_run : {K W : Type 0} (shows : K → Register → Type 0) (is_clean is_sound : K → Type 0) (may_leave : K → W → Type 0) (left_shows : W → Register → Type 0) → ExchangesAreARun shows is_clean is_sound may_leave left_shows
-a_run shows is_clean is_sound may_leave left_shows keep es h = λ r is clean legal.
-    let run = served shows is_clean is_sound may_leave left_shows keep es h r is clean legal in
+-- the replies have what follows from them
+pub run_over : (Shown : Register → Type 0) (r : Register) (spelled : List Spelled) (sent : List (List ℕ)) → IsLegal r → AreReplies r spelled sent → Shown (register_left r spelled)
+    → IsRunOver Shown r spelled sent
+run_over Shown r spelled sent legal replies left = record {
+  replies = replies;
+  left = left;
+  legal = left_legal r spelled legal;
+  alone = λ name. alone name r spelled sent legal replies;
+  reports = reports r spelled sent replies;
+  refused = refusals_leave r spelled sent replies;
+}
+
+pub a_run : {K W : Type 0} (meaning : Meaning K Register W StoreFault) → ExchangesAreARun meaning
+a_run meaning keep es h = λ r is clean legal.
+    let run = served meaning keep es h r is clean legal in
     record {
       spelled = run.spelled;
       spells = run.spells;
       sent = run.sent;
       written = run.written;
-      replies = run.replies;
-      left = run.left;
-      legal = left_legal r run.spelled legal;
-      alone = λ name. alone name r run.spelled run.sent legal run.replies;
-      reports = reports r run.spelled run.sent run.replies;
-      refused = refusals_leave r run.spelled run.sent run.replies;
+      over = run_over (meaning.shows (keep_left keep es)) r run.spelled run.sent legal run.replies run.left;
     }

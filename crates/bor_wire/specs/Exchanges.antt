@@ -29,7 +29,7 @@ use Rattle.bor_wire.specs.Refused.{IsFull}
 abbrev pub IsSpelled : Option (List ℕ) → Spelled → Type 0
 IsSpelled known spelled = IfSome known (λ input. Spells input spelled)
 
--- ---- the reply that goes out; but for `IfRefusing`, for clauses of private functions alone
+-- ---- the reply that goes out; but for `HasStatus`, for clauses of private functions alone
 
 -- the status and the bytes are those of what is said to the input, and the register after it is
 -- shown
@@ -74,20 +74,6 @@ IsRendered outgoing.Unavailable reply = is_long reply ≡ true
 abbrev pub IfRefusing : Outgoing → Type 0 → Type 0
 IfRefusing (outgoing.Full status bytes) P = 400 ≤ status → P
 IfRefusing outgoing.Unavailable P = P
-
--- the same, and where the reader failed
-abbrev pub IfNoChange : Option Outgoing → Type 0 → Type 0
-IfNoChange (Some out) P = IfRefusing out P
-IfNoChange None P = P
-
--- of a whole reply there is something that the input spells, of which P holds with its status and
--- bytes; of anything else Q does
-abbrev pub ByOutgoing : Option Outgoing → Option (List ℕ) → (Spelled → ℕ → List ℕ → Type 0)
-    → Type 0 → Type 0
-ByOutgoing (Some (outgoing.Full status bytes)) known P Q =
-    (spelled : Spelled) × IsSpelled known spelled × P spelled status bytes.items
-ByOutgoing (Some outgoing.Unavailable) known P Q = Q
-ByOutgoing None known P Q = Q
 
 -- a reader's fault is counted where there is nothing to go out
 abbrev pub faults_unread : Option Outgoing → ℕ → ℕ
@@ -154,11 +140,6 @@ abbrev pub bytes_out : Outgoing → List ℕ
 bytes_out (outgoing.Full status bytes) = bytes.items
 bytes_out outgoing.Unavailable = UNAVAILABLE.now
 
--- the effects of an exchange over these bytes, whose reply this is
-abbrev pub IsResponse : (Register → Type 0) → Register → List ℕ → Outgoing → Type 0
-IsResponse shown r input out =
-    IsExchanged (Replied (status_out out)) shown r (Some input) (Some []) (Some (bytes_out out))
-
 -- ---- where a request is answered
 
 -- P, where a request is spelled
@@ -170,11 +151,6 @@ IfAsked (Err why) P = Unit {0}
 abbrev pub IfFull : Outgoing → Type 0 → Type 0
 IfFull (outgoing.Full status bytes) P = P
 IfFull outgoing.Unavailable P = Unit {0}
-
--- P, where there is one
-abbrev pub IfWhole : Option Outgoing → Type 0 → Type 0
-IfWhole (Some out) P = IfFull out P
-IfWhole None P = Unit {0}
 
 -- P, where the reply has another status than 503
 abbrev pub UnlessUnavailable : Outcome → Type 0 → Type 0
@@ -231,12 +207,6 @@ TellsUnavailable ReadFailed old new = Keeps old new
 TellsUnavailable (WriteFailed status) old new =
     status ≡ 503 → (n : ℕ) × Appends old new (take n UNAVAILABLE.now)
 
--- with status 503, and where the reader failed, P holds
-abbrev pub WithoutReply : Outcome → Type 0 → Type 0
-WithoutReply (Replied status) P = status ≡ 503 → P
-WithoutReply ReadFailed P = P
-WithoutReply (WriteFailed status) P = status ≡ 503 → P
-
 -- with a status of 400 or more, 503 too, and where the reader failed, P holds
 abbrev pub IfRefused : Outcome → Type 0 → Type 0
 IfRefused (Replied status) P = 400 ≤ status → P
@@ -255,11 +225,6 @@ TellsRefusal (WriteFailed status) why old new =
 -- whatever refusal the input spells, P holds of it
 abbrev pub OnRefusal : Option (List ℕ) → (Refusal → Type 0) → Type 0
 OnRefusal known P = IfSome known (λ input. (why : Refusal) → Spells input (Err why) → P why)
-
--- the refusal goes out, where anything does
-abbrev pub GoesOutRefused : Option Outgoing → Refusal → Type 0
-GoesOutRefused (Some out) why = IsRefusal out why
-GoesOutRefused None why = ⊤
 
 -- the faults that the reader and the writer counted are those that the outcome says
 abbrev pub read_faults : Outcome → ℕ → ℕ

@@ -64,7 +64,8 @@ replies_in own = map (λ e. e.reply) own
 -- An agent's drafts stay invisible to every other agent, to the last byte of a reply. Two lists of
 -- requests are each answered from a new register, whatever its registrar and its day. Where an
 -- agent's own requests are the same in both, on the same days and with the same published by the
--- others at each, it receives the same bytes.
+-- others at each, it receives the same bytes, whatever it asks for: chains, evidence, or the
+-- entities of an identifier.
 abbrev pub DraftsStayInvisible : Type 0
 DraftsStayInvisible =
     (name : List ℕ) (registrar another : List ℕ) (day date : ℤ) (inputs others : List (List ℕ))
@@ -78,6 +79,7 @@ DraftsStayInvisible =
 -- A chain report omits nobody and invents nobody. Requests are answered from a new register: each
 -- reply with status 200 to a request for chains names exactly the persons that are joined to the
 -- entity, in what the caller sees, and each to a request for evidence names them with their chains.
+-- Each to a request for the entities of an identifier has exactly those that the caller sees.
 abbrev pub ReportsNameTheJoined : Type 0
 ReportsNameTheJoined =
     (registrar : List ℕ) (day : ℤ) (inputs : List (List ℕ)) (spelled : List Spelled)
@@ -88,8 +90,8 @@ ReportsNameTheJoined =
 -- ---- exchanges one after the other
 
 -- The first sentence of exchanges one after the other, from keeps of new registers. By `IsRun` they
--- are a run of what their inputs spell, and of the bytes that were sent; the second sentence is its
--- field `reports`.
+-- are a run of what their inputs spell, and of the bytes that were sent; the second sentence is
+-- `reports` of `IsRunOver`.
 abbrev pub ExchangesKeepDraftsInvisible : {K : Type 0} → (K → Register → Type 0) → Type 0
 ExchangesKeepDraftsInvisible {K} shows =
     (name : List ℕ) (registrar another : List ℕ) (day date : ℤ) (keep next : K)

@@ -4,9 +4,11 @@ pub mod Runs
 pub mod Reports
 pub mod Histories
 pub mod Exchanges
+pub mod Answering
 pub mod Nobody
 pub mod AllRefusals
 pub mod Refused
+pub mod Replays
 pub mod Repeats
 pub mod ReportBytes
 pub mod Sequences

@@ -1,14 +1,17 @@
--- The meaning of the bytes of a report on chains and of evidence.
+-- The meaning of the bytes of a report on chains, of evidence, and of a list of entities.
 use Rattle.std.specs.Prelude.{◌≡◌, ℕ, ℤ, ◌<◌, ◌^◌, List, Option, None, Some, All}
+use Rattle.std.specs.List.{AllZip}
 use Rattle.bor_terms.specs.Day.{day_text}
 use Rattle.bor_terms.specs.Span.{Range}
 use Rattle.bods_read.specs.declared.details.Details.{Details}
 use Rattle.bods_read.specs.declared.details.Details.TheVariants.{Relationship}
+use Rattle.bods_read.specs.declared.details.Identifier.{Identifier}
 use Rattle.bods_read.specs.declared.interest.Interest.{Interest}
 use Rattle.bor_records.specs.declared.links.node.Node.{Node}
 use Rattle.bor_chains.specs.declared.line.PersonLine.{PersonLine}
 use Rattle.bor_desk.specs.declared.evidence.lines.EntityEvidence.{EntityEvidence}
-use Rattle.bor_desk.specs.declared.reply.DeskReply.TheVariants.{Chains, Evidence}
+use Rattle.bor_desk.specs.declared.evidence.lines.RecordEvidence.{RecordEvidence}
+use Rattle.bor_desk.specs.declared.reply.DeskReply.TheVariants.{Chains, Evidence, Entities}
 use Rattle.bor_wire.specs.Rendering.Replies.{answered, bytes_of}
 
 -- each number of links is below 2^64, as each is that is counted
@@ -45,10 +48,13 @@ AreSharesCounted (Relationship subject party interests) =
     All (λ (i : Interest). IsShareCounted i.share) interests
 AreSharesCounted details = Unit {0}
 
+abbrev pub AreRecordsCounted : List RecordEvidence → Type 0
+AreRecordsCounted records = All (λ x. AreSharesCounted x.entry.statement.details) records
+
 -- each number of links is below 2^64, and each end of a share, as each is that is counted or read
 pub record IsCounted (told : EntityEvidence) : Type 0 where
   pub persons : All (λ p. p.links < 2 ^ 64) told.persons
-  pub shares : All (λ x. AreSharesCounted x.entry.statement.details) told.records
+  pub shares : AreRecordsCounted told.records
 
 abbrev pub evidence_bytes : Node → ℤ → EntityEvidence → List ℕ
 evidence_bytes entity day told = bytes_of (answered (Evidence entity day told))
@@ -70,3 +76,31 @@ BytesGiveEvidence =
     → IsCounted said →
     evidence_bytes entity day told ≡ evidence_bytes other date said
     → IsSameEvidence entity other day date told said
+
+-- ---- the entities of an identifier
+
+abbrev pub entities_bytes : Identifier → ℤ → List RecordEvidence → List ℕ
+entities_bytes identifier day records = bytes_of (answered (Entities identifier day records))
+
+-- one record of one agent, as of one statement
+pub record IsSameRecord (x y : RecordEvidence) : Type 0 where
+  pub agent_is : x.agent ≡ y.agent
+  pub declaration_is : x.entry.statement.declaration ≡ y.entry.statement.declaration
+  pub record_is : x.entry.statement.rec ≡ y.entry.statement.rec
+  pub id_is : x.entry.statement.id ≡ y.entry.statement.id
+
+-- Lists of entities of the same bytes are of one identifier and one day, as it is written, and have
+-- the same records in the same order.
+pub record AreSameEntities (identifier other : Identifier) (day date : ℤ)
+    (records found : List RecordEvidence) : Type 0 where
+  pub identifier_is : identifier ≡ other
+  pub day_is : day_text day ≡ day_text date
+  pub records_are : AllZip IsSameRecord records found
+
+-- The bytes of the entities of an identifier determine the identifier and their records.
+abbrev pub BytesGiveEntities : Type 0
+BytesGiveEntities =
+    (identifier other : Identifier) (day date : ℤ) (records found : List RecordEvidence)
+    → AreRecordsCounted records → AreRecordsCounted found →
+    entities_bytes identifier day records ≡ entities_bytes other date found
+    → AreSameEntities identifier other day date records found

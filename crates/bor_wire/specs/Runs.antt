@@ -39,11 +39,3 @@ full (Unavailable ∷ replies) = full replies
 -- each input spells this
 abbrev pub AreSpelled : List (List ℕ) → List Spelled → Type 0
 AreSpelled inputs spelled = AllZip Spells inputs spelled
-
--- ---- one reply of a list, for clauses of private functions alone
-
--- of a full reply there is something that the input spells, of which P holds with its bytes; of
--- another Q does
-abbrev pub ByReply : Reply → List ℕ → (Spelled → List ℕ → Type 0) → Type 0 → Type 0
-ByReply (Full bytes) input P Q = (spelled : Spelled) × Spells input spelled × P spelled bytes
-ByReply Unavailable input P Q = Q

@@ -1,4 +1,6 @@
 -- The state that a stop leaves after exchanges in turn, for the next one to open.
+use Rattle.bor_register.specs.declared.fault.StoreFault.{StoreFault}
+use Rattle.bor_records.specs.Promises.{Meaning}
 use Rattle.std.specs.Prelude.{◌≡◌, ◌⊎◌, List, [], ◌∷◌, ◌++◌}
 use Rattle.bor_register.specs.Register.{Register}
 use Rattle.bor_desk.specs.Operations.Legality.{IsLegal}
@@ -16,35 +18,34 @@ ShowsOrNext left_shows found (e ∷ later) r =
 -- From the register r on, all that was done and a front of the rest are a run, at whose end the
 -- keep was clean; those that ended with status 503 or a failed read have no part in it. What is
 -- found shows the register after it, or after the next exchange too.
-pub record LeavesARun {K W : Type 0} (is_clean : K → Type 0) (left_shows : W → Register → Type 0)
-    (found : W) (keep : K) (r : Register) (done rest : List (Exchanged K)) : Type 0 where
+pub record LeavesARun {K W : Type 0} (meaning : Meaning K Register W StoreFault) (found : W)
+    (keep : K) (r : Register) (done rest : List (Exchanged K)) : Type 0 where
   pub more : List (Exchanged K)
   pub later : List (Exchanged K)
   pub split : rest ≡ more ++ later
-  pub clean : is_clean (keep_left keep (done ++ more))
-  pub run : IsRun (ShowsOrNext left_shows found later) r (done ++ more)
+  pub clean : meaning.is_clean (keep_left keep (done ++ more))
+  pub run : IsRun (ShowsOrNext meaning.left_shows found later) r (done ++ more)
 
 -- Exchanges in turn from a legal register that was shown, after some of which the keep was clean:
 -- what is found after a stop shows the register that these and a front of the rest have left, or
 -- that the next one has left, if the store has returned what was written.
-abbrev pub StopsLeaveRuns : {K W : Type 0} → (K → Register → Type 0) → (K → Type 0) → (K → Type 0)
-    → (K → W → Type 0) → (W → Register → Type 0) → Type 0
-StopsLeaveRuns {K} {W} shows is_clean is_sound may_leave left_shows =
+abbrev pub StopsLeaveRuns : {K W : Type 0} → Meaning K Register W StoreFault → Type 0
+StopsLeaveRuns {K} {W} meaning =
     (keep : K) (done rest : List (Exchanged K))
-    → AreExchanged shows is_clean is_sound may_leave left_shows keep (done ++ rest) →
-    is_clean (keep_left keep done) → is_sound (keep_left keep (done ++ rest)) → (r : Register)
-    → shows keep r → IsLegal r →
-    (found : W) → may_leave (keep_left keep (done ++ rest)) found
-    → LeavesARun is_clean left_shows found keep r done rest
+    → AreExchanged meaning keep (done ++ rest) →
+    meaning.is_clean (keep_left keep done) → meaning.is_sound (keep_left keep (done ++ rest)) →
+    (r : Register) → meaning.shows keep r → IsLegal r →
+    (found : W) → meaning.may_leave (keep_left keep (done ++ rest)) found
+    → LeavesARun meaning found keep r done rest
 
 -- Answered changes last: where a request was answered with another status than 503, and
 -- `AnswersClean` holds of it, all up to it are in that front.
-abbrev pub AnswersLast : {K W : Type 0} → (K → Register → Type 0) → (K → Type 0) → (K → Type 0)
-    → (K → W → Type 0) → (W → Register → Type 0) → Type 0
-AnswersLast {K} {W} shows is_clean is_sound may_leave left_shows =
+abbrev pub AnswersLast : {K W : Type 0} → Meaning K Register W StoreFault → Type 0
+AnswersLast {K} {W} meaning =
     (keep : K) (front : List (Exchanged K)) (e : Exchanged K) (rest : List (Exchanged K))
-    → AreExchanged shows is_clean is_sound may_leave left_shows keep (front ++ e ∷ rest) →
-    AnswersClean is_clean is_sound e → IsRequestAnswered e
-    → is_sound (keep_left keep (front ++ e ∷ rest)) → (r : Register) → shows keep r → IsLegal r →
-    (found : W) → may_leave (keep_left keep (front ++ e ∷ rest)) found
-    → LeavesARun is_clean left_shows found keep r (front ++ e ∷ []) rest
+    → AreExchanged meaning keep (front ++ e ∷ rest) →
+    AnswersClean meaning e → IsRequestAnswered e
+    → meaning.is_sound (keep_left keep (front ++ e ∷ rest)) →
+    (r : Register) → meaning.shows keep r → IsLegal r →
+    (found : W) → meaning.may_leave (keep_left keep (front ++ e ∷ rest)) found
+    → LeavesARun meaning found keep r (front ++ e ∷ []) rest

@@ -1,6 +1,7 @@
 -- The replies to a list of inputs, as exchanges in turn: with the keep after each.
+use Rattle.bor_register.specs.declared.fault.StoreFault.{StoreFault}
 use Rattle.std.specs.Prelude.{◌≡◌, ℕ, List, [], ◌∷◌, ◌++◌, Some, Ok, IsTrue}
-use Rattle.bor_records.specs.Promises.{Promised}
+use Rattle.bor_records.specs.Promises.{Meaning, Promised}
 use Rattle.bor_register.specs.Register.{Register}
 use Rattle.bor_desk.specs.Operations.Legality.{IsLegal}
 use Rattle.bor_wire.specs.declared.outcome.Outcome.TheVariants.{Replied}
@@ -8,7 +9,8 @@ use Rattle.bor_wire.specs.declared.rendering.reply.TheConstants.{UNAVAILABLE}
 use Rattle.bor_wire.specs.declared.replies.Reply.{Reply}
 use Rattle.bor_wire.specs.declared.replies.Reply.TheVariants.{Full, Unavailable}
 use Rattle.bor_desk.specs.Runs.{Asked}
-use Rattle.bor_wire.specs.Exchanges.{UnlessUnavailable, IfAsked, IsExchanged, OnSpelled}
+use Rattle.bor_wire.specs.Answering.{AnswersOne}
+use Rattle.bor_wire.specs.Exchanges.{UnlessUnavailable, IfAsked, OnSpelled}
 use Rattle.bor_wire.specs.Spelling.Spell.{Spelled, Spells}
 use Rattle.bor_wire.specs.Refused.{IsFull}
 use Rattle.bor_wire.specs.Sequences.{AreExchanged, Exchanged, IsRun, is_answered, keep_left}
@@ -23,6 +25,11 @@ abbrev pub HasStatusOf : Reply → ℕ → Type 0
 HasStatusOf (Full bytes) status = IsFull bytes status
 HasStatusOf Unavailable status = status ≡ 503
 
+-- P, where the reply is whole
+abbrev pub IfWhole : Reply → Type 0 → Type 0
+IfWhole (Full bytes) P = P
+IfWhole Unavailable P = Unit {0}
+
 -- The exchange was over this input, which lay in memory, and the reply is what was written.
 pub record IsTurn {K : Type 0} (input : List ℕ) (reply : Reply) (e : Exchanged K) : Type 0 where
   pub status : ℕ
@@ -31,6 +38,7 @@ pub record IsTurn {K : Type 0} (input : List ℕ) (reply : Reply) (e : Exchanged
   pub known : e.known ≡ Some input
   pub held : e.held ≡ Some []
   pub holds : e.holds ≡ Some (sent_as reply)
+  pub spells : IfWhole reply ((spelled : Spelled) × Spells input spelled)
 
 -- each exchange was over its input, and has its reply
 abbrev pub AreTurns : {K : Type 0} → List (List ℕ) → List Reply → List (Exchanged K) → Type 0
@@ -41,37 +49,35 @@ AreTurns inputs replies exchanges = ⊥
 
 -- A request is answered with another status than 503 only where the keep is clean after it, if its
 -- store has returned what was written by then.
-abbrev pub AnswersClean : {K : Type 0} → (K → Type 0) → (K → Type 0) → Exchanged K → Type 0
-AnswersClean is_clean is_sound e =
-    OnSpelled e.known
-    (λ spelled. IfAsked spelled (UnlessUnavailable e.outcome (is_sound e.keep → is_clean e.keep)))
+abbrev pub AnswersClean : {K W : Type 0} → Meaning K Register W StoreFault → Exchanged K → Type 0
+AnswersClean meaning e =
+    OnSpelled e.known (λ spelled. IfAsked spelled
+    (UnlessUnavailable e.outcome (meaning.is_sound e.keep → meaning.is_clean e.keep)))
 
 -- each of them does
-abbrev pub AllAnswerClean : {K : Type 0} → (K → Type 0) → (K → Type 0) → List (Exchanged K) → Type 0
-AllAnswerClean is_clean is_sound [] = Unit {0}
-AllAnswerClean is_clean is_sound (e ∷ rest) =
-    AnswersClean is_clean is_sound e × AllAnswerClean is_clean is_sound rest
+abbrev pub AllAnswerClean : {K W : Type 0} → Meaning K Register W StoreFault → List (Exchanged K)
+    → Type 0
+AllAnswerClean meaning [] = Unit {0}
+AllAnswerClean meaning (e ∷ rest) = AnswersClean meaning e × AllAnswerClean meaning rest
 
 -- The replies to the inputs are those of exchanges one after the other, the first from the old
 -- keep, each from the keep that the one before it left, and the last leaves the new one.
-pub record InTurn {K W : Type 0} (shows : K → Register → Type 0) (is_clean is_sound : K → Type 0)
-    (may_leave : K → W → Type 0) (left_shows : W → Register → Type 0) (old new : K)
+pub record InTurn {K W : Type 0} (meaning : Meaning K Register W StoreFault) (old new : K)
     (inputs : List (List ℕ)) (replies : List Reply) : Type 0 where
   pub exchanges : List (Exchanged K)
   pub turns : AreTurns inputs replies exchanges
-  pub each : AreExchanged shows is_clean is_sound may_leave left_shows old exchanges
-  pub answer_clean : AllAnswerClean is_clean is_sound exchanges
+  pub each : AreExchanged meaning old exchanges
+  pub answer_clean : AllAnswerClean meaning exchanges
   pub left : keep_left old exchanges ≡ new
 
 -- Each front of exchanges in turn is a run, where the keep after it is clean: whatever becomes of
 -- the keep later on, as where its store fails.
-abbrev pub FrontsAreRuns : {K W : Type 0} → (K → Register → Type 0) → (K → Type 0) → (K → Type 0)
-    → (K → W → Type 0) → (W → Register → Type 0) → Type 0
-FrontsAreRuns {K} {W} shows is_clean is_sound may_leave left_shows =
+abbrev pub FrontsAreRuns : {K W : Type 0} → Meaning K Register W StoreFault → Type 0
+FrontsAreRuns {K} {W} meaning =
     (keep : K) (front rest : List (Exchanged K))
-    → AreExchanged shows is_clean is_sound may_leave left_shows keep (front ++ rest) →
-    Promised shows is_clean keep (keep_left keep front)
-    (λ r. IsLegal r → IsRun (shows (keep_left keep front)) r front)
+    → AreExchanged meaning keep (front ++ rest) →
+    Promised meaning keep (keep_left keep front)
+    (λ r. IsLegal r → IsRun (meaning.shows (keep_left keep front)) r front)
 
 -- a request was answered, with another status than 503
 pub record IsRequestAnswered {K : Type 0} (e : Exchanged K) : Type 0 where
@@ -84,32 +90,19 @@ pub record IsRequestAnswered {K : Type 0} (e : Exchanged K) : Type 0 where
 -- From a legal register that was shown, exchanges in turn up to a request that was answered, of
 -- which `AnswersClean` holds, are a run, if the store had returned what was written by then:
 -- whatever becomes of it later on, as where it shuts.
-abbrev pub AnswersAreRuns : {K W : Type 0} → (K → Register → Type 0) → (K → Type 0) → (K → Type 0)
-    → (K → W → Type 0) → (W → Register → Type 0) → Type 0
-AnswersAreRuns {K} {W} shows is_clean is_sound may_leave left_shows =
+abbrev pub AnswersAreRuns : {K W : Type 0} → Meaning K Register W StoreFault → Type 0
+AnswersAreRuns {K} {W} meaning =
     (keep : K) (front : List (Exchanged K)) (e : Exchanged K) (rest : List (Exchanged K))
-    → AreExchanged shows is_clean is_sound may_leave left_shows keep (front ++ e ∷ rest) →
-    AnswersClean is_clean is_sound e → IsRequestAnswered e → is_sound e.keep → (r : Register)
-    → shows keep r → IsLegal r → IsRun (shows e.keep) r (front ++ e ∷ [])
+    → AreExchanged meaning keep (front ++ e ∷ rest) →
+    AnswersClean meaning e → IsRequestAnswered e → meaning.is_sound e.keep → (r : Register)
+    → meaning.shows keep r → IsLegal r → IsRun (meaning.shows e.keep) r (front ++ e ∷ [])
 
 -- ---- for clauses of private functions alone
 
--- P, where there is a whole reply
-abbrev pub IfWholeReply : Reply → Type 0 → Type 0
-IfWholeReply (Full bytes) P = P
-IfWholeReply Unavailable P = Unit {0}
-
--- `AnswersClean` of one reply, and the keep after it
-abbrev pub TurnAnswersClean : {K : Type 0} → (K → Type 0) → (K → Type 0) → K → List ℕ
-    → Reply → Type 0
-TurnAnswersClean is_clean is_sound new input reply =
-    (spelled : Spelled) → Spells input spelled
-    → IfAsked spelled (IfWholeReply reply (is_sound new → is_clean new))
-
 -- one reply, as an exchange between these keeps
-pub record TakesTurn {K : Type 0} (shows : K → Register → Type 0) (is_clean : K → Type 0)
-    (old new : K) (input : List ℕ) (reply : Reply) : Type 0 where
+pub record TakesTurn {K W : Type 0} (meaning : Meaning K Register W StoreFault) (old new : K)
+    (input : List ℕ) (reply : Reply) : Type 0 where
   pub status : ℕ
   pub status_is : HasStatusOf reply status
-  pub exchanged : Promised shows is_clean old new (λ r. IsLegal r
-      → IsExchanged (Replied status) (shows new) r (Some input) (Some []) (Some (sent_as reply)))
+  pub answers : AnswersOne meaning old new (Replied status) (Some input) (Some [])
+      (Some (sent_as reply))

@@ -5,7 +5,7 @@ ghost use Rattle.bor_wire.specs.Headline.{DraftsStayInvisible, ExchangesKeepDraf
 ghost use Rattle.bor_wire.specs.Histories.{EachIsReceived, SameHistorySameBytes};
 ghost use Rattle.bor_wire.specs.Nobody.{NobodysInputs};
 ghost use Rattle.bor_wire.specs.Repeats.{RepeatsActOnce};
-ghost use Rattle.bor_wire.specs.ReportBytes.{BytesGiveEvidence, BytesGivePersons};
+ghost use Rattle.bor_wire.specs.ReportBytes.{BytesGiveEntities, BytesGiveEvidence, BytesGivePersons};
 ghost use Rattle.bor_wire.specs.Restarts.{ExchangesCompose, FilingsFollowHistory, LivesKeepDraftsInvisible, RunsCompose};
 ghost use Rattle.bor_wire.specs.Sequences.{ExchangesAreARun};
 ghost use Rattle.bor_wire.specs.Stops.{AnswersLast, StopsLeaveRuns};
@@ -15,14 +15,15 @@ use bor_desk::operations::Keep;
 
 /// An agent's drafts stay invisible to every other agent, to the last byte of a reply. Of two lists
 /// of requests, each answered from a new register: where an agent's own are the same, on the same
-/// days and with the same published by the others at each, it receives the same bytes.
+/// days and with the same published by the others at each, it receives the same bytes. This holds
+/// of each request, as of chains, evidence and the entities of an identifier.
 pub fn drafts_stay_invisible()
     ensures { DraftsStayInvisible }
 {}
 
 /// A chain report omits nobody and invents nobody. Of requests that are answered from a new
 /// register, each reply with status 200 to one for chains names exactly the persons joined to the
-/// entity.
+/// entity. Each to one for the entities of an identifier has exactly those that the caller sees.
 pub fn reports_name_the_joined()
     ensures { ReportsNameTheJoined }
 {}
@@ -31,7 +32,7 @@ pub fn reports_name_the_joined()
 /// [`exchanges_are_a_run`] gives their runs: an agent whose own exchanges are the same in both, on
 /// the same days and with the same published by the others at each, is sent the same bytes.
 pub fn exchanges_keep_drafts_invisible<K: Keep>()
-    ensures { ExchangesKeepDraftsInvisible K.shows }
+    ensures { ExchangesKeepDraftsInvisible K.meaning.shows }
 {}
 
 /// A lodging that is sent again acts once. Whatever came between, the reply has the number and the
@@ -60,6 +61,12 @@ pub fn evidence_bytes_give_links()
     ensures { BytesGiveEvidence }
 {}
 
+/// The bytes of the entities of an identifier determine the identifier, and each record with its
+/// agent, its declaration and its statement's identifier.
+pub fn entities_bytes_give_records()
+    ensures { BytesGiveEntities }
+{}
+
 /// Two runs, from any two legal registers, in which an agent has the same filings at the start and
 /// the same history give it the same bytes in the same order.
 pub fn same_history_same_bytes()
@@ -84,14 +91,14 @@ pub fn nobodys_inputs()
 /// were sent are the run's, the register left is too, and each agent receives what it would alone.
 /// Those that ended with status 503 or with a failed read have no part in it.
 pub fn exchanges_are_a_run<K: Keep>()
-    ensures { ExchangesAreARun K.shows K.is_clean K.is_sound K.may_leave K.left_shows }
+    ensures { ExchangesAreARun K.meaning }
 {}
 
 /// A front of exchanges one after the other is a run too, where the keep that it leaves is clean.
 /// So what was replied before a store failed keeps its promises, whatever the store does later on:
 /// `in_turn` of [`replay`](crate::replay) gives such exchanges, with the keep after each.
 pub fn fronts_are_runs<K: Keep>()
-    ensures { FrontsAreRuns K.shows K.is_clean K.is_sound K.may_leave K.left_shows }
+    ensures { FrontsAreRuns K.meaning }
 {}
 
 /// Exchanges one after the other, from a keep of a legal register, are a run up to each request
@@ -99,7 +106,7 @@ pub fn fronts_are_runs<K: Keep>()
 /// written by then. So where a store shuts, the replies before keep their promises. That no request
 /// is answered behind it says `in_turn` of [`replay`](crate::replay), which gives such exchanges.
 pub fn answers_are_runs<K: Keep>()
-    ensures { AnswersAreRuns K.shows K.is_clean K.is_sound K.may_leave K.left_shows }
+    ensures { AnswersAreRuns K.meaning }
 {}
 
 /// The state that a stop leaves after exchanges one after the other, from a clean keep of a legal
@@ -108,14 +115,14 @@ pub fn answers_are_runs<K: Keep>()
 /// which the keep was clean; those that ended with status 503 or with a failed read have no part in
 /// it.
 pub fn stops_leave_runs<K: Keep>()
-    ensures { StopsLeaveRuns K.shows K.is_clean K.is_sound K.may_leave K.left_shows }
+    ensures { StopsLeaveRuns K.meaning }
 {}
 
 /// Answered changes last: the front that [`stops_leave_runs`] speaks of has each request that was
 /// answered with another status than 503. A stop is one as an exchange ends; that one in its midst
 /// leaves no more is an argument of the store's.
 pub fn answers_last<K: Keep>()
-    ensures { AnswersLast K.shows K.is_clean K.is_sound K.may_leave K.left_shows }
+    ensures { AnswersLast K.meaning }
 {}
 
 /// A run that goes on from the register that another run left, as after a restart, is one run with
@@ -129,7 +136,7 @@ pub fn runs_compose()
 /// register that the first ones left: together they are a run, with what both spell and the bytes
 /// that both sent, and the keep at the end shows the register that it leaves.
 pub fn exchanges_compose<K: Keep>()
-    ensures { ExchangesCompose K.shows }
+    ensures { ExchangesCompose K.meaning.shows }
 {}
 
 /// After a run from a legal register an agent has the filings that follow from those at the start

@@ -1,11 +1,10 @@
 //! One exchange over a reader and a writer, and how it ends.
 
 ghost use Rattle.std.specs.Prelude.{◌≡◌};
-ghost use Rattle.bor_records.specs.Promises.{Leaves, Promised};
-ghost use Rattle.bor_register.specs.Register.{IsOrdered};
 ghost use Rattle.bor_http.specs.Incoming.Message.{request_limit};
 ghost use Rattle.bor_http.specs.Incoming.Reading.{TakesAtMost};
-ghost use Rattle.bor_wire.specs.Exchanges.{UnlessUnavailable, IfAsked, IfRefused, IsExchanged, ShowsAfter, IsWritten, OnRefusal, OnSpelled, TellsRefusal, TellsUnavailable, WithoutReply, read_faults, write_faults};
+ghost use Rattle.bor_wire.specs.Answering.{AnswersOne};
+ghost use Rattle.bor_wire.specs.Exchanges.{IsWritten, read_faults, write_faults};
 
 use crate::outgoing::{Outgoing, read_reply};
 use crate::rendering::UNAVAILABLE;
@@ -69,21 +68,8 @@ pub fn exchange<K: Keep, R: Read, W: Write>(
     reader: &mut Counted<R>,
     writer: &mut Counted<W>,
 ) -> Outcome
-    ensures leaves { Leaves K.shows K.is_clean K.is_sound K.may_leave keep.old keep.new
-        (ShowsAfter K.left_shows (R.remaining reader.old.inner)) }
-    ensures exchanged { Promised K.shows K.is_clean keep.old keep.new (λ r. IsOrdered r.members →
-        IsExchanged result (K.shows keep.new) r (R.remaining reader.old.inner)
-        (W.contents writer.old.inner) (W.contents writer.new.inner)) }
-    ensures kept { Promised K.shows K.is_clean keep.old keep.new (λ r.
-        WithoutReply result (K.shows keep.new r)) }
-    ensures refused_kept { Promised K.shows K.is_clean keep.old keep.new (λ r.
-        IfRefused result (K.shows keep.new r)) }
-    ensures up { OnSpelled (R.remaining reader.old.inner) (λ spelled. IfAsked spelled
-        (UnlessUnavailable result (K.is_sound keep.new → K.is_clean keep.new))) }
-    ensures unavailable { TellsUnavailable result (W.contents writer.old.inner)
-        (W.contents writer.new.inner) }
-    ensures refused { OnRefusal (R.remaining reader.old.inner) (λ why.
-        TellsRefusal result why (W.contents writer.old.inner) (W.contents writer.new.inner)) }
+    ensures answers { AnswersOne K.meaning keep.old keep.new result (R.remaining reader.old.inner)
+        (W.contents writer.old.inner) (W.contents writer.new.inner) }
     ensures taken { TakesAtMost request_limit (R.remaining reader.old.inner)
         (R.remaining reader.new.inner) }
     ensures read_faults { reader.new.faults ≡ read_faults result reader.old.faults }

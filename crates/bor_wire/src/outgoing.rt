@@ -1,19 +1,19 @@
 //! The reply that goes out for an input, and for whom: the input is read, asked of the desk, and
 //! answered in bytes.
 
-ghost use Rattle.std.specs.Prelude.{◌≡◌, ◌≢◌, ◌≤◌, [], Ok, Err, Some, IfSome, vec_capacity};
+ghost use Rattle.std.specs.Prelude.{◌≡◌, ◌≢◌, ◌≤◌, [], Ok, Some, IfSome, vec_capacity};
 ghost use Rattle.bor_records.specs.Promises.{Leaves, Promised};
-ghost use Rattle.bor_register.specs.Register.{IsOrdered, caller_of};
+ghost use Rattle.bor_register.specs.Register.{caller_of};
 ghost use Rattle.bor_desk.specs.Outcomes.{IsOrderedFor, agent_of};
-ghost use Rattle.bor_http.specs.declared.incoming.fault.Refusal as fault;
 ghost use Rattle.bor_http.specs.Incoming.Message.{request_limit};
 ghost use Rattle.bor_http.specs.Incoming.Reading.{TakesAtMost};
-ghost use Rattle.bor_wire.specs.Spelling.Spell.{Spelled, Spells, asked_view, spell};
+ghost use Rattle.bor_wire.specs.Spelling.Spell.{asked_view, spell};
 ghost use Rattle.bor_wire.specs.Spelling.Steps.{Finds};
 ghost use Rattle.bor_wire.specs.Rendering.Limits.{reserved};
 ghost use Rattle.bor_wire.specs.Rendering.Statuses.{desk_status};
 ghost use Rattle.bor_wire.specs.Inputs.{after};
-ghost use Rattle.bor_wire.specs.Exchanges.{ByOutgoing, IfAsked, IfFull, IfWhole, GoesOut, GoesOutRefused, HasStatus, IfNoChange, IfRefusing, IsFor, ShowsAfter, IsRefusal, IsRendered, IsResponse, IsSent, IsToldFor, NamesWhoAsks, OnRefusal, OnSpelled, TellsAnswer, agent_spelled, faults_unread, left_by_desk};
+ghost use Rattle.bor_wire.specs.Answering.{GoesOutFor, Responds, RespondsIfRead};
+ghost use Rattle.bor_wire.specs.Exchanges.{HasStatus, IsFor, IsRefusal, IsRendered, IsToldFor, NamesWhoAsks, OnSpelled, TellsAnswer, agent_spelled, faults_unread, left_by_desk};
 
 use crate::rendering::{
     RESERVED, UNAVAILABLE, desk_status, is_long, refusal_status, render, render_refusal,
@@ -75,16 +75,8 @@ pub struct Response {
 /// stays in memory. It names the agent that is answered. A keep whose store has shut, or shuts
 /// meanwhile, answers a request with 503, if the store has returned what was written.
 pub fn respond<K: Keep>(alloc: Global, paths: &Paths, keep: &mut K, input: &[u8]) -> Response
-    ensures leaves { Leaves K.shows K.is_clean K.is_sound K.may_leave keep.old keep.new
-        (ShowsAfter K.left_shows (Some input.now)) }
-    ensures exchanged { Promised K.shows K.is_clean keep.old keep.new (λ r.
-        IsOrdered r.members → IsResponse (K.shows keep.new) r input.now result.outgoing) }
-    ensures refused_kept { Promised K.shows K.is_clean keep.old keep.new (λ r.
-        IfRefusing result.outgoing (K.shows keep.new r)) }
-    ensures up { (spelled : Spelled) → Spells input.now spelled → IfAsked spelled
-        (IfFull result.outgoing (K.is_sound keep.new → K.is_clean keep.new)) }
-    ensures agent { Promised K.shows K.is_clean keep.old keep.new (λ r.
-        NamesWhoAsks r input.now result) }
+    ensures answers { Responds K.meaning keep.old keep.new (Some input.now) result.outgoing }
+    ensures agent { Promised K.meaning keep.old keep.new (λ r. NamesWhoAsks r input.now result) }
     ensures status { HasStatus result.outgoing }
 {
     let mut reader = Counted::new(input);
@@ -116,14 +108,14 @@ fn asked<K: Keep>(
     keep: &mut K,
     asking: &Asking,
 ) -> (Option<AgentName>, Option<DeskReply>)
-    ensures leaves { Leaves K.shows K.is_clean K.is_sound K.may_leave keep.old keep.new
-        (λ r left. K.left_shows left (after r (Ok (asked_view asking.now)))) }
-    ensures reply { Promised K.shows K.is_clean keep.old keep.new (λ r.
+    ensures leaves { Leaves K.meaning keep.old keep.new
+        (λ r left. K.meaning.left_shows left (after r (Ok (asked_view asking.now)))) }
+    ensures reply { Promised K.meaning keep.old keep.new (λ r.
         IsOrderedFor asking.now.request r → TellsAnswer result.1 r (asked_view asking.now)) }
-    ensures left { Promised K.shows K.is_clean keep.old keep.new (λ r.
-        K.shows keep.new (left_by_desk result.1 r (asked_view asking.now))) }
-    ensures up { IfSome result.1 (λ _. K.is_sound keep.new → K.is_clean keep.new) }
-    ensures agent { Promised K.shows K.is_clean keep.old keep.new (λ r.
+    ensures left { Promised K.meaning keep.old keep.new (λ r.
+        K.meaning.shows keep.new (left_by_desk result.1 r (asked_view asking.now))) }
+    ensures up { IfSome result.1 (λ _. K.meaning.is_sound keep.new → K.meaning.is_clean keep.new) }
+    ensures agent { Promised K.meaning keep.old keep.new (λ r.
         IsToldFor result.1 result.0 (agent_of (caller_of asking.now.token r))) }
     ensures status { IfSome result.1 (λ reply. desk_status reply ≢ 503) }
 {
@@ -155,17 +147,8 @@ fn rendered(alloc: Global, mut out: Vec<u8>, reply: &DeskReply) -> Outgoing
 // The reply to a request. The room for a short one is reserved before the desk is asked, so that
 // no change is made whose reply finds no memory.
 fn answered<K: Keep>(alloc: Global, keep: &mut K, asking: &Asking) -> Response
-    ensures leaves { Leaves K.shows K.is_clean K.is_sound K.may_leave keep.old keep.new
-        (λ r left. K.left_shows left (after r (Ok (asked_view asking.now)))) }
-    ensures reply { Promised K.shows K.is_clean keep.old keep.new (λ r.
-        IsOrderedFor asking.now.request r
-        → GoesOut result.outgoing (K.shows keep.new) r (Ok (asked_view asking.now))) }
-    ensures kept { Promised K.shows K.is_clean keep.old keep.new (λ r.
-        IfRefusing result.outgoing (K.shows keep.new r)) }
-    ensures up { IfFull result.outgoing (K.is_sound keep.new → K.is_clean keep.new) }
-    ensures agent { Promised K.shows K.is_clean keep.old keep.new (λ r.
-        IsFor result.outgoing result.agent (agent_of (caller_of asking.now.token r))) }
-    ensures status { HasStatus result.outgoing }
+    ensures { GoesOutFor K.meaning keep.old keep.new result.agent result.outgoing
+        (Ok (asked_view asking.now)) }
 {
     let Ok(mut out) = Vec::with_capacity(alloc, RESERVED) else {
         return Response {
@@ -196,18 +179,7 @@ fn spelled(alloc: Global, paths: &Paths, raw: RawRequest) -> Result<Asking, Wire
 
 // The reply to a request that was read.
 fn reply_for<K: Keep>(alloc: Global, paths: &Paths, keep: &mut K, raw: RawRequest) -> Response
-    ensures leaves { Leaves K.shows K.is_clean K.is_sound K.may_leave keep.old keep.new
-        (λ r left. K.left_shows left (after r (spell raw))) }
-    ensures reply { Promised K.shows K.is_clean keep.old keep.new (λ r.
-        IsOrdered r.members → GoesOut result.outgoing (K.shows keep.new) r (spell raw)) }
-    ensures kept { Promised K.shows K.is_clean keep.old keep.new (λ r.
-        IfRefusing result.outgoing (K.shows keep.new r)) }
-    ensures up { IfAsked (spell raw)
-        (IfFull result.outgoing (K.is_sound keep.new → K.is_clean keep.new)) }
-    ensures agent { Promised K.shows K.is_clean keep.old keep.new (λ r.
-        IsFor result.outgoing result.agent (agent_spelled r (spell raw))) }
-    ensures refused { (why : fault.Refusal) → spell raw ≡ Err why → IsRefusal result.outgoing why }
-    ensures status { HasStatus result.outgoing }
+    ensures { GoesOutFor K.meaning keep.old keep.new result.agent result.outgoing (spell raw) }
 {
     match spelled(alloc, paths, raw) {
         Ok(asking) => answered(alloc, keep, &asking),
@@ -230,20 +202,11 @@ pub(crate) fn read_reply<K: Keep, R: Read>(
     keep: &mut K,
     reader: &mut Counted<R>,
 ) -> (Option<AgentName>, Option<Outgoing>)
-    ensures leaves { Leaves K.shows K.is_clean K.is_sound K.may_leave keep.old keep.new
-        (ShowsAfter K.left_shows (R.remaining reader.old.inner)) }
-    ensures reply { ByOutgoing result.1 (R.remaining reader.old.inner)
-        (λ spelled status bytes. Promised K.shows K.is_clean keep.old keep.new (λ r.
-        IsOrdered r.members → IsSent (K.shows keep.new) r spelled status bytes))
-        (Promised K.shows K.is_clean keep.old keep.new (K.shows keep.new)) }
-    ensures kept { Promised K.shows K.is_clean keep.old keep.new (λ r.
-        IfNoChange result.1 (K.shows keep.new r)) }
-    ensures up { OnSpelled (R.remaining reader.old.inner) (λ spelled. IfAsked spelled
-        (IfWhole result.1 (K.is_sound keep.new → K.is_clean keep.new))) }
+    ensures answers { RespondsIfRead K.meaning keep.old keep.new (R.remaining reader.old.inner)
+        result.1 }
     ensures agent { OnSpelled (R.remaining reader.old.inner) (λ spelled.
-        Promised K.shows K.is_clean keep.old keep.new (λ r.
+        Promised K.meaning keep.old keep.new (λ r.
         IfSome result.1 (λ out. IsFor out result.0 (agent_spelled r spelled)))) }
-    ensures refused { OnRefusal (R.remaining reader.old.inner) (GoesOutRefused result.1) }
     ensures status { IfSome result.1 HasStatus }
     ensures taken { TakesAtMost request_limit (R.remaining reader.old.inner)
         (R.remaining reader.new.inner) }

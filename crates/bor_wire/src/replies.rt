@@ -1,23 +1,17 @@
 //! Replies, and those to a list of inputs.
 
-ghost use Rattle.std.specs.Prelude.{◌≡◌, ℕ, List, Some, IfOk, OnErr, length, map};
-ghost use Rattle.bor_records.specs.Promises.{Leaves, Promised};
-ghost use Rattle.bor_register.specs.Register.{IsOrdered};
+ghost use Rattle.std.specs.Prelude.{◌≡◌, List, IfOk, OnErr, length, map};
+ghost use Rattle.bor_records.specs.Promises.{Promised};
 ghost use Rattle.bor_desk.specs.Operations.Legality.{IsLegal};
 ghost use Rattle.bor_wire.specs.Spelling.Spell.{Spelled};
-ghost use Rattle.bor_wire.specs.Exchanges.{ShowsAfter};
-ghost use Rattle.bor_wire.specs.Inputs.{IsReplyTo, after};
-ghost use Rattle.bor_wire.specs.Runs.{AreReplies, AreSpelled, ByReply, register_left, served, full};
-ghost use Rattle.bor_wire.specs.Reports.{AreReports};
-ghost use Rattle.bor_wire.specs.Refused.{RefusalsLeave};
-ghost use Rattle.bor_wire.specs.Histories.{IsAlone};
-ghost use Rattle.bor_wire.specs.Turns.{InTurn, TurnAnswersClean, TakesTurn};
+ghost use Rattle.bor_wire.specs.Runs.{AreSpelled, served};
+ghost use Rattle.bor_wire.specs.Replays.{IsReplayed};
+ghost use Rattle.bor_wire.specs.Turns.{InTurn, TakesTurn};
 
-use crate::outgoing::{Outgoing, read_reply};
+use crate::outgoing::{Outgoing, Response, respond};
 use crate::rendering::UNAVAILABLE;
 use crate::spelling::Paths;
 use bor_desk::operations::Keep;
-use bor_http::incoming::Counted;
 use std::alloc::{AllocError, Global};
 use std::marker::Model;
 
@@ -94,20 +88,12 @@ impl Reply {
 
 // The reply to one input.
 fn reply_to<K: Keep>(alloc: Global, paths: &Paths, keep: &mut K, input: &[u8]) -> Reply
-    ensures leaves { Leaves K.shows K.is_clean K.is_sound K.may_leave keep.old keep.new
-        (ShowsAfter K.left_shows (Some input.now)) }
-    ensures reply { ByReply result input.now
-        (λ spelled bytes. Promised K.shows K.is_clean keep.old keep.new (λ r.
-        IsOrdered r.members → IsReplyTo r spelled bytes × K.shows keep.new (after r spelled)))
-        (Promised K.shows K.is_clean keep.old keep.new (K.shows keep.new)) }
-    ensures turn { TakesTurn K.shows K.is_clean keep.old keep.new input.now result }
-    ensures up { TurnAnswersClean K.is_clean K.is_sound keep.new input.now result }
+    ensures { TakesTurn K.meaning keep.old keep.new input.now result }
 {
-    let mut reader = Counted::new(input);
-    let (_, outgoing) = read_reply(alloc, paths, keep, &mut reader);
+    let Response { outgoing, .. } = respond(alloc, paths, keep, input);
     match outgoing {
-        Some(Outgoing::Full(status, bytes)) => Reply::Full(FullReply { status, bytes }),
-        Some(Outgoing::Unavailable) | None => Reply::Unavailable,
+        Outgoing::Full(status, bytes) => Reply::Full(FullReply { status, bytes }),
+        Outgoing::Unavailable => Reply::Unavailable,
     }
 }
 
@@ -134,38 +120,14 @@ pub fn replay<K: Keep>(
     keep: &mut K,
     inputs: &[Vec<u8>],
 ) -> Result<Vec<Reply>, AllocError>
-    ensures began { K.is_clean keep.new → K.is_clean keep.old }
+    ensures began { K.meaning.is_clean keep.new → K.meaning.is_clean keep.old }
     ensures count { IfOk result (λ replies. length replies.items ≡ length inputs.now) }
     ensures spelled { IfOk result (λ replies. (spelled : List Spelled)
         × AreSpelled (served (map (λ v. v.items) inputs.now) replies.items) spelled) }
-    ensures replies { Promised K.shows K.is_clean keep.old keep.new (λ r.
-        IsLegal r → IfOk result (λ replies.
-        (spelled : List Spelled)
-        → AreSpelled (served (map (λ v. v.items) inputs.now) replies.items) spelled →
-        AreReplies r spelled (full replies.items))) }
-    ensures left { Promised K.shows K.is_clean keep.old keep.new (λ r.
-        IsLegal r → IfOk result (λ replies.
-        (spelled : List Spelled)
-        → AreSpelled (served (map (λ v. v.items) inputs.now) replies.items) spelled →
-        K.shows keep.new (register_left r spelled))) }
-    ensures alone { Promised K.shows K.is_clean keep.old keep.new (λ r.
-        IsLegal r → IfOk result (λ replies.
-        (spelled : List Spelled)
-        → AreSpelled (served (map (λ v. v.items) inputs.now) replies.items) spelled →
-        (name : List ℕ) → IsAlone name r spelled (full replies.items))) }
-    ensures reports { Promised K.shows K.is_clean keep.old keep.new (λ r.
-        IsLegal r → IfOk result (λ replies.
-        (spelled : List Spelled)
-        → AreSpelled (served (map (λ v. v.items) inputs.now) replies.items) spelled →
-        AreReports r spelled (full replies.items))) }
-    ensures refused_kept { Promised K.shows K.is_clean keep.old keep.new (λ r.
-        IsLegal r → IfOk result (λ replies.
-        (spelled : List Spelled)
-        → AreSpelled (served (map (λ v. v.items) inputs.now) replies.items) spelled →
-        RefusalsLeave r spelled (full replies.items))) }
+    ensures run { Promised K.meaning keep.old keep.new (λ r. IsLegal r → IfOk result (λ replies.
+        IsReplayed (K.meaning.shows keep.new) r (map (λ v. v.items) inputs.now) replies.items)) }
     ensures in_turn { IfOk result (λ replies.
-        InTurn K.shows K.is_clean K.is_sound K.may_leave K.left_shows keep.old keep.new
-        (map (λ v. v.items) inputs.now) replies.items) }
+        InTurn K.meaning keep.old keep.new (map (λ v. v.items) inputs.now) replies.items) }
     ensures err { OnErr result (keep.new ≡ keep.old) }
 {
     let paths = Paths::new(alloc)?;

@@ -51,7 +51,7 @@ abbrev pub source_text : Source → Text
 source_text StandardInput = codes "standard input"
 source_text (File name) = name.now
 
--- no other command is entered than check
+-- no other command is entered than check: that one, or none
 abbrev pub EntersCheck : Entered → Type 0
 EntersCheck entered =
     (found_behind (codes "exchange") entered ≡ None) × (found_behind (codes "serve") entered ≡ None)

@@ -1,5 +1,5 @@
 -- Each record that stands in evidence is open, and what all of them say is one list.
-use Rattle.std.proofs.Common.{◌≡◌, ◌∙◌, ◌&&◌, ℤ, Bool, true, false, cond, Option, Some, None, option_map, option_and_then, List, [], ◌∷◌, Contains, map, refl, sym, ap, subst, inl, inr}
+use Rattle.std.proofs.Common.{◌≡◌, ◌∙◌, ◌↔◌, ◌&&◌, ℤ, Bool, true, false, cond, Option, Some, None, option_map, option_and_then, List, [], ◌∷◌, Contains, map, refl, sym, ap, subst, inl, inr}
 use Rattle.std.specs.Prelude.{MatchBool}
 use Rattle.std.specs.List.Sorted.{IsStrictlySortedBy}
 use Rattle.std.specs.Cmp.{IsTotalOrder, on_total, then_total}
@@ -7,26 +7,30 @@ use Rattle.std.specs.Cmp.Lexicographic.{nat_list_cmp_total}
 use Rattle.std.proofs.lemmas.Bool.{and_parts}
 use Rattle.std.proofs.lemmas.Option.{same_Some}
 use Rattle.bods_read.specs.declared.details.Details.{Details}
+use Rattle.bods_read.specs.declared.details.Identifier.{Identifier}
 use Rattle.bods_read.specs.declared.details.Details.TheVariants as details
 use Rattle.bor_records.specs.declared.row.Row.{Row}
 use Rattle.bor_records.specs.declared.links.node.Node.{Node}
 use Rattle.bor_records.specs.declared.links.node.NodeInfo.{NodeInfo}
 use Rattle.bor_records.specs.declared.links.node.OpenNode.{OpenNode}
 use Rattle.bor_records.specs.declared.links.node.Link.{Link}
+use Rattle.bor_records.specs.OpenRows.{open_rows}
 use Rattle.bor_records.specs.Links.Nodes.{link_record, same_node}
+use Rattle.bor_records.specs.Links.Answers.{Identified}
 use Rattle.bor_records.specs.Links.Shown.{info_in, info_of, listed_at}
 use Rattle.bor_records.specs.Links.Aliases.{IsAliasPath}
 use Rattle.bor_records.specs.Links.Series.{open_at}
 use Rattle.bor_records.specs.Links.Stakes.{is_stake, is_holding}
 use Rattle.bor_records.specs.Links.Rows.{beside, is_entity_info, is_some_info, link_in, link_with, links_of, node_in, nodes_of, shown_of}
 use Rattle.bor_records.proofs.OnLinks.ByKey.{listed_by_key, open_at_in, open_row_at}
-use Rattle.bor_records.proofs.OnLinks.Found.{none, here, there, cases, Contains-map, Contains-from_map}
+use Rattle.bor_records.proofs.OnLinks.Found.{none, here, there, cases, Contains-from_filter_map, Contains-map, Contains-from_map}
 use Rattle.bor_records.proofs.OnLinks.OfRows.{links_of_rows}
 use Rattle.bor_chains.specs.declared.tree.Evidence.{Evidence}
 use Rattle.bor_chains.specs.declared.tree.EvidenceLink.{EvidenceLink}
 use Rattle.bor_chains.specs.Chains.{IsChain}
 use Rattle.bor_chains.specs.Lines.{reading_cmp}
 use Rattle.bor_chains.specs.Evidence.{AreEvidenced, IsLinkOf}
+use Rattle.bor_chains.proofs.Aliasing.{node_of}
 use Rattle.bor_chains.proofs.OneAnswer.{one_sorted}
 use Rattle.bor_desk.specs.declared.evidence.lines.LinkEvidence.{LinkEvidence}
 use Rattle.bor_desk.specs.declared.evidence.lines.RecordEvidence.{RecordEvidence}
@@ -210,30 +214,41 @@ module _ (day : ℤ) (seen : List Row) where
         | inr later ↦ there (record_evidence o.0) (records_at day seen ns) (record_evidence r) (told_at ns (λ k j. all k (there m ns k j)) n r later is)
       ])
 
-  -- what the mentioned records say is what stands under the evidence
-  pub records_told : (entity : Node) (tree : Evidence) (links : List LinkEvidence) (nodes : List Node) → is_entity_info (info_of (shown_of day seen) entity) ≡ true → AreEvidenced (shown_of day seen) entity tree
-      → AreLinkEvidence (shown_of day seen) entity tree.links links → AreMentioned entity tree links nodes → AreRecords day seen (IsMentioned entity tree links) (records_at day seen nodes)
-  records_told entity tree links nodes is_entity evidenced told are = record { each = each; every = every; sorted = sorted }
+  -- what open records say, each of them once and in the order of a reply
+  pub records_of : (P : Node → Type 0) (nodes : List Node) → ((n : Node) → P n → IsOpen day seen n) → ((n : Node) → Contains nodes n ↔ P n) → IsStrictlySortedBy reading_cmp nodes → AreRecords day seen P (records_at day seen nodes)
+  records_of P nodes opens are in_order = record { each = each; every = every; sorted = sorted }
     where
       all : (n : Node) → Contains nodes n → IsOpen day seen n
-      all n h = mentioned_open entity tree links is_entity evidenced told n ((are.each n).0 h)
+      all n h = opens n ((are n).0 h)
 
-      each : (x : RecordEvidence) → Contains (records_at day seen nodes) x → IsMentioned entity tree links (record_node x) × ((r : Row) × (open_at day (record_node x) seen ≡ Some r) × (x ≡ record_evidence r))
+      each : (x : RecordEvidence) → Contains (records_at day seen nodes) x → P (record_node x) × ((r : Row) × (open_at day (record_node x) seen ≡ Some r) × (x ≡ record_evidence r))
       each x h =
           let m = told_from nodes all x h in
           let is : m.node ≡ record_node x = sym (record_is m.node m.row m.open_there) ∙ ap record_node (sym m.says) in (
-            subst (λ (n : Node). IsMentioned entity tree links n) is ((are.each m.node).0 m.on),
+            subst P is ((are m.node).0 m.on),
             (m.row, subst (λ (n : Node). open_at day n seen ≡ Some m.row) is m.open_there, m.says),
           )
 
-      every : (n : Node) → IsMentioned entity tree links n → (r : Row) × (open_at day n seen ≡ Some r) × Contains (records_at day seen nodes) (record_evidence r)
+      every : (n : Node) → P n → (r : Row) × (open_at day n seen ≡ Some r) × Contains (records_at day seen nodes) (record_evidence r)
       every n h =
-          let on = (are.each n).1 h in
+          let on = (are n).1 h in
           let o = all n on in
           (o.0, o.1, told_at nodes all n o.0 on o.1)
 
       sorted : IsStrictlySortedBy reading_cmp (map record_node (records_at day seen nodes))
-      sorted = subst (λ (ns : List Node). IsStrictlySortedBy reading_cmp ns) (sym (nodes_told nodes all)) are.sorted
+      sorted = subst (λ (ns : List Node). IsStrictlySortedBy reading_cmp ns) (sym (nodes_told nodes all)) in_order
+
+  -- what the mentioned records say is what stands under the evidence
+  pub records_told : (entity : Node) (tree : Evidence) (links : List LinkEvidence) (nodes : List Node) → is_entity_info (info_of (shown_of day seen) entity) ≡ true → AreEvidenced (shown_of day seen) entity tree
+      → AreLinkEvidence (shown_of day seen) entity tree.links links → AreMentioned entity tree links nodes → AreRecords day seen (IsMentioned entity tree links) (records_at day seen nodes)
+  records_told entity tree links nodes is_entity evidenced told are =
+      records_of (IsMentioned entity tree links) nodes (mentioned_open entity tree links is_entity evidenced told) are.each are.sorted
+
+  -- an entity that has an identifier is open
+  pub identified_open : (i : Identifier) (n : Node) → Identified (shown_of day seen) i n → IsOpen day seen n
+  identified_open i n h =
+      let f = Contains-from_filter_map node_in (open_rows day seen) h.0 h.1 in
+      (f.0, subst (λ (m : Node). open_at day m seen ≡ Some f.0) (sym (node_of f.0 h.0 f.2) ∙ h.2) (open_row_at day seen f.0 f.1))
 
   -- ---- one list of records
 

@@ -1,31 +1,23 @@
 -- The answers of a mirrored keep, by its mirror or by its store.
-use Rattle.std.proofs.Common.{◌≡◌, ℕ, Option, Some, None, Result, Ok, Err, IfOk, refl, sym, subst, ap, ◌∙◌, inl, inr}
-use Rattle.std.specs.Prelude.{IfSome, option_map}
-use Rattle.bor_records.specs.Promises.{ChangesWhere, Leaves, Reads, StaysClean}
+use Rattle.std.proofs.Common.{◌≡◌, Option, Some, None, Result, Ok, Err, IfOk, refl, sym, subst, ap, ◌∙◌, inl, inr}
+use Rattle.std.specs.Prelude.{option_map}
+use Rattle.bor_records.specs.Promises.{ChangesWhere, Leaves, Meaning, Reads, StaysClean}
 use Rattle.bor_register.specs.Register.{Register}
 use Rattle.bor_register.specs.declared.fault.StoreFault.{StoreFault}
 use Rattle.bor_desk.specs.Memory.Holding.{Holding}
 use Rattle.bor_register.specs.Bare.{bare_register}
-use Rattle.bor_desk.specs.Mirror.Following.{IsFollowed}
+use Rattle.bor_desk.specs.Mirror.Following.{IsFollowed, Mirrors, mirrored}
 
 abbrev pub register_in : Option Holding → Option Register
 register_in m = option_map (λ (h : Holding). h.register) m
 
--- the mirror, where it is there, holds the register without files
-abbrev pub Mirrors : Option Register → Register → Type 0
-Mirrors o r = IfSome o (λ m. m ≡ bare_register r)
-
-module _ {S W : Type 0} (shows : S → Register → Type 0) (is_clean is_sound : S → Type 0) (may_leave : S → W → Type 0) (faults : S → ℕ) (may_tell : StoreFault → Type 0) where
-  -- a read of a keep that has this store and mirror
-  abbrev pub ReadsBoth : {T : Type 0} → (S × Option Register) → (S × Option Register) → Result T StoreFault → (Register → T → Type 0) → Type 0
-  ReadsBoth old new result P = Reads (λ k r. shows k.0 r × Mirrors k.1 r) (λ k. is_clean k.0) (λ k. is_sound k.0) (λ k left. may_leave k.0 left) (λ k. faults k.0) may_tell old new result P
-
+module _ {S W : Type 0} (meaning : Meaning S Register W StoreFault) where
   -- what the mirror answers, whose register stays
   pub by_mirror : {T : Type 0} {P : Register → T → Type 0} {x : T} (self : S × Option Register) (store : S) (was now : Register) → (store, Some was) ≡ self → was ≡ now
-      → ((r : Register) → was ≡ bare_register r → P r x) → ReadsBoth self (store, Some now) (Ok x) P
+      → ((r : Register) → was ≡ bare_register r → P r x) → Reads (mirrored meaning) self (store, Some now) (Ok x) P
   by_mirror {T} {P} {x} self store was now viewed same told =
-      subst (λ (k : S × Option Register). ReadsBoth k (store, Some now) (Ok x) P) viewed
-      (subst (λ (m : Register). ReadsBoth (store, Some was) (store, Some m) (Ok x) P) same
+      subst (λ (k : S × Option Register). Reads (mirrored meaning) k (store, Some now) (Ok x) P) viewed
+      (subst (λ (m : Register). Reads (mirrored meaning) (store, Some was) (store, Some m) (Ok x) P) same
       (record {
         kept = record {
           began = λ clean. clean;
@@ -41,10 +33,10 @@ module _ {S W : Type 0} (shows : S → Register → Type 0) (is_clean is_sound :
 
   -- what the store answers
   pub by_store : {T : Type 0} {P : Register → T → Type 0} {result : Result T StoreFault} (self : S × Option Register) (old new : S) (before after : Option Register) → (old, before) ≡ self → before ≡ after
-      → Reads shows is_clean is_sound may_leave faults may_tell old new result P → ReadsBoth self (new, after) result P
+      → Reads meaning old new result P → Reads (mirrored meaning) self (new, after) result P
   by_store {T} {P} {result} self old new before after viewed same reads =
-      subst (λ (k : S × Option Register). ReadsBoth k (new, after) result P) viewed
-      (subst (λ (o : Option Register). ReadsBoth (old, before) (new, o) result P) same
+      subst (λ (k : S × Option Register). Reads (mirrored meaning) k (new, after) result P) viewed
+      (subst (λ (o : Option Register). Reads (mirrored meaning) (old, before) (new, o) result P) same
       (record {
         kept = record {
           began = reads.kept.began;
@@ -58,7 +50,7 @@ module _ {S W : Type 0} (shows : S → Register → Type 0) (is_clean is_sound :
         answer = λ r shown clean. reads.answer r shown.0 clean;
       }))
     where
-      lasting : {X : Type 0} (answer : Result X StoreFault) → IfOk answer (λ x. StaysClean is_clean is_sound old new) → IfOk answer (λ x. StaysClean (λ (k : S × Option Register). is_clean k.0) (λ k. is_sound k.0) (old, before) (new, before))
+      lasting : {X : Type 0} (answer : Result X StoreFault) → IfOk answer (λ x. StaysClean meaning old new) → IfOk answer (λ x. StaysClean (mirrored meaning) (old, before) (new, before))
       lasting (Ok x) h = record { sound = h.sound; clean = h.clean }
       lasting (Err e) h = tt
 
@@ -67,51 +59,47 @@ module _ {S W : Type 0} (shows : S → Register → Type 0) (is_clean is_sound :
   fault_told T e = Err e
 
   -- what the store does, where the mirror follows
-  module _ (left_shows : W → Register → Type 0) where
-    abbrev pub ChangesBoth : {T : Type 0} → (S × Option Register) → (S × Option Register) → Result T StoreFault → (Register → Type 0) → (Register → Register) → Type 0
-    ChangesBoth old new result Fits change = ChangesWhere (λ k r. shows k.0 r × Mirrors k.1 r) (λ k. is_clean k.0) (λ k. is_sound k.0) (λ k left. may_leave k.0 left) left_shows (λ k. faults k.0) may_tell old new result Fits change
+  leaves_both : {Fits : Register → Type 0} {change : Register → Register} {old new : S} {before after : Option Register} → Leaves meaning old new (λ r left. Fits r → meaning.left_shows left (change r))
+      → Leaves (mirrored meaning) (old, before) (new, after) (λ r left. Fits r → meaning.left_shows left (change r))
+  leaves_both leaves = record {
+    began = leaves.began;
+    sound = leaves.sound;
+    stops = λ sound left may. (elim (leaves.stops sound left may) [
+      | inl was ↦ inl was
+      | inr made ↦ inr (made.0, λ r shown. made.1 r shown.0)
+    ]);
+  }
 
-    leaves_both : {Fits : Register → Type 0} {change : Register → Register} {old new : S} {before after : Option Register} → Leaves shows is_clean is_sound may_leave old new (λ r left. Fits r → left_shows left (change r))
-        → Leaves (λ (k : S × Option Register) r. shows k.0 r × Mirrors k.1 r) (λ k. is_clean k.0) (λ k. is_sound k.0) (λ k left. may_leave k.0 left) (old, before) (new, after) (λ r left. Fits r → left_shows left (change r))
-    leaves_both leaves = record {
-      began = leaves.began;
-      sound = leaves.sound;
-      stops = λ sound left may. (elim (leaves.stops sound left may) [
-        | inl was ↦ inl was
-        | inr made ↦ inr (made.0, λ r shown. made.1 r shown.0)
-      ]);
-    }
+  -- the store has answered
+  pub made_both : {T : Type 0} {x : T} (Fits : Register → Type 0) (change : Register → Register) (self : S × Option Register) (old new : S) (before after : Option Register) → (old, before) ≡ self
+      → ((r : Register) → Fits r → Mirrors before r → Mirrors after (change r))
+      → ChangesWhere meaning old new (Ok x) Fits change
+      → ChangesWhere (mirrored meaning) self (new, after) (Ok x) Fits change
+  made_both {T} {x} Fits change self old new before after viewed follows changes =
+      subst (λ (k : S × Option Register). ChangesWhere (mirrored meaning) k (new, after) (Ok x) Fits change) viewed
+      (record {
+        leaves = leaves_both changes.leaves;
+        lasts = record { sound = changes.lasts.sound; clean = changes.lasts.clean };
+        counts = changes.counts;
+        told = λ r shown clean fits. tt;
+        failed = λ r shown clean. tt;
+        made = λ r shown clean fits. (changes.made r shown.0 clean fits, follows r fits shown.1);
+      })
 
-    -- the store has answered
-    pub made_both : {T : Type 0} {x : T} (Fits : Register → Type 0) (change : Register → Register) (self : S × Option Register) (old new : S) (before after : Option Register) → (old, before) ≡ self
-        → ((r : Register) → Fits r → Mirrors before r → Mirrors after (change r))
-        → ChangesWhere shows is_clean is_sound may_leave left_shows faults may_tell old new (Ok x) Fits change
-        → ChangesBoth self (new, after) (Ok x) Fits change
-    made_both {T} {x} Fits change self old new before after viewed follows changes =
-        subst (λ (k : S × Option Register). ChangesBoth k (new, after) (Ok x) Fits change) viewed
-        (record {
-          leaves = leaves_both changes.leaves;
-          lasts = record { sound = changes.lasts.sound; clean = changes.lasts.clean };
-          counts = changes.counts;
-          told = λ r shown clean fits. tt;
-          failed = λ r shown clean. tt;
-          made = λ r shown clean fits. (changes.made r shown.0 clean fits, follows r fits shown.1);
-        })
-
-    -- the store has answered a fault, and the mirror stays
-    pub failed_both : {T : Type 0} {e : StoreFault} (Fits : Register → Type 0) (change : Register → Register) (self : S × Option Register) (old new : S) (before : Option Register) → (old, before) ≡ self
-        → ChangesWhere shows is_clean is_sound may_leave left_shows faults may_tell old new (fault_told T e) Fits change
-        → ChangesBoth self (new, before) (fault_told T e) Fits change
-    failed_both {T} {e} Fits change self old new before viewed changes =
-        subst (λ (k : S × Option Register). ChangesBoth k (new, before) (fault_told T e) Fits change) viewed
-        (record {
-          leaves = leaves_both changes.leaves;
-          lasts = tt;
-          counts = changes.counts;
-          told = λ r shown clean fits. changes.told r shown.0 clean fits;
-          failed = λ r shown clean. (changes.failed r shown.0 clean, shown.1);
-          made = λ r shown clean fits. tt;
-        })
+  -- the store has answered a fault, and the mirror stays
+  pub failed_both : {T : Type 0} {e : StoreFault} (Fits : Register → Type 0) (change : Register → Register) (self : S × Option Register) (old new : S) (before : Option Register) → (old, before) ≡ self
+      → ChangesWhere meaning old new (fault_told T e) Fits change
+      → ChangesWhere (mirrored meaning) self (new, before) (fault_told T e) Fits change
+  failed_both {T} {e} Fits change self old new before viewed changes =
+      subst (λ (k : S × Option Register). ChangesWhere (mirrored meaning) k (new, before) (fault_told T e) Fits change) viewed
+      (record {
+        leaves = leaves_both changes.leaves;
+        lasts = tt;
+        counts = changes.counts;
+        told = λ r shown clean fits. changes.told r shown.0 clean fits;
+        failed = λ r shown clean. (changes.failed r shown.0 clean, shown.1);
+        made = λ r shown clean fits. tt;
+      })
 
 -- ---- the mirror follows
 

@@ -1,5 +1,6 @@
 -- The answer of an operation over a keep, and the register that it leaves.
 use Rattle.std.specs.Prelude.{◌≡◌, ◌≢◌, ◌⊎◌, IfErr, ℕ, Option, Some, None, Result, Ok, Err}
+use Rattle.bor_records.specs.Promises.{Meaning, Promised, StaysClean}
 use Rattle.bor_register.specs.declared.fault.StoreFault.{StoreFault}
 use Rattle.bor_register.specs.declared.fault.StoreFault.TheVariants.{Memory}
 use Rattle.bor_register.specs.Register.{Register}
@@ -33,7 +34,7 @@ of_enrolment refusal = None
 
 -- ---- the answer, and the register that is left
 
--- P of a refusal, Q of a fault of the store
+-- P where there is no fault of the store, as of an answer or a refusal; Q of the fault
 abbrev pub ByStore : Option StoreFault → Type 0 → (StoreFault → Type 0) → Type 0
 ByStore None P Q = P
 ByStore (Some fault) P Q = Q fault
@@ -51,34 +52,27 @@ IsOutcome store (Err fault) shown r o =
 abbrev pub IsFaultOf : ℕ → ℕ → StoreFault → Type 0
 IsFaultOf before after fault = ((fault ≡ Memory) × (after ≡ before)) ⊎ (after ≢ before)
 
--- an answer that is no fault of the store leaves the count
-abbrev pub IsAccounted : {A E : Type 0} → (E → Option StoreFault) → Result A E → ℕ → ℕ → Type 0
-IsAccounted store (Ok answer) before after = after ≡ before
-IsAccounted store (Err fault) before after =
-    ByStore (store fault) (after ≡ before) (IsFaultOf before after)
-
 -- A fault of the store is want of memory where the keep's count of faults hasn't moved, and one
 -- that the keep may return where it has.
 abbrev pub IsTellable : (StoreFault → Type 0) → ℕ → ℕ → StoreFault → Type 0
 IsTellable may_tell before after fault =
     ((fault ≡ Memory) × (after ≡ before)) ⊎ (may_tell fault × (after ≢ before))
 
--- a fault of the store is such a one
-abbrev pub TellsFaultOf : {A E : Type 0} → (E → Option StoreFault) → (StoreFault → Type 0)
-    → Result A E → ℕ → ℕ → Type 0
-TellsFaultOf store may_tell (Ok answer) before after = Unit {0}
-TellsFaultOf store may_tell (Err fault) before after =
-    ByStore (store fault) (Unit {0}) (IsTellable may_tell before after)
+-- the fault of the store that a call has answered; none where it gave its answer or a refusal
+abbrev pub store_fault : {A E : Type 0} → (E → Option StoreFault) → Result A E → Option StoreFault
+store_fault store (Ok answer) = None
+store_fault store (Err fault) = store fault
 
--- a call that asks the keep alone moves the count where it answers a fault
-abbrev pub IsCounted : {A : Type 0} → Result A StoreFault → ℕ → ℕ → Type 0
-IsCounted (Ok answer) before after = after ≡ before
-IsCounted (Err fault) before after = after ≢ before
-
--- P, where the answer is no fault of the store
-abbrev pub UnlessFailed : {A E : Type 0} → (E → Option StoreFault) → Result A E → Type 0 → Type 0
-UnlessFailed store (Ok answer) P = P
-UnlessFailed store (Err fault) P = ByStore (store fault) P (λ f. Unit {0})
+-- The account of an operation for the faults of its keep, by the fault of the store that it has
+-- answered. With none, the keep's count of faults hasn't moved, and a clean keep stays clean. One
+-- is want of memory where the count hasn't moved, and one that the keep may answer where it has.
+pub record Accounts {S V W : Type 0} (meaning : Meaning S V W StoreFault) (old new : S)
+    (fault : Option StoreFault) : Type 0 where
+  pub counted : ByStore fault (meaning.fault_count new ≡ meaning.fault_count old)
+      (IsFaultOf (meaning.fault_count old) (meaning.fault_count new))
+  pub told : Promised meaning old new (λ v. ByStore fault (Unit {0})
+      (IsTellable meaning.may_tell (meaning.fault_count old) (meaning.fault_count new)))
+  pub lasts : ByStore fault (StaysClean meaning old new) (λ f. Unit {0})
 
 -- ---- parts of an operation, for clauses of private functions alone
 

@@ -1,6 +1,6 @@
 //! Which records stand in evidence.
 
-ghost use Rattle.std.specs.Prelude.{◌≡◌, IfOk, OnOk, Contains};
+ghost use Rattle.std.specs.Prelude.{◌≡◌, ◌↔◌, IfOk, OnOk, Contains};
 ghost use Rattle.std.specs.List.Sorted.{IsStrictlySortedBy};
 ghost use Rattle.bor_chains.specs.Lines.{reading_cmp};
 ghost use Rattle.bor_desk.specs.Mentioned.{AreMentioned, IsGained, IsOfAny, IsOfLink, key_of, node_of, nodes_in};
@@ -122,6 +122,16 @@ fn nodes_of(alloc: Global, keys: BTreeSet<Key>) -> Result<Vec<Node>, AllocError>
     ensures sorted { IfOk result (λ nodes. IsStrictlySortedBy reading_cmp nodes.items) }
 {
     keys.into_iter().map(|key| key.into_node()).collect(alloc)
+}
+
+/// These records, each once, by agent, declaration and record.
+pub(crate) fn in_order(alloc: Global, nodes: &[Node]) -> Result<Vec<Node>, AllocError>
+    ensures each { IfOk result (λ out. (n : Node) → Contains out.items n ↔ Contains nodes.now n) }
+    ensures sorted { IfOk result (λ out. IsStrictlySortedBy reading_cmp out.items) }
+{
+    let mut keys = BTreeSet::new(alloc);
+    add_all(alloc, &mut keys, nodes)?;
+    nodes_of(alloc, keys)
 }
 
 /// The records that stand in evidence, each once, by agent, declaration and record: the entity that

@@ -4,11 +4,11 @@ ghost use Rattle.std.specs.Prelude.{◌≡◌, ◌++◌, ◌∷◌, [], IfOk, On
 ghost use Rattle.bor_records.specs.declared.links.node.Node.{Node};
 ghost use Rattle.bor_records.specs.Links.Shown.{Shown, is_entity, listed_at};
 ghost use Rattle.bor_records.specs.Links.Signs.{sign_cmp, signs};
-ghost use Rattle.bor_records.specs.Promises.{Kept, StaysClean, Promised};
+ghost use Rattle.bor_records.specs.Promises.{Kept, Promised};
 ghost use Rattle.bor_register.specs.Seen.{seen_at};
 ghost use Rattle.bor_desk.specs.Kin.{AreKin, AreTaken, IsKinOf, NoneFound, signed_in, signs_in};
 ghost use Rattle.bor_desk.specs.Memory.Indexed.{under};
-ghost use Rattle.bor_desk.specs.Operations.Outcomes.{UnlessFailed, IsAccounted, TellsFaultOf};
+ghost use Rattle.bor_desk.specs.Operations.Outcomes.{Accounts, store_fault};
 
 use crate::memory::{note, push_signs};
 use crate::operations::{Keep, StoreFault};
@@ -102,14 +102,9 @@ impl Kin {
         day: Day,
         node: &Node,
     ) -> Result<(), StoreFault>
-        ensures kept { Kept K.shows K.is_clean K.is_sound K.may_leave keep.old keep.new }
-        ensures accounted { IsAccounted Some result (K.fault_count keep.old)
-            (K.fault_count keep.new) }
-        ensures told { Promised K.shows K.is_clean keep.old keep.new (λ r.
-            TellsFaultOf Some K.may_tell result (K.fault_count keep.old) (K.fault_count keep.new)) }
-        ensures lasts { UnlessFailed Some result
-            (StaysClean K.is_clean K.is_sound keep.old keep.new) }
-        ensures answer { Promised K.shows K.is_clean keep.old keep.new (λ r. OnOk result
+        ensures kept { Kept K.meaning keep.old keep.new }
+        ensures accounted { Accounts K.meaning keep.old keep.new (store_fault Some result) }
+        ensures answer { Promised K.meaning keep.old keep.new (λ r. OnOk result
             ((nodes : List Node) → AreKin (seen_at viewer.now day r) nodes NoneFound self.old
             → AreKin (seen_at viewer.now day r) (nodes ++ node.now ∷ []) NoneFound self.new)) }
     {
@@ -134,14 +129,9 @@ impl Kin {
         day: Day,
         nodes: &[Node],
     ) -> Result<Kin, StoreFault>
-        ensures kept { Kept K.shows K.is_clean K.is_sound K.may_leave keep.old keep.new }
-        ensures accounted { IsAccounted Some result (K.fault_count keep.old)
-            (K.fault_count keep.new) }
-        ensures told { Promised K.shows K.is_clean keep.old keep.new (λ r.
-            TellsFaultOf Some K.may_tell result (K.fault_count keep.old) (K.fault_count keep.new)) }
-        ensures lasts { UnlessFailed Some result
-            (StaysClean K.is_clean K.is_sound keep.old keep.new) }
-        ensures answer { Promised K.shows K.is_clean keep.old keep.new (λ r. IfOk result (λ kin.
+        ensures kept { Kept K.meaning keep.old keep.new }
+        ensures accounted { Accounts K.meaning keep.old keep.new (store_fault Some result) }
+        ensures answer { Promised K.meaning keep.old keep.new (λ r. IfOk result (λ kin.
             AreKin (seen_at viewer.now day r) nodes.now NoneFound kin)) }
     {
         let mut kin = Kin::new(alloc);
@@ -160,14 +150,9 @@ impl Kin {
         day: Day,
         goal: &Node,
     ) -> Result<Kin, StoreFault>
-        ensures kept { Kept K.shows K.is_clean K.is_sound K.may_leave keep.old keep.new }
-        ensures accounted { IsAccounted Some result (K.fault_count keep.old)
-            (K.fault_count keep.new) }
-        ensures told { Promised K.shows K.is_clean keep.old keep.new (λ r.
-            TellsFaultOf Some K.may_tell result (K.fault_count keep.old) (K.fault_count keep.new)) }
-        ensures lasts { UnlessFailed Some result
-            (StaysClean K.is_clean K.is_sound keep.old keep.new) }
-        ensures answer { Promised K.shows K.is_clean keep.old keep.new (λ r. IfOk result (λ kin.
+        ensures kept { Kept K.meaning keep.old keep.new }
+        ensures accounted { Accounts K.meaning keep.old keep.new (store_fault Some result) }
+        ensures answer { Promised K.meaning keep.old keep.new (λ r. IfOk result (λ kin.
             IsKinOf (seen_at viewer.now day r) goal.now NoneFound kin)) }
     {
         let class = keep.same(viewer, day, goal)?;

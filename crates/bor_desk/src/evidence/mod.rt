@@ -10,5 +10,5 @@ mod text;
 mod ways;
 
 pub use lines::{EntityEvidence, LinkEvidence, PersonEvidence, RecordEvidence};
-pub(crate) use seen::evidence_seen;
+pub(crate) use seen::{entities_seen, evidence_seen};
 pub use text::evidence_text;

@@ -3,9 +3,9 @@
 ghost use Rattle.std.specs.Prelude.{IfOk, OnOk, Some};
 ghost use Rattle.bor_records.specs.Links.Shown.{Shown};
 ghost use Rattle.bor_records.specs.Links.Aliases.{Same};
-ghost use Rattle.bor_records.specs.Promises.{Kept, StaysClean, Promised};
+ghost use Rattle.bor_records.specs.Promises.{Kept, Promised};
 ghost use Rattle.bor_register.specs.Seen.{seen_at};
-ghost use Rattle.bor_desk.specs.Operations.Outcomes.{UnlessFailed, IsAccounted, TellsFaultOf};
+ghost use Rattle.bor_desk.specs.Operations.Outcomes.{Accounts, store_fault};
 ghost use Rattle.bor_desk.specs.Evidence.{IsBridge};
 ghost use Rattle.bor_desk.specs.Ways.{AreGoals, AreWaysTo};
 
@@ -53,9 +53,9 @@ impl Goals {
     }
 
     /// The records by which an entity is one with another: none where it is that record itself,
-    /// else the least of the shortest lists in which neighbours are aliases, both included. For each
-    /// goal the keep is asked once for its aliases; and, where an entity is further away than these,
-    /// once for its class, and once for each record of that.
+    /// else the least of the shortest lists in which neighbours are aliases, both included. For
+    /// each goal the keep is asked once for its aliases; and, where an entity is further away than
+    /// these, once for its class, and once for each record of that.
     pub(crate) fn same<K: Keep>(
         &mut self,
         alloc: Global,
@@ -65,14 +65,9 @@ impl Goals {
         node: &Node,
         goal: &Node,
     ) -> Result<Vec<Node>, StoreFault>
-        ensures kept { Kept K.shows K.is_clean K.is_sound K.may_leave keep.old keep.new }
-        ensures accounted { IsAccounted Some result (K.fault_count keep.old)
-            (K.fault_count keep.new) }
-        ensures told { Promised K.shows K.is_clean keep.old keep.new (λ r.
-            TellsFaultOf Some K.may_tell result (K.fault_count keep.old) (K.fault_count keep.new)) }
-        ensures lasts { UnlessFailed Some result
-            (StaysClean K.is_clean K.is_sound keep.old keep.new) }
-        ensures answer { Promised K.shows K.is_clean keep.old keep.new (λ r. IfOk result (λ same.
+        ensures kept { Kept K.meaning keep.old keep.new }
+        ensures accounted { Accounts K.meaning keep.old keep.new (store_fault Some result) }
+        ensures answer { Promised K.meaning keep.old keep.new (λ r. IfOk result (λ same.
             AreGoals (seen_at viewer.now day r) self.old
             → Same (seen_at viewer.now day r) node.now goal.now
             → AreGoals (seen_at viewer.now day r) self.new

@@ -3,23 +3,25 @@
 ghost use Rattle.std.specs.Prelude.{◌≡◌, Some, IfOk};
 ghost use Rattle.bor_records.specs.Links.Rows.{shown_of};
 ghost use Rattle.bor_records.specs.Links.Aliases.{Same};
-ghost use Rattle.bor_records.specs.Promises.{Kept, StaysClean, Promised};
+ghost use Rattle.bor_records.specs.Links.Answers.{Identified};
+ghost use Rattle.bor_records.specs.Promises.{Kept, Promised};
 ghost use Rattle.bor_register.specs.Seen.{seen_at};
 ghost use Rattle.bor_desk.specs.Operations.Sight.{seen_by};
-ghost use Rattle.bor_desk.specs.Operations.Outcomes.{UnlessFailed, IsAccounted, TellsFaultOf};
+ghost use Rattle.bor_desk.specs.Operations.Outcomes.{Accounts, store_fault};
 ghost use Rattle.bor_desk.specs.Refusals.{failed};
-ghost use Rattle.bor_desk.specs.Evidence.{AreLinkEvidence, IsLinkEvidence, goal_of, record_evidence};
+ghost use Rattle.bor_desk.specs.Evidence.{AreRecords, AreLinkEvidence, IsLinkEvidence, goal_of, record_evidence};
 ghost use Rattle.bor_desk.specs.Mentioned.{records_at};
 ghost use Rattle.bor_desk.specs.Outcomes.{IsEvidenceFound, IsTreeFound};
 ghost use Rattle.bor_desk.specs.Ways.{AreGoals, AreLinked};
 
-use crate::evidence::keys::records_in;
+use crate::evidence::keys::{in_order, records_in};
 use crate::evidence::lines::{
     EntityEvidence, LinkEvidence, RecordEvidence, person_lines, record_of, record_of_next,
 };
 use crate::evidence::same::Goals;
 use crate::operations::{Keep, KeepSource, StoreFault};
 use crate::refusal::DeskFault;
+use bods_read::Identifier;
 use bor_chains::{Evidence, EvidenceLink, Node, evidence_of};
 use bor_records::{Entry, Row};
 use bor_terms::{AgentName, Day, Listed};
@@ -33,15 +35,10 @@ pub(crate) fn tree_seen<K: Keep>(
     entity: &Node,
     day: Day,
 ) -> Result<Evidence, DeskFault>
-    ensures kept { Kept K.shows K.is_clean K.is_sound K.may_leave keep.old keep.new }
-    ensures answer { Promised K.shows K.is_clean keep.old keep.new (λ r.
+    ensures kept { Kept K.meaning keep.old keep.new }
+    ensures answer { Promised K.meaning keep.old keep.new (λ r.
         IsTreeFound result (shown_of day (seen_by viewer.now r)) entity.now day) }
-    ensures accounted { IsAccounted failed result (K.fault_count keep.old)
-        (K.fault_count keep.new) }
-    ensures told { Promised K.shows K.is_clean keep.old keep.new (λ r.
-        TellsFaultOf failed K.may_tell result (K.fault_count keep.old) (K.fault_count keep.new)) }
-    ensures lasts { UnlessFailed failed result
-        (StaysClean K.is_clean K.is_sound keep.old keep.new) }
+    ensures accounted { Accounts K.meaning keep.old keep.new (store_fault failed result) }
 {
     let mut source = KeepSource::new(keep, viewer, day);
     Ok(evidence_of(alloc, &mut source, entity)?)
@@ -67,18 +64,13 @@ fn link_line<K: Keep>(
     line: &EvidenceLink,
     entity: &Node,
 ) -> Result<LinkEvidence, StoreFault>
-    ensures kept { Kept K.shows K.is_clean K.is_sound K.may_leave keep.old keep.new }
-    ensures answer { Promised K.shows K.is_clean keep.old keep.new (λ r. IfOk result (λ told.
+    ensures kept { Kept K.meaning keep.old keep.new }
+    ensures answer { Promised K.meaning keep.old keep.new (λ r. IfOk result (λ told.
         AreGoals (seen_at viewer.now day r) goals.old
         → Same (seen_at viewer.now day r) line.now.link.subject (goal_of entity.now line.now)
         → AreGoals (seen_at viewer.now day r) goals.new
         × IsLinkEvidence (seen_at viewer.now day r) entity.now line.now told)) }
-    ensures accounted { IsAccounted Some result (K.fault_count keep.old)
-        (K.fault_count keep.new) }
-    ensures told { Promised K.shows K.is_clean keep.old keep.new (λ r.
-        TellsFaultOf Some K.may_tell result (K.fault_count keep.old) (K.fault_count keep.new)) }
-    ensures lasts { UnlessFailed Some result
-        (StaysClean K.is_clean K.is_sound keep.old keep.new) }
+    ensures accounted { Accounts K.meaning keep.old keep.new (store_fault Some result) }
 {
     let goal = goal_of(line, entity);
     let same = goals.same(alloc, keep, viewer, day, &line.link.subject, goal)?;
@@ -98,16 +90,11 @@ fn link_lines<K: Keep>(
     links: &[EvidenceLink],
     entity: &Node,
 ) -> Result<Vec<LinkEvidence>, StoreFault>
-    ensures kept { Kept K.shows K.is_clean K.is_sound K.may_leave keep.old keep.new }
-    ensures answer { Promised K.shows K.is_clean keep.old keep.new (λ r. IfOk result (λ lines.
+    ensures kept { Kept K.meaning keep.old keep.new }
+    ensures answer { Promised K.meaning keep.old keep.new (λ r. IfOk result (λ lines.
         AreLinked (seen_at viewer.now day r) entity.now links.now
         → AreLinkEvidence (seen_at viewer.now day r) entity.now links.now lines.items)) }
-    ensures accounted { IsAccounted Some result (K.fault_count keep.old)
-        (K.fault_count keep.new) }
-    ensures told { Promised K.shows K.is_clean keep.old keep.new (λ r.
-        TellsFaultOf Some K.may_tell result (K.fault_count keep.old) (K.fault_count keep.new)) }
-    ensures lasts { UnlessFailed Some result
-        (StaysClean K.is_clean K.is_sound keep.old keep.new) }
+    ensures accounted { Accounts K.meaning keep.old keep.new (store_fault Some result) }
 {
     let mut goals = Goals::new(alloc);
     let mut lines = Vec::with_capacity(alloc, links.len())?;
@@ -140,15 +127,10 @@ fn records_seen<K: Keep>(
     day: Day,
     nodes: &[Node],
 ) -> Result<Vec<RecordEvidence>, StoreFault>
-    ensures kept { Kept K.shows K.is_clean K.is_sound K.may_leave keep.old keep.new }
-    ensures answer { Promised K.shows K.is_clean keep.old keep.new (λ r. IfOk result (λ records.
+    ensures kept { Kept K.meaning keep.old keep.new }
+    ensures answer { Promised K.meaning keep.old keep.new (λ r. IfOk result (λ records.
         records.items ≡ records_at day (seen_by viewer.now r) nodes.now)) }
-    ensures accounted { IsAccounted Some result (K.fault_count keep.old)
-        (K.fault_count keep.new) }
-    ensures told { Promised K.shows K.is_clean keep.old keep.new (λ r.
-        TellsFaultOf Some K.may_tell result (K.fault_count keep.old) (K.fault_count keep.new)) }
-    ensures lasts { UnlessFailed Some result
-        (StaysClean K.is_clean K.is_sound keep.old keep.new) }
+    ensures accounted { Accounts K.meaning keep.old keep.new (store_fault Some result) }
 {
     let mut records = Vec::with_capacity(alloc, nodes.len())?;
     for node in nodes {
@@ -157,6 +139,27 @@ fn records_seen<K: Keep>(
         }
     }
     Ok(records)
+}
+
+/// The open entities that have an identifier on a day, as the viewer sees it: what their records
+/// say, by agent, declaration and record. The keep is asked for their records once, and for what
+/// each of them says once.
+pub(crate) fn entities_seen<K: Keep>(
+    alloc: Global,
+    keep: &mut K,
+    viewer: &AgentName,
+    identifier: &Identifier,
+    day: Day,
+) -> Result<Vec<RecordEvidence>, StoreFault>
+    ensures kept { Kept K.meaning keep.old keep.new }
+    ensures answer { Promised K.meaning keep.old keep.new (λ r. IfOk result (λ records.
+        AreRecords day (seen_by viewer.now r)
+        (Identified (shown_of day (seen_by viewer.now r)) identifier.now) records.items)) }
+    ensures accounted { Accounts K.meaning keep.old keep.new (store_fault Some result) }
+{
+    let found = keep.identified(viewer, day, identifier)?;
+    let nodes = in_order(alloc, &found)?;
+    records_seen(alloc, keep, viewer, day, &nodes)
 }
 
 /// The evidence of an entity on a day, as the viewer sees it: why each person behind it is named,
@@ -170,15 +173,10 @@ pub(crate) fn evidence_seen<K: Keep>(
     entity: &Node,
     day: Day,
 ) -> Result<EntityEvidence, DeskFault>
-    ensures kept { Kept K.shows K.is_clean K.is_sound K.may_leave keep.old keep.new }
-    ensures answer { Promised K.shows K.is_clean keep.old keep.new (λ r.
+    ensures kept { Kept K.meaning keep.old keep.new }
+    ensures answer { Promised K.meaning keep.old keep.new (λ r.
         IsEvidenceFound result (seen_by viewer.now r) entity.now day) }
-    ensures accounted { IsAccounted failed result (K.fault_count keep.old)
-        (K.fault_count keep.new) }
-    ensures told { Promised K.shows K.is_clean keep.old keep.new (λ r.
-        TellsFaultOf failed K.may_tell result (K.fault_count keep.old) (K.fault_count keep.new)) }
-    ensures lasts { UnlessFailed failed result
-        (StaysClean K.is_clean K.is_sound keep.old keep.new) }
+    ensures accounted { Accounts K.meaning keep.old keep.new (store_fault failed result) }
 {
     let tree = tree_seen(alloc, keep, viewer, entity, day)?;
     let links = link_lines(alloc, keep, viewer, day, tree.links.as_slice(), entity)?;

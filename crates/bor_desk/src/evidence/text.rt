@@ -2,9 +2,9 @@
 
 ghost use Rattle.std.specs.Prelude.{◌≡◌, ◌++◌, ℕ, List, Some, IfOk, OnOk, string_bytes};
 ghost use Rattle.bor_terms.specs.Day.{IsSpelling};
-ghost use Rattle.bor_records.specs.Promises.{Kept, StaysClean, Promised};
+ghost use Rattle.bor_records.specs.Promises.{Kept, Promised};
 ghost use Rattle.bor_desk.specs.Operations.Sight.{seen_by};
-ghost use Rattle.bor_desk.specs.Operations.Outcomes.{UnlessFailed, IsAccounted, TellsFaultOf};
+ghost use Rattle.bor_desk.specs.Operations.Outcomes.{Accounts, store_fault};
 ghost use Rattle.bor_desk.specs.Step.{evidence_answer};
 ghost use Rattle.bor_desk.specs.Texts.{answering};
 ghost use Rattle.bor_desk.specs.ChainReport.{IsTextOf, evidence_lines, evidenced_line, evidenced_lines, key_part, link_line, link_lines, next_part};
@@ -113,15 +113,10 @@ pub fn evidence_text<K: Keep>(
     entity: &Node,
     day: Day,
 ) -> Result<Text, StoreFault>
-    ensures kept { Kept K.shows K.is_clean K.is_sound K.may_leave keep.old keep.new }
-    ensures text { Promised K.shows K.is_clean keep.old keep.new (λ r. IfOk result (λ text.
+    ensures kept { Kept K.meaning keep.old keep.new }
+    ensures text { Promised K.meaning keep.old keep.new (λ r. IfOk result (λ text.
         IsTextOf (evidence_answer (seen_by viewer.now r) entity.now day) text)) }
-    ensures accounted { IsAccounted Some result (K.fault_count keep.old)
-        (K.fault_count keep.new) }
-    ensures told { Promised K.shows K.is_clean keep.old keep.new (λ r.
-        TellsFaultOf Some K.may_tell result (K.fault_count keep.old) (K.fault_count keep.new)) }
-    ensures lasts { UnlessFailed Some result
-        (StaysClean K.is_clean K.is_sound keep.old keep.new) }
+    ensures accounted { Accounts K.meaning keep.old keep.new (store_fault Some result) }
 {
     match tree_seen(alloc, keep, viewer, entity, day) {
         Ok(tree) => Ok(tree_text(alloc, entity, day, &tree)?),

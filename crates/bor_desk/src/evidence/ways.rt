@@ -8,9 +8,9 @@ ghost use Rattle.bor_records.specs.declared.links.node.Node.{Node};
 ghost use Rattle.bor_records.specs.Links.Nodes.{node_cmp};
 ghost use Rattle.bor_records.specs.Links.Shown.{Shown};
 ghost use Rattle.bor_records.specs.Links.Aliases.{Same};
-ghost use Rattle.bor_records.specs.Promises.{Kept, StaysClean, Promised};
+ghost use Rattle.bor_records.specs.Promises.{Kept, Promised};
 ghost use Rattle.bor_register.specs.Seen.{seen_at};
-ghost use Rattle.bor_desk.specs.Operations.Outcomes.{UnlessFailed, IsAccounted, TellsFaultOf};
+ghost use Rattle.bor_desk.specs.Operations.Outcomes.{Accounts, store_fault};
 ghost use Rattle.bor_desk.specs.Evidence.{IsLeastWay};
 ghost use Rattle.bor_desk.specs.Kin.{IsKinOf};
 ghost use Rattle.bor_desk.specs.Ways.{AreAdded, AreAll, AreFoundFrom, AreOfClass, AreWaysTo};
@@ -173,14 +173,9 @@ impl Ways {
         day: Day,
         goal: &Node,
     ) -> Result<(), StoreFault>
-        ensures kept { Kept K.shows K.is_clean K.is_sound K.may_leave keep.old keep.new }
-        ensures accounted { IsAccounted Some result (K.fault_count keep.old)
-            (K.fault_count keep.new) }
-        ensures told { Promised K.shows K.is_clean keep.old keep.new (λ r.
-            TellsFaultOf Some K.may_tell result (K.fault_count keep.old) (K.fault_count keep.new)) }
-        ensures lasts { UnlessFailed Some result
-            (StaysClean K.is_clean K.is_sound keep.old keep.new) }
-        ensures answer { Promised K.shows K.is_clean keep.old keep.new (λ r. OnOk result
+        ensures kept { Kept K.meaning keep.old keep.new }
+        ensures accounted { Accounts K.meaning keep.old keep.new (store_fault Some result) }
+        ensures answer { Promised K.meaning keep.old keep.new (λ r. OnOk result
             (AreWaysTo (seen_at viewer.now day r) goal.now self.old
             → AreWaysTo (seen_at viewer.now day r) goal.now self.new)) }
     {
@@ -203,14 +198,9 @@ impl Ways {
         day: Day,
         goal: &Node,
     ) -> Result<Kin, StoreFault>
-        ensures kept { Kept K.shows K.is_clean K.is_sound K.may_leave keep.old keep.new }
-        ensures accounted { IsAccounted Some result (K.fault_count keep.old)
-            (K.fault_count keep.new) }
-        ensures told { Promised K.shows K.is_clean keep.old keep.new (λ r.
-            TellsFaultOf Some K.may_tell result (K.fault_count keep.old) (K.fault_count keep.new)) }
-        ensures lasts { UnlessFailed Some result
-            (StaysClean K.is_clean K.is_sound keep.old keep.new) }
-        ensures answer { Promised K.shows K.is_clean keep.old keep.new (λ r. IfOk result (λ kin.
+        ensures kept { Kept K.meaning keep.old keep.new }
+        ensures accounted { Accounts K.meaning keep.old keep.new (store_fault Some result) }
+        ensures answer { Promised K.meaning keep.old keep.new (λ r. IfOk result (λ kin.
             AreWaysTo (seen_at viewer.now day r) goal.now self.old
             → AreWaysTo (seen_at viewer.now day r) goal.now self.new
             × IsKinOf (seen_at viewer.now day r) goal.now
@@ -249,14 +239,9 @@ impl Ways {
         node: &Node,
         goal: &Node,
     ) -> Result<(), StoreFault>
-        ensures kept { Kept K.shows K.is_clean K.is_sound K.may_leave keep.old keep.new }
-        ensures accounted { IsAccounted Some result (K.fault_count keep.old)
-            (K.fault_count keep.new) }
-        ensures told { Promised K.shows K.is_clean keep.old keep.new (λ r.
-            TellsFaultOf Some K.may_tell result (K.fault_count keep.old) (K.fault_count keep.new)) }
-        ensures lasts { UnlessFailed Some result
-            (StaysClean K.is_clean K.is_sound keep.old keep.new) }
-        ensures answer { Promised K.shows K.is_clean keep.old keep.new (λ r. OnOk result
+        ensures kept { Kept K.meaning keep.old keep.new }
+        ensures accounted { Accounts K.meaning keep.old keep.new (store_fault Some result) }
+        ensures answer { Promised K.meaning keep.old keep.new (λ r. OnOk result
             (AreWaysTo (seen_at viewer.now day r) goal.now self.old
             → Same (seen_at viewer.now day r) node.now goal.now
             → AreWaysTo (seen_at viewer.now day r) goal.now self.new

@@ -5,7 +5,7 @@ ghost use Rattle.std.specs.Result.{result_map_both};
 ghost use Rattle.bor_records.specs.Admission.{last_of};
 ghost use Rattle.bor_records.specs.Promises.{counted};
 ghost use Rattle.bor_records.specs.Settling.{has_id};
-ghost use Rattle.bor_records.specs.Links.Answers.{AreAliases, AreLinksInto, AreSame};
+ghost use Rattle.bor_records.specs.Links.Answers.{AreAliases, AreIdentified, AreLinksInto, AreSame};
 ghost use Rattle.bor_records.specs.Links.Series.{open_at};
 ghost use Rattle.bor_records.specs.Links.Shown.{info_of};
 ghost use Rattle.bor_register.specs.declared.filing.AcceptedFiling.{AcceptedFiling};
@@ -21,6 +21,7 @@ ghost use Rattle.bor_register.specs.Seen.{seen_at};
 ghost use Rattle.bor_register.specs.Withdrawal.{has_successor};
 ghost use Rattle.bor_terms.specs.Texts.{is_below};
 
+use crate::memory::identified::identified_told;
 use crate::memory::index::{Index, StatementKey, node_named};
 use crate::memory::last_asked::{LastAsked, forget};
 use crate::memory::sames::{aliases_told, same_told};
@@ -28,7 +29,7 @@ use crate::memory::sight::{Sight, links_told, node_told, row_told};
 use crate::memory::standing::{any_stands, last_known};
 use crate::memory::succession;
 use crate::operations::FILINGS_LIMIT;
-use bods_read::Statement;
+use bods_read::{Identifier, Statement};
 use bor_chains::{LinkSource, ListSource};
 use bor_records::links::{Link, Node, NodeInfo};
 use bor_records::{Last, Row};
@@ -92,8 +93,8 @@ impl ListKeep {
     /// The register with no agents and no filings. It takes no memory.
     pub fn new(alloc: Global, registrar: Token, day: Day) -> Self
         ensures holds { result ≡ record { register = empty_register registrar day; faults = 0 } }
-        ensures shown { ⟦<ListKeep as Keep>⟧.shows result (empty_register registrar day) }
-        ensures clean { ⟦<ListKeep as Keep>⟧.is_clean result }
+        ensures shown { ⟦<ListKeep as Keep>⟧.meaning.shows result (empty_register registrar day) }
+        ensures clean { ⟦<ListKeep as Keep>⟧.meaning.is_clean result }
     {
         ListKeep {
             alloc,
@@ -106,8 +107,8 @@ impl ListKeep {
         }
     }
 
-    /// The register of these members; `None` where their names don't go up, or memory is wanting for
-    /// the maps.
+    /// The register of these members; `None` where their names don't go up, or memory is wanting
+    /// for the maps.
     pub fn of_members(
         alloc: Global,
         registrar: Token,
@@ -298,6 +299,22 @@ impl ListKeep {
     {
         let index = self.take_maps()?;
         let told = aliases_told(&self.sight_by(&index, viewer, day), node);
+        self.put_maps(index);
+        told
+    }
+
+    fn identified_seen(
+        &mut self,
+        viewer: &AgentName,
+        day: Day,
+        identifier: &Identifier,
+    ) -> Result<Vec<Node>, AllocError>
+        ensures kept { self.new ≡ self.old }
+        ensures told { IfOk result (λ nodes.
+            AreIdentified (seen_at viewer.now day self.old.register) identifier.now nodes.items) }
+    {
+        let index = self.take_maps()?;
+        let told = identified_told(&self.sight_by(&index, viewer, day), identifier);
         self.put_maps(index);
         told
     }
@@ -499,21 +516,17 @@ impl Keep for ListKeep {
     ghost use Rattle.std.specs.Prelude.{◌≡◌};
     ghost use Rattle.bor_register.specs.declared.fault.StoreFault.TheVariants.{Memory};
 
-    ghost shows = { λ k r. k.register ≡ r };
-
-    ghost is_clean = { λ k. Unit {0} };
-
-    ghost is_sound = { λ k. Unit {0} };
-
     ghost Left = { Unit {0} };
 
-    ghost may_leave = { λ k left. ⊥ };
-
-    ghost left_shows = { λ left r. ⊥ };
-
-    ghost fault_count = { λ k. k.faults };
-
-    ghost may_tell = { λ fault. fault ≡ Memory };
+    ghost meaning = { record {
+      shows = λ k r. k.register ≡ r;
+      is_clean = λ k. Unit {0};
+      is_sound = λ k. Unit {0};
+      may_leave = λ k left. ⊥;
+      left_shows = λ left r. ⊥;
+      fault_count = λ k. k.faults;
+      may_tell = λ fault. fault ≡ Memory;
+    } };
 
     fn faults(&self) -> u64 {
         self.faults
@@ -633,6 +646,16 @@ impl Keep for ListKeep {
 
     fn same(&mut self, viewer: &AgentName, day: Day, node: &Node) -> Result<Vec<Node>, StoreFault> {
         let nodes = self.same_seen(viewer, day, node);
+        self.told(nodes)
+    }
+
+    fn identified(
+        &mut self,
+        viewer: &AgentName,
+        day: Day,
+        identifier: &Identifier,
+    ) -> Result<Vec<Node>, StoreFault> {
+        let nodes = self.identified_seen(viewer, day, identifier);
         self.told(nodes)
     }
 

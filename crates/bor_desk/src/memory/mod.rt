@@ -15,6 +15,7 @@
 //! one, until the row of a record or the aliases of a node are asked for: the maps are made again
 //! then.
 
+mod identified;
 mod index;
 mod last_asked;
 mod list_keep;

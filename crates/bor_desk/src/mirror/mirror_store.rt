@@ -14,8 +14,8 @@ pub trait MirrorStore: Keep {
     /// statements than so many, or there is no memory for it. Only a store that is open answers, if
     /// it has returned what was written.
     fn whole(&mut self, most: u32) -> Result<Option<ListKeep>, StoreFault>
-        ensures reads { Reads Self.shows Self.is_clean Self.is_sound Self.may_leave Self.fault_count
-            Self.may_tell self.old self.new result (λ r whole.
+        ensures reads { Reads Self.meaning self.old self.new result (λ r whole.
             IfSome whole (λ mirror. mirror.register ≡ bare_register r)) }
-        ensures up { IfOk result (λ _. Self.is_sound self.new → Self.is_clean self.new) };
+        ensures up { IfOk result (λ _.
+            Self.meaning.is_sound self.new → Self.meaning.is_clean self.new) };
 }

@@ -10,7 +10,7 @@ ghost use Rattle.bor_desk.specs.Mirror.Following.{IsFollowed};
 
 use crate::memory::ListKeep;
 use crate::mirror::mirror_store::MirrorStore;
-use bods_read::Statement;
+use bods_read::{Identifier, Statement};
 use bor_records::links::{Link, Node, NodeInfo};
 use bor_records::{Last, Row};
 use bor_register::keeping::Keep;
@@ -48,7 +48,8 @@ impl<K: MirrorStore + Drop> Model for MirroredKeep<K> {
 
     // Where the mirror may tell who has a token, the store is open, if it has returned what was
     // written.
-    ghost invariant = { λ k. k.is_up ≡ true → K.is_sound k.store → K.is_clean k.store };
+    ghost invariant = { λ k. k.is_up ≡ true
+        → K.meaning.is_sound k.store → K.meaning.is_clean k.store };
 }
 
 impl<K: MirrorStore + Drop> MirroredKeep<K> {
@@ -95,8 +96,7 @@ impl<K: MirrorStore + Drop> MirroredKeep<K> {
     /// more live statements than it may hold, there is memory for it, and the store tells its
     /// register.
     pub fn fill(&mut self)
-        ensures { Kept ⟦<MirroredKeep<K> as Keep>⟧.shows ⟦<MirroredKeep<K> as Keep>⟧.is_clean
-            ⟦<MirroredKeep<K> as Keep>⟧.is_sound ⟦<MirroredKeep<K> as Keep>⟧.may_leave
+        ensures { Kept ⟦<MirroredKeep<K> as Keep>⟧.meaning
             self.old self.new }
     {
         if self.most == 0 || self.mirror.is_some() {
@@ -185,24 +185,11 @@ fn enrolled(mirror: Option<ListKeep>, agent: &AgentName, token: &Token) -> Optio
 }
 
 impl<K: MirrorStore + Drop> Keep for MirroredKeep<K> {
-    ghost use Rattle.std.specs.Prelude.{◌≡◌, IfSome};
-    ghost use Rattle.bor_register.specs.Bare.{bare_register};
-
-    ghost shows = { λ k r. K.shows k.0 r × IfSome k.1 (λ m. m ≡ bare_register r) };
-
-    ghost is_clean = { λ k. K.is_clean k.0 };
-
-    ghost is_sound = { λ k. K.is_sound k.0 };
+    ghost use Rattle.bor_desk.specs.Mirror.Following.{mirrored};
 
     ghost Left = { K.Left };
 
-    ghost may_leave = { λ k left. K.may_leave k.0 left };
-
-    ghost left_shows = { K.left_shows };
-
-    ghost fault_count = { λ k. K.fault_count k.0 };
-
-    ghost may_tell = { K.may_tell };
+    ghost meaning = { mirrored K.meaning };
 
     fn faults(&self) -> u64 {
         self.store.faults()
@@ -417,6 +404,22 @@ impl<K: MirrorStore + Drop> Keep for MirroredKeep<K> {
             }
         }
         let told = self.store.same(viewer, day, node);
+        self.is_up = self.is_up && told.is_ok();
+        told
+    }
+
+    fn identified(
+        &mut self,
+        viewer: &AgentName,
+        day: Day,
+        identifier: &Identifier,
+    ) -> Result<Vec<Node>, StoreFault> {
+        if let Some(mirror) = &mut self.mirror {
+            if let Ok(nodes) = mirror.identified(viewer, day, identifier) {
+                return Ok(nodes);
+            }
+        }
+        let told = self.store.identified(viewer, day, identifier);
         self.is_up = self.is_up && told.is_ok();
         told
     }

@@ -37,24 +37,22 @@ impl<'a, K: Keep> LinkSource for KeepSource<'a, K> {
 
     type Fault = StoreFault;
 
-    ghost Meaning = { Outlook };
+    ghost Content = { Outlook };
 
     ghost shown = { shown_to };
 
-    ghost shows = { λ x m. (x.viewer.now ≡ m.viewer) × (x.day ≡ m.day)
-        × K.shows x.keep.now m.register };
-
-    ghost is_clean = { λ x. K.is_clean x.keep.now };
-
-    ghost is_sound = { λ x. K.is_sound x.keep.now };
-
     ghost Left = { K.Left };
 
-    ghost may_leave = { λ x left. K.may_leave x.keep.now left };
-
-    ghost fault_count = { λ x. K.fault_count x.keep.now };
-
-    ghost may_tell = { λ fault. K.may_tell fault };
+    ghost meaning = { record {
+      shows = λ x m. (x.viewer.now ≡ m.viewer) × (x.day ≡ m.day)
+          × K.meaning.shows x.keep.now m.register;
+      is_clean = λ x. K.meaning.is_clean x.keep.now;
+      is_sound = λ x. K.meaning.is_sound x.keep.now;
+      may_leave = λ x left. K.meaning.may_leave x.keep.now left;
+      left_shows = λ left m. K.meaning.left_shows left m.register;
+      fault_count = λ x. K.meaning.fault_count x.keep.now;
+      may_tell = K.meaning.may_tell;
+    } };
 
     ghost Lender = { GName };
 

@@ -10,12 +10,12 @@ ghost use Rattle.bor_register.specs.Register.{Register, is_enrolled, filings_of,
 ghost use Rattle.bor_register.specs.Live.{AreNew, accepted, live_of};
 ghost use Rattle.bor_register.specs.Additions.{with_filing};
 ghost use Rattle.bor_register.specs.Publication.{state_of_live, line_of};
-ghost use Rattle.bor_records.specs.Promises.{Changes, Kept, Leaves, StaysClean, Promised, Sure, Reads};
+ghost use Rattle.bor_records.specs.Promises.{Changes, Kept, Leaves, Promised, Sure, Reads};
 ghost use Rattle.bor_desk.specs.declared.operations.fault.LodgeFault.TheVariants as lodge_faults;
 ghost use Rattle.bor_register.specs.Limits.{filings_limit};
 ghost use Rattle.bor_desk.specs.Operations.Earlier.{AreFound};
 ghost use Rattle.bor_desk.specs.Operations.Lodging.{as_read, told_settled, told_verdict, settled_reading, repeated, addition, lodge_step};
-ghost use Rattle.bor_desk.specs.Operations.Outcomes.{of_lodging, IsOutcome, UnlessFailed, IsAccounted, TellsFaultOf, IsDone, IsMade};
+ghost use Rattle.bor_desk.specs.Operations.Outcomes.{Accounts, store_fault, of_lodging, IsOutcome, IsDone, IsMade};
 ghost use Rattle.bor_desk.specs.Operations.Legality.{IsLegal};
 ghost use Rattle.bor_desk.specs.Operations.Sight.{sight_of};
 
@@ -63,7 +63,7 @@ fn is_taken<K: Keep>(
     earlier: &Earlier,
     id: &Ident,
 ) -> Result<bool, StoreFault>
-    ensures { Reads K.shows K.is_clean K.is_sound K.may_leave K.fault_count K.may_tell
+    ensures { Reads K.meaning
         keep.old keep.new result (λ r taken.
         (live : List Live) → AreFound live earlier.now →
         taken ≡ has_id id.now (live_of (filings_of agent.now r.members) ++ live)) }
@@ -82,7 +82,7 @@ fn last<K: Keep>(
     statement: &Statement,
     in_file: Option<Last>,
 ) -> Result<Option<Last>, StoreFault>
-    ensures { Reads K.shows K.is_clean K.is_sound K.may_leave K.fault_count K.may_tell
+    ensures { Reads K.meaning
         keep.old keep.new result (λ r last.
         (live : List Live) → in_file ≡ last_of statement.now.declaration statement.now.rec live →
         last ≡ last_of statement.now.declaration statement.now.rec
@@ -105,15 +105,9 @@ fn settled_status<K: Keep>(
     statement: &Statement,
     place: u32,
 ) -> Result<Status, LodgeFault>
-    ensures kept { Kept K.shows K.is_clean K.is_sound K.may_leave keep.old keep.new }
-    ensures accounted { IsAccounted of_lodging result (K.fault_count keep.old)
-        (K.fault_count keep.new) }
-    ensures told { Promised K.shows K.is_clean keep.old keep.new (λ r.
-        TellsFaultOf of_lodging K.may_tell result (K.fault_count keep.old)
-        (K.fault_count keep.new)) }
-    ensures lasts { UnlessFailed of_lodging result
-        (StaysClean K.is_clean K.is_sound keep.old keep.new) }
-    ensures answer { Promised K.shows K.is_clean keep.old keep.new (λ r.
+    ensures kept { Kept K.meaning keep.old keep.new }
+    ensures accounted { Accounts K.meaning keep.old keep.new (store_fault of_lodging result) }
+    ensures answer { Promised K.meaning keep.old keep.new (λ r.
         (live : List Live) → AreFound live earlier.now →
         IsDone of_lodging (λ status. status) result (told_verdict place
         (verdict (live_of (filings_of agent.now r.members) ++ live) statement.now due))) }
@@ -137,15 +131,9 @@ fn settle<K: Keep>(
     statements: &mut [Statement],
 ) -> Result<(), LodgeFault>
     requires few { length statements.old ≤ statements_limit }
-    ensures kept { Kept K.shows K.is_clean K.is_sound K.may_leave keep.old keep.new }
-    ensures accounted { IsAccounted of_lodging result (K.fault_count keep.old)
-        (K.fault_count keep.new) }
-    ensures told { Promised K.shows K.is_clean keep.old keep.new (λ r.
-        TellsFaultOf of_lodging K.may_tell result (K.fault_count keep.old)
-        (K.fault_count keep.new)) }
-    ensures lasts { UnlessFailed of_lodging result
-        (StaysClean K.is_clean K.is_sound keep.old keep.new) }
-    ensures answer { Promised K.shows K.is_clean keep.old keep.new (λ r.
+    ensures kept { Kept K.meaning keep.old keep.new }
+    ensures accounted { Accounts K.meaning keep.old keep.new (store_fault of_lodging result) }
+    ensures answer { Promised K.meaning keep.old keep.new (λ r.
         IsDone of_lodging (λ _. statements.new) result
         (told_settled (settled (live_of (filings_of agent.now r.members)) due statements.old))) }
 {
@@ -168,15 +156,9 @@ fn settled<K: Keep>(
     due: Day,
     bytes: &[u8],
 ) -> Result<Vec<Statement>, LodgeFault>
-    ensures kept { Kept K.shows K.is_clean K.is_sound K.may_leave keep.old keep.new }
-    ensures accounted { IsAccounted of_lodging result (K.fault_count keep.old)
-        (K.fault_count keep.new) }
-    ensures told { Promised K.shows K.is_clean keep.old keep.new (λ r.
-        TellsFaultOf of_lodging K.may_tell result (K.fault_count keep.old)
-        (K.fault_count keep.new)) }
-    ensures lasts { UnlessFailed of_lodging result
-        (StaysClean K.is_clean K.is_sound keep.old keep.new) }
-    ensures answer { Promised K.shows K.is_clean keep.old keep.new (λ r.
+    ensures kept { Kept K.meaning keep.old keep.new }
+    ensures accounted { Accounts K.meaning keep.old keep.new (store_fault of_lodging result) }
+    ensures answer { Promised K.meaning keep.old keep.new (λ r.
         IsDone of_lodging (λ statements. statements.items) result
         (settled_reading (live_of (filings_of agent.now r.members)) due (reading bytes.now))) }
 {
@@ -194,15 +176,9 @@ fn repeat<K: Keep>(
     bytes: &[u8],
     line: &FilingLine,
 ) -> Result<Lodged, LodgeFault>
-    ensures kept { Kept K.shows K.is_clean K.is_sound K.may_leave keep.old keep.new }
-    ensures accounted { IsAccounted of_lodging result (K.fault_count keep.old)
-        (K.fault_count keep.new) }
-    ensures told { Promised K.shows K.is_clean keep.old keep.new (λ r.
-        TellsFaultOf of_lodging K.may_tell result (K.fault_count keep.old)
-        (K.fault_count keep.new)) }
-    ensures lasts { UnlessFailed of_lodging result
-        (StaysClean K.is_clean K.is_sound keep.old keep.new) }
-    ensures answer { Promised K.shows K.is_clean keep.old keep.new (λ r.
+    ensures kept { Kept K.meaning keep.old keep.new }
+    ensures accounted { Accounts K.meaning keep.old keep.new (store_fault of_lodging result) }
+    ensures answer { Promised K.meaning keep.old keep.new (λ r.
         (f : AcceptedFiling) → filing_keyed key.now (filings_of agent.now r.members) ≡ Some f →
         line.now ≡ line_of r.day f
         → IsDone of_lodging (λ lodged. lodged) result (repeated r.day due bytes.now f)) }
@@ -220,15 +196,9 @@ fn repeat<K: Keep>(
 
 // The register's day, where the agent may have one more filing and the due day isn't past.
 fn day_for<K: Keep>(keep: &mut K, agent: &AgentName, due: Day) -> Result<Day, LodgeFault>
-    ensures kept { Kept K.shows K.is_clean K.is_sound K.may_leave keep.old keep.new }
-    ensures accounted { IsAccounted of_lodging result (K.fault_count keep.old)
-        (K.fault_count keep.new) }
-    ensures told { Promised K.shows K.is_clean keep.old keep.new (λ r.
-        TellsFaultOf of_lodging K.may_tell result (K.fault_count keep.old)
-        (K.fault_count keep.new)) }
-    ensures lasts { UnlessFailed of_lodging result
-        (StaysClean K.is_clean K.is_sound keep.old keep.new) }
-    ensures answer { Promised K.shows K.is_clean keep.old keep.new (λ r.
+    ensures kept { Kept K.meaning keep.old keep.new }
+    ensures accounted { Accounts K.meaning keep.old keep.new (store_fault of_lodging result) }
+    ensures answer { Promised K.meaning keep.old keep.new (λ r.
         IsDone of_lodging (λ day. day) result
         (if nat_le filings_limit (length (filings_of agent.now r.members))
         then Err lodge_faults.FilingsFull
@@ -259,19 +229,13 @@ fn prepare<K: Keep>(
     due: Day,
     bytes: &[u8],
 ) -> Result<Prepared, LodgeFault>
-    ensures kept { Kept K.shows K.is_clean K.is_sound K.may_leave keep.old keep.new }
-    ensures accounted { IsAccounted of_lodging result (K.fault_count keep.old)
-        (K.fault_count keep.new) }
-    ensures told { Promised K.shows K.is_clean keep.old keep.new (λ r.
-        TellsFaultOf of_lodging K.may_tell result (K.fault_count keep.old)
-        (K.fault_count keep.new)) }
-    ensures lasts { UnlessFailed of_lodging result
-        (StaysClean K.is_clean K.is_sound keep.old keep.new) }
-    ensures answer { Promised K.shows K.is_clean keep.old keep.new (λ r.
+    ensures kept { Kept K.meaning keep.old keep.new }
+    ensures accounted { Accounts K.meaning keep.old keep.new (store_fault of_lodging result) }
+    ensures answer { Promised K.meaning keep.old keep.new (λ r.
         (key : List ℕ) → IsDone of_lodging
         (λ new. accepted (filings_of agent.now r.members) key due bytes.now new.statements.items)
         result (addition (sight_of agent.now r) key due bytes.now)) }
-    ensures state { Promised K.shows K.is_clean keep.old keep.new (λ r.
+    ensures state { Promised K.meaning keep.old keep.new (λ r.
         IfOk result (λ new. new.state ≡ state_of_live due r.day)) }
 {
     let day = day_for(keep, agent, due)?;
@@ -291,18 +255,17 @@ fn add_filing<K: Keep>(
     bytes: &[u8],
     statements: &[Statement],
 ) -> Result<u32, StoreFault>
-    requires enrolled { Sure K.shows K.is_clean keep.old (λ r.
+    requires enrolled { Sure K.meaning keep.old (λ r.
         is_enrolled agent.now r.members ≡ true) }
-    requires room { Sure K.shows K.is_clean keep.old (λ r.
+    requires room { Sure K.meaning keep.old (λ r.
         length (filings_of agent.now r.members) < filings_limit) }
-    requires fresh { Sure K.shows K.is_clean keep.old (λ r.
+    requires fresh { Sure K.meaning keep.old (λ r.
         filing_keyed key.now (filings_of agent.now r.members) ≡ None) }
-    requires statements { Sure K.shows K.is_clean keep.old (λ r.
+    requires statements { Sure K.meaning keep.old (λ r.
         AreNew (live_of (filings_of agent.now r.members)) statements.now) }
-    ensures number { Promised K.shows K.is_clean keep.old keep.new (λ r. IfOk result (λ number.
+    ensures number { Promised K.meaning keep.old keep.new (λ r. IfOk result (λ number.
         number ≡ length (filings_of agent.now r.members) + 1)) }
-    ensures changes { Changes K.shows K.is_clean K.is_sound K.may_leave K.left_shows
-        K.fault_count K.may_tell keep.old keep.new result
+    ensures changes { Changes K.meaning keep.old keep.new result
         (with_filing agent.now key.now due bytes.now statements.now) }
 {
     keep.add_filing(agent, key, due, bytes, statements)
@@ -317,22 +280,16 @@ fn lodge_new<K: Keep>(
     due: Day,
     bytes: &[u8],
 ) -> Result<Lodged, LodgeFault>
-    requires enrolled { Sure K.shows K.is_clean keep.old (λ r.
+    requires enrolled { Sure K.meaning keep.old (λ r.
         is_enrolled agent.now r.members ≡ true) }
-    requires new_key { Sure K.shows K.is_clean keep.old (λ r.
+    requires new_key { Sure K.meaning keep.old (λ r.
         filing_keyed key.now (filings_of agent.now r.members) ≡ None) }
-    ensures leaves { Leaves K.shows K.is_clean K.is_sound K.may_leave keep.old keep.new
-        (λ r left. K.left_shows left (lodge_step r agent.now key.now due bytes.now).register) }
-    ensures step { Promised K.shows K.is_clean keep.old keep.new (λ r.
-        IsOutcome of_lodging result (K.shows keep.new) r
+    ensures leaves { Leaves K.meaning keep.old keep.new (λ r left.
+        K.meaning.left_shows left (lodge_step r agent.now key.now due bytes.now).register) }
+    ensures step { Promised K.meaning keep.old keep.new (λ r.
+        IsOutcome of_lodging result (K.meaning.shows keep.new) r
         (lodge_step r agent.now key.now due bytes.now)) }
-    ensures accounted { IsAccounted of_lodging result (K.fault_count keep.old)
-        (K.fault_count keep.new) }
-    ensures told { Promised K.shows K.is_clean keep.old keep.new (λ r.
-        TellsFaultOf of_lodging K.may_tell result (K.fault_count keep.old)
-        (K.fault_count keep.new)) }
-    ensures lasts { UnlessFailed of_lodging result
-        (StaysClean K.is_clean K.is_sound keep.old keep.new) }
+    ensures accounted { Accounts K.meaning keep.old keep.new (store_fault of_lodging result) }
 {
     let new = prepare(alloc, keep, agent, due, bytes)?;
     let number = add_filing(keep, agent, key, due, bytes, &new.statements)?;
@@ -365,22 +322,16 @@ pub fn lodge<K: Keep>(
     due: Day,
     bytes: &[u8],
 ) -> Result<Lodged, LodgeFault>
-    requires enrolled { Sure K.shows K.is_clean keep.old (λ r.
+    requires enrolled { Sure K.meaning keep.old (λ r.
         is_enrolled agent.now r.members ≡ true) }
-    ensures leaves { Leaves K.shows K.is_clean K.is_sound K.may_leave keep.old keep.new
-        (λ r left. K.left_shows left (lodge_step r agent.now key.now due bytes.now).register) }
-    ensures step { Promised K.shows K.is_clean keep.old keep.new (λ r.
-        IsOutcome of_lodging result (K.shows keep.new) r
+    ensures leaves { Leaves K.meaning keep.old keep.new (λ r left.
+        K.meaning.left_shows left (lodge_step r agent.now key.now due bytes.now).register) }
+    ensures step { Promised K.meaning keep.old keep.new (λ r.
+        IsOutcome of_lodging result (K.meaning.shows keep.new) r
         (lodge_step r agent.now key.now due bytes.now)) }
-    ensures accounted { IsAccounted of_lodging result (K.fault_count keep.old)
-        (K.fault_count keep.new) }
-    ensures told { Promised K.shows K.is_clean keep.old keep.new (λ r.
-        TellsFaultOf of_lodging K.may_tell result (K.fault_count keep.old)
-        (K.fault_count keep.new)) }
-    ensures lasts { UnlessFailed of_lodging result
-        (StaysClean K.is_clean K.is_sound keep.old keep.new) }
-    ensures legal { Promised K.shows K.is_clean keep.old keep.new (λ r.
-        IsLegal r → (left : Register) × K.shows keep.new left × IsLegal left) }
+    ensures accounted { Accounts K.meaning keep.old keep.new (store_fault of_lodging result) }
+    ensures legal { Promised K.meaning keep.old keep.new (λ r.
+        IsLegal r → (left : Register) × K.meaning.shows keep.new left × IsLegal left) }
 {
     match keep.line(agent, key)? {
         Some(line) => repeat(keep, agent, key, due, bytes, &line),

@@ -3,9 +3,9 @@
 ghost use Rattle.std.specs.Prelude.{◌≡◌, false};
 ghost use Rattle.bor_register.specs.Register.{Register, is_enrolled, is_taken};
 ghost use Rattle.bor_register.specs.Additions.{with_agent};
-ghost use Rattle.bor_records.specs.Promises.{Changes, Leaves, StaysClean, Promised, Reads, Sure};
+ghost use Rattle.bor_records.specs.Promises.{Changes, Leaves, Promised, Reads, Sure};
 ghost use Rattle.bor_desk.specs.Operations.Registrar.{advance_step, enrol_step};
-ghost use Rattle.bor_desk.specs.Operations.Outcomes.{of_advance, of_enrolment, IsOutcome, UnlessFailed, IsAccounted, TellsFaultOf};
+ghost use Rattle.bor_desk.specs.Operations.Outcomes.{Accounts, store_fault, of_advance, of_enrolment, IsOutcome};
 ghost use Rattle.bor_desk.specs.Operations.Legality.{IsLegal};
 
 use crate::operations::fault::{AdvanceFault, EnrolFault};
@@ -18,19 +18,13 @@ use bor_terms::{AgentName, Day, Token};
 /// `DayBack` is the one refusal: the day is before the register's; the same day is taken. It leaves
 /// the register as it was, and so does `Store`, unless the store shut in its commit.
 pub fn advance<K: Keep>(keep: &mut K, day: Day) -> Result<Day, AdvanceFault>
-    ensures leaves { Leaves K.shows K.is_clean K.is_sound K.may_leave keep.old keep.new
-        (λ r left. K.left_shows left (advance_step r day).register) }
-    ensures step { Promised K.shows K.is_clean keep.old keep.new (λ r.
-        IsOutcome of_advance result (K.shows keep.new) r (advance_step r day)) }
-    ensures accounted { IsAccounted of_advance result (K.fault_count keep.old)
-        (K.fault_count keep.new) }
-    ensures told { Promised K.shows K.is_clean keep.old keep.new (λ r.
-        TellsFaultOf of_advance K.may_tell result (K.fault_count keep.old)
-        (K.fault_count keep.new)) }
-    ensures lasts { UnlessFailed of_advance result
-        (StaysClean K.is_clean K.is_sound keep.old keep.new) }
-    ensures legal { Promised K.shows K.is_clean keep.old keep.new (λ r.
-        IsLegal r → (left : Register) × K.shows keep.new left × IsLegal left) }
+    ensures leaves { Leaves K.meaning keep.old keep.new
+        (λ r left. K.meaning.left_shows left (advance_step r day).register) }
+    ensures step { Promised K.meaning keep.old keep.new (λ r.
+        IsOutcome of_advance result (K.meaning.shows keep.new) r (advance_step r day)) }
+    ensures accounted { Accounts K.meaning keep.old keep.new (store_fault of_advance result) }
+    ensures legal { Promised K.meaning keep.old keep.new (λ r.
+        IsLegal r → (left : Register) × K.meaning.shows keep.new left × IsLegal left) }
 {
     if day < keep.day()? {
         return Err(AdvanceFault::DayBack);
@@ -42,7 +36,7 @@ pub fn advance<K: Keep>(keep: &mut K, day: Day) -> Result<Day, AdvanceFault>
 // Whether an agent or the registrar has the token.
 #[tactic(auto, using(bor_register::proofs::Callers::callers))]
 fn is_taken<K: Keep>(keep: &mut K, token: &Token) -> Result<bool, StoreFault>
-    ensures { Reads K.shows K.is_clean K.is_sound K.may_leave K.fault_count K.may_tell
+    ensures { Reads K.meaning
         keep.old keep.new result (λ r taken.
         taken ≡ is_taken token.now r) }
 {
@@ -51,11 +45,10 @@ fn is_taken<K: Keep>(keep: &mut K, token: &Token) -> Result<bool, StoreFault>
 
 // Adds an agent whose name and token are new to each register that is shown.
 fn add_agent<K: Keep>(keep: &mut K, name: &AgentName, token: &Token) -> Result<(), StoreFault>
-    requires new_name { Sure K.shows K.is_clean keep.old (λ r.
+    requires new_name { Sure K.meaning keep.old (λ r.
         is_enrolled name.now r.members ≡ false) }
-    requires new_token { Sure K.shows K.is_clean keep.old (λ r. is_taken token.now r ≡ false) }
-    ensures { Changes K.shows K.is_clean K.is_sound K.may_leave K.left_shows
-        K.fault_count K.may_tell keep.old keep.new result (with_agent name.now token.now) }
+    requires new_token { Sure K.meaning keep.old (λ r. is_taken token.now r ≡ false) }
+    ensures { Changes K.meaning keep.old keep.new result (with_agent name.now token.now) }
 {
     keep.add_agent(name, token)
 }
@@ -66,19 +59,13 @@ fn add_agent<K: Keep>(keep: &mut K, name: &AgentName, token: &Token) -> Result<(
 /// where an agent or the registrar has the token. A refusal leaves the register as it was, and so
 /// does `Store`, unless the store shut in its commit; name and token are dropped then.
 pub fn enrol<K: Keep>(keep: &mut K, name: AgentName, token: Token) -> Result<AgentName, EnrolFault>
-    ensures leaves { Leaves K.shows K.is_clean K.is_sound K.may_leave keep.old keep.new
-        (λ r left. K.left_shows left (enrol_step r name token).register) }
-    ensures step { Promised K.shows K.is_clean keep.old keep.new (λ r.
-        IsOutcome of_enrolment result (K.shows keep.new) r (enrol_step r name token)) }
-    ensures accounted { IsAccounted of_enrolment result (K.fault_count keep.old)
-        (K.fault_count keep.new) }
-    ensures told { Promised K.shows K.is_clean keep.old keep.new (λ r.
-        TellsFaultOf of_enrolment K.may_tell result (K.fault_count keep.old)
-        (K.fault_count keep.new)) }
-    ensures lasts { UnlessFailed of_enrolment result
-        (StaysClean K.is_clean K.is_sound keep.old keep.new) }
-    ensures legal { Promised K.shows K.is_clean keep.old keep.new (λ r.
-        IsLegal r → (left : Register) × K.shows keep.new left × IsLegal left) }
+    ensures leaves { Leaves K.meaning keep.old keep.new
+        (λ r left. K.meaning.left_shows left (enrol_step r name token).register) }
+    ensures step { Promised K.meaning keep.old keep.new (λ r.
+        IsOutcome of_enrolment result (K.meaning.shows keep.new) r (enrol_step r name token)) }
+    ensures accounted { Accounts K.meaning keep.old keep.new (store_fault of_enrolment result) }
+    ensures legal { Promised K.meaning keep.old keep.new (λ r.
+        IsLegal r → (left : Register) × K.meaning.shows keep.new left × IsLegal left) }
 {
     if keep.has_agent(&name)? {
         return Err(EnrolFault::NameTaken);

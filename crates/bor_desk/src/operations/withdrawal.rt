@@ -3,10 +3,10 @@
 ghost use Rattle.std.specs.Prelude.{◌≡◌, Some, IfOk, option_map};
 ghost use Rattle.bor_register.specs.Register.{Register, filings_of, filing_keyed};
 ghost use Rattle.bor_register.specs.Publication.{line_of};
-ghost use Rattle.bor_records.specs.Promises.{Kept, Leaves, StaysClean, Promised};
+ghost use Rattle.bor_records.specs.Promises.{Kept, Leaves, Promised};
 ghost use Rattle.bor_desk.specs.Operations.Sight.{sight_of};
 ghost use Rattle.bor_desk.specs.Operations.Withdrawing.{line_withdrawn, withdrawal, withdraw_step};
-ghost use Rattle.bor_desk.specs.Operations.Outcomes.{of_withdrawal, IsOutcome, UnlessFailed, IsAccounted, TellsFaultOf, IsDone};
+ghost use Rattle.bor_desk.specs.Operations.Outcomes.{Accounts, store_fault, of_withdrawal, IsOutcome, IsDone};
 ghost use Rattle.bor_desk.specs.Operations.Legality.{IsLegal};
 
 use crate::operations::fault::WithdrawFault;
@@ -20,18 +20,12 @@ fn withdrawable<K: Keep>(
     agent: &AgentName,
     key: &LodgeKey,
 ) -> Result<FilingLine, WithdrawFault>
-    ensures kept { Kept K.shows K.is_clean K.is_sound K.may_leave keep.old keep.new }
-    ensures accounted { IsAccounted of_withdrawal result (K.fault_count keep.old)
-        (K.fault_count keep.new) }
-    ensures told { Promised K.shows K.is_clean keep.old keep.new (λ r.
-        TellsFaultOf of_withdrawal K.may_tell result (K.fault_count keep.old)
-        (K.fault_count keep.new)) }
-    ensures lasts { UnlessFailed of_withdrawal result
-        (StaysClean K.is_clean K.is_sound keep.old keep.new) }
-    ensures answer { Promised K.shows K.is_clean keep.old keep.new (λ r.
+    ensures kept { Kept K.meaning keep.old keep.new }
+    ensures accounted { Accounts K.meaning keep.old keep.new (store_fault of_withdrawal result) }
+    ensures answer { Promised K.meaning keep.old keep.new (λ r.
         IsDone of_withdrawal line_withdrawn result
         (withdrawal (sight_of agent.now r) key.now)) }
-    ensures found { Promised K.shows K.is_clean keep.old keep.new (λ r. IfOk result (λ line.
+    ensures found { Promised K.meaning keep.old keep.new (λ r. IfOk result (λ line.
         Some line ≡ option_map (line_of r.day)
         (filing_keyed key.now (filings_of agent.now r.members)))) }
 {
@@ -59,19 +53,14 @@ pub fn withdraw<K: Keep>(
     agent: &AgentName,
     key: &LodgeKey,
 ) -> Result<FilingLine, WithdrawFault>
-    ensures leaves { Leaves K.shows K.is_clean K.is_sound K.may_leave keep.old keep.new
-        (λ r left. K.left_shows left (withdraw_step r agent.now key.now).register) }
-    ensures step { Promised K.shows K.is_clean keep.old keep.new (λ r.
-        IsOutcome of_withdrawal result (K.shows keep.new) r (withdraw_step r agent.now key.now)) }
-    ensures accounted { IsAccounted of_withdrawal result (K.fault_count keep.old)
-        (K.fault_count keep.new) }
-    ensures told { Promised K.shows K.is_clean keep.old keep.new (λ r.
-        TellsFaultOf of_withdrawal K.may_tell result (K.fault_count keep.old)
-        (K.fault_count keep.new)) }
-    ensures lasts { UnlessFailed of_withdrawal result
-        (StaysClean K.is_clean K.is_sound keep.old keep.new) }
-    ensures legal { Promised K.shows K.is_clean keep.old keep.new (λ r.
-        IsLegal r → (left : Register) × K.shows keep.new left × IsLegal left) }
+    ensures leaves { Leaves K.meaning keep.old keep.new
+        (λ r left. K.meaning.left_shows left (withdraw_step r agent.now key.now).register) }
+    ensures step { Promised K.meaning keep.old keep.new (λ r.
+        IsOutcome of_withdrawal result (K.meaning.shows keep.new) r
+        (withdraw_step r agent.now key.now)) }
+    ensures accounted { Accounts K.meaning keep.old keep.new (store_fault of_withdrawal result) }
+    ensures legal { Promised K.meaning keep.old keep.new (λ r.
+        IsLegal r → (left : Register) × K.meaning.shows keep.new left × IsLegal left) }
 {
     let line = withdrawable(keep, agent, key)?;
     if line.state == State::Withdrawn {

@@ -51,11 +51,17 @@ from_published = led (codes "published") (end paths.Published) ++ from_snapshot
 abbrev from_filings : RowsOf (RouteOf Path)
 from_filings = led (codes "filings") of_filings ++ from_published
 
-abbrev from_evidence : RowsOf (RouteOf Path)
-from_evidence = led (codes "evidence") (end paths.Evidence) ++ from_filings
+abbrev from_vidence : RowsOf (RouteOf Path)
+from_vidence = led (codes "vidence") (end paths.Evidence) ++ []
+
+abbrev of_e : RowsOf (RouteOf Path)
+of_e = led (codes "ntities") (end paths.Entities) ++ from_vidence
+
+abbrev from_e : RowsOf (RouteOf Path)
+from_e = led (codes "e") of_e ++ from_filings
 
 abbrev from_day : RowsOf (RouteOf Path)
-from_day = led (codes "day") (end paths.Day) ++ from_evidence
+from_day = led (codes "day") (end paths.Day) ++ from_e
 
 abbrev from_chains : RowsOf (RouteOf Path)
 from_chains = led (codes "chains") (end paths.Chains) ++ from_day
@@ -97,8 +103,8 @@ to_filings rest =
     ∙ along (codes "/") from_agents (codes "filings" ++ rest) (text_of (codes "/") refl)
     ∙ past 97 102 (codes "gents") (end paths.Agents) from_chains (codes "ilings" ++ rest) (omega arith) (record { param = refl; catch_all = refl }) (λ e. omega arith)
     ∙ past 99 102 (codes "hains") (end paths.Chains) from_day (codes "ilings" ++ rest) (omega arith) (record { param = refl; catch_all = refl }) (λ e. omega arith)
-    ∙ past 100 102 (codes "ay") (end paths.Day) from_evidence (codes "ilings" ++ rest) (omega arith) (record { param = refl; catch_all = refl }) (λ e. omega arith)
-    ∙ past 101 102 (codes "vidence") (end paths.Evidence) from_filings (codes "ilings" ++ rest) (omega arith) (record { param = refl; catch_all = refl }) (λ e. omega arith)
+    ∙ past 100 102 (codes "ay") (end paths.Day) from_e (codes "ilings" ++ rest) (omega arith) (record { param = refl; catch_all = refl }) (λ e. omega arith)
+    ∙ past 101 102 [] of_e from_filings (codes "ilings" ++ rest) (omega arith) (record { param = refl; catch_all = refl }) (λ e. omega arith)
     ∙ into 102 (codes "ilings") of_filings from_published rest (text_of (codes "filings") refl) (record { param = refl; catch_all = refl }) refl
 
 to_keyed : (rest : List ℕ) → first router (codes "/filings/" ++ rest) ≡ first (keyed (entry paths.File) (entry paths.Filing)) rest
@@ -122,6 +128,7 @@ is_found paths.Published text bytes is = ap (path_in router) is
 is_found paths.Snapshot text bytes is = ap (path_in router) is
 is_found paths.Chains text bytes is = ap (path_in router) is
 is_found paths.Evidence text bytes is = ap (path_in router) is
+is_found paths.Entities text bytes is = ap (path_in router) is
 is_found paths.Day text bytes is = ap (path_in router) is
 is_found paths.Agents text bytes is = ap (path_in router) is
 
@@ -187,18 +194,32 @@ from_filings_on rest row bytes e =
       | inr h ↦ in_published rest row h
     ]
 
-from_evidence_on : (rest : List ℕ) (row : Row) → IsText rest → first from_evidence rest ≡ Some row → IsPath row.value (47 ∷ rest)
-from_evidence_on rest row bytes e =
-    elim (found 101 (codes "vidence") (end paths.Evidence) from_filings rest row (text_of (codes "evidence") refl) (record { param = refl; catch_all = refl }) refl e) [
-      | inl h ↦ leaf paths.Evidence (codes "evidence") rest h.0 row (λ text e. e) refl h.1 h.2
+in_evidence : (rest behind : List ℕ) (row : Row) → rest ≡ codes "e" ++ behind → first from_vidence behind ≡ Some row → IsPath row.value (47 ∷ rest)
+in_evidence rest behind row is e =
+    elim (found 118 (codes "idence") (end paths.Evidence) [] behind row (text_of (codes "vidence") refl) (record { param = refl; catch_all = refl }) refl e) [
+      | inl h ↦ leaf paths.Evidence (codes "evidence") rest h.0 row (λ text e. e) refl (is ∙ ap (λ xs. codes "e" ++ xs) h.1) h.2
+      | inr h ↦ absurd (not_both (first [] behind) row (seek-none 0 behind) h)
+    ]
+
+in_e : (rest behind : List ℕ) (row : Row) → rest ≡ codes "e" ++ behind → first of_e behind ≡ Some row → IsPath row.value (47 ∷ rest)
+in_e rest behind row is e =
+    elim (found 110 (codes "tities") (end paths.Entities) from_vidence behind row (text_of (codes "ntities") refl) (record { param = refl; catch_all = refl }) refl e) [
+      | inl h ↦ leaf paths.Entities (codes "entities") rest h.0 row (λ text e. e) refl (is ∙ ap (λ xs. codes "e" ++ xs) h.1) h.2
+      | inr h ↦ in_evidence rest behind row is h
+    ]
+
+from_e_on : (rest : List ℕ) (row : Row) → IsText rest → first from_e rest ≡ Some row → IsPath row.value (47 ∷ rest)
+from_e_on rest row bytes e =
+    elim (found 101 [] of_e from_filings rest row (text_of (codes "e") refl) (record { param = refl; catch_all = refl }) refl e) [
+      | inl h ↦ in_e rest h.0 row h.1 h.2
       | inr h ↦ from_filings_on rest row bytes h
     ]
 
 from_day_on : (rest : List ℕ) (row : Row) → IsText rest → first from_day rest ≡ Some row → IsPath row.value (47 ∷ rest)
 from_day_on rest row bytes e =
-    elim (found 100 (codes "ay") (end paths.Day) from_evidence rest row (text_of (codes "day") refl) (record { param = refl; catch_all = refl }) refl e) [
+    elim (found 100 (codes "ay") (end paths.Day) from_e rest row (text_of (codes "day") refl) (record { param = refl; catch_all = refl }) refl e) [
       | inl h ↦ leaf paths.Day (codes "day") rest h.0 row (λ text e. e) refl h.1 h.2
-      | inr h ↦ from_evidence_on rest row bytes h
+      | inr h ↦ from_e_on rest row bytes h
     ]
 
 from_chains_on : (rest : List ℕ) (row : Row) → IsText rest → first from_chains rest ≡ Some row → IsPath row.value (47 ∷ rest)

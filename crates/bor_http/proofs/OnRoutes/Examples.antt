@@ -51,6 +51,7 @@ each_path =
     ∷ (codes "/snapshot", Some paths.Snapshot)
     ∷ (codes "/chains", Some paths.Chains)
     ∷ (codes "/evidence", Some paths.Evidence)
+    ∷ (codes "/entities", Some paths.Entities)
     ∷ (codes "/day", Some paths.Day)
     ∷ (codes "/agents", Some paths.Agents)
     ∷ []
@@ -107,6 +108,8 @@ other_texts =
     ∷ (codes "/Day", None)
     ∷ (codes "/days", None)
     ∷ (codes "/da", None)
+    ∷ (codes "/e", None)
+    ∷ (codes "/entity", None)
     ∷ (codes "day", None)
     ∷ (codes "/", None)
     ∷ ([], None)
@@ -128,6 +131,7 @@ asked =
     ∷ ((paths.Snapshot, codes "GET"), Some asks.Snapshot)
     ∷ ((paths.Chains, codes "GET"), Some asks.Chains)
     ∷ ((paths.Evidence, codes "GET"), Some asks.Evidence)
+    ∷ ((paths.Entities, codes "GET"), Some asks.Entities)
     ∷ ((paths.Day, codes "POST"), Some asks.Day)
     ∷ ((paths.Agents, codes "POST"), Some asks.Enrol)
     ∷ ((paths.Filings, codes "HEAD"), None)
@@ -140,6 +144,7 @@ asked =
     ∷ ((paths.Filing, []), None)
     ∷ ((paths.File, codes "DELETE"), None)
     ∷ ((paths.Evidence, codes "POST"), None)
+    ∷ ((paths.Entities, codes "POST"), None)
     ∷ ((paths.Day, codes "GET"), None)
     ∷ ((paths.Agents, codes "PUT"), None)
     ∷ []
@@ -151,9 +156,9 @@ asked_found = refl
 -- ---- the methods of a path
 
 abbrev every_path : List Path
-every_path = paths.Filing ∷ paths.Filings ∷ paths.File ∷ paths.Published ∷ paths.Snapshot ∷ paths.Chains ∷ paths.Evidence ∷ paths.Day ∷ paths.Agents ∷ []
+every_path = paths.Filing ∷ paths.Filings ∷ paths.File ∷ paths.Published ∷ paths.Snapshot ∷ paths.Chains ∷ paths.Evidence ∷ paths.Entities ∷ paths.Day ∷ paths.Agents ∷ []
 
 methods : map allow every_path
-    ≡ codes "DELETE, PUT" ∷ codes "GET" ∷ codes "GET" ∷ codes "GET" ∷ codes "GET" ∷ codes "GET" ∷ codes "GET" ∷ codes "POST" ∷ codes "POST" ∷ []
+    ≡ codes "DELETE, PUT" ∷ codes "GET" ∷ codes "GET" ∷ codes "GET" ∷ codes "GET" ∷ codes "GET" ∷ codes "GET" ∷ codes "GET" ∷ codes "POST" ∷ codes "POST" ∷ []
 unfolding allow
 methods = refl

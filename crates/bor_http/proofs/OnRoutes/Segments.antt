@@ -160,6 +160,7 @@ is_the_path paths.Published text h = plain_path text paths.Published refl h
 is_the_path paths.Snapshot text h = plain_path text paths.Snapshot refl h
 is_the_path paths.Chains text h = plain_path text paths.Chains refl h
 is_the_path paths.Evidence text h = plain_path text paths.Evidence refl h
+is_the_path paths.Entities text h = plain_path text paths.Entities refl h
 is_the_path paths.Day text h = plain_path text paths.Day refl h
 is_the_path paths.Agents text h = plain_path text paths.Agents refl h
 
@@ -205,6 +206,7 @@ path_said paths.Published text is = ap path_of is
 path_said paths.Snapshot text is = ap path_of is
 path_said paths.Chains text is = ap path_of is
 path_said paths.Evidence text is = ap path_of is
+path_said paths.Entities text is = ap path_of is
 path_said paths.Day text is = ap path_of is
 path_said paths.Agents text is = ap path_of is
 

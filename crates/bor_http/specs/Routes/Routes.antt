@@ -19,6 +19,7 @@ path_word paths.Published = codes "/published"
 path_word paths.Snapshot = codes "/snapshot"
 path_word paths.Chains = codes "/chains"
 path_word paths.Evidence = codes "/evidence"
+path_word paths.Entities = codes "/entities"
 path_word paths.Day = codes "/day"
 path_word paths.Agents = codes "/agents"
 
@@ -42,6 +43,7 @@ route_table =
     ∷ route_line (codes "GET") paths.Snapshot asks.Snapshot
     ∷ route_line (codes "GET") paths.Chains asks.Chains
     ∷ route_line (codes "GET") paths.Evidence asks.Evidence
+    ∷ route_line (codes "GET") paths.Entities asks.Entities
     ∷ route_line (codes "POST") paths.Day asks.Day
     ∷ route_line (codes "POST") paths.Agents asks.Enrol
     ∷ []

@@ -22,6 +22,8 @@ pub enum Path {
     Chains,
     /// `/evidence`
     Evidence,
+    /// `/entities`
+    Entities,
     /// `/day`
     Day,
     /// `/agents`
@@ -41,6 +43,10 @@ pub enum Name {
     Declaration,
     /// The record whose persons are asked for.
     Record,
+    /// The scheme of the identifier that is asked for.
+    Scheme,
+    /// The identifier that is asked for, within its scheme.
+    Id,
     /// The day of a report, or the one that the register is to have.
     Date,
     /// The name of an agent that is enrolled.
@@ -61,6 +67,8 @@ impl Name {
             Name::Agent => "agent",
             Name::Declaration => "declaration",
             Name::Record => "record",
+            Name::Scheme => "scheme",
+            Name::Id => "id",
             Name::Date => "date",
             Name::Name => "name",
             Name::Token => "token",

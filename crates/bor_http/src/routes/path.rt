@@ -20,6 +20,7 @@ fn router_of_paths(alloc: Global) -> Result<Router<Path>, InsertError>
     router.insert("/snapshot", Path::Snapshot)?;
     router.insert("/chains", Path::Chains)?;
     router.insert("/evidence", Path::Evidence)?;
+    router.insert("/entities", Path::Entities)?;
     router.insert("/day", Path::Day)?;
     router.insert("/agents", Path::Agents)?;
     Ok(router)

@@ -25,6 +25,8 @@ pub enum Route {
     Chains,
     /// Tells why the persons behind an entity are named.
     Evidence,
+    /// Finds the entities that have an identifier.
+    Entities,
     /// Moves the register's day.
     Day,
     /// Enrols an agent.
@@ -59,6 +61,7 @@ pub fn route_at(path: Path, method: &[u8]) -> Option<Route>
         Path::Snapshot => by(&Method::GET, method, Route::Snapshot),
         Path::Chains => by(&Method::GET, method, Route::Chains),
         Path::Evidence => by(&Method::GET, method, Route::Evidence),
+        Path::Entities => by(&Method::GET, method, Route::Entities),
         Path::Day => by(&Method::POST, method, Route::Day),
         Path::Agents => by(&Method::POST, method, Route::Enrol),
     }
@@ -76,7 +79,8 @@ pub fn allow_of(path: Path) -> &'static str
         | Path::Published
         | Path::Snapshot
         | Path::Chains
-        | Path::Evidence => "GET",
+        | Path::Evidence
+        | Path::Entities => "GET",
         Path::Day | Path::Agents => "POST",
     }
 }

@@ -1,27 +1,29 @@
 -- A server that lets clients in and goes on, and when it may end.
-use Rattle.std.proofs.Common.{◌≡◌, ◌+◌, ◌≤◌, ◌<◌, ◌⊎◌, inl, inr, ℕ, List, [], ◌∷◌, ◌++◌, Bool, true, Option, refl, ap, subst, ◌∙◌, arith}
+use Rattle.bor_register.specs.declared.fault.StoreFault.{StoreFault}
+use Rattle.bor_records.specs.Promises.{Meaning}
+use Rattle.std.proofs.Common.{◌≡◌, ◌+◌, ◌≤◌, ◌<◌, ◌⊎◌, inl, inr, ℕ, List, [], ◌∷◌, ◌++◌, Bool, true, refl, ap, subst, ◌∙◌, arith}
 use Rattle.bor_register.specs.Register.{Register}
 use Rattle.bor_program.specs.declared.connections.server.Server.{Server}
-use Rattle.bor_program.specs.Connections.Serving.{Answer, IsServedOver}
-use Rattle.bor_program.specs.Connections.Streams.{IsOf}
-use Rattle.bor_program.specs.Connections.Servers.{Advances, AreHeld, Becomes, GoesOnAs, IsRunning, Lets, LetsIn, Runs, pending_in, telling_in}
+use Rattle.bor_program.specs.Connections.Serving.{IsServedOver}
+use Rattle.bor_program.specs.Connections.Streams.{IsOf, Wire}
+use Rattle.bor_program.specs.Connections.Servers.{Advances, AreHeld, Becomes, GoesOnAs, IsRunning, Lets, LetsIn, Runs, Standing, pending_in, tally_in, telling_in}
 use Rattle.bor_program.specs.Connections.Watching.{Act, AreDone, Does, Listens, WaitsOnce, faults_after, refused_in}
 use Rattle.bor_program.proofs.OnConnections.Servers.{becomes_at, begun, finished, lets_go_on, lets_same, lets_then}
 use Rattle.bor_program.proofs.OnConnections.Watching.{does_none, does_then, done-append, faults-append, over_kept, refused-append, waits-append}
 
 -- ---- clients are let in
 
-pub lets_in_same : {W S : Type 0} (does : W → Act → W → Type 0) (watch : W) (remaining contents : S → Option (List ℕ)) (server : Server S) → AreHeld remaining contents server.queue.items
-    → LetsIn does watch watch remaining contents (telling_in server) (pending_in server) server.status server
-lets_in_same does watch remaining contents server held = record { refused = 0; done = does_none does watch; lets = lets_same remaining contents server held }
+pub lets_in_same : {W S : Type 0} (does : W → Act → W → Type 0) (watch : W) (wire : Wire S) (server : Server S) → AreHeld wire server.queue.items
+    → LetsIn wire (record { does = does; begun = watch; ended = watch }) server server
+lets_in_same does watch wire server held = record { refused = 0; done = does_none does watch; lets = lets_same wire server held }
 
-pub lets_in_then : {W S : Type 0} (does : W → Act → W → Type 0) (begun between left : W) (remaining contents : S → Option (List ℕ)) (telling : List Answer) (pending status : ℕ) (mid new : Server S)
-    → LetsIn does begun between remaining contents telling pending status mid → LetsIn does between left remaining contents (telling_in mid) (pending_in mid) mid.status new
-    → LetsIn does begun left remaining contents telling pending status new
-lets_in_then does begun between left remaining contents telling pending status mid new first second = record {
+pub lets_in_then : {W S : Type 0} (does : W → Act → W → Type 0) (begun between left : W) (wire : Wire S) (old mid new : Server S)
+    → LetsIn wire (record { does = does; begun = begun; ended = between }) old mid → LetsIn wire (record { does = does; begun = between; ended = left }) mid new
+    → LetsIn wire (record { does = does; begun = begun; ended = left }) old new
+lets_in_then does begun between left wire old mid new first second = record {
   refused = second.refused + first.refused;
   done = does_then does begun between left first.refused second.refused first.done second.done;
-  lets = lets_then remaining contents telling pending first.refused second.refused status mid new first.lets second.lets;
+  lets = lets_then wire (telling_in old) (pending_in old) first.refused second.refused old.status mid new first.lets second.lets;
 }
 
 -- ---- the server goes on
@@ -30,47 +32,50 @@ lets_in_then does begun between left remaining contents telling pending status m
 begin_none : (absent : ℕ) → absent ≡ 0 + absent
 begin_none absent = omega arith
 
-pub starts : {K W S Left : Type 0} (shows : K → Register → Type 0) (is_clean is_sound : K → Type 0) (may_leave : K → Left → Type 0) (left_shows : Left → Register → Type 0) (does : W → Act → W → Type 0) (remaining contents : S → Option (List ℕ)) (keep : K) (begun watch : W) (server : Server S) (failed : Bool)
-    → AreHeld remaining contents server.queue.items → does begun (Listens failed) watch → IsRunning shows is_clean is_sound may_leave left_shows does remaining contents keep keep begun watch server server 0 0
-starts shows is_clean is_sound may_leave left_shows does remaining contents keep begun watch server failed held listens = record {
+pub starts : {K W S Left : Type 0} (meaning : Meaning K Register Left StoreFault) (does : W → Act → W → Type 0) (wire : Wire S) (keep : K) (begun watch : W) (server : Server S) (failed : Bool)
+    → AreHeld wire server.queue.items → does begun (Listens failed) watch
+    → IsRunning meaning does wire (record { keep = keep; watch = begun; server = server }) (record { keep = keep; watch = watch; server = server }) 0 0
+starts meaning does wire keep begun watch server failed held listens = record {
   held = held;
   acts = Listens failed ∷ [];
   done = (watch, listens, refl);
-  advances = λ start connections absent before. subst (λ n. GoesOnAs shows is_clean is_sound may_leave left_shows remaining contents start keep connections n server) (begin_none absent) before;
+  advances = λ start connections absent before. subst (λ n. GoesOnAs meaning wire start keep connections n server) (begin_none absent) before;
   failed = refl;
   waited = refl;
 }
 
-pub ran_deaf : {K W S Left : Type 0} (shows : K → Register → Type 0) (is_clean is_sound : K → Type 0) (may_leave : K → Left → Type 0) (left_shows : Left → Register → Type 0) (does : W → Act → W → Type 0) (remaining contents : S → Option (List ℕ)) (keep : K) (begun watch : W) (server : Server S) (failed : Bool)
-    → AreHeld remaining contents server.queue.items → does begun (Listens failed) watch → failed ≡ true → Runs shows is_clean is_sound may_leave left_shows does remaining contents keep keep begun watch server server
-ran_deaf shows is_clean is_sound may_leave left_shows does remaining contents keep begun watch server failed held listens is = record {
+pub ran_deaf : {K W S Left : Type 0} (meaning : Meaning K Register Left StoreFault) (does : W → Act → W → Type 0) (wire : Wire S) (keep : K) (begun watch : W) (server : Server S) (failed : Bool)
+    → AreHeld wire server.queue.items → does begun (Listens failed) watch → failed ≡ true
+    → Runs meaning does wire (record { keep = keep; watch = begun; server = server }) (record { keep = keep; watch = watch; server = server })
+ran_deaf meaning does wire keep begun watch server failed held listens is = record {
   held = held;
   acts = Listens failed ∷ [];
   done = (watch, listens, refl);
-  advances = λ start connections absent before. subst (λ n. GoesOnAs shows is_clean is_sound may_leave left_shows remaining contents start keep connections n server) (begin_none absent) before;
+  advances = λ start connections absent before. subst (λ n. GoesOnAs meaning wire start keep connections n server) (begin_none absent) before;
   over = λ some. inl (rw is refl);
 }
 
 -- it waited, let clients in and served those that are there
-pub runs_on : {K W S Left : Type 0} (shows : K → Register → Type 0) (is_clean is_sound : K → Type 0) (may_leave : K → Left → Type 0) (left_shows : Left → Register → Type 0) (does : W → Act → W → Type 0) (remaining contents : S → Option (List ℕ)) (old_keep keep new_keep : K) (begun watch waited left : W) (old server awake filled new : Server S) (faults after waits : ℕ)
-    → IsRunning shows is_clean is_sound may_leave left_shows does remaining contents old_keep keep begun watch old server faults waits → Becomes server awake → WaitsOnce does watch waited faults after
-    → LetsIn does waited left remaining contents (telling_in awake) (pending_in awake) awake.status filled
-    → AreHeld remaining contents new.queue.items → Advances shows is_clean is_sound may_leave left_shows remaining contents keep new_keep filled new
-    → IsRunning shows is_clean is_sound may_leave left_shows does remaining contents old_keep new_keep begun left old new after (waits + 1)
-runs_on shows is_clean is_sound may_leave left_shows does remaining contents old_keep keep new_keep begun watch waited left old server awake filled new faults after waits h same once lets held advances =
+pub runs_on : {K W S Left : Type 0} (meaning : Meaning K Register Left StoreFault) (does : W → Act → W → Type 0) (wire : Wire S) (first now : Standing K W S) (waited left : W) (awake filled new : Server S) (new_keep : K) (faults after waits : ℕ)
+    → IsRunning meaning does wire first now faults waits → Becomes now.server awake → WaitsOnce does now.watch waited faults after
+    → LetsIn wire (record { does = does; begun = waited; ended = left }) awake filled
+    → AreHeld wire new.queue.items → Advances meaning wire now.keep new_keep filled new
+    → IsRunning meaning does wire first (record { keep = new_keep; watch = left; server = new }) after (waits + 1)
+runs_on meaning does wire first now waited left awake filled new new_keep faults after waits h same once lets held advances =
     let d = lets.done in
-    let here : AreDone does begun (h.acts ++ once.acts) waited = done-append does begun watch waited h.acts once.acts h.done once.done in
+    let here : AreDone does first.watch (h.acts ++ once.acts) waited = done-append does first.watch now.watch waited h.acts once.acts h.done once.done in
     let acts : List Act = (h.acts ++ once.acts) ++ d.acts in
     let refused : (absent : ℕ) → lets.refused + (refused_in h.acts + absent) ≡ refused_in acts + absent =
     λ absent. omega (arith, refused-append h.acts once.acts, refused-append (h.acts ++ once.acts) d.acts, once.refusals, d.refusals) in
     record {
       held = held;
       acts = acts;
-      done = done-append does begun waited left (h.acts ++ once.acts) d.acts here d.done;
+      done = done-append does first.watch waited left (h.acts ++ once.acts) d.acts here d.done;
       advances = λ start connections absent before.
-          let at = becomes_at shows is_clean is_sound may_leave left_shows remaining contents start keep connections (refused_in h.acts + absent) server awake (h.advances start connections absent before) same in
-          let in_all = lets_go_on shows is_clean is_sound may_leave left_shows remaining contents start keep (telling_in awake) connections (pending_in awake) (refused_in h.acts + absent) lets.refused awake.status filled at lets.lets in
-          subst (λ n. GoesOnAs shows is_clean is_sound may_leave left_shows remaining contents start new_keep connections n new) (refused absent) (advances start connections (lets.refused + (refused_in h.acts + absent)) in_all);
+          let gone : ℕ = refused_in h.acts + absent in
+          let at = becomes_at meaning wire start now.keep connections gone now.server awake (h.advances start connections absent before) same in
+          let in_all = lets_go_on meaning wire start now.keep (telling_in awake) (tally_in connections gone awake) lets.refused filled at lets.lets in
+          subst (λ n. GoesOnAs meaning wire start new_keep connections n new) (refused absent) (advances start connections (lets.refused + gone) in_all);
       failed =
           faults-append 0 (h.acts ++ once.acts) d.acts ∙ d.faults (faults_after 0 (h.acts ++ once.acts)) ∙ faults-append 0 h.acts once.acts
           ∙ ap (λ n. faults_after n once.acts) h.failed ∙ once.faults;
@@ -79,10 +84,9 @@ runs_on shows is_clean is_sound may_leave left_shows does remaining contents old
 
 -- ---- it ends
 
-pub ran : {K W S Left : Type 0} (shows : K → Register → Type 0) (is_clean is_sound : K → Type 0) (may_leave : K → Left → Type 0) (left_shows : Left → Register → Type 0) (does : W → Act → W → Type 0) (remaining contents : S → Option (List ℕ)) (old_keep keep : K) (begun watch : W) (old server : Server S) (faults waits : ℕ)
-    → IsRunning shows is_clean is_sound may_leave left_shows does remaining contents old_keep keep begun watch old server faults waits
-    → (0 < server.left → ((1000 ≤ faults) ⊎ (18446744073709551615 ≤ waits))) → Runs shows is_clean is_sound may_leave left_shows does remaining contents old_keep keep begun watch old server
-ran shows is_clean is_sound may_leave left_shows does remaining contents old_keep keep begun watch old server faults waits h ends = record {
+pub ran : {K W S Left : Type 0} (meaning : Meaning K Register Left StoreFault) (does : W → Act → W → Type 0) (wire : Wire S) (first now : Standing K W S) (faults waits : ℕ) → IsRunning meaning does wire first now faults waits
+    → (0 < now.server.left → ((1000 ≤ faults) ⊎ (18446744073709551615 ≤ waits))) → Runs meaning does wire first now
+ran meaning does wire first now faults waits h ends = record {
   held = h.held;
   acts = h.acts;
   done = h.done;
@@ -94,19 +98,19 @@ ran shows is_clean is_sound may_leave left_shows does remaining contents old_kee
 }
 
 -- what was left to be told was told, and those that are there were given up, and those that have not come
-pub served_over : {K W S Left : Type 0} (shows : K → Register → Type 0) (is_clean is_sound : K → Type 0) (may_leave : K → Left → Type 0) (left_shows : Left → Register → Type 0) (does : W → Act → W → Type 0) (remaining contents : S → Option (List ℕ)) (old_keep keep : K) (begun_at watch left : W) (connections : ℕ) (first server told last : Server S)
-    → GoesOnAs shows is_clean is_sound may_leave left_shows remaining contents old_keep old_keep connections 0 first → Runs shows is_clean is_sound may_leave left_shows does remaining contents old_keep keep begun_at watch first server
-    → Becomes server told → Does does watch left 0 → Lets remaining contents (telling_in told) (pending_in told) told.left told.status last → pending_in last ≡ 0
-    → IsServedOver shows is_clean is_sound may_leave left_shows (IsOf remaining contents) does old_keep keep begun_at left connections last.status
-served_over shows is_clean is_sound may_leave left_shows does remaining contents old_keep keep begun_at watch left connections first server told last at runs same tells lets none =
+pub served_over : {K W S Left : Type 0} (meaning : Meaning K Register Left StoreFault) (does : W → Act → W → Type 0) (wire : Wire S) (first now : Standing K W S) (left : W) (connections : ℕ) (told last : Server S)
+    → GoesOnAs meaning wire first.keep first.keep connections 0 first.server → Runs meaning does wire first now
+    → Becomes now.server told → Does does now.watch left 0 → Lets wire (telling_in told) (pending_in told) told.left told.status last → pending_in last ≡ 0
+    → IsServedOver meaning (IsOf wire) (record { does = does; begun = first.watch; ended = left }) first.keep now.keep connections last.status
+served_over meaning does wire first now left connections told last at runs same tells lets none =
     let gone : ℕ = refused_in runs.acts + 0 in
-    let here = becomes_at shows is_clean is_sound may_leave left_shows remaining contents old_keep keep connections gone server told (runs.advances old_keep connections 0 at) same in
-    let end = lets_go_on shows is_clean is_sound may_leave left_shows remaining contents old_keep keep (telling_in told) connections (pending_in told) gone told.left told.status last here lets in
-    let all = finished shows is_clean is_sound may_leave left_shows remaining contents old_keep keep connections (told.left + gone) last end none in
+    let here = becomes_at meaning wire first.keep now.keep connections gone now.server told (runs.advances first.keep connections 0 at) same in
+    let end = lets_go_on meaning wire first.keep now.keep (telling_in told) (tally_in connections gone told) told.left last here lets in
+    let all = finished meaning wire first.keep now.keep connections (told.left + gone) last end none in
     record {
       served = all.0;
       acts = runs.acts ++ tells.acts;
-      done = done-append does begun_at watch left runs.acts tells.acts runs.done tells.done;
+      done = done-append does first.watch now.watch left runs.acts tells.acts runs.done tells.done;
       excused = (
         told.left,
         omega (arith, all.1, refused-append runs.acts tells.acts, tells.refusals),

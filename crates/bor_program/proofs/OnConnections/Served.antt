@@ -1,4 +1,5 @@
 -- A server of many connections: one answers, or some end.
+use Rattle.bor_register.specs.declared.fault.StoreFault.{StoreFault}
 use Rattle.std.proofs.Common.{◌≡◌, ◌+◌, ℕ, List, [], ◌∷◌, ◌++◌, length, Bool, true, false, Some, refl, sym, ap, subst, ◌∙◌, arith, append_assoc, length-append}
 use Rattle.std.specs.Prelude.{cond, if◌then◌else◌, ◌||◌}
 use Rattle.std.specs.List.{All, list_any}
@@ -8,7 +9,7 @@ use Rattle.std.proofs.lemmas.List.Folds.{list_any-append}
 use Rattle.std.proofs.lemmas.List.Elements.{All-append, All-nil, All-weaker}
 use Rattle.std.proofs.lemmas.List.Sums.{sum_by-append}
 use Rattle.std.proofs.lemmas.List.Sorted.{IsPermutation-append_left, IsPermutation-cons, IsPermutation-refl, IsPermutation-to_front, IsPermutation-trans}
-use Rattle.bor_records.specs.Promises.{Leaves, Promised}
+use Rattle.bor_records.specs.Promises.{Leaves, Meaning, Promised}
 use Rattle.bor_register.specs.Register.{Register}
 use Rattle.bor_desk.specs.Operations.Legality.{IsLegal}
 use Rattle.bor_wire.specs.declared.outcome.Outcome.TheVariants.{Replied}
@@ -17,7 +18,7 @@ use Rattle.bor_wire.specs.Sequences.{AreExchanged, Exchanged, IsRun, keep_left}
 use Rattle.bor_wire.specs.Turns.{AllAnswerClean, AnswersClean}
 use Rattle.bor_wire.proofs.SequenceLaws.{a_run}
 use Rattle.bor_wire.proofs.TurnLaws.{open_more}
-use Rattle.bor_program.specs.Connections.Serving.{Answer, Answered, Ended, IsServed, IsServedAs, IsServing, absent_in, answers_in, exchange_of, exchanges_of, has_failed, is_absent, told_in, told_on}
+use Rattle.bor_program.specs.Connections.Serving.{Answer, Answered, Ended, IsServed, IsServedAs, IsServing, Tally, absent_in, answers_in, exchange_of, exchanges_of, has_failed, is_absent, told_in, told_on}
 
 -- ---- lists
 
@@ -38,15 +39,16 @@ left_more : {K : Type 0} (keep : K) (es : List (Exchanged K)) (e : Exchanged K) 
 left_more keep [] e = refl
 left_more keep (x ∷ es) e = left_more x.keep es e
 
-each_more : {K Left : Type 0} (shows : K → Register → Type 0) (is_clean is_sound : K → Type 0) (may_leave : K → Left → Type 0) (left_shows : Left → Register → Type 0) (keep : K) (es : List (Exchanged K)) (e : Exchanged K) → AreExchanged shows is_clean is_sound may_leave left_shows keep es
-    → AreExchanged shows is_clean is_sound may_leave left_shows (keep_left keep es) (e ∷ []) → AreExchanged shows is_clean is_sound may_leave left_shows keep (es ++ e ∷ [])
-each_more shows is_clean is_sound may_leave left_shows keep [] e h last = last
-each_more shows is_clean is_sound may_leave left_shows keep (x ∷ es) e h last = (h.0, each_more shows is_clean is_sound may_leave left_shows x.keep es e h.1 last)
+each_more : {K Left : Type 0} (meaning : Meaning K Register Left StoreFault) (keep : K) (es : List (Exchanged K)) (e : Exchanged K) → AreExchanged meaning keep es
+    → AreExchanged meaning (keep_left keep es) (e ∷ []) → AreExchanged meaning keep (es ++ e ∷ [])
+each_more meaning keep [] e h last = last
+each_more meaning keep (x ∷ es) e h last = (h.0, each_more meaning x.keep es e h.1 last)
 
 -- ---- the server
 
-pub nothing_served : {K Left : Type 0} (shows : K → Register → Type 0) (is_clean is_sound : K → Type 0) (may_leave : K → Left → Type 0) (left_shows : Left → Register → Type 0) (Is : Ended → Type 0) (keep : K) (connections : ℕ) → IsServing shows is_clean is_sound may_leave left_shows Is keep keep [] connections connections 0 0
-nothing_served shows is_clean is_sound may_leave left_shows Is keep connections = record {
+pub nothing_served : {K Left : Type 0} (meaning : Meaning K Register Left StoreFault) (Is : Ended → Type 0) (keep : K) (connections : ℕ)
+    → IsServing meaning Is keep keep [] (record { connections = connections; pending = connections; absent = 0; status = 0 })
+nothing_served meaning Is keep connections = record {
   answered = [];
   ended = [];
   count = omega arith;
@@ -60,24 +62,24 @@ nothing_served shows is_clean is_sound may_leave left_shows Is keep connections 
 }
 
 -- a request was answered
-pub answers : {K Left : Type 0} (shows : K → Register → Type 0) (is_clean is_sound : K → Type 0) (may_leave : K → Left → Type 0) (left_shows : Left → Register → Type 0) (Is : Ended → Type 0) (old keep new : K) (telling : List Answer) (connections pending absent told : ℕ) (answer : Answer)
-    → IsServing shows is_clean is_sound may_leave left_shows Is old keep telling connections pending absent told → Leaves shows is_clean is_sound may_leave keep new (ShowsAfter left_shows (Some answer.request))
-    → Promised shows is_clean keep new (λ r. IsLegal r → IsExchanged (Replied answer.status) (shows new) r (Some answer.request) (Some []) (Some answer.reply))
-    → AnswersClean is_clean is_sound (exchange_of (record { answer = answer; keep = new }))
-    → IsServing shows is_clean is_sound may_leave left_shows Is old new (answer ∷ telling) connections pending absent told
-answers {K} shows is_clean is_sound may_leave left_shows Is old keep new telling connections pending absent told answer h leaves exchanged up =
+pub answers : {K Left : Type 0} (meaning : Meaning K Register Left StoreFault) (Is : Ended → Type 0) (old keep new : K) (telling : List Answer) (tally : Tally) (answer : Answer)
+    → IsServing meaning Is old keep telling tally → Leaves meaning keep new (ShowsAfter meaning.left_shows (Some answer.request))
+    → Promised meaning keep new (λ r. IsLegal r → IsExchanged (Replied answer.status) (meaning.shows new) r (Some answer.request) (Some []) (Some answer.reply))
+    → AnswersClean meaning (exchange_of (record { answer = answer; keep = new }))
+    → IsServing meaning Is old new (answer ∷ telling) tally
+answers {K} meaning Is old keep new telling tally answer h leaves exchanged up =
     let one : Answered K = record { answer = answer; keep = new } in
     let es : List (Exchanged K) = exchanges_of h.answered in
     let more : exchanges_of (h.answered ++ one ∷ []) ≡ es ++ exchange_of one ∷ [] = map-append exchange_of h.answered (one ∷ []) in
-    let last : AreExchanged shows is_clean is_sound may_leave left_shows keep (exchange_of one ∷ []) = (record { leaves = leaves; exchanged = exchanged }, tt) in
-    let each = each_more shows is_clean is_sound may_leave left_shows old es (exchange_of one) h.each (subst (λ k. AreExchanged shows is_clean is_sound may_leave left_shows k (exchange_of one ∷ [])) (sym h.left) last) in
+    let last : AreExchanged meaning keep (exchange_of one ∷ []) = (record { leaves = leaves; exchanged = exchanged }, tt) in
+    let each = each_more meaning old es (exchange_of one) h.each (subst (λ k. AreExchanged meaning k (exchange_of one ∷ [])) (sym h.left) last) in
     let front : answers_in (h.answered ++ one ∷ []) ≡ answers_in h.answered ++ answer ∷ [] = map-append (λ a. a.answer) h.answered (one ∷ []) in
     record {
       answered = h.answered ++ one ∷ [];
       ended = h.ended;
       count = h.count;
-      each = subst (AreExchanged shows is_clean is_sound may_leave left_shows old) (sym more) each;
-      answer_clean = subst (AllAnswerClean is_clean is_sound) (sym more) (open_more is_clean is_sound es (exchange_of one) h.answer_clean up);
+      each = subst (AreExchanged meaning old) (sym more) each;
+      answer_clean = subst (AllAnswerClean meaning) (sym more) (open_more meaning es (exchange_of one) h.answer_clean up);
       left = ap (keep_left old) more ∙ left_more old es (exchange_of one);
       told_once = subst (λ l. IsPermutation l (answer ∷ telling ++ told_in h.ended)) (sym front) (
           IsPermutation-trans (answers_in h.answered ++ answer ∷ []) (answer ∷ answers_in h.answered) (answer ∷ (telling ++ told_in h.ended))
@@ -90,10 +92,10 @@ answers {K} shows is_clean is_sound may_leave left_shows Is old keep new telling
     }
 
 -- some connections ended
-pub ends : {K Left : Type 0} (shows : K → Register → Type 0) (is_clean is_sound : K → Type 0) (may_leave : K → Left → Type 0) (left_shows : Left → Register → Type 0) (Is : Ended → Type 0) (old keep : K) (telling rest : List Answer) (connections pending left absent more told : ℕ) (ended : List Ended)
-    → IsServing shows is_clean is_sound may_leave left_shows Is old keep telling connections pending absent told → All Is ended → length ended + left ≡ pending → absent_in ended ≡ more → IsPermutation telling (rest ++ told_in ended)
-    → IsServing shows is_clean is_sound may_leave left_shows Is old keep rest connections left (more + absent) (if list_any has_failed ended then 3 else told)
-ends shows is_clean is_sound may_leave left_shows Is old keep telling rest connections pending left absent more told ended h so count gone once = record {
+pub ends : {K Left : Type 0} (meaning : Meaning K Register Left StoreFault) (Is : Ended → Type 0) (old keep : K) (telling rest : List Answer) (tally : Tally) (left more : ℕ) (ended : List Ended)
+    → IsServing meaning Is old keep telling tally → All Is ended → length ended + left ≡ tally.pending → absent_in ended ≡ more → IsPermutation telling (rest ++ told_in ended)
+    → IsServing meaning Is old keep rest (record { connections = tally.connections; pending = left; absent = more + tally.absent; status = if list_any has_failed ended then 3 else tally.status })
+ends meaning Is old keep telling rest tally left more ended h so count gone once = record {
   answered = h.answered;
   ended = ended ++ h.ended;
   count = omega (arith, h.count, count, length-append ended h.ended);
@@ -113,17 +115,17 @@ ends shows is_clean is_sound may_leave left_shows Is old keep telling rest conne
 
 -- ---- all connections
 
-a_run_to : {K Left : Type 0} (shows : K → Register → Type 0) (is_clean is_sound : K → Type 0) (may_leave : K → Left → Type 0) (left_shows : Left → Register → Type 0) (old new : K) (es : List (Exchanged K)) → AreExchanged shows is_clean is_sound may_leave left_shows old es → keep_left old es ≡ new
-    → Promised shows is_clean old new (λ r. IsLegal r → IsRun (shows new) r es)
-a_run_to shows is_clean is_sound may_leave left_shows old new es each left = subst (λ k. Promised shows is_clean old k (λ r. IsLegal r → IsRun (shows k) r es)) left (a_run shows is_clean is_sound may_leave left_shows old es each)
+a_run_to : {K Left : Type 0} (meaning : Meaning K Register Left StoreFault) (old new : K) (es : List (Exchanged K)) → AreExchanged meaning old es → keep_left old es ≡ new
+    → Promised meaning old new (λ r. IsLegal r → IsRun (meaning.shows new) r es)
+a_run_to meaning old new es each left = subst (λ k. Promised meaning old k (λ r. IsLegal r → IsRun (meaning.shows k) r es)) left (a_run meaning old es each)
 
-pub all_served : {K Left : Type 0} (shows : K → Register → Type 0) (is_clean is_sound : K → Type 0) (may_leave : K → Left → Type 0) (left_shows : Left → Register → Type 0) (Is : Ended → Type 0) (old new : K) (connections absent told : ℕ)
-    → IsServing shows is_clean is_sound may_leave left_shows Is old new [] connections 0 absent told → (served : IsServedAs shows is_clean is_sound may_leave left_shows Is old new connections told) × (served.absent ≡ absent)
-all_served shows is_clean is_sound may_leave left_shows Is old new connections absent told h = (record { absent = absent; served = h; run = a_run_to shows is_clean is_sound may_leave left_shows old new (exchanges_of h.answered) h.each h.left }, refl)
+pub all_served : {K Left : Type 0} (meaning : Meaning K Register Left StoreFault) (Is : Ended → Type 0) (old new : K) (connections absent told : ℕ)
+    → IsServing meaning Is old new [] (record { connections = connections; pending = 0; absent = absent; status = told }) → (served : IsServedAs meaning Is old new connections told) × (served.absent ≡ absent)
+all_served meaning Is old new connections absent told h = (record { absent = absent; served = h; run = a_run_to meaning old new (exchanges_of h.answered) h.each h.left }, refl)
 
-pub served_by_any : {K Left : Type 0} (shows : K → Register → Type 0) (is_clean is_sound : K → Type 0) (may_leave : K → Left → Type 0) (left_shows : Left → Register → Type 0) (Is : Ended → Type 0) (old new : K) (connections told : ℕ)
-    → IsServedAs shows is_clean is_sound may_leave left_shows Is old new connections told → IsServed shows is_clean is_sound may_leave left_shows old new connections told
-served_by_any shows is_clean is_sound may_leave left_shows Is old new connections told h = record {
+pub served_by_any : {K Left : Type 0} (meaning : Meaning K Register Left StoreFault) (Is : Ended → Type 0) (old new : K) (connections told : ℕ)
+    → IsServedAs meaning Is old new connections told → IsServed meaning old new connections told
+served_by_any meaning Is old new connections told h = record {
   absent = h.absent;
   served = record {
     answered = h.served.answered;

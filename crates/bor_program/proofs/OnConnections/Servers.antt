@@ -1,5 +1,7 @@
 -- Servers from which connections end.
-use Rattle.std.proofs.Common.{◌≡◌, ◌+◌, ◌≤◌, ◌<◌, inl, inr, ℕ, List, [], ◌∷◌, ◌++◌, length, get_or, replicate, cond, Bool, true, false, Option, refl, sym, ap, subst, ◌∙◌, arith, append-nil, append_assoc, length-append, suc, zero}
+use Rattle.bor_register.specs.declared.fault.StoreFault.{StoreFault}
+use Rattle.bor_records.specs.Promises.{Meaning}
+use Rattle.std.proofs.Common.{◌≡◌, ◌+◌, ◌≤◌, ◌<◌, inl, inr, ℕ, List, [], ◌∷◌, ◌++◌, length, get_or, replicate, cond, Bool, true, false, refl, sym, ap, subst, ◌∙◌, arith, append-nil, append_assoc, length-append, suc, zero}
 use Rattle.std.specs.Prelude.{if◌then◌else◌, ◌||◌, remove}
 use Rattle.std.specs.List.{list_any}
 use Rattle.std.specs.List.Sorted.{IsPermutation}
@@ -12,10 +14,10 @@ use Rattle.std.proofs.lemmas.List.Sorted.{IsPermutation-append_comm, IsPermutati
 use Rattle.bor_register.specs.Register.{Register}
 use Rattle.bor_program.specs.declared.connections.server.Client.{Client}
 use Rattle.bor_program.specs.declared.connections.server.Server.{Server}
-use Rattle.bor_program.specs.Connections.Serving.{Answer, Ended, Absent, IsServedAs, IsServing, absent_in, has_failed, is_absent, told_in, told_on}
-use Rattle.bor_program.specs.Connections.Streams.{IsOf}
+use Rattle.bor_program.specs.Connections.Serving.{Answer, Ended, Absent, IsServedAs, IsServing, Tally, absent_in, has_failed, is_absent, told_in, told_on}
+use Rattle.bor_program.specs.Connections.Streams.{IsOf, Wire}
 use Rattle.bor_program.specs.Connections.Phases.{EndsAs, IsHeld, telling}
-use Rattle.bor_program.specs.Connections.Servers.{AreHeld, Becomes, GoesOnAs, Lets, idle_times, pending_in, telling_in, telling_to}
+use Rattle.bor_program.specs.Connections.Servers.{AreHeld, Becomes, GoesOnAs, Lets, idle_times, pending_in, tally_in, telling_in, telling_to}
 use Rattle.std.specs.Duration.{as_nanos}
 use Rattle.bor_program.proofs.OnConnections.Served.{absent_in-append, all_served, either, ends, nothing_served, told_in-append}
 
@@ -23,18 +25,18 @@ pub telling_to-append : {S : Type 0} (xs ys : List (Client S)) → telling_to (x
 telling_to-append [] ys = refl
 telling_to-append (c ∷ xs) ys = ap (λ l. telling c.phase ++ l) (telling_to-append xs ys) ∙ sym (append_assoc (telling c.phase) (telling_to xs) (telling_to ys))
 
-pub held-append : {S : Type 0} (remaining contents : S → Option (List ℕ)) (xs ys : List (Client S)) → AreHeld remaining contents xs → AreHeld remaining contents ys → AreHeld remaining contents (xs ++ ys)
-held-append remaining contents [] ys h k = k
-held-append remaining contents (c ∷ xs) ys h k = (h.0, held-append remaining contents xs ys h.1 k)
+pub held-append : {S : Type 0} (wire : Wire S) (xs ys : List (Client S)) → AreHeld wire xs → AreHeld wire ys → AreHeld wire (xs ++ ys)
+held-append wire [] ys h k = k
+held-append wire (c ∷ xs) ys h k = (h.0, held-append wire xs ys h.1 k)
 
 -- ---- none ends
 
-pub lets_none : {S : Type 0} (remaining contents : S → Option (List ℕ)) (telling : List Answer) (pending status : ℕ) (new : Server S) → AreHeld remaining contents new.queue.items
-    → pending_in new ≡ pending → IsPermutation telling (telling_in new) → new.status ≡ status → Lets remaining contents telling pending 0 status new
-lets_none remaining contents telling pending status new held count once told = record {
+pub lets_none : {S : Type 0} (wire : Wire S) (telling : List Answer) (pending status : ℕ) (new : Server S) → AreHeld wire new.queue.items
+    → pending_in new ≡ pending → IsPermutation telling (telling_in new) → new.status ≡ status → Lets wire telling pending 0 status new
+lets_none wire telling pending status new held count once told = record {
   held = held;
   ended = [];
-  ended_so = All-nil (IsOf remaining contents);
+  ended_so = All-nil (IsOf wire);
   missing = refl;
   count = omega (arith, count);
   told_once = subst (IsPermutation telling) (sym (append-nil (telling_in new))) once;
@@ -49,16 +51,16 @@ status_one true false before after e h = cc
 status_one false true before after e h = cc
 status_one false false before after e h = h
 
-lets_end : {S : Type 0} (remaining contents : S → Option (List ℕ)) (mine others : List Answer) (pending absent status : ℕ) (failed : Bool) (new : Server S) → AreHeld remaining contents new.queue.items
-    → (e : Ended) → IsOf remaining contents e → told_on e ≡ mine → failed ≡ has_failed e → absent_in (e ∷ []) ≡ absent → telling_in new ≡ others → pending_in new + 1 ≡ pending → new.status ≡ (if failed then 3 else status)
-    → Lets remaining contents (mine ++ others) pending absent status new
-lets_end remaining contents mine others pending absent status failed new held e so is fails gone same count told =
+lets_end : {S : Type 0} (wire : Wire S) (mine others : List Answer) (pending absent status : ℕ) (failed : Bool) (new : Server S) → AreHeld wire new.queue.items
+    → (e : Ended) → IsOf wire e → told_on e ≡ mine → failed ≡ has_failed e → absent_in (e ∷ []) ≡ absent → telling_in new ≡ others → pending_in new + 1 ≡ pending → new.status ≡ (if failed then 3 else status)
+    → Lets wire (mine ++ others) pending absent status new
+lets_end wire mine others pending absent status failed new held e so is fails gone same count told =
     let alone : told_in (e ∷ []) ≡ mine = append-nil (told_on e) ∙ is in
     let once : IsPermutation (mine ++ others) (telling_in new ++ told_in (e ∷ [])) = rw (alone, same) (IsPermutation-append_comm mine others) in
     record {
       held = held;
       ended = e ∷ [];
-      ended_so = All-cons (IsOf remaining contents) e [] so (All-nil (IsOf remaining contents));
+      ended_so = All-cons (IsOf wire) e [] so (All-nil (IsOf wire));
       missing = gone;
       count = omega (arith, count);
       told_once = once;
@@ -66,17 +68,17 @@ lets_end remaining contents mine others pending absent status failed new held e 
     }
 
 -- a client came on it
-pub lets_one : {S : Type 0} (remaining contents : S → Option (List ℕ)) (mine others : List Answer) (pending status : ℕ) (failed : Bool) (new : Server S) → AreHeld remaining contents new.queue.items
-    → EndsAs remaining contents mine failed → telling_in new ≡ others → pending_in new + 1 ≡ pending → new.status ≡ (if failed then 3 else status)
-    → Lets remaining contents (mine ++ others) pending 0 status new
-lets_one remaining contents mine others pending status failed new held end same count told =
-    lets_end remaining contents mine others pending 0 status failed new held end.0 end.1 end.2 end.3 (rw end.4 refl) same count told
+pub lets_one : {S : Type 0} (wire : Wire S) (mine others : List Answer) (pending status : ℕ) (failed : Bool) (new : Server S) → AreHeld wire new.queue.items
+    → EndsAs wire mine failed → telling_in new ≡ others → pending_in new + 1 ≡ pending → new.status ≡ (if failed then 3 else status)
+    → Lets wire (mine ++ others) pending 0 status new
+lets_one wire mine others pending status failed new held end same count told =
+    lets_end wire mine others pending 0 status failed new held end.0 end.1 end.2 end.3 (rw end.4 refl) same count told
 
 -- a client could not be let in
-pub lets_absent : {S : Type 0} (remaining contents : S → Option (List ℕ)) (others : List Answer) (pending status : ℕ) (new : Server S) → AreHeld remaining contents new.queue.items
-    → telling_in new ≡ others → pending_in new + 1 ≡ pending → new.status ≡ 3 → Lets remaining contents others pending 1 status new
-lets_absent remaining contents others pending status new held same count told =
-    lets_end remaining contents [] others pending 1 status true new held Absent tt refl refl refl same count told
+pub lets_absent : {S : Type 0} (wire : Wire S) (others : List Answer) (pending status : ℕ) (new : Server S) → AreHeld wire new.queue.items
+    → telling_in new ≡ others → pending_in new + 1 ≡ pending → new.status ≡ 3 → Lets wire others pending 1 status new
+lets_absent wire others pending status new held same count told =
+    lets_end wire [] others pending 1 status true new held Absent tt refl refl refl same count told
 
 -- ---- the others never come
 
@@ -92,12 +94,12 @@ all_absent : (n : ℕ) → absent_in (replicate n Absent) ≡ n
 all_absent zero = refl
 all_absent (suc n) = omega (arith, sum_by-cons (λ e. cond (is_absent e) 1 0) Absent (replicate n Absent), all_absent n)
 
-pub lets_all_absent : {S : Type 0} (remaining contents : S → Option (List ℕ)) (telling : List Answer) (left count status : ℕ) (new : Server S) → AreHeld remaining contents new.queue.items
-    → 0 < left → telling_in new ≡ telling → length new.queue.items ≡ count → new.left ≡ 0 → new.status ≡ 3 → Lets remaining contents telling (count + left) left status new
-lets_all_absent remaining contents telling left count status new held some same here none told = record {
+pub lets_all_absent : {S : Type 0} (wire : Wire S) (telling : List Answer) (left count status : ℕ) (new : Server S) → AreHeld wire new.queue.items
+    → 0 < left → telling_in new ≡ telling → length new.queue.items ≡ count → new.left ≡ 0 → new.status ≡ 3 → Lets wire telling (count + left) left status new
+lets_all_absent wire telling left count status new held some same here none told = record {
   held = held;
   ended = replicate left Absent;
-  ended_so = All-replicate (IsOf remaining contents) left Absent tt;
+  ended_so = All-replicate (IsOf wire) left Absent tt;
   missing = all_absent left;
   count = omega (arith, length-replicate left Absent, here, none);
   told_once = rw (absent_tell_nothing left, append-nil, same) (IsPermutation-refl telling);
@@ -106,26 +108,26 @@ lets_all_absent remaining contents telling left count status new held some same 
 
 -- ---- one after the other
 
-pub lets_same : {S : Type 0} (remaining contents : S → Option (List ℕ)) (server : Server S) → AreHeld remaining contents server.queue.items
-    → Lets remaining contents (telling_in server) (pending_in server) 0 server.status server
-lets_same remaining contents server held = lets_none remaining contents (telling_in server) (pending_in server) server.status server held refl (IsPermutation-refl (telling_in server)) refl
+pub lets_same : {S : Type 0} (wire : Wire S) (server : Server S) → AreHeld wire server.queue.items
+    → Lets wire (telling_in server) (pending_in server) 0 server.status server
+lets_same wire server held = lets_none wire (telling_in server) (pending_in server) server.status server held refl (IsPermutation-refl (telling_in server)) refl
 
 -- no client came or went
-pub lets_kept : {S : Type 0} (remaining contents : S → Option (List ℕ)) (old new : Server S) → AreHeld remaining contents old.queue.items → new.queue.items ≡ old.queue.items → new.left ≡ old.left → new.status ≡ old.status
-    → Lets remaining contents (telling_in old) (pending_in old) 0 old.status new
-lets_kept remaining contents old new held items left told =
-    lets_none remaining contents (telling_in old) (pending_in old) old.status new (subst (AreHeld remaining contents) (sym items) held) (omega (arith, ap length items, left))
+pub lets_kept : {S : Type 0} (wire : Wire S) (old new : Server S) → AreHeld wire old.queue.items → new.queue.items ≡ old.queue.items → new.left ≡ old.left → new.status ≡ old.status
+    → Lets wire (telling_in old) (pending_in old) 0 old.status new
+lets_kept wire old new held items left told =
+    lets_none wire (telling_in old) (pending_in old) old.status new (subst (AreHeld wire) (sym items) held) (omega (arith, ap length items, left))
     (subst (IsPermutation (telling_in old)) (sym (ap telling_to items)) (IsPermutation-refl (telling_in old))) told
 
-pub lets_from : {S : Type 0} (remaining contents : S → Option (List ℕ)) (telling other : List Answer) (pending count absent status : ℕ) (new : Server S) → telling ≡ other → pending ≡ count
-    → Lets remaining contents telling pending absent status new → Lets remaining contents other count absent status new
-lets_from remaining contents telling other pending count absent status new same counts h =
-    subst (λ n. Lets remaining contents other n absent status new) counts (subst (λ l. Lets remaining contents l pending absent status new) same h)
+pub lets_from : {S : Type 0} (wire : Wire S) (telling other : List Answer) (pending count absent status : ℕ) (new : Server S) → telling ≡ other → pending ≡ count
+    → Lets wire telling pending absent status new → Lets wire other count absent status new
+lets_from wire telling other pending count absent status new same counts h =
+    subst (λ n. Lets wire other n absent status new) counts (subst (λ l. Lets wire l pending absent status new) same h)
 
-pub lets_as : {S : Type 0} (remaining contents : S → Option (List ℕ)) (telling : List Answer) (pending absent status : ℕ) (new other : Server S)
-    → Lets remaining contents telling pending absent status new → Becomes new other → Lets remaining contents telling pending absent status other
-lets_as remaining contents telling pending absent status new other h same = record {
-  held = subst (λ q. AreHeld remaining contents q.items) (sym same.queue) h.held;
+pub lets_as : {S : Type 0} (wire : Wire S) (telling : List Answer) (pending absent status : ℕ) (new other : Server S)
+    → Lets wire telling pending absent status new → Becomes new other → Lets wire telling pending absent status other
+lets_as wire telling pending absent status new other h same = record {
+  held = subst (λ q. AreHeld wire q.items) (sym same.queue) h.held;
   ended = h.ended;
   ended_so = h.ended_so;
   missing = h.missing;
@@ -135,12 +137,12 @@ lets_as remaining contents telling pending absent status new other h same = reco
 }
 
 -- with some more that were left out of the first
-pub lets_then_more : {S : Type 0} (remaining contents : S → Option (List ℕ)) (telling : List Answer) (pending more one two status : ℕ) (mid new : Server S)
-    → Lets remaining contents telling pending one status mid → Lets remaining contents (telling_in mid) (pending_in mid + more) two mid.status new → Lets remaining contents telling (pending + more) (two + one) status new
-lets_then_more remaining contents telling pending more one two status mid new first second = record {
+pub lets_then_more : {S : Type 0} (wire : Wire S) (telling : List Answer) (pending more one two status : ℕ) (mid new : Server S)
+    → Lets wire telling pending one status mid → Lets wire (telling_in mid) (pending_in mid + more) two mid.status new → Lets wire telling (pending + more) (two + one) status new
+lets_then_more wire telling pending more one two status mid new first second = record {
   held = second.held;
   ended = second.ended ++ first.ended;
-  ended_so = All-append (IsOf remaining contents) second.ended first.ended second.ended_so first.ended_so;
+  ended_so = All-append (IsOf wire) second.ended first.ended second.ended_so first.ended_so;
   missing = omega (arith, absent_in-append second.ended first.ended, first.missing, second.missing);
   count = omega (arith, first.count, second.count, length-append second.ended first.ended);
   told_once =
@@ -153,16 +155,16 @@ lets_then_more remaining contents telling pending more one two status mid new fi
       ∙ ap (λ b. if b then 3 else status) (sym (list_any-append has_failed second.ended first.ended));
 }
 
-pub lets_then : {S : Type 0} (remaining contents : S → Option (List ℕ)) (telling : List Answer) (pending one two status : ℕ) (mid new : Server S)
-    → Lets remaining contents telling pending one status mid → Lets remaining contents (telling_in mid) (pending_in mid) two mid.status new → Lets remaining contents telling pending (two + one) status new
-lets_then remaining contents telling pending one two status mid new first second =
+pub lets_then : {S : Type 0} (wire : Wire S) (telling : List Answer) (pending one two status : ℕ) (mid new : Server S)
+    → Lets wire telling pending one status mid → Lets wire (telling_in mid) (pending_in mid) two mid.status new → Lets wire telling pending (two + one) status new
+lets_then wire telling pending one two status mid new first second =
     let none : (n : ℕ) → n + 0 ≡ n = λ n. omega arith in
-    subst (λ n. Lets remaining contents telling n (two + one) status new) (none pending)
-    (lets_then_more remaining contents telling pending 0 one two status mid new first (subst (λ n. Lets remaining contents (telling_in mid) n two mid.status new) (sym (none (pending_in mid))) second))
+    subst (λ n. Lets wire telling n (two + one) status new) (none pending)
+    (lets_then_more wire telling pending 0 one two status mid new first (subst (λ n. Lets wire (telling_in mid) n two mid.status new) (sym (none (pending_in mid))) second))
 
-pub lets_of : {S : Type 0} (remaining contents : S → Option (List ℕ)) (telling other : List Answer) (pending absent status : ℕ) (new : Server S) → IsPermutation other telling
-    → Lets remaining contents telling pending absent status new → Lets remaining contents other pending absent status new
-lets_of remaining contents telling other pending absent status new same h = record {
+pub lets_of : {S : Type 0} (wire : Wire S) (telling other : List Answer) (pending absent status : ℕ) (new : Server S) → IsPermutation other telling
+    → Lets wire telling pending absent status new → Lets wire other pending absent status new
+lets_of wire telling other pending absent status new same h = record {
   held = h.held;
   ended = h.ended;
   ended_so = h.ended_so;
@@ -174,36 +176,36 @@ lets_of remaining contents telling other pending absent status new same h = reco
 
 -- ---- the server
 
-pub lets_go_on : {K S Left : Type 0} (shows : K → Register → Type 0) (is_clean is_sound : K → Type 0) (may_leave : K → Left → Type 0) (left_shows : Left → Register → Type 0) (remaining contents : S → Option (List ℕ)) (start keep : K) (telling : List Answer) (connections pending absent more status : ℕ) (new : Server S)
-    → IsServing shows is_clean is_sound may_leave left_shows (IsOf remaining contents) start keep telling connections pending absent status → Lets remaining contents telling pending more status new
-    → GoesOnAs shows is_clean is_sound may_leave left_shows remaining contents start keep connections (more + absent) new
-lets_go_on shows is_clean is_sound may_leave left_shows remaining contents start keep telling connections pending absent more status new h lets =
-    subst (IsServing shows is_clean is_sound may_leave left_shows (IsOf remaining contents) start keep (telling_in new) connections (pending_in new) (more + absent)) (sym lets.told)
-    (ends shows is_clean is_sound may_leave left_shows (IsOf remaining contents) start keep telling (telling_in new) connections pending (pending_in new) absent more status lets.ended h lets.ended_so lets.count lets.missing lets.told_once)
+pub lets_go_on : {K S Left : Type 0} (meaning : Meaning K Register Left StoreFault) (wire : Wire S) (start keep : K) (telling : List Answer) (tally : Tally) (more : ℕ) (new : Server S)
+    → IsServing meaning (IsOf wire) start keep telling tally → Lets wire telling tally.pending more tally.status new
+    → GoesOnAs meaning wire start keep tally.connections (more + tally.absent) new
+lets_go_on meaning wire start keep telling tally more new h lets =
+    subst (λ n. IsServing meaning (IsOf wire) start keep (telling_in new) (record { connections = tally.connections; pending = pending_in new; absent = more + tally.absent; status = n })) (sym lets.told)
+    (ends meaning (IsOf wire) start keep telling (telling_in new) tally (pending_in new) more lets.ended h lets.ended_so lets.count lets.missing lets.told_once)
 
 -- of those that ended a client came on each
-pub lets_go_same : {K S Left : Type 0} (shows : K → Register → Type 0) (is_clean is_sound : K → Type 0) (may_leave : K → Left → Type 0) (left_shows : Left → Register → Type 0) (remaining contents : S → Option (List ℕ)) (start keep : K) (telling : List Answer) (connections pending absent status : ℕ) (new : Server S)
-    → IsServing shows is_clean is_sound may_leave left_shows (IsOf remaining contents) start keep telling connections pending absent status → Lets remaining contents telling pending 0 status new
-    → GoesOnAs shows is_clean is_sound may_leave left_shows remaining contents start keep connections absent new
-lets_go_same shows is_clean is_sound may_leave left_shows remaining contents start keep telling connections pending absent status new h lets =
-    let same : 0 + absent ≡ absent = omega arith in
-    subst (λ n. GoesOnAs shows is_clean is_sound may_leave left_shows remaining contents start keep connections n new) same (lets_go_on shows is_clean is_sound may_leave left_shows remaining contents start keep telling connections pending absent 0 status new h lets)
+pub lets_go_same : {K S Left : Type 0} (meaning : Meaning K Register Left StoreFault) (wire : Wire S) (start keep : K) (telling : List Answer) (tally : Tally) (new : Server S)
+    → IsServing meaning (IsOf wire) start keep telling tally → Lets wire telling tally.pending 0 tally.status new
+    → GoesOnAs meaning wire start keep tally.connections tally.absent new
+lets_go_same meaning wire start keep telling tally new h lets =
+    let same : 0 + tally.absent ≡ tally.absent = omega arith in
+    subst (λ n. GoesOnAs meaning wire start keep tally.connections n new) same (lets_go_on meaning wire start keep telling tally 0 new h lets)
 
 -- ---- a client goes to the end of the queue, or leaves it
 
-pub stays : {S : Type 0} (remaining contents : S → Option (List ℕ)) (client : Client S) (old : List (Client S)) (left status : ℕ) (new : Server S) → new.queue.items ≡ old ++ client ∷ []
-    → AreHeld remaining contents old → IsHeld remaining contents client.phase → new.left ≡ left → new.status ≡ status
-    → Lets remaining contents (telling client.phase ++ telling_to old) (length old + left + 1) 0 status new
-stays remaining contents client old left status new items held own same told =
-    let both : AreHeld remaining contents (old ++ client ∷ []) = held-append remaining contents old (client ∷ []) held (own, tt) in
+pub stays : {S : Type 0} (wire : Wire S) (client : Client S) (old : List (Client S)) (left status : ℕ) (new : Server S) → new.queue.items ≡ old ++ client ∷ []
+    → AreHeld wire old → IsHeld wire client.phase → new.left ≡ left → new.status ≡ status
+    → Lets wire (telling client.phase ++ telling_to old) (length old + left + 1) 0 status new
+stays wire client old left status new items held own same told =
+    let both : AreHeld wire (old ++ client ∷ []) = held-append wire old (client ∷ []) held (own, tt) in
     let all : telling_in new ≡ telling_to old ++ telling client.phase = ap telling_to items ∙ telling_to-append old (client ∷ []) ∙ ap (λ l. telling_to old ++ l) (append-nil (telling client.phase)) in
-    lets_none remaining contents (telling client.phase ++ telling_to old) (length old + left + 1) status new (subst (AreHeld remaining contents) (sym items) both)
+    lets_none wire (telling client.phase ++ telling_to old) (length old + left + 1) status new (subst (AreHeld wire) (sym items) both)
     (omega (arith, ap length items, length-append old (client ∷ []), same))
     (subst (IsPermutation (telling client.phase ++ telling_to old)) (sym all) (IsPermutation-append_comm (telling client.phase) (telling_to old))) told
 
-pub record IsTaken {S : Type 0} (remaining contents : S → Option (List ℕ)) (clients : List (Client S)) (client : Client S) (rest : List (Client S)) : Type 0 where
-  pub own : IsHeld remaining contents client.phase
-  pub others : AreHeld remaining contents rest
+pub record IsTaken {S : Type 0} (wire : Wire S) (clients : List (Client S)) (client : Client S) (rest : List (Client S)) : Type 0 where
+  pub own : IsHeld wire client.phase
+  pub others : AreHeld wire rest
   pub once : IsPermutation (telling_to clients) (telling client.phase ++ telling_to rest)
   pub count : length clients ≡ length rest + 1
 
@@ -212,17 +214,17 @@ moved a b c =
     subst (IsPermutation (a ++ (b ++ c))) (append_assoc b a c)
     (subst (λ l. IsPermutation l ((b ++ a) ++ c)) (append_assoc a b c) (IsPermutation-append_left c (a ++ b) (b ++ a) (IsPermutation-append_comm a b)))
 
-pub taken : {S : Type 0} (remaining contents : S → Option (List ℕ)) (clients : List (Client S)) (i : ℕ) (client : Client S) → i < length clients → client ≡ get_or clients i client
-    → AreHeld remaining contents clients → IsTaken remaining contents clients client (remove clients i)
-taken remaining contents [] i client lt is held = absurd (omega (arith, lt))
-taken remaining contents (c ∷ rest) zero client lt is held = record {
-  own = subst (λ x. IsHeld remaining contents x.phase) (sym is) held.0;
+pub taken : {S : Type 0} (wire : Wire S) (clients : List (Client S)) (i : ℕ) (client : Client S) → i < length clients → client ≡ get_or clients i client
+    → AreHeld wire clients → IsTaken wire clients client (remove clients i)
+taken wire [] i client lt is held = absurd (omega (arith, lt))
+taken wire (c ∷ rest) zero client lt is held = record {
+  own = subst (λ x. IsHeld wire x.phase) (sym is) held.0;
   others = held.1;
   once = subst (λ x. IsPermutation (telling c.phase ++ telling_to rest) (telling x.phase ++ telling_to rest)) (sym is) (IsPermutation-refl (telling c.phase ++ telling_to rest));
   count = omega arith;
 }
-taken remaining contents (c ∷ rest) (suc i) client lt is held =
-    let t = taken remaining contents rest i client (omega (arith, lt)) is held.1 in
+taken wire (c ∷ rest) (suc i) client lt is held =
+    let t = taken wire rest i client (omega (arith, lt)) is held.1 in
     record {
       own = t.own;
       others = (held.0, t.others);
@@ -235,38 +237,38 @@ taken remaining contents (c ∷ rest) (suc i) client lt is held =
 
 -- ---- from the first to the last
 
-pub in_hand : {K S Left : Type 0} (shows : K → Register → Type 0) (is_clean is_sound : K → Type 0) (may_leave : K → Left → Type 0) (left_shows : Left → Register → Type 0) (remaining contents : S → Option (List ℕ)) (start keep : K) (connections absent : ℕ) (client : Client S) (clients rest : List (Client S)) (left status : ℕ)
-    → clients ≡ client ∷ rest → IsServing shows is_clean is_sound may_leave left_shows (IsOf remaining contents) start keep (telling_to clients) connections (length clients + left) absent status
-    → IsServing shows is_clean is_sound may_leave left_shows (IsOf remaining contents) start keep (telling client.phase ++ telling_to rest) connections (length rest + left + 1) absent status
-in_hand shows is_clean is_sound may_leave left_shows remaining contents start keep connections absent client clients rest left status is h =
-    let count : length clients + left ≡ length rest + left + 1 = omega (arith, ap length is) in
-    subst (λ n. IsServing shows is_clean is_sound may_leave left_shows (IsOf remaining contents) start keep (telling client.phase ++ telling_to rest) connections n absent status) count
-    (subst (λ l. IsServing shows is_clean is_sound may_leave left_shows (IsOf remaining contents) start keep l connections (length clients + left) absent status) (ap telling_to is) h)
+pub in_hand : {K S Left : Type 0} (meaning : Meaning K Register Left StoreFault) (wire : Wire S) (start keep : K) (connections absent : ℕ) (client : Client S) (rest : List (Client S)) (old : Server S)
+    → old.queue.items ≡ client ∷ rest → GoesOnAs meaning wire start keep connections absent old
+    → IsServing meaning (IsOf wire) start keep (telling client.phase ++ telling_to rest) (record (tally_in connections absent old) { pending = length rest + old.left + 1 })
+in_hand meaning wire start keep connections absent client rest old is h =
+    let count : pending_in old ≡ length rest + old.left + 1 = omega (arith, ap length is) in
+    subst (λ n. IsServing meaning (IsOf wire) start keep (telling client.phase ++ telling_to rest) (record (tally_in connections absent old) { pending = n })) count
+    (subst (λ l. IsServing meaning (IsOf wire) start keep l (tally_in connections absent old)) (ap telling_to is) h)
 
-pub becomes_at : {K S Left : Type 0} (shows : K → Register → Type 0) (is_clean is_sound : K → Type 0) (may_leave : K → Left → Type 0) (left_shows : Left → Register → Type 0) (remaining contents : S → Option (List ℕ)) (start keep : K) (connections absent : ℕ) (old new : Server S)
-    → GoesOnAs shows is_clean is_sound may_leave left_shows remaining contents start keep connections absent old → Becomes old new → GoesOnAs shows is_clean is_sound may_leave left_shows remaining contents start keep connections absent new
-becomes_at shows is_clean is_sound may_leave left_shows remaining contents start keep connections absent old new h same = rw (same.queue, same.left, same.status) h
+pub becomes_at : {K S Left : Type 0} (meaning : Meaning K Register Left StoreFault) (wire : Wire S) (start keep : K) (connections absent : ℕ) (old new : Server S)
+    → GoesOnAs meaning wire start keep connections absent old → Becomes old new → GoesOnAs meaning wire start keep connections absent new
+becomes_at meaning wire start keep connections absent old new h same = rw (same.queue, same.left, same.status) h
 
-pub begun : {K S Left : Type 0} (shows : K → Register → Type 0) (is_clean is_sound : K → Type 0) (may_leave : K → Left → Type 0) (left_shows : Left → Register → Type 0) (remaining contents : S → Option (List ℕ)) (keep : K) (connections : ℕ) (server : Server S)
-    → server.queue.items ≡ [] → server.left ≡ connections → server.status ≡ 0 → GoesOnAs shows is_clean is_sound may_leave left_shows remaining contents keep keep connections 0 server
-begun shows is_clean is_sound may_leave left_shows remaining contents keep connections server none all told =
-    let Is = IsOf remaining contents in
+pub begun : {K S Left : Type 0} (meaning : Meaning K Register Left StoreFault) (wire : Wire S) (keep : K) (connections : ℕ) (server : Server S)
+    → server.queue.items ≡ [] → server.left ≡ connections → server.status ≡ 0 → GoesOnAs meaning wire keep keep connections 0 server
+begun meaning wire keep connections server none all told =
+    let Is = IsOf wire in
     let count : connections ≡ pending_in server = omega (arith, ap length none, all) in
     let silent : [] ≡ telling_in server = sym (ap telling_to none) in
-    subst (IsServing shows is_clean is_sound may_leave left_shows Is keep keep (telling_in server) connections (pending_in server) 0) (sym told)
-    (subst (λ l. IsServing shows is_clean is_sound may_leave left_shows Is keep keep l connections (pending_in server) 0 0) silent
-    (subst (λ n. IsServing shows is_clean is_sound may_leave left_shows Is keep keep [] connections n 0 0) count (nothing_served shows is_clean is_sound may_leave left_shows Is keep connections)))
+    subst (λ n. IsServing meaning Is keep keep (telling_in server) (record (tally_in connections 0 server) { status = n })) (sym told)
+    (subst (λ l. IsServing meaning Is keep keep l (record (tally_in connections 0 server) { status = 0 })) silent
+    (subst (λ n. IsServing meaning Is keep keep [] (record { connections = connections; pending = n; absent = 0; status = 0 })) count (nothing_served meaning Is keep connections)))
 
 none_told : {S : Type 0} (clients : List (Client S)) (left : ℕ) → length clients + left ≡ 0 → telling_to clients ≡ []
 none_told [] left e = refl
 none_told (c ∷ rest) left e = absurd (omega (arith, e))
 
-pub finished : {K S Left : Type 0} (shows : K → Register → Type 0) (is_clean is_sound : K → Type 0) (may_leave : K → Left → Type 0) (left_shows : Left → Register → Type 0) (remaining contents : S → Option (List ℕ)) (start keep : K) (connections absent : ℕ) (server : Server S)
-    → GoesOnAs shows is_clean is_sound may_leave left_shows remaining contents start keep connections absent server → pending_in server ≡ 0 → (served : IsServedAs shows is_clean is_sound may_leave left_shows (IsOf remaining contents) start keep connections server.status) × (served.absent ≡ absent)
-finished shows is_clean is_sound may_leave left_shows remaining contents start keep connections absent server h none =
-    all_served shows is_clean is_sound may_leave left_shows (IsOf remaining contents) start keep connections absent server.status
-    (subst (λ n. IsServing shows is_clean is_sound may_leave left_shows (IsOf remaining contents) start keep [] connections n absent server.status) none
-    (subst (λ l. IsServing shows is_clean is_sound may_leave left_shows (IsOf remaining contents) start keep l connections (pending_in server) absent server.status) (none_told server.queue.items server.left none) h))
+pub finished : {K S Left : Type 0} (meaning : Meaning K Register Left StoreFault) (wire : Wire S) (start keep : K) (connections absent : ℕ) (server : Server S)
+    → GoesOnAs meaning wire start keep connections absent server → pending_in server ≡ 0 → (served : IsServedAs meaning (IsOf wire) start keep connections server.status) × (served.absent ≡ absent)
+finished meaning wire start keep connections absent server h none =
+    all_served meaning (IsOf wire) start keep connections absent server.status
+    (subst (λ n. IsServing meaning (IsOf wire) start keep [] (record (tally_in connections absent server) { pending = n })) none
+    (subst (λ l. IsServing meaning (IsOf wire) start keep l (tally_in connections absent server)) (none_told server.queue.items server.left none) h))
 
 -- ---- which client gives way
 

@@ -3,11 +3,12 @@ use Rattle.std.proofs.Common.{◌≡◌, ◌≤◌, ◌<◌, ◌↔◌, Bool, tr
 use Rattle.std.proofs.lemmas.Bool.{cases_lt, iff_false}
 use Rattle.std.specs.Io.KnownBytes.{Appends, Consumes, Keeps}
 use Rattle.bor_http.specs.Incoming.Head.{head_len}
+use Rattle.bor_http.specs.Incoming.Message.{request_limit}
 use Rattle.bor_http.specs.Incoming.Progress.{IsWhole}
 use Rattle.bor_http.proofs.OnIncoming.ProgressLemmas.{missing}
 use Rattle.bor_program.specs.Connections.Limits.{rest_limit}
 use Rattle.bor_program.specs.Connections.Serving.{Answer}
-use Rattle.bor_program.specs.Connections.Streams.{Came, Drops, IsDraining, IsReplySent, IsUnanswered, IsWriting}
+use Rattle.bor_program.specs.Connections.Streams.{Came, Drops, IsDraining, IsReady, IsReplySent, IsUnanswered, IsWriting, Wire}
 
 consumes_nothing : (known : Option (List ℕ)) → Consumes known known []
 consumes_nothing None = tt
@@ -59,32 +60,40 @@ not_reached needed count len is_whole both isnt same = elim (cases_lt count need
   | inr le ↦ absurd (iff_false both isnt (omega (arith, le, same)))
 ]
 
+-- ---- a reply
+
+-- nothing of it was written yet
+pub begins_writing : {S : Type 0} (wire : Wire S) (stream : S) (answer : Answer) → Came wire.remaining stream answer.request → length answer.request ≤ request_limit → IsReady wire.remaining stream answer
+    → IsWriting wire stream answer 0
+begins_writing wire stream answer came fits ready =
+    record { read = stream; came = came; fits = fits; ready = ready; within = omega arith; written = appends_nothing (wire.contents stream) answer.reply }
+
 -- ---- behind a reply
 
 -- nothing was read yet
-pub drains_none : {S : Type 0} (remaining contents : S → Option (List ℕ)) (stream : S) (answer : Answer) (sent left : ℕ) → sent ≡ length answer.reply → left ≡ rest_limit
-    → IsWriting remaining contents stream answer sent → IsDraining remaining contents stream answer left
-drains_none remaining contents stream answer sent left whole all h =
-    record { written = stream; told = subst (IsWriting remaining contents stream answer) whole h; dropped = ([], consumes_nothing (remaining stream), omega (arith, all)) }
+pub drains_none : {S : Type 0} (wire : Wire S) (stream : S) (answer : Answer) (sent left : ℕ) → sent ≡ length answer.reply → left ≡ rest_limit
+    → IsWriting wire stream answer sent → IsDraining wire stream answer left
+drains_none wire stream answer sent left whole all h =
+    record { written = stream; told = subst (IsWriting wire stream answer) whole h; dropped = ([], consumes_nothing (wire.remaining stream), omega (arith, all)) }
 
-pub drains_more : {S : Type 0} (remaining contents : S → Option (List ℕ)) (old new : S) (answer : Answer) (before after : ℕ) → IsDraining remaining contents old answer before
-    → Drops (remaining old) (remaining new) before after → IsDraining remaining contents new answer after
-drains_more remaining contents old new answer before after h more =
+pub drains_more : {S : Type 0} (wire : Wire S) (old new : S) (answer : Answer) (before after : ℕ) → IsDraining wire old answer before
+    → Drops (wire.remaining old) (wire.remaining new) before after → IsDraining wire new answer after
+drains_more wire old new answer before after h more =
     let first = h.dropped in
     record {
       written = h.written;
       told = h.told;
-      dropped = (first.0 ++ more.0, consumes_more (remaining h.written) (remaining old) (remaining new) first.0 more.0 first.1 more.1, omega (arith, first.2, more.2, length-append first.0 more.0));
+      dropped = (first.0 ++ more.0, consumes_more (wire.remaining h.written) (wire.remaining old) (wire.remaining new) first.0 more.0 first.1 more.1, omega (arith, first.2, more.2, length-append first.0 more.0));
     }
 
 -- ---- as the stream is let go
 
-pub told_writing : {S : Type 0} (remaining contents : S → Option (List ℕ)) (stream : S) (answer : Answer) (sent : ℕ) → IsWriting remaining contents stream answer sent → IsReplySent remaining contents answer sent
-told_writing remaining contents stream answer sent h =
-    record { written = stream; told = h; let_go = stream; dropped = []; behind = consumes_nothing (remaining stream); bound = omega arith }
+pub told_writing : {S : Type 0} (wire : Wire S) (stream : S) (answer : Answer) (sent : ℕ) → IsWriting wire stream answer sent → IsReplySent wire answer sent
+told_writing wire stream answer sent h =
+    record { written = stream; told = h; let_go = stream; dropped = []; behind = consumes_nothing (wire.remaining stream); bound = omega arith }
 
-pub told_draining : {S : Type 0} (remaining contents : S → Option (List ℕ)) (stream : S) (answer : Answer) (left : ℕ) → IsDraining remaining contents stream answer left
-    → IsReplySent remaining contents answer (length answer.reply)
-told_draining remaining contents stream answer left h =
+pub told_draining : {S : Type 0} (wire : Wire S) (stream : S) (answer : Answer) (left : ℕ) → IsDraining wire stream answer left
+    → IsReplySent wire answer (length answer.reply)
+told_draining wire stream answer left h =
     let drops = h.dropped in
     record { written = h.written; told = h.told; let_go = stream; dropped = drops.0; behind = drops.1; bound = omega (arith, drops.2) }

@@ -1,30 +1,33 @@
 -- The effects of one step of a client, for clauses of private functions alone.
+use Rattle.bor_register.specs.declared.fault.StoreFault.{StoreFault}
+use Rattle.bor_records.specs.Promises.{Meaning}
 use Rattle.std.specs.Prelude.{◌≡◌, ℕ, List, [], ◌∷◌, ◌++◌, Bool, false, Option, ⊤}
 use Rattle.bor_register.specs.Register.{Register}
 use Rattle.bor_program.specs.declared.connections.phase.Phase.{Phase}
 use Rattle.bor_program.specs.declared.connections.phase.Phase.TheVariants as phase
 use Rattle.bor_program.specs.declared.connections.phase.Step.{Step}
 use Rattle.bor_program.specs.declared.connections.phase.Step.TheVariants as step
-use Rattle.bor_program.specs.Connections.Serving.{Answer, Ended, IsServing, answer_of, has_failed}
-use Rattle.bor_program.specs.Connections.Serving.{is_absent, told_on}
+use Rattle.bor_program.specs.Connections.Serving.{Answer, Ended, IsServing, Tally, answer_of}
+use Rattle.bor_program.specs.Connections.Serving.{has_failed, is_absent, told_on}
 use Rattle.bor_program.specs.Connections.Streams.{IsDraining, IsOf, IsReading, IsWriting, KeepsAll}
+use Rattle.bor_program.specs.Connections.Streams.{Wire}
 
 -- the answer that is being sent to a client
 abbrev pub telling : {S : Type 0} → Phase S → List Answer
 telling (phase.Reading reading) = []
-telling (phase.Writing writing) = answer_of writing.request.items writing.reply ∷ []
-telling (phase.Draining draining) = answer_of draining.request.items draining.reply ∷ []
+telling (phase.Writing writing) = answer_of writing.request.value.items writing.reply ∷ []
+telling (phase.Draining draining) = answer_of draining.request.value.items draining.reply ∷ []
 
 -- the facts that are known of a client in its phase
-abbrev pub IsHeld : {S : Type 0} → (S → Option (List ℕ)) → (S → Option (List ℕ)) → Phase S → Type 0
-IsHeld remaining contents (phase.Reading reading) =
-    IsReading remaining reading.stream reading.received.items reading.progress
-IsHeld remaining contents (phase.Writing writing) =
-    IsWriting remaining contents writing.stream
-    (answer_of writing.request.items writing.reply) writing.sent
-IsHeld remaining contents (phase.Draining draining) =
-    IsDraining remaining contents draining.stream
-    (answer_of draining.request.items draining.reply) draining.left
+abbrev pub IsHeld : {S : Type 0} → Wire S → Phase S → Type 0
+IsHeld wire (phase.Reading reading) =
+    IsReading wire.remaining reading.stream reading.received.items reading.progress
+IsHeld wire (phase.Writing writing) =
+    IsWriting wire writing.stream
+    (answer_of writing.request.value.items writing.reply) writing.sent
+IsHeld wire (phase.Draining draining) =
+    IsDraining wire draining.stream
+    (answer_of draining.request.value.items draining.reply) draining.left
 
 -- a client whose request is still read has been so from the first, and nothing that was read of it
 -- is forgotten
@@ -46,20 +49,16 @@ phase_of (step.Goes at pace) = at
 phase_of (step.Ends at) = at
 
 -- a connection ended on which a client had come, and this answer was being sent, and failed or not
-abbrev pub EndsAs : {S : Type 0} → (S → Option (List ℕ)) → (S → Option (List ℕ))
-    → List Answer → Bool → Type 0
-EndsAs remaining contents told failed =
-    (e : Ended) × IsOf remaining contents e × (told_on e ≡ told) × (failed ≡ has_failed e)
+abbrev pub EndsAs : {S : Type 0} → Wire S → List Answer → Bool → Type 0
+EndsAs wire told failed =
+    (e : Ended) × IsOf wire e × (told_on e ≡ told) × (failed ≡ has_failed e)
     × (is_absent e ≡ false)
 
 -- a client's step is one of the server, whatever it has done before and whichever other clients
 -- there are: this answer was being sent to the client, and then that
-abbrev pub IsStep : {K S Left : Type 0} → (K → Register → Type 0) → (K → Type 0) → (K → Type 0)
-    → (K → Left → Type 0) → (Left → Register → Type 0) → (S → Option (List ℕ))
-    → (S → Option (List ℕ)) → K → K → List Answer → List Answer → Type 0
-IsStep {K} shows is_clean is_sound may_leave left_shows remaining contents old new this that =
-    (start : K) (others : List Answer) (connections pending absent told : ℕ)
-    → IsServing shows is_clean is_sound may_leave left_shows (IsOf remaining contents) start old
-    (this ++ others) connections pending absent told
-    → IsServing shows is_clean is_sound may_leave left_shows (IsOf remaining contents) start new
-    (that ++ others) connections pending absent told
+abbrev pub IsStep : {K S Left : Type 0} → Meaning K Register Left StoreFault → Wire S → K → K
+    → List Answer → List Answer → Type 0
+IsStep {K} meaning wire old new this that =
+    (start : K) (others : List Answer) (tally : Tally)
+    → IsServing meaning (IsOf wire) start old (this ++ others) tally
+    → IsServing meaning (IsOf wire) start new (that ++ others) tally

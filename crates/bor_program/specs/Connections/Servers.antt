@@ -1,4 +1,6 @@
 -- The effects of a server, for clauses of private functions alone.
+use Rattle.bor_register.specs.declared.fault.StoreFault.{StoreFault}
+use Rattle.bor_records.specs.Promises.{Meaning}
 use Rattle.std.specs.Prelude.{◌≡◌, ◌≤◌, ◌<◌, ◌+◌, ℕ, List, [], ◌∷◌, ◌++◌, length, map, get_or}
 use Rattle.std.specs.Prelude.{remove, Option, if◌then◌else◌}
 use Rattle.std.specs.Duration.{as_nanos}
@@ -9,9 +11,10 @@ use Rattle.std.specs.List.Sorted.{IsPermutation}
 use Rattle.bor_register.specs.Register.{Register}
 use Rattle.bor_program.specs.declared.connections.server.Client.{Client}
 use Rattle.bor_program.specs.declared.connections.server.Server.{Server}
-use Rattle.bor_program.specs.Connections.Serving.{Answer, Ended, IsServing, absent_in, has_failed}
-use Rattle.bor_program.specs.Connections.Serving.{told_in}
-use Rattle.bor_program.specs.Connections.Streams.{IsOf}
+use Rattle.bor_program.specs.Courses.{Course}
+use Rattle.bor_program.specs.Connections.Serving.{Answer, Ended, IsServing, Tally, absent_in}
+use Rattle.bor_program.specs.Connections.Serving.{has_failed, told_in}
+use Rattle.bor_program.specs.Connections.Streams.{IsOf, Wire}
 use Rattle.bor_program.specs.Connections.Phases.{IsHeld, ReadsOn, telling}
 use Rattle.bor_program.specs.Connections.Times.{IsTaking, IsTimeUp, looked}
 use Rattle.bor_program.specs.Connections.Watching.{Act, AreDone, Does, IsOver, faults_after}
@@ -23,11 +26,9 @@ telling_to [] = []
 telling_to (client ∷ rest) = telling client.phase ++ telling_to rest
 
 -- the facts that are known of each of them
-abbrev pub AreHeld : {S : Type 0} → (S → Option (List ℕ)) → (S → Option (List ℕ))
-    → List (Client S) → Type 0
-AreHeld remaining contents [] = Unit {0}
-AreHeld remaining contents (client ∷ rest) =
-    IsHeld remaining contents client.phase × AreHeld remaining contents rest
+abbrev pub AreHeld : {S : Type 0} → Wire S → List (Client S) → Type 0
+AreHeld wire [] = Unit {0}
+AreHeld wire (client ∷ rest) = IsHeld wire client.phase × AreHeld wire rest
 
 abbrev pub telling_in : {S : Type 0} → Server S → List Answer
 telling_in server = telling_to server.queue.items
@@ -92,89 +93,87 @@ pub record Becomes {S : Type 0} (old new : Server S) : Type 0 where
 
 -- nothing was answered, and some connections ended, of those that had not ended when these answers
 -- were being sent; on so many of them no client came
-pub record Lets {S : Type 0} (remaining contents : S → Option (List ℕ)) (telling : List Answer)
+pub record Lets {S : Type 0} (wire : Wire S) (telling : List Answer)
     (pending absent status : ℕ) (new : Server S) : Type 0 where
-  pub held : AreHeld remaining contents new.queue.items
+  pub held : AreHeld wire new.queue.items
   pub ended : List Ended
-  pub ended_so : All (IsOf remaining contents) ended
+  pub ended_so : All (IsOf wire) ended
   pub missing : absent_in ended ≡ absent
   pub count : length ended + pending_in new ≡ pending
   pub told_once : IsPermutation telling (telling_in new ++ told_in ended)
   pub told : new.status ≡ (if list_any has_failed ended then 3 else status)
 
+-- how far this server has come of so many connections, on so many of which no client came
+abbrev pub tally_in : {S : Type 0} → (connections absent : ℕ) → Server S → Tally
+tally_in connections absent server =
+    record {
+      connections = connections;
+      pending = pending_in server;
+      absent = absent;
+      status = server.status;
+    }
+
 -- the server goes on as one of so many connections, on so many of which no client came, whatever it
 -- has done before
-abbrev pub GoesOnAs : {K S Left : Type 0} → (K → Register → Type 0) → (K → Type 0) → (K → Type 0)
-    → (K → Left → Type 0) → (Left → Register → Type 0) → (S → Option (List ℕ))
-    → (S → Option (List ℕ)) → K → K → ℕ → ℕ → Server S → Type 0
-GoesOnAs shows is_clean is_sound may_leave left_shows remaining contents start keep
-    connections absent server =
-    IsServing shows is_clean is_sound may_leave left_shows (IsOf remaining contents) start keep
-    (telling_in server) connections (pending_in server) absent server.status
+abbrev pub GoesOnAs : {K S Left : Type 0} → Meaning K Register Left StoreFault → Wire S → K → K
+    → (connections absent : ℕ) → Server S → Type 0
+GoesOnAs meaning wire start keep connections absent server =
+    IsServing meaning (IsOf wire) start keep (telling_in server)
+    (tally_in connections absent server)
 
-abbrev pub Advances : {K S Left : Type 0} → (K → Register → Type 0) → (K → Type 0) → (K → Type 0)
-    → (K → Left → Type 0) → (Left → Register → Type 0) → (S → Option (List ℕ))
-    → (S → Option (List ℕ)) → K → K → Server S → Server S → Type 0
-Advances {K} shows is_clean is_sound may_leave left_shows remaining contents old_keep
-    new_keep old new =
+abbrev pub Advances : {K S Left : Type 0} → Meaning K Register Left StoreFault → Wire S → K → K
+    → Server S → Server S → Type 0
+Advances {K} meaning wire old_keep new_keep old new =
     (start : K) (connections absent : ℕ)
-    → GoesOnAs shows is_clean is_sound may_leave left_shows remaining contents start old_keep
-    connections absent old
-    → GoesOnAs shows is_clean is_sound may_leave left_shows remaining contents start new_keep
-    connections absent new
+    → GoesOnAs meaning wire start old_keep connections absent old
+    → GoesOnAs meaning wire start new_keep connections absent new
 
 -- the server goes on so, with a client in hand that is being sent this
-abbrev pub Serves : {K S Left : Type 0} → (K → Register → Type 0) → (K → Type 0) → (K → Type 0)
-    → (K → Left → Type 0) → (Left → Register → Type 0) → (S → Option (List ℕ))
-    → (S → Option (List ℕ)) → K → K → List Answer → Server S → Server S → Type 0
-Serves {K} shows is_clean is_sound may_leave left_shows remaining contents old_keep
-    new_keep mine old new =
+abbrev pub Serves : {K S Left : Type 0} → Meaning K Register Left StoreFault → Wire S → K → K
+    → List Answer → Server S → Server S → Type 0
+Serves {K} meaning wire old_keep new_keep mine old new =
     (start : K) (connections absent : ℕ)
-    → IsServing shows is_clean is_sound may_leave left_shows (IsOf remaining contents) start
-    old_keep (mine ++ telling_in old) connections (pending_in old + 1) absent old.status
-    → GoesOnAs shows is_clean is_sound may_leave left_shows remaining contents start new_keep
-    connections absent new
+    → IsServing meaning (IsOf wire) start old_keep (mine ++ telling_in old)
+    (record (tally_in connections absent old) { pending = pending_in old + 1 })
+    → GoesOnAs meaning wire start new_keep connections absent new
 
 -- ---- over a watch
 
 -- clients were let in, and some could not be
-pub record LetsIn {W S : Type 0} (does : W → Act → W → Type 0) (begun left : W)
-    (remaining contents : S → Option (List ℕ)) (telling : List Answer) (pending status : ℕ)
-    (new : Server S) : Type 0 where
+pub record LetsIn {W S : Type 0} (wire : Wire S) (calls : Course W Act)
+    (old new : Server S) : Type 0 where
   pub refused : ℕ
-  pub done : Does does begun left refused
-  pub lets : Lets remaining contents telling pending refused status new
+  pub done : Does calls.does calls.begun calls.ended refused
+  pub lets : Lets wire (telling_in old) (pending_in old) refused old.status new
+
+-- where a server stands: the keep that it serves, its watch, and the server
+pub record Standing (K W S : Type 0) : Type 0 where
+  pub keep : K
+  pub watch : W
+  pub server : Server S
 
 -- The server goes on: these calls were made of its watch, of which so many waits failed last, one
 -- after the other, of so many in all.
-pub record IsRunning {K W S Left : Type 0} (shows : K → Register → Type 0)
-    (is_clean is_sound : K → Type 0) (may_leave : K → Left → Type 0)
-    (left_shows : Left → Register → Type 0) (does : W → Act → W → Type 0)
-    (remaining contents : S → Option (List ℕ)) (old_keep keep : K) (begun watch : W)
-    (old server : Server S) (faults waits : ℕ) : Type 0 where
-  pub held : AreHeld remaining contents server.queue.items
+pub record IsRunning {K W S Left : Type 0} (meaning : Meaning K Register Left StoreFault)
+    (does : W → Act → W → Type 0) (wire : Wire S) (begun now : Standing K W S)
+    (faults waits : ℕ) : Type 0 where
+  pub held : AreHeld wire now.server.queue.items
   pub acts : List Act
-  pub done : AreDone does begun acts watch
+  pub done : AreDone does begun.watch acts now.watch
   pub advances : (start : K) (connections absent : ℕ)
-      → GoesOnAs shows is_clean is_sound may_leave left_shows remaining contents start old_keep
-      connections absent old
-      → GoesOnAs shows is_clean is_sound may_leave left_shows remaining contents start keep
-      connections (refused_in acts + absent) server
+      → GoesOnAs meaning wire start begun.keep connections absent begun.server
+      → GoesOnAs meaning wire start now.keep connections (refused_in acts + absent) now.server
   pub failed : faults_after 0 acts ≡ faults
   pub waited : waits_in acts ≡ waits
 
 -- it went on until all clients came, or it may end
-pub record Runs {K W S Left : Type 0} (shows : K → Register → Type 0)
-    (is_clean is_sound : K → Type 0) (may_leave : K → Left → Type 0)
-    (left_shows : Left → Register → Type 0) (does : W → Act → W → Type 0)
-    (remaining contents : S → Option (List ℕ)) (old_keep new_keep : K) (begun left : W)
-    (old new : Server S) : Type 0 where
-  pub held : AreHeld remaining contents new.queue.items
+pub record Runs {K W S Left : Type 0} (meaning : Meaning K Register Left StoreFault)
+    (does : W → Act → W → Type 0) (wire : Wire S) (begun ended : Standing K W S)
+    : Type 0 where
+  pub held : AreHeld wire ended.server.queue.items
   pub acts : List Act
-  pub done : AreDone does begun acts left
+  pub done : AreDone does begun.watch acts ended.watch
   pub advances : (start : K) (connections absent : ℕ)
-      → GoesOnAs shows is_clean is_sound may_leave left_shows remaining contents start old_keep
-      connections absent old
-      → GoesOnAs shows is_clean is_sound may_leave left_shows remaining contents start new_keep
-      connections (refused_in acts + absent) new
-  pub over : 0 < new.left → IsOver acts
+      → GoesOnAs meaning wire start begun.keep connections absent begun.server
+      → GoesOnAs meaning wire start ended.keep connections (refused_in acts + absent) ended.server
+  pub over : 0 < ended.server.left → IsOver acts

@@ -1,9 +1,10 @@
 -- The keep that serving many clients at once leaves, and its status.
+use Rattle.bor_register.specs.declared.fault.StoreFault.{StoreFault}
 use Rattle.std.specs.Prelude.{◌≡◌, ◌+◌, ℕ, List, [], ◌∷◌, ◌++◌, length, map, count_by, Some, Bool}
 use Rattle.std.specs.Prelude.{true, false, ◌==◌, ◌||◌, nat_lt, if◌then◌else◌, ⊤}
 use Rattle.std.specs.List.{All, list_any}
 use Rattle.std.specs.List.Sorted.{IsPermutation}
-use Rattle.bor_records.specs.Promises.{Promised}
+use Rattle.bor_records.specs.Promises.{Meaning, Promised}
 use Rattle.bor_register.specs.Register.{Register}
 use Rattle.bor_desk.specs.Operations.Legality.{IsLegal}
 use Rattle.bor_wire.specs.declared.outcome.Outcome.TheVariants.{Replied}
@@ -11,6 +12,7 @@ use Rattle.bor_wire.specs.declared.outgoing.Outgoing.{Outgoing}
 use Rattle.bor_wire.specs.Exchanges.{bytes_out, status_out}
 use Rattle.bor_wire.specs.Sequences.{AreExchanged, Exchanged, IsRun, keep_left}
 use Rattle.bor_wire.specs.Turns.{AllAnswerClean}
+use Rattle.bor_program.specs.Courses.{Course}
 use Rattle.bor_program.specs.Connections.Watching.{Act, AreDone, IsExcused}
 
 -- ---- answers
@@ -88,52 +90,55 @@ told_in (e ∷ rest) = told_on e ++ told_in rest
 
 -- ---- the server
 
+-- How far a server has come: of so many connections so many are pending, on so many no client came;
+-- and its status.
+pub record Tally : Type 0 where
+  pub connections : ℕ
+  pub pending : ℕ
+  pub absent : ℕ
+  pub status : ℕ
+
 -- Of so many connections some have ended, and some are pending, on which these answers are still
 -- being sent. The requests were answered one after the other, each from the keep that the one
 -- before it left. A request has another status than 503 only where the keep after it is clean, if
 -- its store has returned what was written by then. Each answer is sent on one connection, and on no
 -- other. On so many no client came. `Is` holds of how each connection ended.
-pub record IsServing {K Left : Type 0} (shows : K → Register → Type 0)
-    (is_clean is_sound : K → Type 0) (may_leave : K → Left → Type 0)
-    (left_shows : Left → Register → Type 0) (Is : Ended → Type 0) (old new : K)
-    (telling : List Answer) (connections pending absent told : ℕ) : Type 0 where
+pub record IsServing {K Left : Type 0} (meaning : Meaning K Register Left StoreFault)
+    (Is : Ended → Type 0) (old new : K) (telling : List Answer) (tally : Tally) : Type 0 where
   pub answered : List (Answered K)
   pub ended : List Ended
-  pub count : length ended + pending ≡ connections
-  pub each : AreExchanged shows is_clean is_sound may_leave left_shows old (exchanges_of answered)
-  pub answer_clean : AllAnswerClean is_clean is_sound (exchanges_of answered)
+  pub count : length ended + tally.pending ≡ tally.connections
+  pub each : AreExchanged meaning old (exchanges_of answered)
+  pub answer_clean : AllAnswerClean meaning (exchanges_of answered)
   pub left : keep_left old (exchanges_of answered) ≡ new
   pub told_once : IsPermutation (answers_in answered) (telling ++ told_in ended)
   pub ended_so : All Is ended
-  pub missing : absent_in ended ≡ absent
-  pub status : told ≡ status_of_server ended
+  pub missing : absent_in ended ≡ tally.absent
+  pub status : tally.status ≡ status_of_server ended
 
 -- So many connections were served and have ended, with this status. What was answered on them, one
 -- request after the other, is a run from a legal register: the bytes of each request and of its
 -- reply are known.
-pub record IsServedAs {K Left : Type 0} (shows : K → Register → Type 0)
-    (is_clean is_sound : K → Type 0) (may_leave : K → Left → Type 0)
-    (left_shows : Left → Register → Type 0) (Is : Ended → Type 0) (old new : K)
-    (connections told : ℕ) : Type 0 where
+pub record IsServedAs {K Left : Type 0} (meaning : Meaning K Register Left StoreFault)
+    (Is : Ended → Type 0) (old new : K) (connections told : ℕ) : Type 0 where
   pub absent : ℕ
-  pub served : IsServing shows is_clean is_sound may_leave left_shows Is old new []
-      connections 0 absent told
-  pub run : Promised shows is_clean old new
-      (λ r. IsLegal r → IsRun (shows new) r (exchanges_of served.answered))
+  pub served : IsServing meaning Is old new []
+      (record { connections = connections; pending = 0; absent = absent; status = told })
+  pub run : Promised meaning old new
+      (λ r. IsLegal r → IsRun (meaning.shows new) r (exchanges_of served.answered))
 
 -- connections were served so, whatever the bytes of their streams
-abbrev pub IsServed : {K Left : Type 0} → (K → Register → Type 0) → (K → Type 0) → (K → Type 0)
-    → (K → Left → Type 0) → (Left → Register → Type 0) → K → K → ℕ → ℕ → Type 0
-IsServed shows is_clean is_sound may_leave left_shows old new connections told =
-    IsServedAs shows is_clean is_sound may_leave left_shows (λ e. ⊤) old new connections told
+abbrev pub IsServed : {K Left : Type 0} → Meaning K Register Left StoreFault → K → K → ℕ → ℕ
+    → Type 0
+IsServed meaning old new connections told =
+    IsServedAs meaning (λ e. ⊤) old new connections told
 
 -- The same, of what the server asked of its watch: no client came only where one could not be let
 -- in, or where the server may end.
-pub record IsServedOver {K W Left : Type 0} (shows : K → Register → Type 0)
-    (is_clean is_sound : K → Type 0) (may_leave : K → Left → Type 0)
-    (left_shows : Left → Register → Type 0) (Is : Ended → Type 0) (does : W → Act → W → Type 0)
-    (old new : K) (begun left : W) (connections told : ℕ) : Type 0 where
-  pub served : IsServedAs shows is_clean is_sound may_leave left_shows Is old new connections told
+pub record IsServedOver {K W Left : Type 0} (meaning : Meaning K Register Left StoreFault)
+    (Is : Ended → Type 0) (calls : Course W Act) (old new : K) (connections told : ℕ)
+    : Type 0 where
+  pub served : IsServedAs meaning Is old new connections told
   pub acts : List Act
-  pub done : AreDone does begun acts left
+  pub done : AreDone calls.does calls.begun acts calls.ended
   pub excused : IsExcused acts served.absent

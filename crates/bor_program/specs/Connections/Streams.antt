@@ -7,6 +7,15 @@ use Rattle.bor_http.specs.Incoming.Progress.{IsProgress, IsWhole, needs}
 use Rattle.bor_program.specs.Connections.Limits.{rest_limit}
 use Rattle.bor_program.specs.Connections.Serving.{Answer, Ended, Absent, Unanswered, Told}
 
+-- What is known of streams: the bytes that may still be read of one, and those that were written to
+-- it.
+pub record Wire (S : Type 0) : Type 1 where
+  pub remaining : S → Option (List ℕ)
+  pub contents : S → Option (List ℕ)
+
+abbrev pub wire_of : {S : Type 0} → (remaining contents : S → Option (List ℕ)) → Wire S
+wire_of remaining contents = record { remaining = remaining; contents = contents }
+
 -- these bytes were read from the stream, since it came
 abbrev pub Came : {S : Type 0} → (S → Option (List ℕ)) → S → List ℕ → Type 0
 Came {S} remaining stream bytes = (came : S) × Consumes (remaining came) (remaining stream) bytes
@@ -48,14 +57,14 @@ IsReady remaining stream answer =
 -- The request was read from this very stream, is no longer than a request may be, and was ready
 -- when it was answered; and so many bytes of the reply to it, and nothing else, were written to the
 -- same stream since then.
-pub record IsWriting {S : Type 0} (remaining contents : S → Option (List ℕ)) (stream : S)
-    (answer : Answer) (sent : ℕ) : Type 0 where
+pub record IsWriting {S : Type 0} (wire : Wire S) (stream : S) (answer : Answer)
+    (sent : ℕ) : Type 0 where
   pub read : S
-  pub came : Came remaining read answer.request
+  pub came : Came wire.remaining read answer.request
   pub fits : length answer.request ≤ request_limit
-  pub ready : IsReady remaining read answer
+  pub ready : IsReady wire.remaining read answer
   pub within : sent ≤ length answer.reply
-  pub written : Appends (contents read) (contents stream) (take sent answer.reply)
+  pub written : Appends (wire.contents read) (wire.contents stream) (take sent answer.reply)
 
 -- of as many bytes as may still be read, those that were read are left out
 abbrev pub Drops : Option (List ℕ) → Option (List ℕ) → ℕ → ℕ → Type 0
@@ -64,21 +73,20 @@ Drops known left before after =
 
 -- The whole reply was written to this very stream; and what was read of it since then, and dropped,
 -- and what may still be read, are together as much as is read behind a reply.
-pub record IsDraining {S : Type 0} (remaining contents : S → Option (List ℕ)) (stream : S)
-    (answer : Answer) (left : ℕ) : Type 0 where
+pub record IsDraining {S : Type 0} (wire : Wire S) (stream : S) (answer : Answer)
+    (left : ℕ) : Type 0 where
   pub written : S
-  pub told : IsWriting remaining contents written answer (length answer.reply)
-  pub dropped : Drops (remaining written) (remaining stream) rest_limit left
+  pub told : IsWriting wire written answer (length answer.reply)
+  pub dropped : Drops (wire.remaining written) (wire.remaining stream) rest_limit left
 
 -- So many bytes of the reply were written to the stream that its request was read from, and since
 -- then no more was read of it than is read behind a reply, until it was let go.
-pub record IsReplySent {S : Type 0} (remaining contents : S → Option (List ℕ)) (answer : Answer)
-    (sent : ℕ) : Type 0 where
+pub record IsReplySent {S : Type 0} (wire : Wire S) (answer : Answer) (sent : ℕ) : Type 0 where
   pub written : S
-  pub told : IsWriting remaining contents written answer sent
+  pub told : IsWriting wire written answer sent
   pub let_go : S
   pub dropped : List ℕ
-  pub behind : Consumes (remaining written) (remaining let_go) dropped
+  pub behind : Consumes (wire.remaining written) (wire.remaining let_go) dropped
   pub bound : length dropped ≤ rest_limit
 
 -- These bytes were read of the stream of a client that is given up: they are no whole request, for
@@ -91,7 +99,7 @@ pub record IsUnanswered {S : Type 0} (remaining : S → Option (List ℕ))
   pub fits : length request ≤ request_limit
 
 -- a connection ended so, on a stream of these
-abbrev pub IsOf : {S : Type 0} → (S → Option (List ℕ)) → (S → Option (List ℕ)) → Ended → Type 0
-IsOf remaining contents Absent = ⊤
-IsOf remaining contents (Unanswered request) = IsUnanswered remaining request
-IsOf remaining contents (Told answer sent) = IsReplySent remaining contents answer sent
+abbrev pub IsOf : {S : Type 0} → Wire S → Ended → Type 0
+IsOf wire Absent = ⊤
+IsOf wire (Unanswered request) = IsUnanswered wire.remaining request
+IsOf wire (Told answer sent) = IsReplySent wire answer sent

@@ -13,8 +13,8 @@ pub struct Limits {
     pub request: Duration,
     /// In which it takes nothing of its reply, once that is made.
     pub reply: Duration,
-    /// How many bytes of the reply it takes a second at least: in all, since the reply was made, and
-    /// behind the first `reply`.
+    /// How many bytes of the reply it takes a second at least: in all, since the reply was made,
+    /// and behind the first `reply`.
     pub floor: u32,
     /// Until it ends what it is still sending, after the reply.
     pub rest: Duration,

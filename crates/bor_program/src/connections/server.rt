@@ -4,6 +4,7 @@ ghost use Rattle.std.specs.Prelude.{◌≡◌, ◌⊎◌, ◌+◌, ◌-◌, ◌<
 ghost use Rattle.std.specs.Duration.{as_nanos};
 ghost use Rattle.bor_program.specs.Connections.Phases.{IsHeld, telling};
 ghost use Rattle.bor_program.specs.Connections.Servers.{Advances, AreHeld, Becomes, GivesWay, IsLongestIdle, IsTimed, IsTimely, Lets, LetsIn, Serves, Stays, pending_in, telling_in, IsReadOn};
+ghost use Rattle.bor_program.specs.Connections.Streams.{wire_of};
 ghost use Rattle.bor_program.specs.Connections.Places.{Leaves, Takes, is_ready, place_count, taken_in};
 ghost use Rattle.bor_program.specs.Connections.Watching.{AreTold, Does, Waits, Watches};
 
@@ -117,9 +118,9 @@ impl<S: Read + Write + OpenStream + Drop> Server<S> {
         watch: &mut W,
         now: Duration,
     )
-        requires { AreHeld S.remaining S.contents self.old.queue.items }
-        ensures { LetsIn W.does watch.old watch.new S.remaining S.contents (telling_in self.old)
-            (pending_in self.old) self.old.status self.new }
+        requires { AreHeld (wire_of S.remaining S.contents) self.old.queue.items }
+        ensures { LetsIn (wire_of S.remaining S.contents)
+            (record { does = W.does; begun = watch.old; ended = watch.new }) self.old self.new }
     {
         for _ in 0..LET_IN {
             if self.left == 0 || !self.places.is_called() {
@@ -137,9 +138,9 @@ impl<S: Read + Write + OpenStream + Drop> Server<S> {
         now: Duration,
     )
         requires some { 0 < self.old.left }
-        requires held { AreHeld S.remaining S.contents self.old.queue.items }
-        ensures { LetsIn W.does watch.old watch.new S.remaining S.contents (telling_in self.old)
-            (pending_in self.old) self.old.status self.new }
+        requires held { AreHeld (wire_of S.remaining S.contents) self.old.queue.items }
+        ensures { LetsIn (wire_of S.remaining S.contents)
+            (record { does = W.does; begun = watch.old; ended = watch.new }) self.old self.new }
     {
         if self.queue.reserve(1).is_err() {
             return;
@@ -165,8 +166,8 @@ impl<S: Read + Write + OpenStream + Drop> Server<S> {
         watch: &mut W,
         now: Duration,
     )
-        requires { AreHeld S.remaining S.contents self.old.queue.items }
-        ensures lets { Lets S.remaining S.contents (telling_in self.old)
+        requires { AreHeld (wire_of S.remaining S.contents) self.old.queue.items }
+        ensures lets { Lets (wire_of S.remaining S.contents) (telling_in self.old)
             (pending_in self.old + 1) 0 self.old.status self.new }
         ensures does { Does W.does watch.old watch.new 0 }
     {
@@ -186,8 +187,8 @@ impl<S: Read + Write + OpenStream + Drop> Server<S> {
 
     // Where all places are taken, the client that was idle for the longest gives way.
     fn make_way(&mut self)
-        requires { AreHeld S.remaining S.contents self.old.queue.items }
-        ensures lets { Lets S.remaining S.contents (telling_in self.old)
+        requires { AreHeld (wire_of S.remaining S.contents) self.old.queue.items }
+        ensures lets { Lets (wire_of S.remaining S.contents) (telling_in self.old)
             (pending_in self.old) 0 self.old.status self.new }
         ensures full { 256 ≤ length self.old.queue.items
             → GivesWay self.old.queue.items self.new.queue.items }
@@ -223,8 +224,8 @@ impl<S: Read + Write + OpenStream + Drop> Server<S> {
 
     // Has the client give way that was idle for the longest.
     fn turn_out(&mut self)
-        requires { AreHeld S.remaining S.contents self.old.queue.items }
-        ensures lets { Lets S.remaining S.contents (telling_in self.old)
+        requires { AreHeld (wire_of S.remaining S.contents) self.old.queue.items }
+        ensures lets { Lets (wire_of S.remaining S.contents) (telling_in self.old)
             (pending_in self.old) 0 self.old.status self.new }
         ensures way { GivesWay self.old.queue.items self.new.queue.items }
     {
@@ -236,10 +237,10 @@ impl<S: Read + Write + OpenStream + Drop> Server<S> {
 
     /// Serves each client that is ready, in the order in which they came to be so.
     pub(crate) fn serve_all<K: Keep>(&mut self, keep: &mut K, now: Option<Duration>)
-        requires { AreHeld S.remaining S.contents self.old.queue.items }
-        ensures held { AreHeld S.remaining S.contents self.new.queue.items }
-        ensures advances { Advances K.shows K.is_clean K.is_sound K.may_leave K.left_shows
-            S.remaining S.contents keep.old keep.new self.old self.new }
+        requires { AreHeld (wire_of S.remaining S.contents) self.old.queue.items }
+        ensures held { AreHeld (wire_of S.remaining S.contents) self.new.queue.items }
+        ensures advances { Advances K.meaning
+            (wire_of S.remaining S.contents) keep.old keep.new self.old self.new }
     {
         self.wait = if self.left > 0 && self.places.is_called() {
             Some(Duration::ZERO)
@@ -253,10 +254,10 @@ impl<S: Read + Write + OpenStream + Drop> Server<S> {
 
     // Serves the first client of the queue, and puts it behind the others.
     fn serve_next<K: Keep>(&mut self, keep: &mut K, now: Option<Duration>)
-        requires { AreHeld S.remaining S.contents self.old.queue.items }
-        ensures held { AreHeld S.remaining S.contents self.new.queue.items }
-        ensures advances { Advances K.shows K.is_clean K.is_sound K.may_leave K.left_shows
-            S.remaining S.contents keep.old keep.new self.old self.new }
+        requires { AreHeld (wire_of S.remaining S.contents) self.old.queue.items }
+        ensures held { AreHeld (wire_of S.remaining S.contents) self.new.queue.items }
+        ensures advances { Advances K.meaning
+            (wire_of S.remaining S.contents) keep.old keep.new self.old self.new }
     {
         let Some(client) = self.queue.pop_front() else {
             return;
@@ -269,11 +270,11 @@ impl<S: Read + Write + OpenStream + Drop> Server<S> {
 
     // Serves a client, and puts it behind the others.
     fn serve<K: Keep>(&mut self, keep: &mut K, client: Client<S>, now: Duration)
-        requires held { AreHeld S.remaining S.contents self.old.queue.items }
-        requires client { IsHeld S.remaining S.contents client.phase }
-        ensures held { AreHeld S.remaining S.contents self.new.queue.items }
-        ensures serves { Serves K.shows K.is_clean K.is_sound K.may_leave K.left_shows S.remaining
-            S.contents keep.old keep.new (telling client.phase) self.old self.new }
+        requires held { AreHeld (wire_of S.remaining S.contents) self.old.queue.items }
+        requires client { IsHeld (wire_of S.remaining S.contents) client.phase }
+        ensures held { AreHeld (wire_of S.remaining S.contents) self.new.queue.items }
+        ensures serves { Serves K.meaning (wire_of S.remaining S.contents) keep.old keep.new
+            (telling client.phase) self.old self.new }
         ensures all { IsReadOn S.remaining client self.old self.new }
         ensures time { IsTimed now client self.old self.new }
     {
@@ -305,9 +306,10 @@ impl<S: Read + Write + OpenStream + Drop> Server<S> {
 
     // Puts a client behind the others, if it still has time.
     fn go_on(&mut self, client: Client<S>, now: Duration)
-        requires held { AreHeld S.remaining S.contents self.old.queue.items }
-        requires client { IsHeld S.remaining S.contents client.phase }
-        ensures lets { Lets S.remaining S.contents (telling client.phase ++ telling_in self.old)
+        requires held { AreHeld (wire_of S.remaining S.contents) self.old.queue.items }
+        requires client { IsHeld (wire_of S.remaining S.contents) client.phase }
+        ensures lets { Lets (wire_of S.remaining S.contents)
+            (telling client.phase ++ telling_in self.old)
             (pending_in self.old + 1) 0 self.old.status self.new }
         ensures time { IsTimely now client self.old self.new }
     {
@@ -338,9 +340,10 @@ impl<S: Read + Write + OpenStream + Drop> Server<S> {
 
     // Puts a client behind the others.
     fn stay(&mut self, client: Client<S>)
-        requires held { AreHeld S.remaining S.contents self.old.queue.items }
-        requires client { IsHeld S.remaining S.contents client.phase }
-        ensures lets { Lets S.remaining S.contents (telling client.phase ++ telling_in self.old)
+        requires held { AreHeld (wire_of S.remaining S.contents) self.old.queue.items }
+        requires client { IsHeld (wire_of S.remaining S.contents) client.phase }
+        ensures lets { Lets (wire_of S.remaining S.contents)
+            (telling client.phase ++ telling_in self.old)
             (pending_in self.old + 1) 0 self.old.status self.new }
         ensures stays { Stays client self.old self.new }
     {
@@ -352,11 +355,12 @@ impl<S: Read + Write + OpenStream + Drop> Server<S> {
 
     // Ends the connection of a client, which is waited for no longer.
     fn give_up(&mut self, client: Client<S>)
-        requires held { AreHeld S.remaining S.contents self.old.queue.items }
-        requires client { IsHeld S.remaining S.contents client.phase }
+        requires held { AreHeld (wire_of S.remaining S.contents) self.old.queue.items }
+        requires client { IsHeld (wire_of S.remaining S.contents) client.phase }
         ensures queue { self.new.queue ≡ self.old.queue }
         ensures left { self.new.left ≡ self.old.left }
-        ensures lets { Lets S.remaining S.contents (telling client.phase ++ telling_in self.old)
+        ensures lets { Lets (wire_of S.remaining S.contents)
+            (telling client.phase ++ telling_in self.old)
             (pending_in self.old + 1) 0 self.old.status self.new }
         ensures leaves { Leaves self.old.places client.place self.new.places }
     {
@@ -379,8 +383,8 @@ impl<S: Read + Write + OpenStream + Drop> Server<S> {
 
     /// Gives up the clients that are there, and those that have not come.
     pub(crate) fn finish(&mut self)
-        requires { AreHeld S.remaining S.contents self.old.queue.items }
-        ensures lets { Lets S.remaining S.contents (telling_in self.old)
+        requires { AreHeld (wire_of S.remaining S.contents) self.old.queue.items }
+        ensures lets { Lets (wire_of S.remaining S.contents) (telling_in self.old)
             (pending_in self.old) self.old.left self.old.status self.new }
         ensures pending { pending_in self.new ≡ 0 }
     {
@@ -390,8 +394,8 @@ impl<S: Read + Write + OpenStream + Drop> Server<S> {
 
     // Gives up the clients that are there.
     fn give_up_all(&mut self)
-        requires { AreHeld S.remaining S.contents self.old.queue.items }
-        ensures lets { Lets S.remaining S.contents (telling_in self.old)
+        requires { AreHeld (wire_of S.remaining S.contents) self.old.queue.items }
+        ensures lets { Lets (wire_of S.remaining S.contents) (telling_in self.old)
             (pending_in self.old) 0 self.old.status self.new }
         ensures left { self.new.left ≡ self.old.left }
         ensures empty { length self.new.queue.items ≡ 0 }
@@ -403,8 +407,8 @@ impl<S: Read + Write + OpenStream + Drop> Server<S> {
 
     // Gives up the first client, if one is there.
     fn give_up_first(&mut self)
-        requires { AreHeld S.remaining S.contents self.old.queue.items }
-        ensures lets { Lets S.remaining S.contents (telling_in self.old)
+        requires { AreHeld (wire_of S.remaining S.contents) self.old.queue.items }
+        ensures lets { Lets (wire_of S.remaining S.contents) (telling_in self.old)
             (pending_in self.old) 0 self.old.status self.new }
         ensures left { self.new.left ≡ self.old.left }
         ensures fewer { length self.new.queue.items ≡ length self.old.queue.items - 1 }
@@ -416,8 +420,8 @@ impl<S: Read + Write + OpenStream + Drop> Server<S> {
 
     // Counts those that have not come as failed.
     fn leave_out(&mut self)
-        requires { AreHeld S.remaining S.contents self.old.queue.items }
-        ensures lets { Lets S.remaining S.contents (telling_in self.old)
+        requires { AreHeld (wire_of S.remaining S.contents) self.old.queue.items }
+        ensures lets { Lets (wire_of S.remaining S.contents) (telling_in self.old)
             (pending_in self.old) self.old.left self.old.status self.new }
         ensures pending { pending_in self.new ≡ length self.old.queue.items }
     {

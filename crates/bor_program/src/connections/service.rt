@@ -1,10 +1,8 @@
 //! The service that answers requests: the register's desk, behind the paths that there are.
 
 ghost use Rattle.std.specs.Prelude.{◌≡◌, [], Some};
-ghost use Rattle.bor_records.specs.Promises.{Leaves, Promised};
-ghost use Rattle.bor_register.specs.Register.{IsOrdered};
-ghost use Rattle.bor_wire.specs.Exchanges.{IfAsked, IfFull, ShowsAfter, IsResponse};
-ghost use Rattle.bor_wire.specs.Spelling.Spell.{Spelled, Spells};
+ghost use Rattle.bor_records.specs.Promises.{Promised};
+ghost use Rattle.bor_wire.specs.Answering.{Responds};
 ghost use Rattle.bor_program.specs.Logging.{IsNoteOf, MayAdd};
 
 use crate::log::Note;
@@ -42,14 +40,9 @@ impl Service {
 
     /// Answers the request in these bytes.
     pub(crate) fn respond<K: Keep>(&mut self, keep: &mut K, request: &[u8]) -> Outgoing
-        ensures leaves { Leaves K.shows K.is_clean K.is_sound K.may_leave keep.old keep.new
-            (ShowsAfter K.left_shows (Some request.now)) }
-        ensures exchanged { Promised K.shows K.is_clean keep.old keep.new (λ r.
-            IsOrdered r.members → IsResponse (K.shows keep.new) r request.now result) }
-        ensures up { (spelled : Spelled) → Spells request.now spelled → IfAsked spelled
-            (IfFull result (K.is_sound keep.new → K.is_clean keep.new)) }
+        ensures answers { Responds K.meaning keep.old keep.new (Some request.now) result }
         ensures noted { MayAdd (IsNoteOf
-            (Promised K.shows K.is_clean keep.old keep.new) request.now result)
+            (Promised K.meaning keep.old keep.new) request.now result)
             self.old.notes.items self.new.notes.items }
     {
         if self.paths.is_none() {

@@ -1,7 +1,7 @@
 //! Connections of a listener, many at once.
 
 ghost use Rattle.bor_program.specs.Connections.Serving.{IsServed, IsServedOver};
-ghost use Rattle.bor_program.specs.Connections.Streams.{IsOf};
+ghost use Rattle.bor_program.specs.Connections.Streams.{IsOf, wire_of};
 ghost use Rattle.std.specs.Prelude.{◌<◌};
 ghost use Rattle.bor_program.specs.Connections.Servers.{AreHeld, Becomes, Runs};
 ghost use Rattle.bor_program.specs.Connections.Watching.{WaitsOnce};
@@ -28,11 +28,11 @@ pub fn serve_on<R: Clock + AllocGlobal, K: Keep, L: OpenListener, W: Watch<L>>(
 ) -> u8
 where
     L::Stream: Read + Write + OpenStream,
-    ensures served { IsServed K.shows K.is_clean K.is_sound K.may_leave K.left_shows keep.old
-        keep.new connections result }
-    ensures streams { IsServedOver K.shows K.is_clean K.is_sound K.may_leave K.left_shows
-        (IsOf L.Stream.remaining L.Stream.contents) W.does
-        keep.old keep.new watch.old watch.new connections result }
+    ensures served { IsServed K.meaning keep.old keep.new connections result }
+    ensures streams { IsServedOver K.meaning
+        (IsOf (wire_of L.Stream.remaining L.Stream.contents))
+        (record { does = W.does; begun = watch.old; ended = watch.new })
+        keep.old keep.new connections result }
 {
     serve_within(
         rt,
@@ -62,11 +62,11 @@ pub fn serve_within<R: Clock + AllocGlobal, K: Keep, L: OpenListener, W: Watch<L
 ) -> u8
 where
     L::Stream: Read + Write + OpenStream,
-    ensures served { IsServed K.shows K.is_clean K.is_sound K.may_leave K.left_shows keep.old
-        keep.new connections result }
-    ensures streams { IsServedOver K.shows K.is_clean K.is_sound K.may_leave K.left_shows
-        (IsOf L.Stream.remaining L.Stream.contents) W.does
-        keep.old keep.new watch.old watch.new connections result }
+    ensures served { IsServed K.meaning keep.old keep.new connections result }
+    ensures streams { IsServedOver K.meaning
+        (IsOf (wire_of L.Stream.remaining L.Stream.contents))
+        (record { does = W.does; begun = watch.old; ended = watch.new })
+        keep.old keep.new connections result }
 {
     let mut server = Server::new(rt.alloc(), limits, connections, watch.is_noting());
     run(rt, keep, listener, watch, &mut server);
@@ -85,9 +85,10 @@ fn run<R: Clock, K: Keep, L: OpenListener, W: Watch<L>>(
 )
 where
     L::Stream: Read + Write + OpenStream,
-    requires { AreHeld L.Stream.remaining L.Stream.contents server.old.queue.items }
-    ensures { Runs K.shows K.is_clean K.is_sound K.may_leave K.left_shows W.does L.Stream.remaining
-        L.Stream.contents keep.old keep.new watch.old watch.new server.old server.new }
+    requires { AreHeld (wire_of L.Stream.remaining L.Stream.contents) server.old.queue.items }
+    ensures { Runs K.meaning W.does (wire_of L.Stream.remaining L.Stream.contents)
+        (record { keep = keep.old; watch = watch.old; server = server.old })
+        (record { keep = keep.new; watch = watch.new; server = server.new }) }
 {
     if watch.watch_listener(listener).is_err() {
         return;

@@ -5,6 +5,7 @@ ghost use Rattle.bor_program.specs.Connections.Serving.{answer_of};
 ghost use Rattle.bor_program.specs.declared.connections.phase.Phase.TheVariants as Phase;
 ghost use Rattle.bor_program.specs.declared.connections.taking.Taking.{Taking};
 ghost use Rattle.bor_program.specs.Connections.Phases.{EndsAs, IsHeld, IsStep, ReadsOn, phase_of, telling};
+ghost use Rattle.bor_program.specs.Connections.Streams.{wire_of};
 ghost use Rattle.bor_program.specs.Connections.Times.{IsTaking, looked};
 
 use crate::connections::phase::{Pace, Phase, Step};
@@ -28,10 +29,10 @@ pub(crate) fn step<K: Keep, S: Read + Write + OpenStream + Drop>(
     keep: &mut K,
     phase: Phase<S>,
 ) -> Step<S>
-    requires { IsHeld S.remaining S.contents phase }
-    ensures held { IsHeld S.remaining S.contents (phase_of result) }
-    ensures step { IsStep K.shows K.is_clean K.is_sound K.may_leave K.left_shows S.remaining
-        S.contents keep.old keep.new (telling phase) (telling (phase_of result)) }
+    requires { IsHeld (wire_of S.remaining S.contents) phase }
+    ensures held { IsHeld (wire_of S.remaining S.contents) (phase_of result) }
+    ensures step { IsStep K.meaning (wire_of S.remaining S.contents) keep.old keep.new
+        (telling phase) (telling (phase_of result)) }
     ensures all { ReadsOn S.remaining phase (phase_of result) }
     ensures time { (taking : Option Taking) → IsTaking taking phase
         → IsTaking taking (phase_of result) }
@@ -49,10 +50,10 @@ fn read_on<K: Keep, S: Read + Write + OpenStream + Drop>(
     keep: &mut K,
     mut reading: Reading<S>,
 ) -> Step<S>
-    requires { IsHeld S.remaining S.contents (Phase.Reading reading) }
-    ensures held { IsHeld S.remaining S.contents (phase_of result) }
-    ensures step { IsStep K.shows K.is_clean K.is_sound K.may_leave K.left_shows S.remaining
-        S.contents keep.old keep.new [] (telling (phase_of result)) }
+    requires { IsHeld (wire_of S.remaining S.contents) (Phase.Reading reading) }
+    ensures held { IsHeld (wire_of S.remaining S.contents) (phase_of result) }
+    ensures step { IsStep K.meaning (wire_of S.remaining S.contents) keep.old keep.new
+        [] (telling (phase_of result)) }
     ensures all { ReadsOn S.remaining (Phase.Reading reading) (phase_of result) }
     ensures time { IsTaking None (phase_of result) }
 {
@@ -73,9 +74,10 @@ fn read_on<K: Keep, S: Read + Write + OpenStream + Drop>(
 
 // Writes once of a reply.
 fn write_on<S: Read + Write + OpenStream + Drop>(mut writing: Writing<S>) -> Step<S>
-    requires { IsHeld S.remaining S.contents (Phase.Writing writing) }
-    ensures held { IsHeld S.remaining S.contents (phase_of result) }
-    ensures tells { telling (phase_of result) ≡ answer_of writing.request.items writing.reply ∷ [] }
+    requires { IsHeld (wire_of S.remaining S.contents) (Phase.Writing writing) }
+    ensures held { IsHeld (wire_of S.remaining S.contents) (phase_of result) }
+    ensures tells { telling (phase_of result)
+        ≡ answer_of writing.request.value.items writing.reply ∷ [] }
     ensures all { ReadsOn S.remaining (Phase.Writing writing) (phase_of result) }
     ensures time { IsTaking writing.taking (phase_of result) }
 {
@@ -89,10 +91,10 @@ fn write_on<S: Read + Write + OpenStream + Drop>(mut writing: Writing<S>) -> Ste
 
 // Reads once behind a reply.
 fn drain_on<S: Read + Write + Drop>(mut draining: Draining<S>) -> Step<S>
-    requires { IsHeld S.remaining S.contents (Phase.Draining draining) }
-    ensures held { IsHeld S.remaining S.contents (phase_of result) }
+    requires { IsHeld (wire_of S.remaining S.contents) (Phase.Draining draining) }
+    ensures held { IsHeld (wire_of S.remaining S.contents) (phase_of result) }
     ensures tells { telling (phase_of result)
-        ≡ answer_of draining.request.items draining.reply ∷ [] }
+        ≡ answer_of draining.request.value.items draining.reply ∷ [] }
     ensures all { ReadsOn S.remaining (Phase.Draining draining) (phase_of result) }
     ensures time { (taking : Option Taking) → IsTaking taking (phase_of result) }
 {
@@ -105,8 +107,8 @@ fn drain_on<S: Read + Write + Drop>(mut draining: Draining<S>) -> Step<S>
 
 /// The clock is read, before the client has its turn.
 pub(crate) fn look<S: Read + Write + OpenStream + Drop>(phase: Phase<S>, now: Duration) -> Phase<S>
-    requires { IsHeld S.remaining S.contents phase }
-    ensures held { IsHeld S.remaining S.contents result }
+    requires { IsHeld (wire_of S.remaining S.contents) phase }
+    ensures held { IsHeld (wire_of S.remaining S.contents) result }
     ensures tells { telling result ≡ telling phase }
     ensures all { ReadsOn S.remaining phase result }
     ensures time { IsTaking (looked phase now) result }
@@ -129,10 +131,10 @@ pub(crate) fn steps<K: Keep, S: Read + Write + OpenStream + Drop>(
     timing: &mut Timing,
     now: Duration,
 ) -> Step<S>
-    requires { IsHeld S.remaining S.contents phase }
-    ensures held { IsHeld S.remaining S.contents (phase_of result) }
-    ensures step { IsStep K.shows K.is_clean K.is_sound K.may_leave K.left_shows S.remaining
-        S.contents keep.old keep.new (telling phase) (telling (phase_of result)) }
+    requires { IsHeld (wire_of S.remaining S.contents) phase }
+    ensures held { IsHeld (wire_of S.remaining S.contents) (phase_of result) }
+    ensures step { IsStep K.meaning (wire_of S.remaining S.contents) keep.old keep.new
+        (telling phase) (telling (phase_of result)) }
     ensures all { ReadsOn S.remaining phase (phase_of result) }
     ensures time { (taking : Option Taking) → IsTaking taking phase
         → IsTaking taking (phase_of result) }
@@ -154,8 +156,8 @@ pub(crate) fn steps<K: Keep, S: Read + Write + OpenStream + Drop>(
 
 /// Whether the connection of a client has failed that is waited for no longer.
 pub(crate) fn gives_up<S: Read + Write + OpenStream + Drop>(phase: Phase<S>) -> bool
-    requires { IsHeld S.remaining S.contents phase }
-    ensures { EndsAs S.remaining S.contents (telling phase) result }
+    requires { IsHeld (wire_of S.remaining S.contents) phase }
+    ensures { EndsAs (wire_of S.remaining S.contents) (telling phase) result }
 {
     match phase {
         Phase::Reading(_) => true,

@@ -5,7 +5,7 @@ ghost use Rattle.bor_http.specs.Incoming.Message.{request_limit};
 ghost use Rattle.bor_wire.specs.Exchanges.{bytes_out};
 ghost use Rattle.bor_program.specs.declared.connections.writing.Written.TheVariants.{Whole};
 ghost use Rattle.bor_program.specs.Connections.Serving.{Told, answer_of, has_failed};
-ghost use Rattle.bor_program.specs.Connections.Streams.{Came, Drops, IsDraining, IsReady, IsWriting};
+ghost use Rattle.bor_program.specs.Connections.Streams.{Came, Drops, IsDraining, IsReady, IsWriting, wire_of};
 ghost use Rattle.bor_program.specs.Connections.Times.{IsSlow, begun, taking_after};
 
 use crate::connections::limits::Limits;
@@ -14,14 +14,15 @@ use crate::connections::taking::Taking;
 use bor_wire::Outgoing;
 use std::io::{Read, Write};
 use std::net::{OpenStream, Shutdown};
+use std::snapshot::Snapshot;
 use std::time::Duration;
 
-/// A client to whom its reply is written: its request, the reply, how much of that it was handed,
-/// and how it takes it, once a clock was read since the reply was made.
+/// A client to whom its reply is written: its request, which clauses alone see, the reply, how much
+/// of that it was handed, and how it takes it, once a clock was read since the reply was made.
 #[derive(Drop)]
 pub(crate) struct Writing<S> {
     stream: S,
-    request: Vec<u8>,
+    request: Snapshot<Vec<u8>>,
     reply: Outgoing,
     sent: usize,
     taking: Option<Taking>,
@@ -72,21 +73,23 @@ pub(crate) enum Written {
 }
 
 impl<S: Read + Write + OpenStream> Writing<S> {
-    /// A client whose request has come, and of whose reply nothing was written.
+    /// A client whose request has come, and of whose reply nothing was written. The bytes of the
+    /// request are let go.
     pub(crate) fn new(reading: Reading<S>, reply: Outgoing) -> Writing<S>
         requires came { Came S.remaining reading.stream reading.received.items }
         requires fits { length reading.received.items ≤ request_limit }
         requires ready { IsReady S.remaining reading.stream
             (answer_of reading.received.items reply) }
-        ensures held { IsWriting S.remaining S.contents result.stream
-            (answer_of result.request.items result.reply) result.sent }
-        ensures request { result.request.items ≡ reading.received.items }
+        ensures held { IsWriting (wire_of S.remaining S.contents) result.stream
+            (answer_of result.request.value.items result.reply) result.sent }
+        ensures request { result.request.value.items ≡ reading.received.items }
         ensures reply { result.reply ≡ reply }
         ensures taking { result.taking ≡ None }
     {
+        let request = Snapshot::of(&reading.received);
         Writing {
             stream: reading.stream,
-            request: reading.received,
+            request,
             reply,
             sent: 0,
             taking: None,
@@ -95,10 +98,10 @@ impl<S: Read + Write + OpenStream> Writing<S> {
 
     /// Writes once.
     pub(crate) fn write(&mut self) -> Written
-        requires { IsWriting S.remaining S.contents self.old.stream
-            (answer_of self.old.request.items self.old.reply) self.old.sent }
-        ensures held { IsWriting S.remaining S.contents self.new.stream
-            (answer_of self.new.request.items self.new.reply) self.new.sent }
+        requires { IsWriting (wire_of S.remaining S.contents) self.old.stream
+            (answer_of self.old.request.value.items self.old.reply) self.old.sent }
+        ensures held { IsWriting (wire_of S.remaining S.contents) self.new.stream
+            (answer_of self.new.request.value.items self.new.reply) self.new.sent }
         ensures request { self.new.request ≡ self.old.request }
         ensures reply { self.new.reply ≡ self.old.reply }
         ensures taking { self.new.taking ≡ self.old.taking }
@@ -122,7 +125,7 @@ impl<S: Read + Write + OpenStream> Writing<S> {
     /// Whether its connection has failed, where it ends now.
     pub(crate) fn has_failed(&self) -> bool
         ensures { result ≡ has_failed
-            (Told (answer_of self.now.request.items self.now.reply) self.now.sent) }
+            (Told (answer_of self.now.request.value.items self.now.reply) self.now.sent) }
     {
         self.reply.status() == 503 || self.sent < self.reply.bytes().len()
     }
@@ -130,10 +133,10 @@ impl<S: Read + Write + OpenStream> Writing<S> {
     /// Tells the client, to whom all was written, that no more is.
     pub(crate) fn end(self) -> Draining<S>
         requires whole { self.sent ≡ length (bytes_out self.reply) }
-        requires held { IsWriting S.remaining S.contents self.stream
-            (answer_of self.request.items self.reply) self.sent }
-        ensures held { IsDraining S.remaining S.contents result.stream
-            (answer_of result.request.items result.reply) result.left }
+        requires held { IsWriting (wire_of S.remaining S.contents) self.stream
+            (answer_of self.request.value.items self.reply) self.sent }
+        ensures held { IsDraining (wire_of S.remaining S.contents) result.stream
+            (answer_of result.request.value.items result.reply) result.left }
         ensures request { result.request ≡ self.request }
         ensures reply { result.reply ≡ self.reply }
     {
@@ -165,7 +168,7 @@ const DROPPED: usize = 1_024;
 #[derive(Drop)]
 pub(crate) struct Draining<S> {
     stream: S,
-    request: Vec<u8>,
+    request: Snapshot<Vec<u8>>,
     reply: Outgoing,
     left: usize,
     is_waited_for: bool,
@@ -186,7 +189,7 @@ impl<S: Read + Write> Draining<S> {
     /// Whether its connection has failed: the reply is the one that says that the store failed.
     pub(crate) fn has_failed(&self) -> bool
         ensures { result ≡ has_failed
-            (Told (answer_of self.now.request.items self.now.reply)
+            (Told (answer_of self.now.request.value.items self.now.reply)
             (length (bytes_out self.now.reply))) }
     {
         self.reply.status() == 503

@@ -1,5 +1,5 @@
 -- A link of rows is known by its record.
-use Rattle.std.proofs.Common.{◌≡◌, ◌&&◌, ℕ, ℤ, Bool, true, false, cond, Option, Some, None, List, Contains, refl, sym, ap, ◌∙◌, subst}
+use Rattle.std.proofs.Common.{◌≡◌, ◌&&◌, ℕ, ℤ, Bool, true, false, cond, Some, None, List, refl, sym, ap, ◌∙◌, subst}
 use Rattle.std.proofs.lemmas.Option.{same_Some}
 use Rattle.bods_read.specs.declared.details.Details.{Details}
 use Rattle.bods_read.specs.declared.details.Details.TheVariants as details
@@ -13,7 +13,7 @@ use Rattle.bor_records.specs.Links.Nodes.{link_record}
 use Rattle.bor_records.specs.Links.Series.{series_of, open_at}
 use Rattle.bor_records.specs.Links.Shown.{info_in}
 use Rattle.bor_records.specs.Links.Rows.{is_entity_info, is_some_info, beside, link_between, link_with, link_in, nodes_of}
-use Rattle.bor_records.specs.Links.Laws.{IsOfRow, LinksAreOfRows, LinksAreKnownByRecord}
+use Rattle.bor_records.specs.Links.Laws.{LinksAreOfRows, LinksAreKnownByRecord}
 use Rattle.bor_records.proofs.OnLinks.Found.{Contains-from_filter_map}
 use Rattle.bor_records.proofs.OnLinks.ByKey.{open_row_at}
 

@@ -1,10 +1,12 @@
 -- The answers on a node.
-use Rattle.std.specs.Prelude.{◌≡◌, ◌↔◌, List, Contains, Option, None, Some, if◌then◌else◌}
+use Rattle.std.specs.Prelude.{◌≡◌, ◌↔◌, List, Contains, IsTrue, Option, None, Some, if◌then◌else◌}
 use Rattle.std.specs.List.{IsDistinct}
+use Rattle.bods_read.specs.declared.details.Identifier.{Identifier}
 use Rattle.bor_records.specs.declared.links.node.Node.{Node}
+use Rattle.bor_records.specs.declared.links.node.OpenNode.{OpenNode}
 use Rattle.bor_records.specs.declared.links.node.Link.{Link}
 use Rattle.bor_records.specs.Links.Nodes.{same_node}
-use Rattle.bor_records.specs.Links.Shown.{Shown}
+use Rattle.bor_records.specs.Links.Shown.{Shown, has_identifier}
 use Rattle.bor_records.specs.Links.Aliases.{Alias, Same}
 
 -- exactly the nodes one alias away, each once
@@ -15,6 +17,16 @@ pub record AreAliases (s : Shown) (a : Node) (nodes : List Node) : Type 0 where
 -- exactly the nodes that stand for one entity with it, each once; it is one of them, listed or not
 pub record AreSame (s : Shown) (a : Node) (nodes : List Node) : Type 0 where
   pub each : (b : Node) → Contains nodes b ↔ Same s a b
+  pub once : IsDistinct same_node nodes
+
+-- the node is an open entity that has the identifier
+abbrev pub Identified : Shown → Identifier → Node → Type 0
+Identified s i n =
+    (x : OpenNode) × Contains s.nodes x × (x.node ≡ n) × IsTrue (has_identifier i x)
+
+-- exactly the open entities that have the identifier, each once
+pub record AreIdentified (s : Shown) (i : Identifier) (nodes : List Node) : Type 0 where
+  pub each : (n : Node) → Contains nodes n ↔ Identified s i n
   pub once : IsDistinct same_node nodes
 
 -- exactly the links with this subject

@@ -50,6 +50,10 @@ same_identifier i j = is_same i.scheme j.scheme && is_same i.id j.id
 abbrev pub share_identifier : List Identifier → List Identifier → Bool
 share_identifier xs ys = list_any (λ i. list_any (λ j. same_identifier i j) ys) xs
 
+-- an entity that has the identifier
+abbrev pub has_identifier : Identifier → OpenNode → Bool
+has_identifier i x = is_entity x.info && list_any (same_identifier i) x.identifiers
+
 -- equal record of one agent in different declarations
 abbrev pub same_record : Node → Node → Bool
 same_record a b =
@@ -61,6 +65,11 @@ are_alike a b =
     is_entity a.info && is_entity b.info
     && (same_record a.node b.node
     || share_identifier a.identifiers b.identifiers && not (same_node a.node b.node))
+
+-- an open node is there, and is an entity that has the identifier
+abbrev pub is_identified : Identifier → Option OpenNode → Bool
+is_identified i None = false
+is_identified i (Some x) = has_identifier i x
 
 -- an open node is there, and is one step away
 abbrev pub is_like : OpenNode → Option OpenNode → Bool

@@ -11,134 +11,116 @@ ghost use Rattle.bor_register.specs.Withdrawal.{has_successor};
 ghost use Rattle.bor_register.specs.Additions.{MayEnrol, MayFile, with_agent, with_filing, with_withdrawal};
 ghost use Rattle.bor_records.specs.Admission.{last_of};
 ghost use Rattle.bor_records.specs.Settling.{has_id};
-ghost use Rattle.bor_records.specs.Promises.{Changes, ChangesWhere, Promised, Reads};
+ghost use Rattle.bor_records.specs.Promises.{Changes, ChangesWhere, Meaning, Promised, Reads};
 ghost use Rattle.bor_records.specs.Links.Series.{open_at};
 ghost use Rattle.bor_records.specs.Links.Shown.{info_of};
-ghost use Rattle.bor_records.specs.Links.Answers.{AreAliases, AreSame, AreLinksInto};
+ghost use Rattle.bor_records.specs.Links.Answers.{AreAliases, AreIdentified, AreSame, AreLinksInto};
 
 use crate::{Caller, Filing, FilingLine, Outward, StoreFault};
-use bods_read::Statement;
+use bods_read::{Identifier, Statement};
 use bor_records::links::{Link, Node, NodeInfo};
 use bor_records::{Last, Row};
 use bor_terms::{AgentName, Day, Ident, LodgeKey, Token};
 
 /// A keep of a register.
 ///
-/// Its meaning is a relation to registers (`shows`). It promises something of a register only where
-/// it showed that one and ends clean (`is_clean`: its store has returned what was written, and is
-/// open). A read leaves what is shown (`Reads`); a change makes what it says of it (`Changes`), an
-/// addition of each register that it fits (`ChangesWhere`); a fault leaves it, and adds one to
-/// `faults`. No call has a condition, so a keep over another one can hand each call on. While the
-/// store returns what was written (`is_sound`), an answer leaves a clean keep clean, and only a
-/// clean one says who has a token: a store that has shut returns a fault. The state that a stop
+/// Its states show registers (`shows` of `meaning`): none, one or more, as each keep says. It
+/// promises something of a register only where it showed that one and ends clean (`is_clean`: its
+/// store has returned what was written, and is open; that a clean keep is sound, each keep says). A
+/// read leaves what is shown (`Reads`); a change makes what it says of it (`Changes`); an addition
+/// does so of a register that it fits, and of another may leave anything, but for a fault
+/// (`ChangesWhere`). A fault leaves what was shown, and adds one to `faults`. No call has a
+/// condition, so a keep over another one can hand each call on. While the store returns what was
+/// written (`is_sound`), an answer leaves a clean keep clean, and `who` answers only from a clean
+/// one; other calls may answer from a store that has shut. The state that a stop, as a crash,
 /// leaves (`may_leave`), whether a call goes well or answers a fault, is what one before it might
 /// have left, or, after a change of a clean keep, what shows the changed register (`left_shows`),
-/// while the store returns what was written.
+/// while the store returns what was written; of a register that an addition doesn't fit, anything.
+///
+/// A live statement is one that its filing lists; that a withdrawn filing lists none is a rule of
+/// legal registers. A viewer sees its own live filings and others' published ones, always by the
+/// register's day; a day that a call is given may be any.
 pub trait Keep {
-    /// The state shows this register.
-    ghost shows: { Self → Register → Type 0 };
-
-    /// The store has returned what was written, and is open.
-    ghost is_clean: { Self → Type 0 };
-
-    /// The store has returned what was written. It may have shut since, as after a disk failed.
-    ghost is_sound: { Self → Type 0 };
-
-    /// The state that a stop leaves for the next one to open.
+    /// The states that a stop leaves for the next keep to open.
     ghost Left: { Type 0 };
 
-    /// A stop in this state may leave this.
-    ghost may_leave: { Self → Left → Type 0 };
+    /// What the states mean.
+    ghost meaning: { Meaning Self Register Left StoreFault };
 
-    /// The state that is left shows this register to the next one to open it.
-    ghost left_shows: { Left → Register → Type 0 };
-
-    /// How many calls have answered a fault, modulo 2^64.
-    ghost fault_count: { Self → ℕ };
-
-    /// The faults that its calls may answer where a register is shown and they end clean.
-    ghost may_tell: { StoreFault → Type 0 };
-
-    /// How many calls have answered a fault, modulo 2^64.
+    /// The count of faults, modulo 2^64: each call that answers one adds one to it.
     fn faults(&self) -> u64
-        ensures { result ≡ fault_count self.now };
+        ensures { result ≡ meaning.fault_count self.now };
 
-    /// Who has the token; `None` where nobody has. A store that has shut returns a fault.
+    /// Who has the token, `None` if nobody. A sound store that has shut, or shuts, returns a fault.
     fn who(&mut self, token: &Token) -> Result<Option<Caller>, StoreFault>
-        ensures reads { Reads shows is_clean is_sound may_leave fault_count may_tell
-            self.old self.new result (λ r caller. caller ≡ caller_of token.now r) }
-        ensures up { IfOk result (λ _. is_sound self.new → is_clean self.new) };
+        ensures reads { Reads meaning self.old self.new result (λ r caller.
+            caller ≡ caller_of token.now r) }
+        ensures up { IfOk result (λ _. meaning.is_sound self.new → meaning.is_clean self.new) };
 
     /// Whether an agent has the name.
     fn has_agent(&mut self, agent: &AgentName) -> Result<bool, StoreFault>
-        ensures { Reads shows is_clean is_sound may_leave fault_count may_tell
-            self.old self.new result (λ r has. has ≡ is_enrolled agent.now r.members) };
+        ensures { Reads meaning self.old self.new result (λ r has.
+            has ≡ is_enrolled agent.now r.members) };
 
     /// The register's day.
     fn day(&mut self) -> Result<Day, StoreFault>
-        ensures { Reads shows is_clean is_sound may_leave fault_count may_tell
-            self.old self.new result (λ r day. day ≡ r.day) };
+        ensures { Reads meaning self.old self.new result (λ r day. day ≡ r.day) };
 
     /// The agent's filing under a key, a withdrawn one too; `None` where it has lodged none under
     /// it.
     fn filing(&mut self, agent: &AgentName, key: &LodgeKey) -> Result<Option<Filing>, StoreFault>
-        ensures { Reads shows is_clean is_sound may_leave fault_count may_tell
-            self.old self.new result (λ r filing. filing ≡ option_map filing_shown
+        ensures { Reads meaning self.old self.new result (λ r filing.
+            filing ≡ option_map filing_shown
             (filing_keyed key.now (filings_of agent.now r.members))) };
 
     /// The line of the agent's filing under a key, on the register's day; `None` where it has
     /// lodged none under it.
     fn line(&mut self, agent: &AgentName, key: &LodgeKey) -> Result<Option<FilingLine>, StoreFault>
-        ensures { Reads shows is_clean is_sound may_leave fault_count may_tell
-            self.old self.new result (λ r line. line ≡ option_map (line_of r.day)
+        ensures { Reads meaning self.old self.new result (λ r line.
+            line ≡ option_map (line_of r.day)
             (filing_keyed key.now (filings_of agent.now r.members))) };
 
-    /// Whether the agent has a filing under the key, withdrawn or not, whose file has these bytes.
+    /// Whether the agent has a filing under the key, withdrawn or not, whose file is these bytes.
     fn has_file(
         &mut self,
         agent: &AgentName,
         key: &LodgeKey,
         bytes: &[u8],
     ) -> Result<bool, StoreFault>
-        ensures { Reads shows is_clean is_sound may_leave fault_count may_tell
-            self.old self.new result (λ r has. has
+        ensures { Reads meaning self.old self.new result (λ r has. has
             ≡ has_bytes bytes.now (filing_keyed key.now (filings_of agent.now r.members))) };
 
     /// How many filings the agent has, withdrawn ones included.
     fn filing_count(&mut self, agent: &AgentName) -> Result<usize, StoreFault>
-        ensures { Reads shows is_clean is_sound may_leave fault_count may_tell
-            self.old self.new result (λ r count. count ≡ length (filings_of agent.now r.members)) };
+        ensures { Reads meaning self.old self.new result (λ r count.
+            count ≡ length (filings_of agent.now r.members)) };
 
-    /// The lines of the agent's filings, by number.
+    /// The lines of the agent's filings, in order of acceptance, on the register's day.
     fn filings(&mut self, agent: &AgentName) -> Result<Vec<FilingLine>, StoreFault>
-        ensures { Reads shows is_clean is_sound may_leave fault_count may_tell
-            self.old self.new result (λ r lines.
+        ensures { Reads meaning self.old self.new result (λ r lines.
             lines.items ≡ map (line_of r.day) (filings_of agent.now r.members)) };
 
-    /// The record's last live statement, as far as the rules ask; `rec` is its identifier. `None`
-    /// where the record has none.
+    /// The record's live statement that was accepted last, as far as the rules ask; `rec` is the
+    /// record's identifier. `None` where the record has none.
     fn last(
         &mut self,
         agent: &AgentName,
         declaration: &Ident,
         rec: &Ident,
     ) -> Result<Option<Last>, StoreFault>
-        ensures { Reads shows is_clean is_sound may_leave fault_count may_tell
-            self.old self.new result (λ r last. last
+        ensures { Reads meaning self.old self.new result (λ r last. last
             ≡ last_of declaration.now rec.now (live_of (filings_of agent.now r.members))) };
 
     /// Whether a live statement of the agent has the identifier.
     fn has_statement(&mut self, agent: &AgentName, id: &Ident) -> Result<bool, StoreFault>
-        ensures { Reads shows is_clean is_sound may_leave fault_count may_tell
-            self.old self.new result (λ r has.
+        ensures { Reads meaning self.old self.new result (λ r has.
             has ≡ has_id id.now (live_of (filings_of agent.now r.members))) };
 
     /// Whether a filing of the agent that was accepted after the one with this number has a live
-    /// statement of one of its records. `false` where the agent has no such filing, and where that
-    /// one is withdrawn: its statements are gone.
+    /// statement of a record of that one. `false` where the agent has no filing with this number,
+    /// and where that one lists no statements, as a withdrawn one of a legal register.
     fn has_successor(&mut self, agent: &AgentName, number: u32) -> Result<bool, StoreFault>
-        ensures { Reads shows is_clean is_sound may_leave fault_count may_tell
-            self.old self.new result (λ r has.
+        ensures { Reads meaning self.old self.new result (λ r has.
             has ≡ has_successor number (filings_of agent.now r.members)) };
 
     /// The rows of a declaration of the agent that the viewer sees: of its own live filings, and of
@@ -149,8 +131,7 @@ pub trait Keep {
         agent: &AgentName,
         declaration: &Ident,
     ) -> Result<Vec<Row>, StoreFault>
-        ensures { Reads shows is_clean is_sound may_leave fault_count may_tell
-            self.old self.new result (λ r rows. rows.items
+        ensures { Reads meaning self.old self.new result (λ r rows. rows.items
             ≡ rows_of viewer.now r.day agent.now declaration.now
             (filings_of agent.now r.members)) };
 
@@ -158,24 +139,23 @@ pub trait Keep {
     /// published ones. They stand by agent, then in order of acceptance and of place. A viewer that
     /// isn't enrolled sees what is published.
     fn visible_rows(&mut self, viewer: &AgentName) -> Result<Vec<Row>, StoreFault>
-        ensures { Reads shows is_clean is_sound may_leave fault_count may_tell
-            self.old self.new result (λ r rows.
+        ensures { Reads meaning self.old self.new result (λ r rows.
             rows.items ≡ visible viewer.now r.day r.members) };
 
-    /// The row that a record shows on a day by what the viewer sees: its latest statement dated at
-    /// or before the day; `None` where it has none, and where that one is closed. The day is any
-    /// day; what the viewer sees goes by the register's.
+    /// The row that a record shows on a day by what the viewer sees: of its statements dated at or
+    /// before the day the last accepted; `None` where it has none, and where that one is closed.
+    /// The day is any day; what the viewer sees goes by the register's.
     fn open_row(
         &mut self,
         viewer: &AgentName,
         day: Day,
         node: &Node,
     ) -> Result<Option<Row>, StoreFault>
-        ensures { Reads shows is_clean is_sound may_leave fault_count may_tell
-            self.old self.new result (λ r row.
+        ensures { Reads meaning self.old self.new result (λ r row.
             row ≡ open_at day node.now (visible viewer.now r.day r.members)) };
 
-    /// The kind of a node on a day by what the viewer sees, or `None` where it isn't open then. The
+    /// What is known of a node on a day by what the viewer sees: a legal entity, another entity, or
+    /// a person with a name; `None` where it is none of these that is open, as a relationship. The
     /// day is any day; what the viewer sees goes by the register's.
     fn node(
         &mut self,
@@ -183,8 +163,7 @@ pub trait Keep {
         day: Day,
         node: &Node,
     ) -> Result<Option<NodeInfo>, StoreFault>
-        ensures { Reads shows is_clean is_sound may_leave fault_count may_tell
-            self.old self.new result (λ r info.
+        ensures { Reads meaning self.old self.new result (λ r info.
             info ≡ info_of (seen_at viewer.now day r) node.now) };
 
     /// The nodes one alias away from a node on a day by what the viewer sees, each once and in any
@@ -196,38 +175,46 @@ pub trait Keep {
         day: Day,
         node: &Node,
     ) -> Result<Vec<Node>, StoreFault>
-        ensures { Reads shows is_clean is_sound may_leave fault_count may_tell
-            self.old self.new result (λ r nodes.
+        ensures { Reads meaning self.old self.new result (λ r nodes.
             AreAliases (seen_at viewer.now day r) node.now nodes.items) };
 
     /// All nodes that stand for one entity with a node on a day by what the viewer sees, by
     /// finitely many aliases, each once and in any order. The node itself is one of them; where it
-    /// isn't open, it is the only one.
+    /// isn't an open entity, it is the only one.
     fn same(&mut self, viewer: &AgentName, day: Day, node: &Node) -> Result<Vec<Node>, StoreFault>
-        ensures { Reads shows is_clean is_sound may_leave fault_count may_tell
-            self.old self.new result (λ r nodes.
+        ensures { Reads meaning self.old self.new result (λ r nodes.
             AreSame (seen_at viewer.now day r) node.now nodes.items) };
 
-    /// The links with this subject on a day by what the viewer sees, in any order.
+    /// The open entities that have an identifier on a day by what the viewer sees, each once and in
+    /// any order. The day is any day; what the viewer sees goes by the register's.
+    fn identified(
+        &mut self,
+        viewer: &AgentName,
+        day: Day,
+        identifier: &Identifier,
+    ) -> Result<Vec<Node>, StoreFault>
+        ensures { Reads meaning self.old self.new result (λ r nodes.
+            AreIdentified (seen_at viewer.now day r) identifier.now nodes.items) };
+
+    /// The links with this subject on a day by what the viewer sees, in any order, maybe twice.
     fn links_into(
         &mut self,
         viewer: &AgentName,
         day: Day,
         node: &Node,
     ) -> Result<Vec<Link>, StoreFault>
-        ensures { Reads shows is_clean is_sound may_leave fault_count may_tell
-            self.old self.new result (λ r links.
+        ensures { Reads meaning self.old self.new result (λ r links.
             AreLinksInto (seen_at viewer.now day r) node.now links.items) };
 
     /// The outward forms of the published filings, which all see: by agent, those of an agent in
     /// order of acceptance.
     fn published(&mut self) -> Result<Vec<Outward>, StoreFault>
-        ensures { Reads shows is_clean is_sound may_leave fault_count may_tell
-            self.old self.new result (λ r outwards. outwards.items ≡ published r.day r.members) };
+        ensures { Reads meaning self.old self.new result (λ r outwards.
+            outwards.items ≡ published r.day r.members) };
 
     /// Adds a filing to those of an agent, and gives its number. That is promised of each register
     /// that the filing fits (`MayFile`): the agent is enrolled, and has room for one more and none
-    /// under the key; each statement has its settled status, and their identifiers are distinct and
+    /// under the key; each statement has a status, and their identifiers are distinct and
     /// no live statement's of the agent. Whether it fits is for the caller to test.
     fn add_filing(
         &mut self,
@@ -237,35 +224,30 @@ pub trait Keep {
         bytes: &[u8],
         statements: &[Statement],
     ) -> Result<u32, StoreFault>
-        ensures number { Promised shows is_clean self.old self.new (λ r.
+        ensures number { Promised meaning self.old self.new (λ r.
             MayFile agent.now key.now statements.now r → IfOk result (λ number.
             number ≡ length (filings_of agent.now r.members) + 1)) }
-        ensures changes { ChangesWhere shows is_clean is_sound may_leave left_shows
-            fault_count may_tell self.old self.new result
+        ensures changes { ChangesWhere meaning self.old self.new result
             (MayFile agent.now key.now statements.now)
             (with_filing agent.now key.now due bytes.now statements.now) };
 
     /// Withdraws the agent's filing with this number: its statements are gone, its number, key, due
-    /// day and bytes stay. What may be withdrawn is for the caller to test.
+    /// day and bytes stay; with no such filing all stays. What may be withdrawn the caller tests.
     fn withdraw(&mut self, agent: &AgentName, number: u32) -> Result<(), StoreFault>
-        ensures { Changes shows is_clean is_sound may_leave left_shows
-            fault_count may_tell self.old self.new result (with_withdrawal agent.now number) };
+        ensures { Changes meaning self.old self.new result (with_withdrawal agent.now number) };
 
     /// Sets the register's day. That it isn't an earlier one is for the caller to test.
     fn set_day(&mut self, day: Day) -> Result<(), StoreFault>
-        ensures { Changes shows is_clean is_sound may_leave left_shows
-            fault_count may_tell self.old self.new result (λ r.
-            record r { day = day }) };
+        ensures { Changes meaning self.old self.new result (λ r. record r { day = day }) };
 
     /// Adds an agent. That is promised of each register to which its name and its token are new
     /// (`MayEnrol`). Whether they are is for the caller to test.
     fn add_agent(&mut self, agent: &AgentName, token: &Token) -> Result<(), StoreFault>
-        ensures { ChangesWhere shows is_clean is_sound may_leave left_shows
-            fault_count may_tell self.old self.new result
+        ensures { ChangesWhere meaning self.old self.new result
             (MayEnrol agent.now token.now) (with_agent agent.now token.now) };
 
     /// Answered changes last: the state that a stop of a clean keep leaves shows each register that
     /// it showed.
-    ghost lasting: { (k : Self) → is_clean k → (left : Left) → may_leave k left
-        → (r : Register) → shows k r → left_shows left r };
+    ghost lasting: { (k : Self) → meaning.is_clean k → (left : Left) → meaning.may_leave k left
+        → (r : Register) → meaning.shows k r → meaning.left_shows left r };
 }

@@ -119,6 +119,7 @@ allowed paths.Published body = refl
 allowed paths.Snapshot body = refl
 allowed paths.Chains body = refl
 allowed paths.Evidence body = refl
+allowed paths.Entities body = refl
 allowed paths.Day body = refl
 allowed paths.Agents body = refl
 

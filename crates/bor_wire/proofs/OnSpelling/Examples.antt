@@ -264,6 +264,23 @@ evidence_found : found evidence ≡ expected evidence
 unfolding speller
 evidence_found = refl
 
+abbrev entities : Cases
+entities =
+    (get (codes "/entities?scheme=GB-COH&id=00000001"), [])
+    ∷ (get (codes "/entities?date=2024-01-11&id=1&scheme=50%25"), [])
+    ∷ (get (codes "/entities?id=1"), BadQuery names.Scheme ∷ [])
+    ∷ (get (codes "/entities?scheme=a&id="), BadQuery names.Id ∷ [])
+    ∷ (get (codes "/entities?scheme=a&id=1&id=1"), BadQuery names.Id ∷ [])
+    ∷ (get (codes "/entities?scheme=a&id=1&date=1"), BadQuery names.Date ∷ [])
+    -- together
+    ∷ (get (codes "/entities?scheme=%01"), BadQuery names.Scheme ∷ BadQuery names.Id ∷ [])
+    ∷ (get (codes "/entities?scheme=a&date"), BadQuery names.Id ∷ BadQuery names.Date ∷ [])
+    ∷ []
+
+entities_found : found entities ≡ expected entities
+unfolding speller
+entities_found = refl
+
 -- a request with a body of so many digits' length
 abbrev post : List ℕ → List ℕ → List ℕ → List ℕ × Option Parts
 post target length body = request (codes "POST") target (by_alder ∷ length_is length ∷ []) body
@@ -314,6 +331,7 @@ of_each_route =
     ∷ (get (codes "/snapshot?declaration=c1&agent=alder"), ask.Snapshot (codes "alder") (codes "c1") None)
     ∷ (get (codes "/chains?agent=alder&declaration=c1&record=e%31"), ask.Chains (record { agent = codes "alder"; declaration = codes "c1"; rec = codes "e1" }) None)
     ∷ (get (codes "/evidence?agent=alder&declaration=c1&record=e1&date=2024-01-11"), ask.Evidence (record { agent = codes "alder"; declaration = codes "c1"; rec = codes "e1" }) (Some (day (codes "2024-01-11"))))
+    ∷ (get (codes "/entities?scheme=50%25&id=00000001"), ask.Entities (record { scheme = codes "50%"; id = codes "00000001" }) None)
     ∷ (post (codes "/day?date=2024-03-01") (codes "0") [], ask.Day (day (codes "2024-03-01")))
     ∷ (post (codes "/agents?name=cedar&token=x") (codes "18") (codes "cedar-token-000001, and more"), ask.Enrol (codes "cedar") (codes "cedar-token-000001"))
     ∷ []

@@ -3,6 +3,7 @@ use Rattle.std.proofs.Common.{◌≡◌, ℕ, List, [], ◌∷◌, Option, Some,
 use Rattle.std.specs.Prelude.{unwrap_or, option_and_then, pos}
 use Rattle.std.specs.Option.{is_none}
 use Rattle.bor_terms.specs.Tables.{table, outcome}
+use Rattle.bods_read.specs.declared.details.Identifier.{Identifier}
 use Rattle.bor_records.specs.declared.links.node.Node.{Node}
 use Rattle.bor_desk.specs.declared.request.Request.{Request}
 use Rattle.bor_desk.specs.declared.request.Request.TheVariants as ask
@@ -21,7 +22,7 @@ use Rattle.bor_wire.specs.Spelling.Parts as part
 use Rattle.bor_http.specs.Incoming.Refusals.{refuse}
 use Rattle.bor_wire.specs.Spelling.Refusals.{asks, lines_of_method, lines_of_names, lines_of_message}
 use Rattle.bor_wire.specs.Spelling.Spell.{request_of, asked, spell}
-use Rattle.bor_wire.specs.Spelling.Steps.{or_refuse, named, node_by_steps, request_by_steps, spell_by_steps}
+use Rattle.bor_wire.specs.Spelling.Steps.{or_refuse, named, identifier_by_steps, node_by_steps, request_by_steps, spell_by_steps}
 
 abbrev asking : List ℕ → Request → Asked
 asking token request = record { token = token; request = request }
@@ -48,6 +49,16 @@ three_names n m k (Some a) None c any other third f = refl
 three_names n m k (Some a) (Some b) None any other third f = refl
 three_names n m k (Some a) (Some b) (Some c) any other third f = refl
 
+-- two names that make one value, and a third
+two_and_one : {A B C Y X : Type 0} (n m k : Name) (a : Option A) (b : Option B) (c : Option C)
+    (any : A) (other : B) (third : C) (g : A → B → Y) (f : Y → C → X)
+    → ((named n a >>= λ x. named m b >>= λ y. Ok (g x y)) >>= λ v. named k c >>= λ w. Ok (f v w))
+    ≡ outcome (table (asks n a ∷ asks m b ∷ asks k c ∷ [])) (f (g (unwrap_or a any) (unwrap_or b other)) (unwrap_or c third))
+two_and_one n m k None b c any other third g f = refl
+two_and_one n m k (Some a) None c any other third g f = refl
+two_and_one n m k (Some a) (Some b) None any other third g f = refl
+two_and_one n m k (Some a) (Some b) (Some c) any other third g f = refl
+
 -- three names that make one value, and a fourth
 four_names : {A B C D Y X : Type 0} (n m k l : Name) (a : Option A) (b : Option B) (c : Option C) (d : Option D)
     (any : A) (other : B) (third : C) (fourth : D) (g : A → B → C → Y) (f : Y → D → X)
@@ -62,8 +73,11 @@ four_names n m k l (Some a) (Some b) (Some c) (Some d) any other third fourth g 
 abbrev node : List ℕ → List ℕ → List ℕ → Node
 node agent declaration rec = record { agent = agent; declaration = declaration; rec = rec }
 
+abbrev identifier : List ℕ → List ℕ → Identifier
+identifier scheme id = record { scheme = scheme; id = id }
+
 request_stepwise : (r : Route) (m : Message) → request_by_steps r m ≡ outcome (lines_of_names (Some r) m) (request_of (Some r) m)
-unfolding request_by_steps node_by_steps
+unfolding request_by_steps node_by_steps identifier_by_steps
 request_stepwise routes.Lodge m = two_names names.Key names.Due (part.key m) (part.due m) [] (pos 0) (λ key due. ask.Lodge key due m.body)
 request_stepwise routes.Withdraw m = one_name names.Key (part.key m) [] (λ key. ask.Withdraw key)
 request_stepwise routes.Filings m = refl
@@ -78,6 +92,9 @@ request_stepwise routes.Chains m =
 request_stepwise routes.Evidence m =
     four_names names.Agent names.Declaration names.Record names.Date (part.agent m) (part.declaration m) (part.rec m) (part.date_or_none m) [] [] [] None
     node (λ node date. ask.Evidence node date)
+request_stepwise routes.Entities m =
+    two_and_one names.Scheme names.Id names.Date (part.scheme m) (part.id m) (part.date_or_none m) [] [] None
+    identifier (λ identifier date. ask.Entities identifier date)
 request_stepwise routes.Day m = one_name names.Date (part.date m) (pos 0) (λ date. ask.Day date)
 request_stepwise routes.Enrol m =
     two_names names.Name names.Token (part.new_name m) (part.new_token m) [] [] (λ name token. ask.Enrol name token)

@@ -3,6 +3,7 @@ use Rattle.std.specs.Prelude.{ℕ, ℤ, List, Option, None, codes}
 use Rattle.std.specs.Option.{option_map}
 use Rattle.serde_json.specs.Written.{compact_text}
 use Rattle.bods_read.specs.Words.{field_word}
+use Rattle.bods_read.specs.declared.details.Identifier.{Identifier}
 use Rattle.bor_records.specs.declared.row.Entry.{Entry}
 use Rattle.bor_records.specs.declared.links.node.Node.{Node}
 use Rattle.bor_chains.specs.declared.line.PersonLine.{PersonLine}
@@ -11,14 +12,15 @@ use Rattle.bor_register.specs.declared.filing.Outward.{Outward}
 use Rattle.bor_register.specs.declared.filing.State.{State}
 use Rattle.bor_desk.specs.declared.refusal.Refusal as desk
 use Rattle.bor_desk.specs.declared.evidence.lines.EntityEvidence.{EntityEvidence}
+use Rattle.bor_desk.specs.declared.evidence.lines.RecordEvidence.{RecordEvidence}
 use Rattle.bor_desk.specs.declared.reply.DeskReply.{DeskReply}
 use Rattle.bor_desk.specs.declared.reply.DeskReply.TheVariants as tell
 use Rattle.bor_desk.specs.Refusals.{refusal_name, refusal_place, refusal_field}
 use Rattle.bor_http.specs.declared.incoming.fault.Refusal.{Refusal}
 use Rattle.bor_http.specs.Incoming.Words as wire
 use Rattle.bor_wire.specs.Rendering.Values.{list_data, filing_data, line_data, outward_data}
-use Rattle.bor_wire.specs.Rendering.Values.{snapshot_data, chains_data, evidence_data, moved_data}
-use Rattle.bor_wire.specs.Rendering.Values.{enrolled_data, refusal_data}
+use Rattle.bor_wire.specs.Rendering.Values.{snapshot_data, chains_data, evidence_data}
+use Rattle.bor_wire.specs.Rendering.Values.{entities_data, moved_data, enrolled_data, refusal_data}
 
 -- ---- texts
 
@@ -39,6 +41,9 @@ chains_text entity date persons = compact_text (chains_data entity date persons)
 
 unfoldable pub evidence_text : Node → ℤ → EntityEvidence → List ℕ
 evidence_text entity date evidence = compact_text (evidence_data entity date evidence)
+
+unfoldable pub entities_text : Identifier → ℤ → List RecordEvidence → List ℕ
+entities_text identifier date records = compact_text (entities_data identifier date records)
 
 unfoldable pub moved_text : ℤ → List ℕ
 moved_text day = compact_text (moved_data day)
@@ -65,6 +70,7 @@ desk_body (tell.Published outwards) = published_text outwards
 desk_body (tell.Snapshot date records) = snapshot_text date records
 desk_body (tell.Chains entity date persons) = chains_text entity date persons
 desk_body (tell.Evidence entity date evidence) = evidence_text entity date evidence
+desk_body (tell.Entities identifier date records) = entities_text identifier date records
 desk_body (tell.Day day) = moved_text day
 desk_body (tell.Enrolled name) = enrolled_text name
 desk_body (tell.Refused why) = desk_refusal_text why

@@ -52,6 +52,7 @@ desk_status (tell.Published outwards) = 200
 desk_status (tell.Snapshot date records) = 200
 desk_status (tell.Chains entity date persons) = 200
 desk_status (tell.Evidence entity date evidence) = 200
+desk_status (tell.Entities identifier date records) = 200
 desk_status (tell.Day day) = 200
 desk_status (tell.Enrolled name) = 201
 desk_status (tell.Refused why) = desk_refusal_status why

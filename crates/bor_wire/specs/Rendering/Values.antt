@@ -220,6 +220,17 @@ evidence_data entity date evidence =
     (member (codes "record") (string entity.rec)
     (member (codes "records") (list_data record_evidence_data evidence.records) no_members)))))))
 
+-- ---- who has an identifier
+
+-- the date, the identifier, and the open records of its entities
+abbrev pub entities_data : Identifier → ℤ → List RecordEvidence → Data
+entities_data identifier date records =
+    object
+    (member (codes "date") (day_data date)
+    (member (codes "entities") (list_data record_evidence_data records)
+    (member (codes "id") (string identifier.id)
+    (member (codes "scheme") (string identifier.scheme) no_members))))
+
 -- ---- the registrar's
 
 -- the register's day, once it is moved

@@ -95,6 +95,12 @@ declaration m = once (fitting is_ident) names.Declaration (query m)
 abbrev pub rec : Message → Option (List ℕ)
 rec m = once (fitting is_ident) names.Record (query m)
 
+abbrev pub scheme : Message → Option (List ℕ)
+scheme m = once (fitting is_ident) names.Scheme (query m)
+
+abbrev pub id : Message → Option (List ℕ)
+id m = once (fitting is_ident) names.Id (query m)
+
 abbrev pub date : Message → Option ℤ
 date m = once day_of names.Date (query m)
 

@@ -48,6 +48,9 @@ lines_of_names (Some routes.Evidence) m =
     table (asks names.Agent (part.agent m) ∷ asks names.Declaration (part.declaration m)
     ∷ asks names.Record (part.rec m)
     ∷ asks names.Date (part.date_or_none m) ∷ [])
+lines_of_names (Some routes.Entities) m =
+    table (asks names.Scheme (part.scheme m) ∷ asks names.Id (part.id m)
+    ∷ asks names.Date (part.date_or_none m) ∷ [])
 lines_of_names (Some routes.Day) m = table (asks names.Date (part.date m) ∷ [])
 lines_of_names (Some routes.Enrol) m =
     table (asks names.Name (part.new_name m) ∷ asks names.Token (part.new_token m) ∷ [])

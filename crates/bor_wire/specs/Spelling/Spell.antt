@@ -49,6 +49,9 @@ request_of (Some routes.Evidence) m =
       declaration = text_or_any (part.declaration m);
       rec = text_or_any (part.rec m);
     }) (unwrap_or (part.date_or_none m) None)
+request_of (Some routes.Entities) m =
+    ask.Entities (record { scheme = text_or_any (part.scheme m); id = text_or_any (part.id m) })
+    (unwrap_or (part.date_or_none m) None)
 request_of (Some routes.Day) m = ask.Day (day_or_any (part.date m))
 request_of (Some routes.Enrol) m =
     ask.Enrol (text_or_any (part.new_name m)) (text_or_any (part.new_token m))

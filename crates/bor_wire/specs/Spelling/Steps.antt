@@ -2,6 +2,7 @@
 -- is looked at.
 use Rattle.std.specs.Prelude.{◌≡◌, List, Option, Some, None, Result, Ok, Err, ⊤}
 use Rattle.bor_terms.specs.Texts.{is_agent_name, is_ident}
+use Rattle.bods_read.specs.declared.details.Identifier.{Identifier}
 use Rattle.bor_records.specs.declared.links.node.Node.{Node}
 use Rattle.bor_desk.specs.declared.request.Request.{Request}
 use Rattle.bor_desk.specs.declared.request.Request.TheVariants as ask
@@ -49,6 +50,13 @@ node_by_steps pairs = do
   rec ← named names.Record (part.once (part.fitting is_ident) names.Record pairs)
   Ok (record { agent = agent; declaration = declaration; rec = rec })
 
+-- the identifier that they name
+unfoldable pub identifier_by_steps : List TextPair → Result Identifier Refusal
+identifier_by_steps pairs = do
+  scheme ← named names.Scheme (part.once (part.fitting is_ident) names.Scheme pairs)
+  id ← named names.Id (part.once (part.fitting is_ident) names.Id pairs)
+  Ok (record { scheme = scheme; id = id })
+
 unfoldable pub request_by_steps : Route → Message → Result Request Refusal
 request_by_steps routes.Lodge m = do
   key ← named names.Key (part.key m)
@@ -75,6 +83,10 @@ request_by_steps routes.Evidence m = do
   node ← node_by_steps (part.query m)
   date ← named names.Date (part.date_or_none m)
   Ok (ask.Evidence node date)
+request_by_steps routes.Entities m = do
+  identifier ← identifier_by_steps (part.query m)
+  date ← named names.Date (part.date_or_none m)
+  Ok (ask.Entities identifier date)
 request_by_steps routes.Day m = do
   date ← named names.Date (part.date m)
   Ok (ask.Day date)

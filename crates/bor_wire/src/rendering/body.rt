@@ -2,16 +2,17 @@
 
 ghost use Rattle.std.specs.Prelude.{◌≡◌, IfOk, OnOk};
 ghost use Rattle.serde_json.specs.Written.{compact_text};
-ghost use Rattle.bor_wire.specs.Rendering.Values.{list_data, snapshot_data, chains_data, evidence_data};
-ghost use Rattle.bor_wire.specs.Rendering.Bodies.{snapshot_text, chains_text, evidence_text, desk_body};
+ghost use Rattle.bor_wire.specs.Rendering.Values.{list_data, snapshot_data, chains_data, evidence_data, entities_data};
+ghost use Rattle.bor_wire.specs.Rendering.Bodies.{snapshot_text, chains_text, evidence_text, entities_text, desk_body};
 ghost use Rattle.bor_wire.specs.Rendering.Parts.{Adds, data_tokens};
 
 use crate::rendering::head::HEAD_ROOM;
 use crate::rendering::reply::RESERVED;
 use crate::rendering::short::put_body;
 use crate::rendering::shown::{Shown, write_array, write_day, write_text};
+use bods_read::Identifier;
 use bor_chains::{Node, PersonLine};
-use bor_desk::{DeskReply, EntityEvidence};
+use bor_desk::{DeskReply, EntityEvidence, RecordEvidence};
 use bor_records::Entry;
 use bor_terms::Day;
 use json::Writer;
@@ -117,6 +118,39 @@ fn evidence_body(
     Ok(out.into_inner())
 }
 
+fn write_entities(
+    out: &mut Writer,
+    identifier: &Identifier,
+    date: Day,
+    records: &[RecordEvidence],
+) -> Result<(), AllocError>
+    ensures { Adds result out.old out.new
+        (data_tokens (entities_data identifier.now date records.now)) }
+{
+    out.begin_object()?;
+    out.key("date")?;
+    write_day(out, date)?;
+    out.key("entities")?;
+    write_array(out, records)?;
+    write_text(out, "id", identifier.id.as_str())?;
+    write_text(out, "scheme", identifier.scheme.as_str())?;
+    out.end_object()
+}
+
+// The open entities that have an identifier on a date.
+fn entities_body(
+    alloc: Global,
+    identifier: &Identifier,
+    date: Day,
+    records: &[RecordEvidence],
+) -> Result<Vec<u8>, AllocError>
+    ensures { IfOk result (λ body. body.items ≡ entities_text identifier.now date records.now) }
+{
+    let mut out = Writer::new(Vec::new(alloc));
+    write_entities(&mut out, identifier, date, records)?;
+    Ok(out.into_inner())
+}
+
 // The file as it was lodged, with room for the head of the reply.
 fn file_body(alloc: Global, file: &[u8]) -> Result<Vec<u8>, AllocError>
     ensures { IfOk result (λ body. body.items ≡ file.now) }
@@ -146,6 +180,11 @@ pub(crate) fn body_of(alloc: Global, reply: &DeskReply) -> Result<Vec<u8>, Alloc
             date,
             evidence,
         } => evidence_body(alloc, entity, *date, evidence),
+        DeskReply::Entities {
+            identifier,
+            date,
+            records,
+        } => entities_body(alloc, identifier, *date, records.as_slice()),
         short => {
             let mut body = Vec::with_capacity(alloc, RESERVED)?;
             put_body(&mut body, short);

@@ -33,6 +33,7 @@ pub fn is_long(reply: &DeskReply) -> bool
             | DeskReply::Snapshot { .. }
             | DeskReply::Chains { .. }
             | DeskReply::Evidence { .. }
+            | DeskReply::Entities { .. }
     )
 }
 

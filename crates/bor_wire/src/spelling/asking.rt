@@ -1,12 +1,13 @@
 //! The request of a message, and the token of whoever asks.
 ghost use Rattle.bor_wire.specs.Spelling.Spell.{asked_view, spell};
 ghost use Rattle.bor_wire.specs.Spelling.Query.{pair_texts};
-ghost use Rattle.bor_wire.specs.Spelling.Steps.{Finds, node_by_steps, request_by_steps};
+ghost use Rattle.bor_wire.specs.Spelling.Steps.{Finds, identifier_by_steps, node_by_steps, request_by_steps};
 
-use crate::spelling::name::{agent_named, day_if_named, day_named, ident_named};
+use crate::spelling::name::{agent_named, day_if_named, day_named, ident_named, text_named};
 use crate::spelling::query::{QueryPair, query_pairs};
 use crate::spelling::target::{key_at, path_at, split_at_first};
 use crate::spelling::token::{new_token, token_at};
+use bods_read::Identifier;
 use bor_chains::Node;
 use bor_desk::Request;
 use bor_http::incoming::{Name, RawRequest, Refusal, WireFault};
@@ -32,6 +33,17 @@ fn node_named(alloc: Global, pairs: &[QueryPair]) -> Result<Node, WireFault>
         agent: agent_named(alloc, pairs, Name::Agent)?,
         declaration: ident_named(alloc, pairs, Name::Declaration)?,
         rec: ident_named(alloc, pairs, Name::Record)?,
+    })
+}
+
+// The identifier that a query names.
+#[tactic(auto, unfolding(crate::specs::Spelling::Steps::identifier_by_steps))]
+fn identifier_named(alloc: Global, pairs: &[QueryPair]) -> Result<Identifier, WireFault>
+    ensures { Finds (λ identifier. identifier) result (identifier_by_steps (pair_texts pairs.now)) }
+{
+    Ok(Identifier {
+        scheme: text_named(alloc, pairs, Name::Scheme)?,
+        id: text_named(alloc, pairs, Name::Id)?,
     })
 }
 
@@ -67,6 +79,10 @@ fn request_for(alloc: Global, route: Route, raw: &RawRequest) -> Result<Request,
         }),
         Route::Evidence => Ok(Request::Evidence {
             entity: node_named(alloc, &pairs)?,
+            date: day_if_named(&pairs, Name::Date)?,
+        }),
+        Route::Entities => Ok(Request::Entities {
+            identifier: identifier_named(alloc, &pairs)?,
             date: day_if_named(&pairs, Name::Date)?,
         }),
         Route::Day => Ok(Request::Day {

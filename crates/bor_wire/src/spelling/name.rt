@@ -6,6 +6,7 @@ ghost use Rattle.bor_wire.specs.Spelling.Parts.{fitting, once, at_most_once};
 ghost use Rattle.bor_wire.specs.Spelling.Steps.{Finds, named};
 
 use crate::spelling::query::{QueryPair, count_pairs, only_value};
+use bods_read::FreeText;
 use bor_http::incoming::{Name, Refusal, WireFault};
 use bor_terms::{AgentName, Day, Ident};
 use std::alloc::Global;
@@ -46,6 +47,25 @@ pub(crate) fn ident_named(
         Some(ident) => Ok(ident),
         None => Err(WireFault::Refused(Refusal::BadQuery(name))),
     }
+}
+
+/// The text of this name's value, where it has the form of an identifier.
+#[tactic(auto, unfolding(crate::specs::Spelling::Parts::once))]
+pub(crate) fn text_named(
+    alloc: Global,
+    pairs: &[QueryPair],
+    name: Name,
+) -> Result<FreeText, WireFault>
+    ensures { Finds (λ text. text) result
+        (named name (once (fitting is_ident) name (pair_texts pairs.now))) }
+{
+    let Some(text) = only_value(pairs, name.as_str()) else {
+        return Err(WireFault::Refused(Refusal::BadQuery(name)));
+    };
+    if !Ident::fits(text) {
+        return Err(WireFault::Refused(Refusal::BadQuery(name)));
+    }
+    Ok(FreeText::new(alloc, String::from_str(alloc, text)?)?)
 }
 
 /// The day of this name's value.

@@ -8,7 +8,7 @@ pub loop-place-init : goal.loop-place-init
 loop-place-init g c = record {
   same_reference = refl;
   kept = search rules;
-  lasts = same_lasts _ _ _;
+  lasts = same_lasts _ _;
   counts = refl;
   crossed = λ m e k. crossings_none (g.S.LinkSource.shown m) c.args.marks.now c.args.start _ c.new-crossings.ensures.items;
 }
@@ -18,9 +18,9 @@ loop-place-preserved g c =
     let invariant = c.loop-place.invariant in
     record {
       same_reference = cc (c.cross_one.ensures.same_reference, invariant.same_reference);
-      kept = kept_then _ _ _ _ _ _ _ invariant.kept c.cross_one.ensures.kept;
-      lasts = lasts_then _ _ _ _ _ invariant.lasts c.in_ok-cross_one.ensures.lasts;
-      counts = cc (c.in_ok-cross_one.ensures.counts, invariant.counts);
+      kept = kept_then _ _ _ _ invariant.kept c.cross_one.ensures.kept;
+      lasts = lasts_then _ _ _ _ invariant.lasts c.in_ok-cross_one.ensures.accounted.lasts;
+      counts = cc (c.in_ok-cross_one.ensures.accounted.counts, invariant.counts);
       crossed = λ m e k. let s = g.S.LinkSource.shown m in
           let clean = c.cross_one.ensures.kept.began k in
           crossings_more s c.args.marks.now c.args.start c.loop-place.place c.at.result.now c.loop-place.crossings.items c.cross_one.new.crossings.items (omega arith) (omega arith) c.at.ensures

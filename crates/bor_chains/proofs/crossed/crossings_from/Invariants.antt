@@ -9,8 +9,8 @@ invariant-loop-place g l =
     let source = g.S.LinkSource in
     record {
       same_reference : source.lender l.source ≡ source.lender l.initial.source;
-      kept : Kept source.shows source.is_clean source.is_sound source.may_leave l.initial.source l.source;
-      lasts : StaysClean source.is_clean source.is_sound l.initial.source l.source;
-      counts : source.fault_count l.source ≡ source.fault_count l.initial.source;
-      crossed : Promised source.shows source.is_clean l.initial.source l.source (λ m. AreCrossings (source.shown m) l.marks l.start l.place l.crossings.items);
+      kept : Kept source.meaning l.initial.source l.source;
+      lasts : StaysClean source.meaning l.initial.source l.source;
+      counts : source.meaning.fault_count l.source ≡ source.meaning.fault_count l.initial.source;
+      crossed : Promised source.meaning l.initial.source l.source (λ m. AreCrossings (source.shown m) l.marks l.start l.place l.crossings.items);
     }

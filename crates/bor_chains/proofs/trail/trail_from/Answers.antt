@@ -9,8 +9,8 @@ loop-start-init g c = record {
   within = omega arith;
   same_reference = c.begin.ensures.same_reference;
   kept = c.begin.ensures.kept;
-  lasts = c.in_ok-trail.ensures.lasts;
-  counts = c.in_ok-trail.ensures.counts;
+  lasts = c.in_ok-trail.ensures.accounted.lasts;
+  counts = c.in_ok-trail.ensures.accounted.counts;
   walked = λ m e k. (0, c.in_ok-trail.ensures.walked m e k);
 }
 
@@ -20,9 +20,9 @@ loop-start-preserved g c =
     record {
       within = omega (arith, c.in_ok-go_on.ensures.longer);
       same_reference = cc (c.go_on.ensures.same_reference, invariant.same_reference);
-      kept = kept_then _ _ _ _ _ _ _ invariant.kept c.go_on.ensures.kept;
-      lasts = lasts_then _ _ _ _ _ invariant.lasts c.in_ok-go_on.ensures.lasts;
-      counts = cc (c.in_ok-go_on.ensures.counts, invariant.counts);
+      kept = kept_then _ _ _ _ invariant.kept c.go_on.ensures.kept;
+      lasts = lasts_then _ _ _ _ invariant.lasts c.in_ok-go_on.ensures.accounted.lasts;
+      counts = cc (c.in_ok-go_on.ensures.accounted.counts, invariant.counts);
       walked = λ m e k.
           let s = g.S.LinkSource.shown m in
           let began = c.go_on.ensures.kept.began k in

@@ -10,10 +10,10 @@ invariant-loop-start g l =
     record {
       within : l.start ≤ length l.trail.marks;
       same_reference : source.lender l.source ≡ source.lender l.fn.source;
-      kept : Kept source.shows source.is_clean source.is_sound source.may_leave l.fn.source l.source;
-      lasts : StaysClean source.is_clean source.is_sound l.fn.source l.source;
-      counts : source.fault_count l.source ≡ source.fault_count l.fn.source;
-      walked : Promised source.shows source.is_clean l.fn.source l.source (λ m. (level : ℕ) × IsAtLevel (source.shown m) l.target l.start level l.trail);
+      kept : Kept source.meaning l.fn.source l.source;
+      lasts : StaysClean source.meaning l.fn.source l.source;
+      counts : source.meaning.fault_count l.source ≡ source.meaning.fault_count l.fn.source;
+      walked : Promised source.meaning l.fn.source l.source (λ m. (level : ℕ) × IsAtLevel (source.shown m) l.target l.start level l.trail);
     }
 
 -- a list in memory has fewer than 2 ^ 64 elements

@@ -24,4 +24,4 @@ returns-clause-text c =
     refused-text c.in-Err.fault c.from.result (λ left. c.lodge.new.keep.register ≡ left) r _ _ c.fault_text.result same (c.in-Err.ensures.step r refl tt) c.from.ensures c.fault_text.ensures
 
 pub returns-clause-err : goal.returns-clause-err
-returns-clause-err c = refused-err c.in-Err.fault c.from.result c.fault_text.result _ _ (c.in-Err.ensures.told c.args.keep.now.register refl tt) c.from.ensures c.fault_text.ensures
+returns-clause-err c = refused-err c.in-Err.fault c.from.result c.fault_text.result _ _ (c.in-Err.ensures.accounted.told c.args.keep.now.register refl tt) c.from.ensures c.fault_text.ensures

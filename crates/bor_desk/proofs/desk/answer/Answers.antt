@@ -8,7 +8,7 @@ use Rattle.bor_desk.proofs.desk.answer.Goals as goal
 pub returns-clause-legal : goal.returns-clause-legal
 returns-clause-legal g c = λ r is clean legal.
     let caller = caller_of c.args.token.now r in
-    left_legal c.answer_naming-reply.result.reply (g.K.Keep.shows c.answer_naming-reply.new.keep) r (step r caller c.args.request.now).register (c.answer_naming-reply.ensures.left r is clean) legal
+    left_legal c.answer_naming-reply.result.reply (g.K.Keep.meaning.shows c.answer_naming-reply.new.keep) r (step r caller c.args.request.now).register (c.answer_naming-reply.ensures.left r is clean) legal
     (step-stays_legal r caller c.args.request.now legal)
 
 pub returns-clause-alone : goal.returns-clause-alone

@@ -1,4 +1,9 @@
+use Rattle.std.proofs.Common.{subst, sym}
 use Rattle.bor_register.proofs.Callers.{caller_is_enrolled}
+use Rattle.bor_desk.specs.declared.reply.DeskReply.{DeskReply}
+use Rattle.bor_desk.specs.Operations.Outcomes.{Accounts}
+use Rattle.bor_desk.specs.Outcomes.{fault_of}
+use Rattle.bor_desk.proofs.Accounts.{after_answer}
 use Rattle.bor_desk.proofs.desk.answer_naming.Goals as goal
 
 pub answer_agent-made-requires : goal.answer_agent-made-requires
@@ -8,3 +13,10 @@ answer_agent-made-requires g c = record {
       let who = c.in-Ok-Some-Agent.ensures.reads.answer r was clean in
       caller_is_enrolled r c.args.token.now c.in-Ok-Some-Agent.name (cc);
 }
+
+pub returns-in-Ok-Some-Agent-clause-accounted : goal.returns-in-Ok-Some-Agent-clause-accounted
+returns-in-Ok-Some-Agent-clause-accounted g c =
+    let who = c.in-Ok-Some-Agent.ensures.reads in
+    let made = c.answer_agent-made.ensures in
+    subst (λ (reply : DeskReply). Accounts g.K.Keep.meaning c.args.keep.now c.answer_agent-made.new.keep (fault_of reply)) (sym c.named-in-Ok-Some-Agent.ensures.reply)
+    (after_answer g.K.Keep.meaning _ _ _ _ who.kept who.counts who.lasts made.leaves.began made.accounted)

@@ -30,7 +30,7 @@ pub returns-clause-ends : goal.returns-clause-ends
 returns-clause-ends g c =
     let three : exit_code c.tell-in-Err.result ≡ 3 = ap exit_code c.tell-in-Err.ensures.status in
     ends_failed _ _ [] _ _ _ _ three (none_read _ _)
-    (inr (none_answered g.K.OpenRegister.shows g.K.OpenRegister.is_clean g.K.OpenRegister.is_sound g.K.OpenRegister.may_leave g.K.OpenRegister.left_shows _ _ refl, keeps_same _))
+    (inr (none_answered g.K.OpenRegister.meaning _ _ refl, keeps_same _))
 
 pub returns-in-Ok-exchange_on-clause-told : goal.returns-in-Ok-exchange_on-clause-told
 returns-in-Ok-exchange_on-clause-told g c = told_alone c.args.files.now _ _ _ _ c.in-Ok.ensures.told

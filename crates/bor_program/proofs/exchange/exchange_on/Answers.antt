@@ -8,8 +8,8 @@ use Rattle.bor_program.proofs.exchange.exchange_on.Goals as goal
 
 pub returns-in_err-replies-clause-sent : goal.returns-in_err-replies-clause-sent
 returns-in_err-replies-clause-sent g c =
-    let none = none_answered g.K.OpenRegister.shows g.K.OpenRegister.is_clean g.K.OpenRegister.is_sound g.K.OpenRegister.may_leave g.K.OpenRegister.left_shows c.args.register.now c.replay.new.self c.in_err-replies.ensures.err in
-    sends_err (AreAnswers g.K.OpenRegister.shows g.K.OpenRegister.is_clean g.K.OpenRegister.is_sound g.K.OpenRegister.may_leave g.K.OpenRegister.left_shows c.args.register.now c.replay.new.self) (map (λ v. v.items) c.args.inputs.now)
+    let none = none_answered g.K.OpenRegister.meaning c.args.register.now c.replay.new.self c.in_err-replies.ensures.err in
+    sends_err (AreAnswers g.K.OpenRegister.meaning c.args.register.now c.replay.new.self) (map (λ v. v.items) c.args.inputs.now)
     (g.O.Write.contents c.args.output.now) (g.O.Write.contents c.args.output.now) c.from_residual.result (search rules) (inr (none, keeps_same _))
 
 pub returns-in_err-send-clause-sent : goal.returns-in_err-send-clause-sent
@@ -18,10 +18,10 @@ returns-in_err-send-clause-sent g c =
     let inputs = c.args.inputs.now in
     let replies = c.in_ok-replies.replies.items in
     let counted : length replies ≡ length (map (λ v. v.items) inputs) = told.count ∙ sym (length-map inputs (λ v. v.items)) in
-    let are : AreAnswers g.K.OpenRegister.shows g.K.OpenRegister.is_clean g.K.OpenRegister.is_sound g.K.OpenRegister.may_leave g.K.OpenRegister.left_shows c.args.register.now c.replay.new.self (map (λ v. v.items) inputs) replies =
-    all_answered g.K.OpenRegister.shows g.K.OpenRegister.is_clean g.K.OpenRegister.is_sound g.K.OpenRegister.may_leave g.K.OpenRegister.left_shows c.args.register.now c.replay.new.self _ replies c.replay.ensures.began counted told.spelled told.replies told.left told.alone told.reports told.in_turn in
+    let are : AreAnswers g.K.OpenRegister.meaning c.args.register.now c.replay.new.self (map (λ v. v.items) inputs) replies =
+    all_answered g.K.OpenRegister.meaning c.args.register.now c.replay.new.self _ replies c.replay.ensures.began counted told.spelled told.run told.in_turn in
     let part : AppendsPart (g.O.Write.contents c.args.output.now) (g.O.Write.contents c.send.new.output) (sent replies) = search rules in
-    sends_err (AreAnswers g.K.OpenRegister.shows g.K.OpenRegister.is_clean g.K.OpenRegister.is_sound g.K.OpenRegister.may_leave g.K.OpenRegister.left_shows c.args.register.now c.replay.new.self) (map (λ v. v.items) inputs)
+    sends_err (AreAnswers g.K.OpenRegister.meaning c.args.register.now c.replay.new.self) (map (λ v. v.items) inputs)
     (g.O.Write.contents c.args.output.now) (g.O.Write.contents c.send.new.output) c.from_residual-in_err-send.result (search rules) (inl (replies, are, part))
 
 pub returns-clause-sent : goal.returns-clause-sent
@@ -31,7 +31,7 @@ returns-clause-sent g c =
     let replies = c.in_ok-replies.replies.items in
     let counted : length replies ≡ length (map (λ v. v.items) inputs) = told.count ∙ sym (length-map inputs (λ v. v.items)) in (
       replies,
-      all_answered g.K.OpenRegister.shows g.K.OpenRegister.is_clean g.K.OpenRegister.is_sound g.K.OpenRegister.may_leave g.K.OpenRegister.left_shows c.args.register.now c.replay.new.self _ replies c.replay.ensures.began counted told.spelled told.replies told.left told.alone told.reports told.in_turn,
+      all_answered g.K.OpenRegister.meaning c.args.register.now c.replay.new.self _ replies c.replay.ensures.began counted told.spelled told.run told.in_turn,
       search rules,
       search rules,
     )

@@ -4,7 +4,7 @@ use Rattle.bor_desk.proofs.OnOperations.Legality.{empty-legal}
 use Rattle.bor_program.specs.Program.{exit_code}
 use Rattle.bor_program.proofs.Ends.{keeps_same, part_none}
 use Rattle.bor_program.proofs.MetFailures.{fails_to_open}
-use Rattle.bor_program.proofs.Replies.{sent_as, sent_some}
+use Rattle.bor_program.proofs.Replies.{sent_as, sent_some, whatever_left}
 use Rattle.bor_program.proofs.Unread.{files_as}
 use Rattle.bor_program.proofs.exchange.exchange_told.Goals as goal
 
@@ -40,7 +40,7 @@ returns-in-Some-clause-done g c =
     record {
       sent = ([], inr (part_none _ _ [] (keeps_same _), three));
       answered = λ none. absurd (named _ _ c.in-Some.is none);
-      opened = of_named _ _ _ c.in-Some.is (inl (fails_to_open _ _ _ _ _ _ _ _ _ three c.in-Err.ensures.err c.in-Err.ensures.cause c.tell.ensures.line));
+      opened = of_named _ _ _ c.in-Some.is (inl (fails_to_open _ _ _ _ three (keeps_same _) c.in-Err.ensures.err c.in-Err.ensures.cause c.tell.ensures.line));
       silent = λ low. absurd (omega (arith, low, three));
     }
 
@@ -51,7 +51,7 @@ returns-clause-done g c =
     let first = empty_register c.args.asked.registrar c.args.asked.day in
     record {
       sent = sent_some _ _ _ _ _ _ ends;
-      answered = λ none. (refl, sent_as _ _ _ _ _ _ _ _ refl (λ inputs replies h. (h.answers first c.new-register.ensures.shown tt (empty-legal _ _)).replies_to) ends, told);
+      answered = λ none. (refl, sent_as _ _ _ _ _ _ _ _ refl (λ inputs replies h. whatever_left _ first inputs replies (empty-legal _ _) (h.answers first c.new-register.ensures.shown tt (empty-legal _ _))) ends, told);
       opened = of_none _ _ c.in-None.is;
       silent = c.exchange_files.ensures.silent;
     }

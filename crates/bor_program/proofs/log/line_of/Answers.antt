@@ -32,3 +32,6 @@ returns-in-Enrol-clause-route c = routed asks.Enrol ∙ ap Some (sym c.in-Enrol.
 
 pub returns-in-Evidence-clause-route : goal.returns-in-Evidence-clause-route
 returns-in-Evidence-clause-route c = routed asks.Evidence ∙ ap Some (sym c.in-Evidence.is)
+
+pub returns-in-Entities-clause-route : goal.returns-in-Entities-clause-route
+returns-in-Entities-clause-route c = routed asks.Entities ∙ ap Some (sym c.in-Entities.is)

@@ -18,7 +18,7 @@ pub returns-in-Err-clause-done : goal.returns-in-Err-clause-done
 returns-in-Err-clause-done g c =
     let three : exit_code c.tell.result ≡ 3 = ap exit_code c.tell.ensures.status in
     record {
-      moved = inl (fails_to_open _ _ _ _ _ _ _ _ _ three c.in-Err.ensures.err c.in-Err.ensures.cause c.tell.ensures.line);
+      moved = inl (fails_to_open _ _ _ _ three (keeps_same _) c.in-Err.ensures.err c.in-Err.ensures.cause c.tell.ensures.line);
       text = inr (record { text = part_none _ _ migrated.bytes (keeps_same _); told = three });
       silent = λ low. absurd (omega (arith, low, three));
       line = λ _. (c.in-Err.failure, met_opening c.args.asked.db _ _ c.in-Err.ensures.cause, c.tell.ensures.line);

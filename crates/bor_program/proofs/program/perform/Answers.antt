@@ -3,19 +3,7 @@ use Rattle.bor_program.proofs.Ends.{keeps_same}
 use Rattle.bor_program.proofs.program.perform.Goals as goal
 
 pub returns-in-Check-clause-done : goal.returns-in-Check-clause-done
-returns-in-Check-clause-done g c = rw c.in-Check.is (
-  refl,
-  record {
-    report = c.check_told.ensures.report;
-    known = c.check_told.ensures.known;
-    of_file = c.check_told.ensures.of_file;
-    taken = c.check_told.ensures.taken;
-    at_most = c.check_told.ensures.at_most;
-    unread = c.check_told.ensures.unread;
-    silent = c.check_told.ensures.silent;
-    line = c.check_told.ensures.told;
-  },
-)
+returns-in-Check-clause-done g c = rw c.in-Check.is (refl, c.check_told.ensures.done)
 
 pub returns-in-Init-clause-done : goal.returns-in-Init-clause-done
 returns-in-Init-clause-done g c = rw c.in-Init.is (keeps_same _, c.init.ensures.done)

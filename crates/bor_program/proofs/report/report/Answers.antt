@@ -47,7 +47,7 @@ returns-in-Err-clause-done g c =
     let three : exit_code c.tell-in-Err.result ≡ 3 = ap exit_code c.tell-in-Err.ensures.status in
     record {
       text = no_text _ _ _ three (keeps_same _);
-      opened = inl (fails_to_open _ _ _ _ _ _ _ _ _ three c.in-Err.ensures.err c.in-Err.ensures.cause c.tell-in-Err.ensures.line);
+      opened = inl (fails_to_open _ _ _ _ three (keeps_same _) c.in-Err.ensures.err c.in-Err.ensures.cause c.tell-in-Err.ensures.line);
       silent = λ low. absurd (omega (arith, low, three));
       line = λ _. (c.in-Err.failure, met_opening c.args.asked.now.db _ _ c.in-Err.ensures.cause, c.tell-in-Err.ensures.line);
     }

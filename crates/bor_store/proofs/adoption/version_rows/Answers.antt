@@ -18,11 +18,14 @@ returns-clause-asked g c =
     let new = state g.S.Store c.query_all.new.self in
     let auto : IsTrue c.is_autocommit-settled.result = c.is_autocommit-settled.ensures.value ∙ ap not c.requires in
     record {
-      clean = was_clean old new _ c.query_all.ensures.survives;
-      stops = leaves_no_more old new version_text version_asks [] c.query_all.ensures.survives;
+      reads = record {
+        mode = c.query_all.ensures.mode;
+        clean = was_clean old new _ c.query_all.ensures.survives;
+        stops = leaves_no_more old new version_text version_asks [] c.query_all.ensures.survives;
+        began = λ clean. (was_clean old new _ c.query_all.ensures.survives clean.0, (left_by old new version_text version_asks [] rows_in c.query_all.result (c.query_all.ensures.ok clean.0) (c.query_all.ensures.err clean.0)).was_open clean.1);
+        kept = λ clean. (left_by old new version_text version_asks [] rows_in c.query_all.result (c.query_all.ensures.ok clean.0) (c.query_all.ensures.err clean.0)).committed clean.1;
+      };
       up = up_by old new version_text version_asks [] rows_in c.query_all.result c.query_all.ensures.ok;
-      began = λ clean. (was_clean old new _ c.query_all.ensures.survives clean.0, (left_by old new version_text version_asks [] rows_in c.query_all.result (c.query_all.ensures.ok clean.0) (c.query_all.ensures.err clean.0)).was_open clean.1);
-      kept = λ clean. (left_by old new version_text version_asks [] rows_in c.query_all.result (c.query_all.ensures.ok clean.0) (c.query_all.ensures.err clean.0)).committed clean.1;
       shown = λ clean. settled_shown version_text [] old new
           (c.is_autocommit-settled.ensures.settled auto ((left_by old new version_text version_asks [] rows_in c.query_all.result (c.query_all.ensures.ok clean.0) (c.query_all.ensures.err clean.0)).was_open clean.1)) c.query_all.result (c.query_all.ensures.ok clean.0);
     }

@@ -25,7 +25,7 @@ returns-clause-answer g c =
     let number = c.args.number in
     in_words (state g.S.Store c.args.conn.now) (state g.S.Store c.file_by_number.new.conn) c.first_value.result (λ r file. file ≡ slice_get (map filing_shown (numbered number (filings_of agent r.members))) 0) (λ r file. file ≡ option_map filing_shown (filed_at agent number r.members))
     (λ r file is. is ∙ first_made filing_shown (numbered number (filings_of agent r.members)))
-    (told_either shown_columns IsFormedShown (state g.S.Store c.args.conn.now) (state g.S.Store c.file_by_number.new.conn) c.file_by_number.result (λ r. map (λ f. shown_columns (filing_shown f)) (numbered number (filings_of c.as_str.result.now r.members))) c.file_by_number.ensures.both
+    (told_either shown_columns IsFormedShown (state g.S.Store c.args.conn.now) (state g.S.Store c.file_by_number.new.conn) c.file_by_number.result (λ r. map (λ f. shown_columns (filing_shown f)) (numbered number (filings_of c.as_str.result.now r.members))) c.file_by_number.ensures
     (λ r. map filing_shown (numbered number (filings_of agent r.members)))
     (λ r. ap (λ a. map (λ f. shown_columns (filing_shown f)) (numbered number (filings_of a r.members))) c.as_str.ensures.value ∙ sym (map-map shown_columns filing_shown (numbered number (filings_of agent r.members))))
     (λ r stored. all_mapped IsFormedFiling IsFormedShown filing_shown shown_formed (numbered number (filings_of agent r.members)) (All-filter (λ (f : AcceptedFiling). f.number == number) IsFormedFiling (filings_of agent r.members) (formed-filings_of agent r.members stored.formed.members)))

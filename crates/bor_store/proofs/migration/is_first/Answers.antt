@@ -41,7 +41,7 @@ pub returns-clause-first : goal.returns-clause-first
 returns-clause-first g c clean r shows =
     let was = state g.S.Store c.args.conn.now in
     let auto : IsTrue c.is_autocommit-settled.result = c.is_autocommit-settled.ensures.value ∙ ap not c.requires in
-    let began = c.in_ok-rows.ensures.asked.began clean in
+    let began = c.in_ok-rows.ensures.asked.reads.began clean in
     let settled = c.is_autocommit-settled.ensures.settled auto began.1 in
     let found = first_found r was was c.in_ok-rows.rows.items shows (settled, c.in_ok-rows.ensures.versions clean.0) in
     let version : version_in c.as_slice.result.now ≡ Some (pos 1) = ap version_in (c.as_slice.ensures.value ∙ found) in
@@ -54,7 +54,7 @@ pub returns-clause-second : goal.returns-clause-second
 returns-clause-second g c clean r shows =
     let was = state g.S.Store c.args.conn.now in
     let auto : IsTrue c.is_autocommit-settled.result = c.is_autocommit-settled.ensures.value ∙ ap not c.requires in
-    let began = c.in_ok-rows.ensures.asked.began clean in
+    let began = c.in_ok-rows.ensures.asked.reads.began clean in
     let settled = c.is_autocommit-settled.ensures.settled auto began.1 in
     let found = version_found r was was c.in_ok-rows.rows.items shows (settled, c.in_ok-rows.ensures.versions clean.0) in
     let version : version_in c.as_slice.result.now ≡ Some (pos 2) = ap version_in (c.as_slice.ensures.value ∙ found) in

@@ -1,7 +1,7 @@
 use Rattle.std.proofs.Common.{sym, ◌∙◌}
 use Rattle.std.specs.BTreeSet.{contains}
 use Rattle.bor_records.specs.Links.Signs.{sign_cmp}
-use Rattle.bor_store_reads.proofs.Reading.{read_as, read_fails, read_next, read_so}
+use Rattle.bor_store_reads.proofs.Reading.{read_as, read_next, read_so}
 use Rattle.bor_store_keys.specs.Viewed.{rows_seen}
 use Rattle.bor_chains.proofs.Aliasing.{follows_closed, follows_entity, follows_person}
 use Rattle.bor_store_keys.proofs.alike.add_aliases.Goals as goal
@@ -19,6 +19,3 @@ pub returns : goal.returns
 returns g c = read_as (read_next c.in_ok-one.ensures c.add_signs.ensures)
     (λ r _ stored is. follows_entity c.args.view.now.day (rows_seen c.args.view.now r) c.args.node.now c.in-Some.one (sym c.in-Some.is ∙ is.0) c.args.class.now c.add_signs.new.class
     (λ k. contains sign_cmp c.args.looked.now k) (λ k. contains sign_cmp c.add_signs.new.looked k) is.1 (sym c.is_entity.ensures ∙ c.if-not-is_entity.false))
-
-pub returns-in_err-one : goal.returns-in_err-one
-returns-in_err-one g c = read_fails c.from_residual.ensures.1 c.in_err-one.ensures

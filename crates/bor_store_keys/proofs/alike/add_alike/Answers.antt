@@ -3,21 +3,19 @@ use Rattle.bor_chains.specs.Candidates.{IsAlikeIn}
 use Rattle.bor_records.specs.Links.Growth.{Grown}
 use Rattle.std.proofs.lemmas.List.{take_all}
 use Rattle.std.proofs.Common.{arith, rules, List, subst}
-use Rattle.bor_chains.proofs.ByRecord.{alike_more}
-use Rattle.bor_store_reads.proofs.Reading.{read_fails, read_next, read_so, unread}
+use Rattle.bor_records.specs.Links.Shown.{is_like}
+use Rattle.bor_chains.proofs.ByRecord.{fit_more}
+use Rattle.bor_store_reads.proofs.Reading.{read_next, read_so, unread}
 use Rattle.bor_store_keys.specs.Viewed.{rows_seen}
 use Rattle.bor_store_keys.proofs.alike.add_alike.Goals as goal
 
 pub loop-candidate-init : goal.loop-candidate-init
-loop-candidate-init g c = unread c.requires (λ r stored. search rules)
+loop-candidate-init g c = unread (λ r stored. search rules)
 
 pub loop-candidate-preserved : goal.loop-candidate-preserved
 loop-candidate-preserved g c = read_so (read_next c.loop-candidate.invariant c.in_ok-add_if_alike.ensures)
     (λ r stored is.
-    alike_more c.args.view.now.day (rows_seen c.args.view.now r) c.args.one.now c.args.candidates.now c.loop-candidate.candidate-index c.candidate-item.result c.args.class.now c.loop-candidate.class c.add_if_alike.new.class (omega arith) c.candidate-item.is is.0 is.1)
-
-pub returns-in_err-add_if_alike : goal.returns-in_err-add_if_alike
-returns-in_err-add_if_alike g c = read_fails c.from_residual.ensures.1 (read_next c.loop-candidate.invariant c.in_err-add_if_alike.ensures)
+    fit_more c.args.view.now.day (rows_seen c.args.view.now r) (is_like c.args.one.now) c.args.candidates.now c.loop-candidate.candidate-index c.candidate-item.result c.args.class.now c.loop-candidate.class c.add_if_alike.new.class (omega arith) c.candidate-item.is is.0 is.1)
 
 pub returns : goal.returns
 returns g c = read_so c.loop-candidate.invariant

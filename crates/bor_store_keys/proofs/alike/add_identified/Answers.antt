@@ -3,14 +3,14 @@ use Rattle.std.proofs.lemmas.List.{take_all}
 use Rattle.std.specs.BTreeSet.{contains}
 use Rattle.bods_read.specs.declared.details.Identifier.{Identifier}
 use Rattle.bor_records.specs.Links.Signs.{by_identifier, sign_cmp}
-use Rattle.bor_store_reads.proofs.Reading.{read_fails, read_next, read_so, read_wants, unread}
+use Rattle.bor_store_reads.proofs.Reading.{read_next, read_so, unread}
 use Rattle.bor_chains.specs.Alike.{Expands}
 use Rattle.bor_store_keys.specs.Viewed.{rows_seen}
 use Rattle.bor_chains.proofs.Aliasing.{expands_none, expands_identifier}
 use Rattle.bor_store_keys.proofs.alike.add_identified.Goals as goal
 
 pub loop-identifier-init : goal.loop-identifier-init
-loop-identifier-init g c = unread c.requires (λ r stored. expands_none c.args.view.now.day (rows_seen c.args.view.now r) c.args.one.now c.args.class.now (λ k. contains sign_cmp c.args.looked.now k))
+loop-identifier-init g c = unread (λ r stored. expands_none c.args.view.now.day (rows_seen c.args.view.now r) c.args.one.now c.args.class.now (λ k. contains sign_cmp c.args.looked.now k))
 
 pub loop-identifier-preserved : goal.loop-identifier-preserved
 loop-identifier-preserved g c = read_so (read_next c.loop-identifier.invariant c.in_ok-add_signed.ensures)
@@ -24,9 +24,3 @@ returns g c = read_so c.loop-identifier.invariant
     (λ r stored is.
     subst (λ (ids : List Identifier). Expands c.args.view.now.day (rows_seen c.args.view.now r) c.args.one.now (map by_identifier ids) c.args.class.now c.loop-identifier.class (λ k. contains sign_cmp c.args.looked.now k) (λ k. contains sign_cmp c.loop-identifier.looked k))
     (take_all c.loop-identifier.identifier-index c.args.identifiers.now (omega arith)) is)
-
-pub returns-in_err-sign : goal.returns-in_err-sign
-returns-in_err-sign g c = read_wants c.from_residual.ensures.1 c.loop-identifier.invariant.reads
-
-pub returns-in_err-add_signed : goal.returns-in_err-add_signed
-returns-in_err-add_signed g c = read_fails c.from_residual-in_err-add_signed.ensures.1 (read_next c.loop-identifier.invariant c.in_err-add_signed.ensures)

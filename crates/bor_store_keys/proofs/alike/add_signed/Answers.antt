@@ -4,14 +4,14 @@ use Rattle.bor_records.specs.declared.links.node.Node.{Node}
 use Rattle.bor_records.specs.Links.Growth.{Grown}
 use Rattle.bor_records.specs.Links.Signs.{sign_cmp}
 use Rattle.bor_chains.specs.Candidates.{IsAlikeIn}
-use Rattle.bor_store_reads.proofs.Reading.{read_fails, read_next, read_so, read_wants, unread}
+use Rattle.bor_store_reads.proofs.Reading.{read_next, read_so, unread}
 use Rattle.bor_store_keys.specs.Viewed.{rows_seen}
 use Rattle.bor_chains.proofs.Aliasing.{expands_seen, expands_sign}
 use Rattle.bor_store_keys.proofs.Signing.{sign_covered}
 use Rattle.bor_store_keys.proofs.alike.add_signed.Goals as goal
 
 pub returns-then-contains : goal.returns-then-contains
-returns-then-contains g c = unread c.requires
+returns-then-contains g c = unread
     (λ r stored. expands_seen c.args.view.now.day (rows_seen c.args.view.now r) c.args.one.now c.args.sign c.args.class.now (λ k. contains sign_cmp c.args.looked.now k) (sym c.contains.ensures ∙ c.if-contains.true))
 
 pub returns : goal.returns
@@ -23,12 +23,3 @@ returns g c =
     (sign_covered view r stored c.args.sign candidates is.0)
     (subst (λ (ns : List Node). Grown (IsAlikeIn view.day (rows_seen view r) c.args.one.now ns) c.args.class.now c.add_alike.new.class) c.deref.ensures.value is.1)
     c.in_ok-insert.ensures.updates.0 c.in_ok-insert.ensures.updates.1)
-
-pub returns-in_err-candidates : goal.returns-in_err-candidates
-returns-in_err-candidates g c = read_fails c.from_residual.ensures.1 c.in_err-candidates.ensures
-
-pub returns-in_err-add_alike : goal.returns-in_err-add_alike
-returns-in_err-add_alike g c = read_fails c.from_residual-in_err-add_alike.ensures.1 (read_next c.in_ok-candidates.ensures c.in_err-add_alike.ensures)
-
-pub returns-in_err-insert : goal.returns-in_err-insert
-returns-in_err-insert g c = read_wants c.from_residual-in_err-insert.ensures.1 (read_next c.in_ok-candidates.ensures c.in_ok-add_alike.ensures).reads

@@ -2,7 +2,7 @@ use Rattle.std.proofs.Common.{List, map, subst}
 use Rattle.std.specs.BTreeSet.{contains}
 use Rattle.bods_read.specs.declared.details.Identifier.{Identifier}
 use Rattle.bor_records.specs.Links.Signs.{by_identifier, sign_cmp}
-use Rattle.bor_store_reads.proofs.Reading.{nothing_read, read_as, read_fails, read_next, read_wants}
+use Rattle.bor_store_reads.proofs.Reading.{read_as, read_next}
 use Rattle.bor_chains.specs.Alike.{Expands}
 use Rattle.bor_store_keys.specs.Viewed.{rows_seen}
 use Rattle.bor_chains.proofs.Aliasing.{expands_signs}
@@ -15,9 +15,3 @@ returns g c =
     (λ r _ stored is. expands_signs view.day (rows_seen view r) c.args.one.now c.in_ok-sign.sign c.args.class.now c.add_signed.new.class c.add_identified.new.class
     (λ k. contains sign_cmp c.args.looked.now k) (λ k. contains sign_cmp c.add_signed.new.looked k) (λ k. contains sign_cmp c.add_identified.new.looked k) c.in_ok-sign.ensures is.0
     (subst (λ (ids : List Identifier). Expands view.day (rows_seen view r) c.args.one.now (map by_identifier ids) c.add_signed.new.class c.add_identified.new.class (λ k. contains sign_cmp c.add_signed.new.looked k) (λ k. contains sign_cmp c.add_identified.new.looked k)) c.as_slice.ensures is.1))
-
-pub returns-in_err-sign : goal.returns-in_err-sign
-returns-in_err-sign g c = read_wants c.from_residual.ensures.1 (nothing_read c.requires)
-
-pub returns-in_err-add_signed : goal.returns-in_err-add_signed
-returns-in_err-add_signed g c = read_fails c.from_residual-in_err-add_signed.ensures.1 c.in_err-add_signed.ensures

@@ -7,7 +7,7 @@ use Rattle.bor_records.specs.Links.Nodes.{same_node}
 use Rattle.bor_records.specs.Links.Signs.{sign_cmp}
 use Rattle.bor_register.proofs.Aliasing.{aliases_found}
 use Rattle.bor_chains.proofs.Classes.{empty_has}
-use Rattle.bor_store_reads.proofs.Reading.{read_fails, read_so}
+use Rattle.bor_store_reads.proofs.Reading.{read_so}
 use Rattle.bor_store_keys.specs.Viewed.{seen}
 use Rattle.bor_store_keys.proofs.alike.aliases_in.Goals as goal
 
@@ -19,6 +19,3 @@ returns g c = read_so c.in_ok-add_aliases.ensures
     (λ k. empty_has sign_cmp c.new-looked.result k c.new-looked.ensures.empty)
     (λ b h. follows.each b (subst (λ (ns : List Node). Contains ns b) (follows.begins ∙ ap (λ (ns : List Node). ns ++ follows.rest) c.new-class.ensures) h))
     follows.looked follows.fresh (subst (λ (ns : List Node). IsDistinct same_node ns) c.into_nodes.ensures.same c.into_nodes.ensures.distinct)))
-
-pub returns-in_err-add_aliases : goal.returns-in_err-add_aliases
-returns-in_err-add_aliases g c = read_fails c.from_residual.ensures.1 c.in_err-add_aliases.ensures

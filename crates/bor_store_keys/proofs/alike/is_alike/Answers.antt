@@ -1,10 +1,7 @@
-use Rattle.bor_store_reads.proofs.Reading.{read_fails, read_so}
+use Rattle.bor_store_reads.proofs.Reading.{read_so}
 use Rattle.std.proofs.Common.{ap, sym, ◌∙◌}
 use Rattle.bor_records.specs.Links.Shown.{is_like}
 use Rattle.bor_store_keys.proofs.alike.is_alike.Goals as goal
-
-pub returns-in_err-other : goal.returns-in_err-other
-returns-in_err-other g c = read_fails c.from_residual.ensures.1 c.in_err-other.ensures
 
 pub returns-in-Some : goal.returns-in-Some
 returns-in-Some g c = read_so c.in_ok-other.ensures (λ r stored is. c.is_alias.ensures ∙ ap (is_like c.args.one.now) (sym c.in-Some.is ∙ is))

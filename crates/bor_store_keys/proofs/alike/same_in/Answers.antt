@@ -4,13 +4,13 @@ use Rattle.bor_chains.proofs.Classes.{empty_has}
 use Rattle.bor_records.specs.Links.Signs.{sign_cmp}
 use Rattle.bor_records.proofs.OnLinks.Reached.{gathered_reached}
 use Rattle.bor_chains.proofs.ByRecord.{reached_told}
-use Rattle.bor_store_reads.proofs.Reading.{nothing_read, read_fails, read_next, read_so, read_wants, unread}
+use Rattle.bor_store_reads.proofs.Reading.{read_next, read_so, unread}
 use Rattle.bor_store_keys.specs.Viewed.{rows_seen, seen}
 use Rattle.bor_chains.proofs.Aliasing.{gathered_more, gathered_start}
 use Rattle.bor_store_keys.proofs.alike.same_in.Goals as goal
 
 pub loop-next-init : goal.loop-next-init
-loop-next-init g c = unread c.requires
+loop-next-init g c = unread
     (λ r stored. gathered_start (seen c.args.view.now r) c.args.node.now c.in_ok-copy.field-0 c.new-class.result c.add.new.self (λ k. contains sign_cmp c.new-looked.result k) c.new-class.ensures c.in_ok-copy.ensures c.in_ok-add.ensures.grown
     (λ k. empty_has sign_cmp c.new-looked.result k c.new-looked.ensures.empty))
 
@@ -25,15 +25,3 @@ returns g c = read_so c.loop-next.invariant
     (λ r stored is.
     reached_told (seen c.args.view.now r) c.args.node.now c.loop-next.next c.loop-next.class c.into_nodes.result.items c.into_nodes.ensures.same (omega arith)
     (gathered_reached (seen c.args.view.now r) c.args.node.now c.loop-next.next c.loop-next.class (λ k. contains sign_cmp c.loop-next.looked k) is) c.into_nodes.ensures.distinct)
-
-pub returns-in_err-copy : goal.returns-in_err-copy
-returns-in_err-copy g c = read_wants c.from_residual.ensures.1 (nothing_read c.requires)
-
-pub returns-in_err-add : goal.returns-in_err-add
-returns-in_err-add g c = read_wants c.from_residual-in_err-add.ensures.1 (nothing_read c.requires)
-
-pub returns-in_err-one : goal.returns-in_err-one
-returns-in_err-one g c = read_wants c.from_residual-in_err-one.ensures.1 c.loop-next.invariant.reads
-
-pub returns-in_err-add_aliases : goal.returns-in_err-add_aliases
-returns-in_err-add_aliases g c = read_fails c.from_residual-in_err-add_aliases.ensures.1 (read_next c.loop-next.invariant c.in_err-add_aliases.ensures)

@@ -1,6 +1,6 @@
 use Rattle.std.proofs.Common.{sym, ◌∙◌}
 use Rattle.bor_register.specs.Register.{filings_of}
-use Rattle.bor_store_reads.proofs.Reading.{read_fails, read_next, read_so}
+use Rattle.bor_store_reads.proofs.Reading.{read_next, read_so}
 use Rattle.bor_store_keys.specs.Latest.{is_row_seen}
 use Rattle.bor_store_keys.proofs.OpenAt.{last_passes, last_before}
 use Rattle.bor_store_keys.proofs.latest.last_told.Goals as goal
@@ -33,6 +33,3 @@ loop-row-preserved-else-branch-5 g c = read_so (read_next c.loop-row.invariant c
 pub loop-row-preserved : goal.loop-row-preserved
 loop-row-preserved g c = read_so (read_next c.loop-row.invariant c.in_ok-is_told.ensures)
     (λ r stored is. is.0 ∙ last_before (is_row_seen c.args.view.now c.args.agent.now (filings_of c.args.agent.now r.members)) c.loop-row.rows.items c.pop.new.self.items c.in-Some.row c.in-Some.ensures.items (sym is.1 ∙ c.if-branch.false))
-
-pub returns-in_err-is_told : goal.returns-in_err-is_told
-returns-in_err-is_told g c = read_fails c.from_residual.ensures.1 (read_next c.loop-row.invariant c.in_err-is_told.ensures)

@@ -2,7 +2,7 @@ use Rattle.std.proofs.Common.{None, option_and_then, sym, ap, ◌∙◌}
 use Rattle.std.specs.Prelude.{filter}
 use Rattle.std.specs.List.{last_or}
 use Rattle.bor_register.specs.Register.{filings_of}
-use Rattle.bor_store_reads.proofs.Reading.{read_fails, read_next, read_so}
+use Rattle.bor_store_reads.proofs.Reading.{read_next, read_so}
 use Rattle.bor_store_keys.specs.Latest.{is_row_seen, stored_unless_closed}
 use Rattle.bor_store_keys.proofs.OpenAt.{opened}
 use Rattle.bor_store_keys.proofs.latest.open_statement.Goals as goal
@@ -23,9 +23,3 @@ returns-in-None g c =
     read_so (read_next c.in_ok-rows.ensures c.in_ok-row.ensures)
     (λ r stored is. ap (option_and_then stored_unless_closed) (sym c.in-None.is ∙ is.1 ∙ ap (λ l. last_or None (filter (is_row_seen view n.agent (filings_of n.agent r.members)) l)) is.0)
     ∙ opened view n r stored)
-
-pub returns-in_err-rows : goal.returns-in_err-rows
-returns-in_err-rows g c = read_fails c.from_residual.ensures.1 c.in_err-rows.ensures
-
-pub returns-in_err-row : goal.returns-in_err-row
-returns-in_err-row g c = read_fails c.from_residual-in_err-row.ensures.1 (read_next c.in_ok-rows.ensures c.in_err-row.ensures)

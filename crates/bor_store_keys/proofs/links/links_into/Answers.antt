@@ -2,7 +2,7 @@ use Rattle.std.proofs.Common.{ap, sym, ◌∙◌}
 use Rattle.std.specs.List.{filter_map}
 use Rattle.bor_chains.specs.Candidates.{link_at}
 use Rattle.bor_chains.proofs.ByRecord.{links_told, no_links}
-use Rattle.bor_store_reads.proofs.Reading.{read_as, read_fails, read_next, read_so}
+use Rattle.bor_store_reads.proofs.Reading.{read_as, read_next, read_so}
 use Rattle.bor_store_keys.specs.Viewed.{rows_seen}
 use Rattle.bor_store_keys.proofs.Recording.{into_covered}
 use Rattle.bor_store_keys.proofs.links.links_into.Goals as goal
@@ -20,9 +20,3 @@ returns g c =
     (λ r links stored is.
     links_told view.day (rows_seen view r) n candidates links.items (is.1.1 (sym is.0 ∙ c.if-not-branch.false) ∙ ap (filter_map (link_at view.day (rows_seen view r) n)) c.deref.ensures.value)
     (into_covered view.viewer view.today r stored n candidates is.1.0))
-
-pub returns-in_err-is_entity : goal.returns-in_err-is_entity
-returns-in_err-is_entity g c = read_fails c.from_residual.ensures.1 c.in_err-is_entity.ensures
-
-pub returns-in_err-records : goal.returns-in_err-records
-returns-in_err-records g c = read_fails c.from_residual-in_err-records.ensures.1 (read_next c.in_ok-is_entity.ensures c.in_err-records.ensures)

@@ -2,25 +2,19 @@ use Rattle.bor_store_reads.proofs.Lists.{all_done}
 use Rattle.std.proofs.Common.{arith, rules, refl}
 use Rattle.std.specs.List.{filter_map}
 use Rattle.bor_chains.specs.Candidates.{link_at}
-use Rattle.bor_store_reads.proofs.Reading.{read_fails, read_next, read_so, read_wants, unread}
+use Rattle.bor_store_reads.proofs.Reading.{read_next, read_so, unread}
 use Rattle.bor_store_keys.specs.Viewed.{rows_seen}
 use Rattle.bor_chains.proofs.Linking.{one_more}
 use Rattle.bor_store_keys.proofs.links.links_of.Goals as goal
 
 pub loop-one-init : goal.loop-one-init
-loop-one-init g c = unread c.requires (λ r stored entity. search rules)
+loop-one-init g c = unread (λ r stored entity. search rules)
 
 pub loop-one-preserved : goal.loop-one-preserved
 loop-one-preserved g c = read_so (read_next c.loop-one.invariant c.in_ok-link.ensures)
     (λ r stored is entity.
     (let link = link_at c.args.view.now.day (rows_seen c.args.view.now r) c.args.node.now in
     one_more link c.args.records.now c.loop-one.one-index c.one-item.result c.in_ok-link.link c.loop-one.links.items c.push_some.new.items.items (filter_map link c.args.records.now) (omega arith) c.one-item.is (is.1 entity) c.in_ok-push_some.ensures (is.0 entity)))
-
-pub returns-in_err-link : goal.returns-in_err-link
-returns-in_err-link g c = read_fails c.from_residual.ensures.1 (read_next c.loop-one.invariant c.in_err-link.ensures)
-
-pub returns-in_err-push_some : goal.returns-in_err-push_some
-returns-in_err-push_some g c = read_wants c.from_residual-in_err-push_some.ensures.1 (read_next c.loop-one.invariant c.in_ok-link.ensures).reads
 
 pub returns : goal.returns
 returns g c = read_so c.loop-one.invariant

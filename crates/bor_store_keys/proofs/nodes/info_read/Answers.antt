@@ -1,7 +1,7 @@
 use Rattle.std.proofs.Common.{◌∙◌, Option, option_map, ap, sym}
 use Rattle.bor_records.specs.declared.links.node.OpenNode.{OpenNode}
 use Rattle.bor_records.proofs.OnLinks.ByKey.{listed_by_key}
-use Rattle.bor_store_reads.proofs.Reading.{read_fails, read_so}
+use Rattle.bor_store_reads.proofs.Reading.{read_so}
 use Rattle.bor_store_keys.specs.Viewed.{rows_seen}
 use Rattle.bor_store_keys.proofs.nodes.info_read.Goals as goal
 
@@ -12,6 +12,3 @@ returns-in-Some g c = read_so c.in_ok-one.ensures
 pub returns-in-None : goal.returns-in-None
 returns-in-None g c = read_so c.in_ok-one.ensures
     (λ r stored is. ap (λ (o : Option OpenNode). option_map (λ x. x.info) o) (sym c.in-None.is ∙ is ∙ sym (listed_by_key c.args.view.now.day c.args.node.now (rows_seen c.args.view.now r))))
-
-pub returns-in_err-one : goal.returns-in_err-one
-returns-in_err-one g c = read_fails c.from_residual.ensures.1 c.in_err-one.ensures

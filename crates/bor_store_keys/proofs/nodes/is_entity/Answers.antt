@@ -1,10 +1,7 @@
-use Rattle.bor_store_reads.proofs.Reading.{read_fails, read_so}
+use Rattle.bor_store_reads.proofs.Reading.{read_so}
 use Rattle.std.proofs.Common.{ap, sym, ◌∙◌}
 use Rattle.bor_records.specs.Links.Rows.{is_entity_info}
 use Rattle.bor_store_keys.proofs.nodes.is_entity.Goals as goal
-
-pub returns-in_err-info : goal.returns-in_err-info
-returns-in_err-info g c = read_fails c.from_residual.ensures.1 c.in_err-info.ensures
 
 pub returns-in-Some : goal.returns-in-Some
 returns-in-Some g c = read_so c.in_ok-info.ensures (λ r stored is. c.is_entity.ensures ∙ ap is_entity_info (sym c.in-Some.is ∙ is))

@@ -1,10 +1,7 @@
 use Rattle.sqlite.specs.Held.{state}
-use Rattle.bor_store_reads.proofs.Reading.{read_fails, read_wants}
+use Rattle.bor_store_reads.proofs.Reading.{read_wants}
 use Rattle.bor_store_keys.proofs.Holding.{read_noted}
 use Rattle.bor_store_keys.proofs.nodes.node_read.Goals as goal
-
-pub returns-in_err-row : goal.returns-in_err-row
-returns-in_err-row g c = read_fails c.from_residual.ensures.1 c.in_err-row.ensures
 
 pub returns-in_err-one : goal.returns-in_err-one
 returns-in_err-one g c = read_noted (state g.S.Store) c.note_shown.ensures (read_wants c.from_residual-in_err-one.ensures.1 c.in_ok-row.ensures.reads)

@@ -1,14 +1,8 @@
 use Rattle.std.proofs.Common.{◌∙◌, Some, ap, sym}
-use Rattle.bor_store_reads.proofs.Reading.{read_fails, read_next, read_so}
+use Rattle.bor_store_reads.proofs.Reading.{read_next, read_so}
 use Rattle.bor_store_keys.proofs.Told.{row_found}
 use Rattle.bor_store_keys.proofs.opened.open_row.Goals as goal
 
 pub returns-in_ok-listed-in-Some : goal.returns-in_ok-listed-in-Some
 returns-in_ok-listed-in-Some g c = read_so (read_next c.in_ok-row.ensures c.in_ok-listed-in-Some.ensures)
     (λ r stored is. ap Some is.1 ∙ row_found c.args.view.now c.args.node.now r stored c.in-Some.row (sym c.in-Some.is ∙ is.0))
-
-pub returns-in_err-row : goal.returns-in_err-row
-returns-in_err-row g c = read_fails c.from_residual.ensures.1 c.in_err-row.ensures
-
-pub returns-in_err-listed-in-Some : goal.returns-in_err-listed-in-Some
-returns-in_err-listed-in-Some g c = read_fails c.from_residual-in_err-listed-in-Some.ensures.1 (read_next c.in_ok-row.ensures c.in_err-listed-in-Some.ensures)

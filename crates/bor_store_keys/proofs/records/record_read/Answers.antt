@@ -1,6 +1,6 @@
 use Rattle.std.proofs.Common.{◌∙◌, Some, ap, slice_get, sym}
 use Rattle.bor_store_sql.specs.Selected.{standing_at}
-use Rattle.bor_store_reads.proofs.Reading.{read_fails, read_so}
+use Rattle.bor_store_reads.proofs.Reading.{read_so}
 use Rattle.bor_store_keys.proofs.Signing.{standing_found, standing_none}
 use Rattle.bor_store_keys.proofs.records.record_read.Goals as goal
 
@@ -9,6 +9,3 @@ returns-in-Some g c = read_so c.in_ok-row.ensures (λ r stored is. ap Some c.rec
 
 pub returns-in-None : goal.returns-in-None
 returns-in-None g c = read_so c.in_ok-row.ensures (λ r stored is. standing_none (slice_get (standing_at c.args.at.now r.members) 0) (sym c.in-None.is ∙ is))
-
-pub returns-in_err-row : goal.returns-in_err-row
-returns-in_err-row g c = read_fails c.from_residual.ensures.1 c.in_err-row.ensures

@@ -1,7 +1,7 @@
 use Rattle.std.proofs.Common.{List, ap, ◌∙◌}
 use Rattle.std.specs.List.{filter_map}
 use Rattle.bor_store_sql.specs.declared.rows.typed.IdentifierRow.{IdentifierRow}
-use Rattle.bor_store_reads.proofs.Reading.{read_fails, read_next, read_so, read_wants}
+use Rattle.bor_store_reads.proofs.Reading.{read_next, read_so}
 use Rattle.bor_store_keys.specs.Signed.{record_standing}
 use Rattle.bor_store_keys.proofs.Signing.{identified_cover}
 use Rattle.bor_store_keys.proofs.records.records_identified.Goals as goal
@@ -10,12 +10,3 @@ pub returns : goal.returns
 returns g c = read_so (read_next c.in_ok-rows.ensures c.in_ok-records.ensures)
     (λ r stored is. identified_cover r stored c.args.scheme.now c.args.id.now c.in_ok-rows.rows.items c.in_ok-records.records.items c.in_ok-once.field-0.items is.0
     (is.1 ∙ ap (λ (rows : List IdentifierRow). filter_map (λ (row : IdentifierRow). record_standing r.members row.at) rows) c.deref.ensures.value) c.in_ok-once.ensures.same)
-
-pub returns-in_err-rows : goal.returns-in_err-rows
-returns-in_err-rows g c = read_fails c.from_residual.ensures.1 c.in_err-rows.ensures
-
-pub returns-in_err-records : goal.returns-in_err-records
-returns-in_err-records g c = read_fails c.from_residual-in_err-records.ensures.1 (read_next c.in_ok-rows.ensures c.in_err-records.ensures)
-
-pub returns-in_err-once : goal.returns-in_err-once
-returns-in_err-once g c = read_wants c.from_residual-in_err-once.ensures.1 (read_next c.in_ok-rows.ensures c.in_ok-records.ensures).reads

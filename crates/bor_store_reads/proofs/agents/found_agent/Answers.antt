@@ -23,7 +23,7 @@ returns g c =
     let new = state g.S.Store c.agent_by_token.new.conn in
     in_words old new c.first_value.result (λ r x. x ≡ slice_get (map agent_row (with_token token r.members)) 0) (λ r x. option_map (λ (a : AgentRow). a.name) x ≡ agent_with token r.members)
     (λ r x stored is. ap (option_map (λ (a : AgentRow). a.name)) is ∙ first_with token r.members)
-    (told agent_row_columns IsFormedAgentRow old new c.agent_by_token.result (λ r. map agent_columns (with_token c.as_str.result.now r.members)) c.agent_by_token.ensures.mode c.agent_by_token.ensures.finds
+    (told agent_row_columns IsFormedAgentRow old new c.agent_by_token.result (λ r. map agent_columns (with_token c.as_str.result.now r.members)) c.agent_by_token.ensures
     (λ r. map agent_row (with_token token r.members)) (λ r. ap (λ t. map agent_columns (with_token t r.members)) c.as_str.ensures.value ∙ sym (map-map agent_row_columns agent_row (with_token token r.members)))
     (λ r stored. agents_formed (with_token token r.members) (All-filter (λ (m : Member). is_same m.token token) IsFormedMember r.members stored.formed.members))
     c.first_value.result (λ xs x. x ≡ slice_get xs 0) c.first_value.ensures.value c.first_value.ensures.found)

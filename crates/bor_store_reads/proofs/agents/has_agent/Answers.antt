@@ -12,7 +12,7 @@ use Rattle.bor_store_reads.proofs.agents.has_agent.Goals as goal
 pub returns : goal.returns
 returns g c =
     let name = c.args.agent.now in
-    told_any (state g.S.Store c.args.conn.now) (state g.S.Store c.agent_by_name.new.conn) c.agent_by_name.result (λ r. map agent_columns (members_named c.as_str.result.now r.members)) c.agent_by_name.ensures.mode c.agent_by_name.ensures.finds
+    told_any (state g.S.Store c.args.conn.now) (state g.S.Store c.agent_by_name.new.conn) c.agent_by_name.result (λ r. map agent_columns (members_named c.as_str.result.now r.members)) c.agent_by_name.ensures
     (λ r. is_enrolled name r.members)
     (λ r. ap (λ n. not (length (map agent_columns (members_named n r.members)) == 0)) c.as_str.ensures.value ∙ any_left agent_columns (λ m. is_same m.name name) r.members ∙ any_named name r.members)
     c.any.result c.any.ensures.any c.any.ensures.found

@@ -5,7 +5,7 @@ use Rattle.bor_store_sql.specs.Rows.Placed.{placed, same_place}
 use Rattle.bor_store_sql.proofs.OnRows.Apart.{all_apart, apart_filter}
 use Rattle.bor_store_sql.proofs.OnRows.Timings.{all_several}
 use Rattle.bor_store_sql.specs.Selected.{interests_at}
-use Rattle.bor_store_reads.proofs.Reading.{read_fails, read_next, read_so, read_wants}
+use Rattle.bor_store_reads.proofs.Reading.{read_next, read_so, read_wants}
 use Rattle.bor_store_reads.proofs.declarations.interests_of_one.Goals as goal
 
 pub returns : goal.returns
@@ -15,12 +15,6 @@ returns g c =
     (λ r stored is.
     (let here = filter (λ (p : Placed). same_place p.at at) (placed r.members) in
     c.in_ok-with_periods.ensures (interests_at at r.members) (all_several here (apart_filter (λ (p : Placed). same_place p.at at) (placed r.members) (all_apart r.members stored.ordered stored.numbered))) is.0 (c.as_slice.ensures.value ∙ is.1)))
-
-pub returns-in_err-lines : goal.returns-in_err-lines
-returns-in_err-lines g c = read_fails c.from_residual.ensures.1 c.in_err-lines.ensures
-
-pub returns-in_err-periods : goal.returns-in_err-periods
-returns-in_err-periods g c = read_fails c.from_residual-in_err-periods.ensures.1 (read_next c.in_ok-lines.ensures c.in_err-periods.ensures)
 
 pub returns-in_err-with_periods : goal.returns-in_err-with_periods
 returns-in_err-with_periods g c = read_wants c.from_residual-in_err-with_periods.ensures.1 (read_next c.in_ok-lines.ensures c.in_ok-periods.ensures).reads

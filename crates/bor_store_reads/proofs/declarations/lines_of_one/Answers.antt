@@ -10,6 +10,7 @@ use Rattle.bor_store_sql.specs.Rows.Encoding.{interest_columns, interest_line_co
 use Rattle.bor_store_sql.specs.Rows.RowForms.{IsFormedPlaced, IsFormedInterestLine}
 use Rattle.bor_store_sql.proofs.OnRows.Formed.{placed_formed, all_interests_formed, all_lines_formed}
 use Rattle.bor_store_sql.specs.Selected.{interests_at}
+use Rattle.bor_store_sql.proofs.BothReads.{finds_now}
 use Rattle.bor_store_reads.proofs.Found.{told}
 use Rattle.bor_store_reads.proofs.declarations.lines_of_one.Goals as goal
 
@@ -17,7 +18,7 @@ pub returns : goal.returns
 returns g c =
     let at = c.args.at.now in
     let shown : List _ → At = λ a. record { agent = a; filing = at.filing; place = at.place } in
-    told interest_line_columns IsFormedInterestLine (state g.S.Store c.args.conn.now) (state g.S.Store c.interests_of_statement.new.conn) c.interests_of_statement.result (λ r. map interest_columns (interests_at (shown c.as_str.result.now) r.members)) c.interests_of_statement.ensures.mode c.interests_of_statement.ensures.finds
+    told interest_line_columns IsFormedInterestLine (state g.S.Store c.args.conn.now) (state g.S.Store c.interests_of_statement.new.conn) c.interests_of_statement.result (λ r. map interest_columns (interests_at (shown c.as_str.result.now) r.members)) (finds_now c.interests_of_statement.ensures)
     (λ r. map interest_line (interests_at at r.members))
     (λ r. ap (λ a. map interest_columns (interests_at (shown a) r.members)) c.as_str.ensures.value ∙ sym (map-map interest_line_columns interest_line (interests_at at r.members)))
     (λ r stored. all_lines_formed (interests_at at r.members) (all_interests_formed (filter (λ p. same_place p.at at) (placed r.members)) (All-filter (λ (p : Placed). same_place p.at at) IsFormedPlaced (placed r.members) (placed_formed r stored))))

@@ -17,7 +17,7 @@ pub returns : goal.returns
 returns g c =
     let at = c.args.at.now in
     let shown : List _ → At = λ a. record { agent = a; filing = at.filing; place = at.place } in
-    told period_columns IsFormedPeriodRow (state g.S.Store c.args.conn.now) (state g.S.Store c.periods_of_statement.new.conn) c.periods_of_statement.result (λ r. map period_columns (flat_map period_rows (interests_at (shown c.as_str.result.now) r.members))) c.periods_of_statement.ensures.mode c.periods_of_statement.ensures.finds
+    told period_columns IsFormedPeriodRow (state g.S.Store c.args.conn.now) (state g.S.Store c.periods_of_statement.new.conn) c.periods_of_statement.result (λ r. map period_columns (flat_map period_rows (interests_at (shown c.as_str.result.now) r.members))) c.periods_of_statement.ensures
     (λ r. flat_map period_rows (interests_at at r.members))
     (λ r. ap (λ a. map period_columns (flat_map period_rows (interests_at (shown a) r.members))) c.as_str.ensures.value)
     (λ r stored. all_periods_formed (interests_at at r.members) (all_interests_formed (filter (λ p. same_place p.at at) (placed r.members)) (All-filter (λ (p : Placed). same_place p.at at) IsFormedPlaced (placed r.members) (placed_formed r stored))))

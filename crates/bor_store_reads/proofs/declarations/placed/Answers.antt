@@ -9,7 +9,7 @@ use Rattle.bor_store_sql.specs.Selected.{in_declaration, placed_of}
 use Rattle.bor_store_reads.specs.Asking.{part_identifiers, part_interests}
 use Rattle.bor_store_reads.proofs.Declared.{declared_identifiers, declared_interests}
 use Rattle.bor_store_reads.proofs.FoundFilings.{own_numbered}
-use Rattle.bor_store_reads.proofs.Reading.{read_fails, read_next, read_so, read_wants}
+use Rattle.bor_store_reads.proofs.Reading.{read_next, read_so, read_wants}
 use Rattle.bor_store_reads.proofs.declarations.placed.Goals as goal
 
 pub returns : goal.returns
@@ -22,15 +22,6 @@ returns g c =
     (apart_filter (λ (p : Placed). is_same p.statement.declaration declaration) (placed_of agent r) (apart_by agent 1 (filings_of agent r.members) (own_numbered agent r.members stored.numbered))) is.0
     (c.as_slice-3.ensures.value ∙ is.1.0 ∙ ap (flat_map (λ (row : StatementRow). part_interests row.part row.at r.members)) (c.as_slice.ensures.value ∙ is.0) ∙ declared_interests agent declaration r stored)
     (c.as_slice-4.ensures.value ∙ is.1.1 ∙ ap (flat_map (λ (row : StatementRow). part_identifiers row.part row.at r.members)) (c.as_slice-2.ensures.value ∙ is.0) ∙ declared_identifiers agent declaration r stored))
-
-pub returns-in_err-statements : goal.returns-in_err-statements
-returns-in_err-statements g c = read_fails c.from_residual.ensures.1 c.in_err-statements.ensures
-
-pub returns-in_err-interests : goal.returns-in_err-interests
-returns-in_err-interests g c = read_fails c.from_residual-in_err-interests.ensures.1 (read_next c.in_ok-statements.ensures c.in_err-interests.ensures)
-
-pub returns-in_err-identifiers : goal.returns-in_err-identifiers
-returns-in_err-identifiers g c = read_fails c.from_residual-in_err-identifiers.ensures.1 (read_next c.in_ok-statements.ensures (read_next c.in_ok-interests.ensures c.in_err-identifiers.ensures))
 
 pub returns-in_err-joined : goal.returns-in_err-joined
 returns-in_err-joined g c = read_wants c.from_residual-in_err-joined.ensures.1 (read_next c.in_ok-statements.ensures (read_next c.in_ok-interests.ensures c.in_ok-identifiers.ensures)).reads

@@ -4,7 +4,7 @@ use Rattle.bor_register.specs.Register.{filings_of}
 use Rattle.bor_store_sql.specs.Rows.Seen.{is_seen, row_placed}
 use Rattle.bor_store_sql.proofs.OnRows.SeenPlaced.{rows_of-placed}
 use Rattle.bor_store_reads.proofs.FoundFilings.{own_numbered}
-use Rattle.bor_store_reads.proofs.Reading.{read_as, read_fails, read_next}
+use Rattle.bor_store_reads.proofs.Reading.{read_as, read_next}
 use Rattle.bor_store_reads.proofs.declarations.read_rows_of.Goals as goal
 
 pub returns : goal.returns
@@ -15,9 +15,3 @@ returns g c =
     (λ r rows stored is.
     is.1.1 ∙ ap₂ (λ d ps. map row_placed (filter (is_seen viewer d agent (filings_of agent r.members)) ps)) is.0 is.1.0
     ∙ sym (rows_of-placed viewer r.day agent c.args.declaration.now 1 (filings_of agent r.members) (own_numbered agent r.members stored.numbered)))
-
-pub returns-in_err-day : goal.returns-in_err-day
-returns-in_err-day g c = read_fails c.from_residual.ensures.1 c.in_err-day.ensures
-
-pub returns-in_err-statements : goal.returns-in_err-statements
-returns-in_err-statements g c = read_fails c.from_residual-in_err-statements.ensures.1 (read_next c.in_ok-day.ensures c.in_err-statements.ensures)

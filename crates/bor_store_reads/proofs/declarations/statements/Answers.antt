@@ -17,7 +17,7 @@ pub returns : goal.returns
 returns g c =
     let agent = c.args.agent.now in
     let declaration = c.args.declaration.now in
-    told statement_columns IsFormedStatementRow (state g.S.Store c.args.conn.now) (state g.S.Store c.statements_of_declaration.new.conn) c.statements_of_declaration.result (λ r. map (λ p. statement_columns (bare p)) (in_declaration c.as_str-2.result.now (placed_of c.as_str.result.now r))) c.statements_of_declaration.ensures.mode c.statements_of_declaration.ensures.finds
+    told statement_columns IsFormedStatementRow (state g.S.Store c.args.conn.now) (state g.S.Store c.statements_of_declaration.new.conn) c.statements_of_declaration.result (λ r. map (λ p. statement_columns (bare p)) (in_declaration c.as_str-2.result.now (placed_of c.as_str.result.now r))) c.statements_of_declaration.ensures
     (λ r. map bare (in_declaration declaration (placed_of agent r)))
     (λ r. ap₂ (λ a d. map (λ p. statement_columns (bare p)) (in_declaration d (placed_of a r))) c.as_str.ensures.value c.as_str-2.ensures.value ∙ sym (map-map statement_columns bare (in_declaration declaration (placed_of agent r))))
     (λ r stored. all_bare_formed (in_declaration declaration (placed_of agent r)) (All-filter (λ (p : Placed). is_same p.statement.declaration declaration) IsFormedPlaced (placed_of agent r) (own_formed agent r stored)))

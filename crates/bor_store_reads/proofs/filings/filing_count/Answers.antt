@@ -1,11 +1,8 @@
 use Rattle.bor_store_sql.specs.declared.rows.typed.FilingRow.{FilingRow}
-use Rattle.bor_store_reads.proofs.Reading.{read_fails, read_so}
+use Rattle.bor_store_reads.proofs.Reading.{read_so}
 use Rattle.std.proofs.Common.{ap, option_map, sym, ◌∙◌}
 use Rattle.std.specs.Prelude.{unwrap_or}
 use Rattle.bor_store_reads.proofs.filings.filing_count.Goals as goal
-
-pub returns-in_err-row : goal.returns-in_err-row
-returns-in_err-row g c = read_fails c.from_residual.ensures.1 c.in_err-row.ensures
 
 pub returns-in-Some : goal.returns-in-Some
 returns-in-Some g c = read_so c.in_ok-row.ensures (λ r stored is. ap (λ o. unwrap_or (option_map (λ (f : FilingRow). f.number) o) 0) (sym c.in-Some.is) ∙ is)

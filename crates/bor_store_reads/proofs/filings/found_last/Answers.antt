@@ -21,7 +21,7 @@ returns g c =
     let new = state g.S.Store c.last_filing.new.conn in
     in_words old new c.first_value.result (λ r x. x ≡ slice_get (map (filing_row agent) (last (filings_of agent r.members))) 0) (λ r x. unwrap_or (option_map (λ (f : FilingRow). f.number) x) 0 ≡ length (filings_of agent r.members))
     (λ r x stored is. ap (λ x. unwrap_or (option_map (λ (f : FilingRow). f.number) x) 0) is ∙ counted agent (filings_of agent r.members) (own_numbered agent r.members stored.numbered))
-    (told line_columns IsFormedFilingRow old new c.last_filing.result (λ r. map (λ f. line_columns (filing_row c.as_str.result.now f)) (last (filings_of c.as_str.result.now r.members))) c.last_filing.ensures.mode c.last_filing.ensures.finds
+    (told line_columns IsFormedFilingRow old new c.last_filing.result (λ r. map (λ f. line_columns (filing_row c.as_str.result.now f)) (last (filings_of c.as_str.result.now r.members))) c.last_filing.ensures
     (λ r. map (filing_row agent) (last (filings_of agent r.members)))
     (λ r. ap (λ a. map (λ f. line_columns (filing_row a f)) (last (filings_of a r.members))) c.as_str.ensures.value ∙ sym (map-map line_columns (filing_row agent) (last (filings_of agent r.members))))
     (own_rows_formed agent c.as_str.ensures.form last (λ fs h. all_taken IsFormedFiling fs h))

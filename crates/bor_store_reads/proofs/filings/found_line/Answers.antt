@@ -22,7 +22,7 @@ returns g c =
     let key = c.args.key.now in
     in_words old new c.first_value.result (λ r x. x ≡ slice_get (map (filing_row agent) (keyed key (filings_of agent r.members))) 0) (λ r x. x ≡ option_map (filing_row agent) (filing_keyed key (filings_of agent r.members)))
     (λ r x stored is. is ∙ keyed_first (filing_row agent) key (filings_of agent r.members))
-    (told line_columns IsFormedFilingRow old new c.line_by_key.result (λ r. map (λ f. line_columns (filing_row c.as_str.result.now f)) (keyed c.as_str-2.result.now (filings_of c.as_str.result.now r.members))) c.line_by_key.ensures.mode c.line_by_key.ensures.finds
+    (told line_columns IsFormedFilingRow old new c.line_by_key.result (λ r. map (λ f. line_columns (filing_row c.as_str.result.now f)) (keyed c.as_str-2.result.now (filings_of c.as_str.result.now r.members))) c.line_by_key.ensures
     (λ r. map (filing_row agent) (keyed key (filings_of agent r.members)))
     (λ r. ap₂ (λ a k. map (λ f. line_columns (filing_row a f)) (keyed k (filings_of a r.members))) c.as_str.ensures.value c.as_str-2.ensures.value ∙ sym (map-map line_columns (filing_row agent) (keyed key (filings_of agent r.members))))
     (own_rows_formed agent c.as_str.ensures.form (keyed key) (All-filter (λ (f : AcceptedFiling). is_same f.key key) IsFormedFiling))

@@ -14,7 +14,7 @@ returns g c =
     let agent = c.args.agent.now in
     let old = state g.S.Store c.args.conn.now in
     let new = state g.S.Store c.filings_of_agent.new.conn in
-    told line_columns IsFormedFilingRow old new c.filings_of_agent.result (λ r. map (λ f. line_columns (filing_row c.as_str.result.now f)) (filings_of c.as_str.result.now r.members)) c.filings_of_agent.ensures.mode c.filings_of_agent.ensures.finds
+    told line_columns IsFormedFilingRow old new c.filings_of_agent.result (λ r. map (λ f. line_columns (filing_row c.as_str.result.now f)) (filings_of c.as_str.result.now r.members)) c.filings_of_agent.ensures
     (λ r. map (filing_row agent) (filings_of agent r.members))
     (λ r. ap (λ a. map (λ f. line_columns (filing_row a f)) (filings_of a r.members)) c.as_str.ensures.value ∙ sym (map-map line_columns (filing_row agent) (filings_of agent r.members)))
     (own_rows_formed agent c.as_str.ensures.form (λ fs. fs) (λ fs h. h))

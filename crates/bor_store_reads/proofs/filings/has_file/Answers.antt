@@ -19,7 +19,7 @@ returns g c =
     let key = c.args.key.now in
     let bytes = c.args.bytes.now in
     let same : AcceptedFiling → Bool = λ f. is_same f.bytes bytes in
-    told_flag (state g.S.Store c.args.conn.now) (state g.S.Store c.same_bytes.new.conn) c.same_bytes.result (λ r. map (λ f. truth (is_same f.bytes bytes) ∷ []) (keyed c.as_str-2.result.now (filings_of c.as_str.result.now r.members))) c.same_bytes.ensures.mode c.same_bytes.ensures.finds
+    told_flag (state g.S.Store c.args.conn.now) (state g.S.Store c.same_bytes.new.conn) c.same_bytes.result (λ r. map (λ f. truth (is_same f.bytes bytes) ∷ []) (keyed c.as_str-2.result.now (filings_of c.as_str.result.now r.members))) c.same_bytes.ensures
     (λ r. map same (keyed key (filings_of agent r.members)))
     (λ r. ap₂ (λ a k. map (λ (f : AcceptedFiling). truth (is_same f.bytes bytes) ∷ []) (keyed k (filings_of a r.members))) c.as_str.ensures.value c.as_str-2.ensures.value ∙ sym (map-map (λ (b : Bool). truth b ∷ []) same (keyed key (filings_of agent r.members))))
     (λ r. has_bytes bytes (filing_keyed key (filings_of agent r.members)))

@@ -18,7 +18,7 @@ returns g c =
     let key = c.args.key.now in
     in_words old new c.first_value.result (λ r x. x ≡ slice_get (map filing_shown (keyed key (filings_of agent r.members))) 0) (λ r x. x ≡ option_map filing_shown (filing_keyed key (filings_of agent r.members)))
     (λ r x stored is. is ∙ keyed_first filing_shown key (filings_of agent r.members))
-    (told shown_columns IsFormedShown old new c.filing_by_key.result (λ r. map (λ f. shown_columns (filing_shown f)) (keyed c.as_str-2.result.now (filings_of c.as_str.result.now r.members))) c.filing_by_key.ensures.mode c.filing_by_key.ensures.finds
+    (told shown_columns IsFormedShown old new c.filing_by_key.result (λ r. map (λ f. shown_columns (filing_shown f)) (keyed c.as_str-2.result.now (filings_of c.as_str.result.now r.members))) c.filing_by_key.ensures
     (λ r. map filing_shown (keyed key (filings_of agent r.members)))
     (λ r. ap₂ (λ a k. map (λ f. shown_columns (filing_shown f)) (keyed k (filings_of a r.members))) c.as_str.ensures.value c.as_str-2.ensures.value ∙ sym (map-map shown_columns filing_shown (keyed key (filings_of agent r.members))))
     (own_shown_formed agent key)

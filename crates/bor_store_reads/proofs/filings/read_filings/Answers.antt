@@ -1,15 +1,9 @@
-use Rattle.bor_store_reads.proofs.Reading.{read_fails, read_next, read_so, read_wants}
+use Rattle.bor_store_reads.proofs.Reading.{read_next, read_so, read_wants}
 use Rattle.std.proofs.Common.{ap, map, ◌∙◌}
 use Rattle.bor_register.specs.Register.{filings_of}
 use Rattle.bor_store_sql.specs.Rows.Seen.{line_shown}
 use Rattle.bor_store_reads.proofs.FoundFilings.{lines_found}
 use Rattle.bor_store_reads.proofs.filings.read_filings.Goals as goal
-
-pub returns-in_err-day : goal.returns-in_err-day
-returns-in_err-day g c = read_fails c.from_residual.ensures.1 c.in_err-day.ensures
-
-pub returns-in_err-rows : goal.returns-in_err-rows
-returns-in_err-rows g c = read_fails c.from_residual-in_err-rows.ensures.1 (read_next c.in_ok-day.ensures c.in_err-rows.ensures)
 
 pub returns-in_err-lines_of : goal.returns-in_err-lines_of
 returns-in_err-lines_of g c = read_wants c.from_residual-in_err-lines_of.ensures.1 (read_next c.in_ok-day.ensures c.in_ok-rows.ensures).reads

@@ -2,7 +2,7 @@ use Rattle.std.proofs.Common.{sym, ◌∙◌}
 use Rattle.bor_register.specs.Register.{filings_of}
 use Rattle.bor_store_reads.proofs.Declared.{seen_is, unseen_is}
 use Rattle.bor_store_reads.proofs.FoundFilings.{own_numbered}
-use Rattle.bor_store_reads.proofs.Reading.{read_fails, read_so}
+use Rattle.bor_store_reads.proofs.Reading.{read_so}
 use Rattle.bor_store_reads.proofs.known.is_number_seen.Goals as goal
 
 pub returns-in-Some : goal.returns-in-Some
@@ -16,6 +16,3 @@ returns-in-None g c =
     let agent = c.args.agent.now in
     read_so c.in_ok-filing.ensures
     (λ r stored is. unseen_is c.args.viewer.now c.args.day agent c.args.number (filings_of agent r.members) (own_numbered agent r.members stored.numbered) (sym c.in-None.is ∙ is))
-
-pub returns-in_err-filing : goal.returns-in_err-filing
-returns-in_err-filing g c = read_fails c.from_residual.ensures.1 c.in_err-filing.ensures

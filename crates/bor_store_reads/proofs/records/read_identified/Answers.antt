@@ -17,7 +17,7 @@ pub returns : goal.returns
 returns g c =
     let scheme = c.args.scheme.now in
     let id = c.args.id.now in
-    told identifier_columns IsFormedIdentifierRow (state g.S.Store c.args.conn.now) (state g.S.Store c.identifiers_by_id.new.conn) c.identifiers_by_id.result (λ r. map identifier_columns (identified_by scheme id r.members)) c.identifiers_by_id.ensures.mode c.identifiers_by_id.ensures.finds
+    told identifier_columns IsFormedIdentifierRow (state g.S.Store c.args.conn.now) (state g.S.Store c.identifiers_by_id.new.conn) c.identifiers_by_id.result (λ r. map identifier_columns (identified_by scheme id r.members)) c.identifiers_by_id.ensures
     (λ r. identified_by scheme id r.members)
     (λ r. refl)
     (λ r stored. All-filter (λ (i : IdentifierRow). is_same i.identifier.scheme scheme && is_same i.identifier.id id) IsFormedIdentifierRow (flat_map identifier_rows (placed r.members)) (all_identifiers_formed (placed r.members) (placed_formed r stored)))

@@ -23,7 +23,7 @@ returns g c =
     let new = state g.S.Store c.statement_by_place.new.conn in
     in_words old new c.first_value.result (λ r x. x ≡ slice_get (map bare (standing_at at r.members)) 0) (λ r x. x ≡ option_map bare (slice_get (standing_at at r.members) 0))
     (λ r x stored is. is ∙ slice_get-map bare (standing_at at r.members) 0)
-    (told statement_columns IsFormedStatementRow old new c.statement_by_place.result (λ r. map (λ p. statement_columns (bare p)) (standing_at (shown c.as_str.result.now) r.members)) c.statement_by_place.ensures.mode c.statement_by_place.ensures.finds
+    (told statement_columns IsFormedStatementRow old new c.statement_by_place.result (λ r. map (λ p. statement_columns (bare p)) (standing_at (shown c.as_str.result.now) r.members)) c.statement_by_place.ensures
     (λ r. map bare (standing_at at r.members))
     (λ r. ap (λ a. map (λ p. statement_columns (bare p)) (standing_at (shown a) r.members)) c.as_str.ensures.value ∙ sym (map-map statement_columns bare (standing_at at r.members)))
     (λ r stored. all_bare_formed (standing_at at r.members) (All-filter (λ (p : Placed). same_place p.at at) IsFormedPlaced (placed r.members) (placed_formed r stored)))

@@ -17,7 +17,7 @@ pub returns : goal.returns
 returns g c =
     let agent = c.args.agent.now in
     let rec_is = c.args.rec.now in
-    told statement_columns IsFormedStatementRow (state g.S.Store c.args.conn.now) (state g.S.Store c.statements_of_record.new.conn) c.statements_of_record.result (λ r. map (λ p. statement_columns (bare p)) (in_record rec_is (placed_of agent r))) c.statements_of_record.ensures.mode c.statements_of_record.ensures.finds
+    told statement_columns IsFormedStatementRow (state g.S.Store c.args.conn.now) (state g.S.Store c.statements_of_record.new.conn) c.statements_of_record.result (λ r. map (λ p. statement_columns (bare p)) (in_record rec_is (placed_of agent r))) c.statements_of_record.ensures
     (λ r. map bare (in_record rec_is (placed_of agent r)))
     (λ r. sym (map-map statement_columns bare (in_record rec_is (placed_of agent r))))
     (λ r stored. all_bare_formed (in_record rec_is (placed_of agent r)) (All-filter (λ (p : Placed). is_same p.statement.rec rec_is) IsFormedPlaced (placed_of agent r) (own_formed agent r stored)))

@@ -20,7 +20,7 @@ returns g c =
     let declaration = c.args.declaration.now in
     let rec_is = c.args.rec.now in
     let series : Register → List Placed = λ r. in_series declaration rec_is (placed_of agent r) in
-    told statement_columns IsFormedStatementRow (state g.S.Store c.args.conn.now) (state g.S.Store c.statements_of_series.new.conn) c.statements_of_series.result (λ r. map (λ p. statement_columns (bare p)) (in_series c.as_str-2.result.now c.as_str-3.result.now (placed_of c.as_str.result.now r))) c.statements_of_series.ensures.mode c.statements_of_series.ensures.finds
+    told statement_columns IsFormedStatementRow (state g.S.Store c.args.conn.now) (state g.S.Store c.statements_of_series.new.conn) c.statements_of_series.result (λ r. map (λ p. statement_columns (bare p)) (in_series c.as_str-2.result.now c.as_str-3.result.now (placed_of c.as_str.result.now r))) c.statements_of_series.ensures
     (λ r. map bare (series r))
     (λ r. ap (λ a. map (λ p. statement_columns (bare p)) (in_series c.as_str-2.result.now c.as_str-3.result.now (placed_of a r))) c.as_str.ensures.value
     ∙ ap₂ (λ d i. map (λ p. statement_columns (bare p)) (in_series d i (placed_of agent r))) c.as_str-2.ensures.value c.as_str-3.ensures.value

@@ -21,7 +21,7 @@ returns g c =
     let declaration = c.args.declaration.now in
     let rec_is = c.args.rec.now in
     let named : Register → List Placed = λ r. with_subject declaration rec_is (placed_of agent r) in
-    told statement_columns IsFormedStatementRow (state g.S.Store c.args.conn.now) (state g.S.Store c.statements_of_subject.new.conn) c.statements_of_subject.result (λ r. map (λ p. statement_columns (bare p)) (with_subject c.as_str-2.result.now c.as_str-3.result.now (placed_of c.as_str.result.now r))) c.statements_of_subject.ensures.mode c.statements_of_subject.ensures.finds
+    told statement_columns IsFormedStatementRow (state g.S.Store c.args.conn.now) (state g.S.Store c.statements_of_subject.new.conn) c.statements_of_subject.result (λ r. map (λ p. statement_columns (bare p)) (with_subject c.as_str-2.result.now c.as_str-3.result.now (placed_of c.as_str.result.now r))) c.statements_of_subject.ensures
     (λ r. map bare (named r))
     (λ r. ap (λ a. map (λ p. statement_columns (bare p)) (with_subject c.as_str-2.result.now c.as_str-3.result.now (placed_of a r))) c.as_str.ensures.value
     ∙ ap₂ (λ d i. map (λ p. statement_columns (bare p)) (with_subject d i (placed_of agent r))) c.as_str-2.ensures.value c.as_str-3.ensures.value

@@ -1,11 +1,8 @@
-use Rattle.bor_store_reads.proofs.Reading.{read_fails, read_never, read_so}
+use Rattle.bor_store_reads.proofs.Reading.{read_never, read_so}
 use Rattle.bor_store_sql.specs.Rows.Placed.{register_row}
 use Rattle.std.proofs.lemmas.Option.{none-some, same_Some}
 use Rattle.std.proofs.Common.{sym, ◌∙◌}
 use Rattle.bor_store_reads.proofs.register.read_register.Goals as goal
-
-pub returns-in_err-row-clause-reads : goal.returns-in_err-row-clause-reads
-returns-in_err-row-clause-reads g c = read_fails c.from_residual.ensures.1 c.in_err-row.ensures.reads
 
 pub returns-in-Some-clause-reads : goal.returns-in-Some-clause-reads
 returns-in-Some-clause-reads g c = read_so c.in_ok-row.ensures.reads (λ r stored is. same_Some c.in-Some.row (register_row r) (sym c.in-Some.is ∙ is))

@@ -23,7 +23,7 @@ returns g c =
     let new = state g.S.Store c.line_by_number.new.conn in
     in_words old new c.first_value.result (λ r x. x ≡ slice_get (map (filing_row agent) (numbered number (filings_of agent r.members))) 0) (λ r x. x ≡ option_map (filing_row agent) (slice_get (numbered number (filings_of agent r.members)) 0))
     (λ r x stored is. is ∙ slice_get-map (filing_row agent) (numbered number (filings_of agent r.members)) 0)
-    (told line_columns IsFormedFilingRow old new c.line_by_number.result (λ r. map (λ f. line_columns (filing_row c.as_str.result.now f)) (numbered number (filings_of c.as_str.result.now r.members))) c.line_by_number.ensures.mode c.line_by_number.ensures.finds
+    (told line_columns IsFormedFilingRow old new c.line_by_number.result (λ r. map (λ f. line_columns (filing_row c.as_str.result.now f)) (numbered number (filings_of c.as_str.result.now r.members))) c.line_by_number.ensures
     (λ r. map (filing_row agent) (numbered number (filings_of agent r.members)))
     (λ r. ap (λ a. map (λ f. line_columns (filing_row a f)) (numbered number (filings_of a r.members))) c.as_str.ensures.value ∙ sym (map-map line_columns (filing_row agent) (numbered number (filings_of agent r.members))))
     (own_rows_formed agent c.as_str.ensures.form (numbered number) (All-filter (λ (f : AcceptedFiling). f.number == number) IsFormedFiling))

@@ -27,7 +27,7 @@ returns g c =
     let series : Register → List Placed = λ r. in_series declaration rec_is (placed_of agent r) in
     in_words old new c.first_value.result (λ r x. x ≡ slice_get (map bare (last (series r))) 0) (λ r x. x ≡ option_map bare (last_or None (series r)))
     (λ r x stored is. is ∙ last_found bare (series r))
-    (told statement_columns IsFormedStatementRow old new c.last_of_series.result (λ r. map (λ p. statement_columns (bare p)) (last (in_series c.as_str-2.result.now c.as_str-3.result.now (placed_of c.as_str.result.now r)))) c.last_of_series.ensures.mode c.last_of_series.ensures.finds
+    (told statement_columns IsFormedStatementRow old new c.last_of_series.result (λ r. map (λ p. statement_columns (bare p)) (last (in_series c.as_str-2.result.now c.as_str-3.result.now (placed_of c.as_str.result.now r)))) c.last_of_series.ensures
     (λ r. map bare (last (series r)))
     (λ r. ap (λ a. map (λ p. statement_columns (bare p)) (last (in_series c.as_str-2.result.now c.as_str-3.result.now (placed_of a r)))) c.as_str.ensures.value
     ∙ ap₂ (λ d i. map (λ p. statement_columns (bare p)) (last (in_series d i (placed_of agent r)))) c.as_str-2.ensures.value c.as_str-3.ensures.value

@@ -13,7 +13,7 @@ pub returns : goal.returns
 returns g c =
     let agent = c.args.agent.now in
     let id = c.args.id.now in
-    told_any (state g.S.Store c.args.conn.now) (state g.S.Store c.statement_by_id.new.conn) c.statement_by_id.result (λ r. map place_columns (identified c.as_str-2.result.now (placed_of c.as_str.result.now r))) c.statement_by_id.ensures.mode c.statement_by_id.ensures.finds
+    told_any (state g.S.Store c.args.conn.now) (state g.S.Store c.statement_by_id.new.conn) c.statement_by_id.result (λ r. map place_columns (identified c.as_str-2.result.now (placed_of c.as_str.result.now r))) c.statement_by_id.ensures
     (λ r. has_id id (live_of (filings_of agent r.members)))
     (λ r. ap₂ (λ a i. not (length (map place_columns (identified i (placed_of a r))) == 0)) c.as_str.ensures.value c.as_str-2.ensures.value ∙ any_identified id agent (filings_of agent r.members))
     c.any.result c.any.ensures.any c.any.ensures.found

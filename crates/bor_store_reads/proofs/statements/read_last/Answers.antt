@@ -2,7 +2,7 @@ use Rattle.std.proofs.Common.{Some, sym, ap, ◌∙◌}
 use Rattle.bor_register.specs.Register.{filings_of}
 use Rattle.bor_store_reads.proofs.FoundFilings.{own_numbered}
 use Rattle.bor_store_reads.proofs.FoundStatements.{no_last, last_known, last_has_filing}
-use Rattle.bor_store_reads.proofs.Reading.{read_fails, read_never, read_next, read_so}
+use Rattle.bor_store_reads.proofs.Reading.{read_never, read_next, read_so}
 use Rattle.bor_store_reads.proofs.statements.read_last.Goals as goal
 
 pub returns-in_default : goal.returns-in_default
@@ -24,9 +24,3 @@ returns g c =
     let agent = c.args.agent.now in
     read_never (read_next c.in_ok-row.ensures c.in_ok-filing.ensures)
     (λ r stored is. last_has_filing agent c.args.declaration.now c.args.rec.now (filings_of agent r.members) (own_numbered agent r.members stored.numbered) c.in-Some.row (sym c.in-Some.is ∙ is.0) (sym c.in-None.is ∙ is.1))
-
-pub returns-in_err-row : goal.returns-in_err-row
-returns-in_err-row g c = read_fails c.from_residual.ensures.1 c.in_err-row.ensures
-
-pub returns-in_err-filing : goal.returns-in_err-filing
-returns-in_err-filing g c = read_fails c.from_residual-in_err-filing.ensures.1 (read_next c.in_ok-row.ensures c.in_err-filing.ensures)

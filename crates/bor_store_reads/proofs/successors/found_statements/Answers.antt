@@ -9,6 +9,7 @@ use Rattle.bor_store_sql.specs.Rows.Encoding.{statement_columns}
 use Rattle.bor_store_sql.specs.Rows.RowForms.{IsFormedPlaced, IsFormedStatementRow}
 use Rattle.bor_store_sql.proofs.OnRows.Formed.{all_bare_formed}
 use Rattle.bor_store_sql.specs.Selected.{in_filing, placed_of}
+use Rattle.bor_store_sql.proofs.BothReads.{finds_now}
 use Rattle.bor_store_reads.proofs.Found.{told}
 use Rattle.bor_store_reads.proofs.FoundStatements.{own_formed}
 use Rattle.bor_store_reads.proofs.successors.found_statements.Goals as goal
@@ -17,7 +18,7 @@ pub returns : goal.returns
 returns g c =
     let agent = c.args.agent.now in
     let number = c.args.number in
-    told statement_columns IsFormedStatementRow (state g.S.Store c.args.conn.now) (state g.S.Store c.statements_of_filing.new.conn) c.statements_of_filing.result (λ r. map (λ p. statement_columns (bare p)) (in_filing number (placed_of c.as_str.result.now r))) c.statements_of_filing.ensures.mode c.statements_of_filing.ensures.finds
+    told statement_columns IsFormedStatementRow (state g.S.Store c.args.conn.now) (state g.S.Store c.statements_of_filing.new.conn) c.statements_of_filing.result (λ r. map (λ p. statement_columns (bare p)) (in_filing number (placed_of c.as_str.result.now r))) (finds_now c.statements_of_filing.ensures)
     (λ r. map bare (in_filing number (placed_of agent r)))
     (λ r. ap (λ a. map (λ p. statement_columns (bare p)) (in_filing number (placed_of a r))) c.as_str.ensures.value ∙ sym (map-map statement_columns bare (in_filing number (placed_of agent r))))
     (λ r stored. all_bare_formed (in_filing number (placed_of agent r)) (All-filter (λ (p : Placed). p.at.filing == number) IsFormedPlaced (placed_of agent r) (own_formed agent r stored)))

@@ -6,7 +6,7 @@ use Rattle.bor_store_sql.specs.Rows.Seen.{is_later}
 use Rattle.bor_store_sql.specs.Selected.{in_series, placed_of}
 use Rattle.bor_store_reads.proofs.FoundFilings.{own_numbered}
 use Rattle.bor_store_reads.proofs.FoundStatements.{followed_is}
-use Rattle.bor_store_reads.proofs.Reading.{read_as, read_fails, read_next}
+use Rattle.bor_store_reads.proofs.Reading.{read_as, read_next}
 use Rattle.bor_store_reads.proofs.successors.has_successor.Goals as goal
 
 pub returns : goal.returns
@@ -17,6 +17,3 @@ returns g c =
     (λ r has stored is.
     is.1 ∙ ap (list_any (λ (row : StatementRow). is_later number (last_or None (in_series row.declaration row.rec (placed_of agent r))))) (c.as_slice.ensures.value ∙ is.0)
     ∙ followed_is agent number (filings_of agent r.members) (own_numbered agent r.members stored.numbered))
-
-pub returns-in_err-rows : goal.returns-in_err-rows
-returns-in_err-rows g c = read_fails c.from_residual.ensures.1 c.in_err-rows.ensures

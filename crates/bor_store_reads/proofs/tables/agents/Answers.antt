@@ -10,7 +10,7 @@ use Rattle.bor_store_reads.proofs.tables.agents.Goals as goal
 
 pub returns : goal.returns
 returns g c =
-    told agent_row_columns IsFormedAgentRow (state g.S.Store c.args.conn.now) (state g.S.Store c.all_agents.new.conn) c.all_agents.result (λ r. map agent_columns r.members) c.all_agents.ensures.mode c.all_agents.ensures.finds (λ r. map agent_row r.members)
+    told agent_row_columns IsFormedAgentRow (state g.S.Store c.args.conn.now) (state g.S.Store c.all_agents.new.conn) c.all_agents.result (λ r. map agent_columns r.members) c.all_agents.ensures (λ r. map agent_row r.members)
     (λ r. sym (map-map agent_row_columns agent_row r.members))
     (λ r stored. agents_formed r.members stored.formed.members)
     c.all_values.result (λ xs values. values.items ≡ xs) c.all_values.ensures.values c.all_values.ensures.found

@@ -10,7 +10,7 @@ use Rattle.bor_store_reads.proofs.tables.identifiers.Goals as goal
 
 pub returns : goal.returns
 returns g c =
-    told identifier_columns IsFormedIdentifierRow (state g.S.Store c.args.conn.now) (state g.S.Store c.all_identifiers.new.conn) c.all_identifiers.result (λ r. map identifier_columns (flat_map identifier_rows (placed r.members))) c.all_identifiers.ensures.mode c.all_identifiers.ensures.finds (λ r. flat_map identifier_rows (placed r.members))
+    told identifier_columns IsFormedIdentifierRow (state g.S.Store c.args.conn.now) (state g.S.Store c.all_identifiers.new.conn) c.all_identifiers.result (λ r. map identifier_columns (flat_map identifier_rows (placed r.members))) c.all_identifiers.ensures (λ r. flat_map identifier_rows (placed r.members))
     (λ r. refl)
     (λ r stored. all_identifiers_formed (placed r.members) (placed_formed r stored))
     c.all_values.result (λ xs values. values.items ≡ xs) c.all_values.ensures.values c.all_values.ensures.found

@@ -11,7 +11,7 @@ use Rattle.bor_store_reads.proofs.tables.interest_lines.Goals as goal
 
 pub returns : goal.returns
 returns g c =
-    told interest_line_columns IsFormedInterestLine (state g.S.Store c.args.conn.now) (state g.S.Store c.all_interests.new.conn) c.all_interests.result (λ r. map interest_columns (flat_map interest_rows (placed r.members))) c.all_interests.ensures.mode c.all_interests.ensures.finds
+    told interest_line_columns IsFormedInterestLine (state g.S.Store c.args.conn.now) (state g.S.Store c.all_interests.new.conn) c.all_interests.result (λ r. map interest_columns (flat_map interest_rows (placed r.members))) c.all_interests.ensures
     (λ r. map interest_line (flat_map interest_rows (placed r.members)))
     (λ r. sym (map-map interest_line_columns interest_line (flat_map interest_rows (placed r.members))))
     (λ r stored. all_lines_formed (flat_map interest_rows (placed r.members)) (all_interests_formed (placed r.members) (placed_formed r stored)))

@@ -1,15 +1,6 @@
 use Rattle.std.proofs.Common.{◌∙◌}
-use Rattle.bor_store_reads.proofs.Reading.{read_fails, read_next, read_so, read_wants}
+use Rattle.bor_store_reads.proofs.Reading.{read_next, read_so, read_wants}
 use Rattle.bor_store_reads.proofs.tables.members.Goals as goal
-
-pub returns-in_err-agents : goal.returns-in_err-agents
-returns-in_err-agents g c = read_fails c.from_residual.ensures.1 c.in_err-agents.ensures
-
-pub returns-in_err-filings : goal.returns-in_err-filings
-returns-in_err-filings g c = read_fails c.from_residual-in_err-filings.ensures.1 (read_next c.in_ok-agents.ensures c.in_err-filings.ensures)
-
-pub returns-in_err-statements : goal.returns-in_err-statements
-returns-in_err-statements g c = read_fails c.from_residual-in_err-statements.ensures.1 (read_next c.in_ok-agents.ensures (read_next c.in_ok-filings.ensures c.in_err-statements.ensures))
 
 pub returns-in_err-members_of : goal.returns-in_err-members_of
 returns-in_err-members_of g c = read_wants c.from_residual-in_err-members_of.ensures.1 (read_next c.in_ok-agents.ensures (read_next c.in_ok-filings.ensures c.in_ok-statements.ensures)).reads

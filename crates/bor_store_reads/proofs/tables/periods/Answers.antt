@@ -10,7 +10,7 @@ use Rattle.bor_store_reads.proofs.tables.periods.Goals as goal
 
 pub returns : goal.returns
 returns g c =
-    told period_columns IsFormedPeriodRow (state g.S.Store c.args.conn.now) (state g.S.Store c.all_periods.new.conn) c.all_periods.result (λ r. map period_columns (flat_map period_rows (flat_map interest_rows (placed r.members)))) c.all_periods.ensures.mode c.all_periods.ensures.finds
+    told period_columns IsFormedPeriodRow (state g.S.Store c.args.conn.now) (state g.S.Store c.all_periods.new.conn) c.all_periods.result (λ r. map period_columns (flat_map period_rows (flat_map interest_rows (placed r.members)))) c.all_periods.ensures
     (λ r. flat_map period_rows (flat_map interest_rows (placed r.members)))
     (λ r. refl)
     (λ r stored. all_periods_formed (flat_map interest_rows (placed r.members)) (all_interests_formed (placed r.members) (placed_formed r stored)))

@@ -10,7 +10,7 @@ use Rattle.bor_store_reads.proofs.tables.statements.Goals as goal
 
 pub returns : goal.returns
 returns g c =
-    told statement_columns IsFormedStatementRow (state g.S.Store c.args.conn.now) (state g.S.Store c.all_statements.new.conn) c.all_statements.result (λ r. map (λ p. statement_columns (bare p)) (placed r.members)) c.all_statements.ensures.mode c.all_statements.ensures.finds (λ r. map bare (placed r.members))
+    told statement_columns IsFormedStatementRow (state g.S.Store c.args.conn.now) (state g.S.Store c.all_statements.new.conn) c.all_statements.result (λ r. map (λ p. statement_columns (bare p)) (placed r.members)) c.all_statements.ensures (λ r. map bare (placed r.members))
     (λ r. sym (map-map statement_columns bare (placed r.members)))
     (λ r stored. all_bare_formed (placed r.members) (placed_formed r stored))
     c.all_values.result (λ xs values. values.items ≡ xs) c.all_values.ensures.values c.all_values.ensures.found

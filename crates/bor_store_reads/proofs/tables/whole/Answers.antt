@@ -1,13 +1,7 @@
 use Rattle.std.proofs.Common.{ap}
 use Rattle.bor_store_sql.specs.declared.rows.typed.RegisterRow.{RegisterRow}
-use Rattle.bor_store_reads.proofs.Reading.{read_fails, read_next, read_so}
+use Rattle.bor_store_reads.proofs.Reading.{read_next, read_so}
 use Rattle.bor_store_reads.proofs.tables.whole.Goals as goal
-
-pub returns-in_err-row-clause-reads : goal.returns-in_err-row-clause-reads
-returns-in_err-row-clause-reads g c = read_fails c.from_residual.ensures.1 c.in_err-row.ensures.reads
-
-pub returns-in_err-members-clause-reads : goal.returns-in_err-members-clause-reads
-returns-in_err-members-clause-reads g c = read_fails c.from_residual-in_err-members.ensures.1 (read_next c.in_ok-row.ensures.reads c.in_err-members.ensures)
 
 pub returns-clause-reads : goal.returns-clause-reads
 returns-clause-reads g c = read_so (read_next c.in_ok-row.ensures.reads c.in_ok-members.ensures)

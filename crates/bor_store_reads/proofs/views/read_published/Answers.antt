@@ -1,14 +1,8 @@
-use Rattle.bor_store_reads.proofs.Reading.{read_fails, read_next, read_so, read_wants}
+use Rattle.bor_store_reads.proofs.Reading.{read_next, read_so, read_wants}
 use Rattle.std.proofs.Common.{ap₂, ◌∙◌}
 use Rattle.bor_register.specs.Publication.{published}
 use Rattle.bor_store_reads.proofs.Whole.{published_is}
 use Rattle.bor_store_reads.proofs.views.read_published.Goals as goal
-
-pub returns-in_err-day : goal.returns-in_err-day
-returns-in_err-day g c = read_fails c.from_residual.ensures.1 c.in_err-day.ensures
-
-pub returns-in_err-members : goal.returns-in_err-members
-returns-in_err-members g c = read_fails c.from_residual-in_err-members.ensures.1 (read_next c.in_ok-day.ensures c.in_err-members.ensures)
 
 pub returns-in_err-all_published : goal.returns-in_err-all_published
 returns-in_err-all_published g c = read_wants c.from_residual-in_err-all_published.ensures.1 (read_next c.in_ok-day.ensures c.in_ok-members.ensures).reads

@@ -5,7 +5,7 @@ use Rattle.sqlite.specs.Held.{state}
 use Rattle.bor_store_sql.specs.declared.rows.places.At.{At}
 use Rattle.bor_store_sql.specs.declared.rows.typed.IdentifierRow.{IdentifierRow}
 use Rattle.bor_store_sql.specs.Rows.Placed.{identifiers_from}
-use Rattle.bor_store_sql.specs.Shown.{Steps}
+use Rattle.bor_store_sql.specs.Shown.{StepsTo}
 use Rattle.bor_store_sql.specs.Changing.{Any, with_identifier_rows}
 use Rattle.bor_store_sql.proofs.Counted.{all_within}
 use Rattle.bor_store_sql.proofs.Lists.{no_identifiers, identifier_added}
@@ -46,7 +46,7 @@ loop-identifier-preserved g c =
 pub returns : goal.returns
 returns g c = record {
   same_reference = c.loop-identifier.invariant.0;
-  steps = subst (λ xs. Steps Any (with_identifier_rows (identifiers_from (record { agent = c.args.agent.now; filing = c.args.number; place = c.args.place }) 1 xs)) (state g.S.Store c.args.tx.now.conn.now) (state g.S.Store c.loop-identifier.tx.conn.now) (Ok (tt {0})))
+  steps = subst (λ xs. StepsTo Any (with_identifier_rows (identifiers_from (record { agent = c.args.agent.now; filing = c.args.number; place = c.args.place }) 1 xs)) (state g.S.Store c.args.tx.now.conn.now) (state g.S.Store c.loop-identifier.tx.conn.now) (Ok (tt {0})))
       (take_all c.loop-identifier.identifier-index c.args.identifiers.now c.loop-identifier-test.false) c.loop-identifier.invariant.2;
   counted = all_within c.loop-identifier.identifier-index c.loop-identifier.item (length c.args.identifiers.now) c.loop-identifier-test.false c.loop-identifier.invariant.1 c.loop-identifier.invariant.3;
 }

@@ -5,7 +5,7 @@ use Rattle.sqlite.specs.Held.{state}
 use Rattle.bor_store_sql.specs.declared.rows.places.At.{At}
 use Rattle.bor_store_sql.specs.declared.rows.typed.InterestRow.{InterestRow}
 use Rattle.bor_store_sql.specs.Rows.Placed.{interests_from}
-use Rattle.bor_store_sql.specs.Shown.{Steps}
+use Rattle.bor_store_sql.specs.Shown.{StepsTo}
 use Rattle.bor_store_sql.specs.Changing.{Any, with_interest_rows}
 use Rattle.bor_store_sql.proofs.Counted.{all_within}
 use Rattle.bor_store_sql.proofs.Lists.{no_interests, interest_added}
@@ -46,7 +46,7 @@ loop-interest-preserved g c =
 pub returns : goal.returns
 returns g c = record {
   same_reference = c.loop-interest.invariant.0;
-  steps = subst (λ xs. Steps Any (with_interest_rows (interests_from (record { agent = c.args.agent.now; filing = c.args.number; place = c.args.place }) 1 xs)) (state g.S.Store c.args.tx.now.conn.now) (state g.S.Store c.loop-interest.tx.conn.now) (Ok (tt {0})))
+  steps = subst (λ xs. StepsTo Any (with_interest_rows (interests_from (record { agent = c.args.agent.now; filing = c.args.number; place = c.args.place }) 1 xs)) (state g.S.Store c.args.tx.now.conn.now) (state g.S.Store c.loop-interest.tx.conn.now) (Ok (tt {0})))
       (take_all c.loop-interest.interest-index c.args.interests.now c.loop-interest-test.false) c.loop-interest.invariant.2;
   counted = all_within c.loop-interest.interest-index c.loop-interest.item (length c.args.interests.now) c.loop-interest-test.false c.loop-interest.invariant.1 c.loop-interest.invariant.3;
 }

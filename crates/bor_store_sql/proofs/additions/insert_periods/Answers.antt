@@ -4,7 +4,7 @@ use Rattle.sqlite.specs.Held.{state}
 use Rattle.bor_store_sql.specs.declared.rows.places.At.{At}
 use Rattle.bor_store_sql.specs.declared.rows.typed.InterestRow.{InterestRow}
 use Rattle.bor_store_sql.specs.Rows.Placed.{interests_from}
-use Rattle.bor_store_sql.specs.Shown.{Steps}
+use Rattle.bor_store_sql.specs.Shown.{StepsTo}
 use Rattle.bor_store_sql.specs.Changing.{Any, with_period_rows}
 use Rattle.bor_store_sql.proofs.Lists.{no_periods, period_added}
 use Rattle.bor_store_sql.proofs.Moves.{left_so, none_moves, one_more, breaks_off, then_fails}
@@ -42,6 +42,6 @@ loop-interest-preserved g c =
 pub returns : goal.returns
 returns g c = record {
   same_reference = c.loop-interest.invariant.0;
-  steps = subst (λ xs. Steps Any (with_period_rows (interests_from (record { agent = c.args.agent.now; filing = c.args.number; place = c.args.place }) 1 xs)) (state g.S.Store c.args.tx.now.conn.now) (state g.S.Store c.loop-interest.tx.conn.now) (Ok (tt {0})))
+  steps = subst (λ xs. StepsTo Any (with_period_rows (interests_from (record { agent = c.args.agent.now; filing = c.args.number; place = c.args.place }) 1 xs)) (state g.S.Store c.args.tx.now.conn.now) (state g.S.Store c.loop-interest.tx.conn.now) (Ok (tt {0})))
       (take_all c.loop-interest.interest-index c.args.interests.now c.loop-interest-test.false) c.loop-interest.invariant.2;
 }

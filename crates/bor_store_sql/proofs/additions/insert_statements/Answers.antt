@@ -7,7 +7,7 @@ use Rattle.sqlite.specs.Held.{state}
 use Rattle.bor_store_sql.specs.declared.rows.typed.Placed.{Placed}
 use Rattle.bor_store_sql.specs.Rows.Placed.{placed_from}
 use Rattle.bor_store_sql.specs.Rows.Stored.{IsCounted}
-use Rattle.bor_store_sql.specs.Shown.{Steps}
+use Rattle.bor_store_sql.specs.Shown.{StepsTo}
 use Rattle.bor_store_sql.specs.Changing.{Any, with_one_placed, with_placed}
 use Rattle.bor_store_sql.proofs.Counted.{all_counted, all_within}
 use Rattle.bor_store_sql.proofs.Lists.{no_placed, placed_added}
@@ -53,7 +53,7 @@ returns g c =
     let xs = c.args.statements.now in
     record {
       same_reference = c.loop-statement.invariant.0;
-      steps = subst (λ xs. Steps Any (with_placed (placed_from c.args.agent.now c.args.number 1 xs)) (state g.S.Store c.args.tx.now.conn.now) (state g.S.Store c.loop-statement.tx.conn.now) (Ok (tt {0})))
+      steps = subst (λ xs. StepsTo Any (with_placed (placed_from c.args.agent.now c.args.number 1 xs)) (state g.S.Store c.args.tx.now.conn.now) (state g.S.Store c.loop-statement.tx.conn.now) (Ok (tt {0})))
           (take_all i xs c.loop-statement-test.false) c.loop-statement.invariant.2;
       counted = record {
         few = all_within i c.loop-statement.place (length xs) c.loop-statement-test.false c.loop-statement.invariant.1 c.loop-statement.invariant.3;

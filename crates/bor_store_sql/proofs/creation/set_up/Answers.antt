@@ -1,12 +1,12 @@
-use Rattle.std.proofs.Common.{◌≡◌, inl, inr, IsTrue, false, not, ap, subst, ◌∙◌, rules}
+use Rattle.std.proofs.Common.{◌≡◌, inl, inr, subst, rules}
 use Rattle.sqlite.specs.Held.{state}
 use Rattle.bor_terms.specs.Day.{IsDay}
 use Rattle.bor_register.specs.Register.{empty_register}
 use Rattle.bor_store_sql.specs.Rows.Encoding.{contents}
 use Rattle.bor_store_sql.specs.Texts.Tables.{no_schema}
 use Rattle.bor_store_sql.specs.Beside.{SetsUpSound}
-use Rattle.bor_store_sql.specs.Blank.{IsBlank, Leads}
-use Rattle.bor_store_sql.specs.Ran.{Moves}
+use Rattle.bor_store_sql.specs.Blank.{IsBlank, LeadsTo}
+use Rattle.bor_store_sql.specs.Ran.{MovesTo}
 use Rattle.bor_store_sql.specs.Shown.{Has}
 use Rattle.bor_store_sql.proofs.Creating.{empty_is_stored}
 use Rattle.bor_store_sql.proofs.Ending.{Ended, ended, on_ok, stands_in, stopped_in}
@@ -22,24 +22,19 @@ returns g c =
     let token = c.args.registrar.now in
     let day = c.args.day in
     let is = subst IsDay c.number-known.ensures.value c.number-known.ensures.within in
-    let leads = subst (λ t. Leads (IsBlank no_schema) (Has (contents (empty_register t day))) (state g.S.Store began) mid c.make_register-done.result) c.as_str-token.ensures.value c.make_register-done.ensures.leads in
-    let auto : IsTrue c.is_autocommit-settled.result = c.is_autocommit-settled.ensures.value ∙ ap not c.requires in
-    let ends = ended g.S.Store (λ old new. IsBlank no_schema old → Has (contents (empty_register token day)) new) was began mid (state g.S.Store end) c.make_register-done.result c.finish.result (c.is_autocommit-settled.ensures.settled auto) c.transaction-tx.ensures.begun leads c.make_register-done.ensures.ran_open c.finish.ensures.ends in
-    let sets = subst (λ t. Moves (SetsUpSound (empty_register t day)) (state g.S.Store began) mid c.make_register-done.result) c.as_str-token.ensures.value c.make_register-done.ensures.sets_up in
-    let beside = ended g.S.Store (SetsUpSound (empty_register token day)) was began mid (state g.S.Store end) c.make_register-done.result c.finish.result (c.is_autocommit-settled.ensures.settled auto) c.transaction-tx.ensures.begun sets c.make_register-done.ensures.ran_open c.finish.ensures.ends in
+    let leads = subst (λ t. LeadsTo (IsBlank no_schema) (Has (contents (empty_register t day))) (state g.S.Store began) mid c.make_register-done.result) c.as_str-token.ensures.value c.make_register-done.ensures.leads in
+    let ends = ended g.S.Store (λ old new. IsBlank no_schema old → Has (contents (empty_register token day)) new) was began mid (state g.S.Store end) c.make_register-done.result c.finish.result (c.is_autocommit.ensures.settled (search rules)) c.transaction-tx.ensures.begun leads c.make_register-done.ensures.ran_open c.finish.ensures.mode c.finish.ensures.ends in
+    let sets = subst (λ t. MovesTo (SetsUpSound (empty_register t day)) (state g.S.Store began) mid c.make_register-done.result) c.as_str-token.ensures.value c.make_register-done.ensures.sets_up in
+    let beside = ended g.S.Store (SetsUpSound (empty_register token day)) was began mid (state g.S.Store end) c.make_register-done.result c.finish.result (c.is_autocommit.ensures.settled (search rules)) c.transaction-tx.ensures.begun sets c.make_register-done.ensures.ran_open c.finish.ensures.mode c.finish.ensures.ends in
     let same : end ≡ c.conn-1.given.0 = search rules in
     let it = subst (λ h. Ended (λ old new. IsBlank no_schema old → Has (contents (empty_register token day)) new) (state g.S.Store was) (state g.S.Store h) c.finish.result) same ends in
     let all = subst (λ h. Ended (SetsUpSound (empty_register token day)) (state g.S.Store was) (state g.S.Store h) c.finish.result) same beside in
     record {
-      mode = subst (λ h. h.in_transaction ≡ false) same c.finish.ensures.mode;
-      clean = it.clean;
-      up = it.up;
-      began = it.began;
+      commits = it.commits;
       made = λ clean none. on_ok c.finish.result (it.made clean) (λ makes. record { has = makes (record { is = none; empty = tt }); stored = empty_is_stored token day c.as_str-token.ensures.form is });
-      kept = it.kept;
       stops = stopped_in (λ old new. IsBlank no_schema old → Has (contents (empty_register token day)) new) _ (state g.S.Store was) (state g.S.Store c.conn-1.given.0)
           (λ trees m none. stands_in (empty_register token day) m.after trees m.trees_are (m.made (record { is = none; empty = tt }), empty_is_stored token day c.as_str-token.ensures.form is)) it.stops;
-      beside = λ clean. on_ok c.finish.result (all.made clean) (λ makes. makes (c.schema-live.ensures.live (it.began clean).1).1);
+      beside = λ clean. on_ok c.finish.result (all.made clean) (λ makes. makes (c.schema-live.ensures.live (it.commits.began clean).1).1);
       stops_beside = λ clean trees left. elim (all.stops clean trees left) [
         | inl before ↦ inl before
         | inr (began, m) ↦ inr (began, sets_up_in (empty_register token day) (state g.S.Store was).committed m.after trees m.trees_are (m.made (c.schema-live.ensures.live began.1).1))

@@ -9,13 +9,13 @@ use Rattle.bor_store_sql.proofs.Pairs.{all_made, made_from}
 use Rattle.bor_store_sql.proofs.Told.{no_answer, told_of_rows}
 use Rattle.bor_store_sql.proofs.fitting.keeps_identifiers.Goals as goal
 
-pub returns-in_err-rows-clause-tells : goal.returns-in_err-rows-clause-tells
-returns-in_err-rows-clause-tells g c = no_answer _ _ c.in_err-rows.ensures.both.clean c.in_err-rows.ensures.both.began c.in_err-rows.ensures.both.kept c.in_err-rows.ensures.both.stops c.from_residual.result c.from_residual.ensures.0
+pub returns-in_err-rows : goal.returns-in_err-rows
+returns-in_err-rows g c = no_answer _ _ c.in_err-rows.ensures.reads c.from_residual.result c.from_residual.ensures.0
 
-pub returns-clause-tells : goal.returns-clause-tells
-returns-clause-tells g c =
+pub returns : goal.returns
+returns g c =
     let at : At = record { agent = c.args.agent.now; filing = c.args.number; place = c.args.place } in
     let made = λ (n : ℕ) (x : Identifier). identifier_columns (record { at = at; item = n; identifier = x }) in
     let from = λ (n : ℕ) (xs : List Identifier). map identifier_columns (identifiers_from at n xs) in
-    told_of_rows (Pairwise (λ n x row. row ≡ made n x) 1 c.args.identifiers.now) _ _ c.in_ok-rows.rows _ c.as_slice.result.now c.are_identifiers.result c.in_ok-rows.ensures.both c.as_slice.ensures.value c.are_identifiers.ensures
+    told_of_rows (Pairwise (λ n x row. row ≡ made n x) 1 c.args.identifiers.now) _ _ c.in_ok-rows.rows _ c.as_slice.result.now c.are_identifiers.result c.in_ok-rows.ensures c.as_slice.ensures.value c.are_identifiers.ensures
     (λ r. (λ h. made_from made from (λ n. refl) (λ n x xs. refl) 1 c.args.identifiers.now (map identifier_columns (identifiers_at at r.members)) h, λ e. all_made made from (λ n. refl) (λ n x xs. refl) 1 c.args.identifiers.now (map identifier_columns (identifiers_at at r.members)) e))

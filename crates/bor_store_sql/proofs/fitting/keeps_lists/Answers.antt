@@ -15,19 +15,19 @@ HasInterests at r xs = map interest_columns (interests_from at 1 xs) ≡ map int
 abbrev HasIdentifiers : At → Register → List Identifier → Type 0
 HasIdentifiers at r xs = map identifier_columns (identifiers_from at 1 xs) ≡ map identifier_columns (identifiers_at at r.members)
 
-pub returns-in_err-keeps_interests-clause-tells : goal.returns-in_err-keeps_interests-clause-tells
-returns-in_err-keeps_interests-clause-tells g c = no_answer _ _ c.in_err-keeps_interests.ensures.tells.clean c.in_err-keeps_interests.ensures.tells.began c.in_err-keeps_interests.ensures.tells.kept c.in_err-keeps_interests.ensures.tells.stops c.from_residual.result c.from_residual.ensures.0
+pub returns-in_err-keeps_interests : goal.returns-in_err-keeps_interests
+returns-in_err-keeps_interests g c = no_answer _ _ c.in_err-keeps_interests.ensures.reads c.from_residual.result c.from_residual.ensures.0
 
-pub returns-then-not-branch-clause-tells : goal.returns-then-not-branch-clause-tells
-returns-then-not-branch-clause-tells g c =
+pub returns-then-not-branch : goal.returns-then-not-branch
+returns-then-not-branch g c =
     let at : At = record { agent = c.args.agent.now; filing = c.args.number; place = c.args.place } in
-    told_unless _ _ _ c.if-not-branch.true c.in_ok-keeps_interests.ensures.tells (λ r h. subst (HasInterests at r) (sym c.interests.ensures) h.interests)
+    told_unless _ _ _ c.if-not-branch.true c.in_ok-keeps_interests.ensures (λ r h. subst (HasInterests at r) (sym c.interests.ensures) h.interests)
 
-pub returns-clause-tells : goal.returns-clause-tells
-returns-clause-tells g c =
+pub returns : goal.returns
+returns g c =
     let at : At = record { agent = c.args.agent.now; filing = c.args.number; place = c.args.place } in
-    let first = c.in_ok-keeps_interests.ensures.tells in
-    told_after _ _ first.clean first.began first.kept first.stops _ c.keeps_identifiers.result c.keeps_identifiers.ensures.tells (λ clean r shows. (
+    let first = c.in_ok-keeps_interests.ensures in
+    told_after _ _ first.reads _ c.keeps_identifiers.result c.keeps_identifiers.ensures (λ clean r shows. (
       λ ids. record {
         interests = subst (HasInterests at r) c.interests.ensures ((first.told clean r shows).0 c.if-not-branch.false);
         identifiers = subst (HasIdentifiers at r) c.identifiers.ensures ids;

@@ -7,12 +7,9 @@ use Rattle.bor_store_sql.proofs.Plain.{agent_by_name_asks}
 use Rattle.bor_store_sql.proofs.keyed.agent_by_name.Goals as goal
 
 pub query-requires : goal.query-requires
-query-requires g c = record { settled = c.requires; asks = agent_by_name_asks }
+query-requires g c = agent_by_name_asks
 
 pub returns : goal.returns
 returns g c =
-    let asked = subst (λ params. Asked AGENT_BY_NAME.now params (state g.S.Store c.args.conn.now) (state g.S.Store c.query.new.conn) c.query.result) c.one_text.ensures c.query.ensures.asked in
-    record {
-      mode = c.query.ensures.mode;
-      finds = agent_by_name_finds c.args.name.now (state g.S.Store c.args.conn.now) (state g.S.Store c.query.new.conn) c.query.result asked;
-    }
+    let asked = subst (λ params. Asked AGENT_BY_NAME.now params (state g.S.Store c.args.conn.now) (state g.S.Store c.query.new.conn) c.query.result) c.one_text.ensures c.query.ensures in
+    agent_by_name_finds c.args.name.now (state g.S.Store c.args.conn.now) (state g.S.Store c.query.new.conn) c.query.result asked

@@ -7,12 +7,9 @@ use Rattle.bor_store_sql.proofs.Plain.{filings_of_agent_asks}
 use Rattle.bor_store_sql.proofs.keyed.filings_of_agent.Goals as goal
 
 pub query-requires : goal.query-requires
-query-requires g c = record { settled = c.requires; asks = filings_of_agent_asks }
+query-requires g c = filings_of_agent_asks
 
 pub returns : goal.returns
 returns g c =
-    let asked = subst (λ params. Asked FILINGS_OF_AGENT.now params (state g.S.Store c.args.conn.now) (state g.S.Store c.query.new.conn) c.query.result) c.one_text.ensures c.query.ensures.asked in
-    record {
-      mode = c.query.ensures.mode;
-      finds = filings_of_agent_finds c.args.agent.now (state g.S.Store c.args.conn.now) (state g.S.Store c.query.new.conn) c.query.result asked;
-    }
+    let asked = subst (λ params. Asked FILINGS_OF_AGENT.now params (state g.S.Store c.args.conn.now) (state g.S.Store c.query.new.conn) c.query.result) c.one_text.ensures c.query.ensures in
+    filings_of_agent_finds c.args.agent.now (state g.S.Store c.args.conn.now) (state g.S.Store c.query.new.conn) c.query.result asked

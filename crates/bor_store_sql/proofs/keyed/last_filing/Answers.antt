@@ -7,12 +7,9 @@ use Rattle.bor_store_sql.proofs.Plain.{last_filing_asks}
 use Rattle.bor_store_sql.proofs.keyed.last_filing.Goals as goal
 
 pub query-requires : goal.query-requires
-query-requires g c = record { settled = c.requires; asks = last_filing_asks }
+query-requires g c = last_filing_asks
 
 pub returns : goal.returns
 returns g c =
-    let asked = subst (λ params. Asked LAST_FILING.now params (state g.S.Store c.args.conn.now) (state g.S.Store c.query.new.conn) c.query.result) c.one_text.ensures c.query.ensures.asked in
-    record {
-      mode = c.query.ensures.mode;
-      finds = last_filing_finds c.args.agent.now (state g.S.Store c.args.conn.now) (state g.S.Store c.query.new.conn) c.query.result asked;
-    }
+    let asked = subst (λ params. Asked LAST_FILING.now params (state g.S.Store c.args.conn.now) (state g.S.Store c.query.new.conn) c.query.result) c.one_text.ensures c.query.ensures in
+    last_filing_finds c.args.agent.now (state g.S.Store c.args.conn.now) (state g.S.Store c.query.new.conn) c.query.result asked

@@ -7,12 +7,9 @@ use Rattle.bor_store_sql.proofs.Plain.{last_of_series_asks}
 use Rattle.bor_store_sql.proofs.keyed.last_of_series.Goals as goal
 
 pub query-requires : goal.query-requires
-query-requires g c = record { settled = c.requires; asks = last_of_series_asks }
+query-requires g c = last_of_series_asks
 
 pub returns : goal.returns
 returns g c =
-    let asked = subst (λ params. Asked LAST_OF_SERIES.now params (state g.S.Store c.args.conn.now) (state g.S.Store c.query.new.conn) c.query.result) c.three_texts.ensures c.query.ensures.asked in
-    record {
-      mode = c.query.ensures.mode;
-      finds = last_of_series_finds c.args.agent.now c.args.declaration.now c.args.rec.now (state g.S.Store c.args.conn.now) (state g.S.Store c.query.new.conn) c.query.result asked;
-    }
+    let asked = subst (λ params. Asked LAST_OF_SERIES.now params (state g.S.Store c.args.conn.now) (state g.S.Store c.query.new.conn) c.query.result) c.three_texts.ensures c.query.ensures in
+    last_of_series_finds c.args.agent.now c.args.declaration.now c.args.rec.now (state g.S.Store c.args.conn.now) (state g.S.Store c.query.new.conn) c.query.result asked

@@ -7,12 +7,9 @@ use Rattle.bor_store_sql.proofs.Plain.{line_by_number_asks}
 use Rattle.bor_store_sql.proofs.keyed.line_by_number.Goals as goal
 
 pub query-requires : goal.query-requires
-query-requires g c = record { settled = c.requires; asks = line_by_number_asks }
+query-requires g c = line_by_number_asks
 
 pub returns : goal.returns
 returns g c =
-    let asked = subst (λ params. Asked LINE_BY_NUMBER.now params (state g.S.Store c.args.conn.now) (state g.S.Store c.query.new.conn) c.query.result) c.filing_key.ensures c.query.ensures.asked in
-    record {
-      mode = c.query.ensures.mode;
-      finds = line_by_number_finds c.args.agent.now c.args.number (state g.S.Store c.args.conn.now) (state g.S.Store c.query.new.conn) c.query.result asked;
-    }
+    let asked = subst (λ params. Asked LINE_BY_NUMBER.now params (state g.S.Store c.args.conn.now) (state g.S.Store c.query.new.conn) c.query.result) c.filing_key.ensures c.query.ensures in
+    line_by_number_finds c.args.agent.now c.args.number (state g.S.Store c.args.conn.now) (state g.S.Store c.query.new.conn) c.query.result asked

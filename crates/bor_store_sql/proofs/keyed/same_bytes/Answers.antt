@@ -7,12 +7,9 @@ use Rattle.bor_store_sql.proofs.Plain.{same_bytes_asks}
 use Rattle.bor_store_sql.proofs.keyed.same_bytes.Goals as goal
 
 pub query-requires : goal.query-requires
-query-requires g c = record { settled = c.requires; asks = same_bytes_asks }
+query-requires g c = same_bytes_asks
 
 pub returns : goal.returns
 returns g c =
-    let asked = subst (λ params. Asked SAME_BYTES.now params (state g.S.Store c.args.conn.now) (state g.S.Store c.query.new.conn) c.query.result) c.file_key.ensures c.query.ensures.asked in
-    record {
-      mode = c.query.ensures.mode;
-      finds = same_bytes_finds c.args.agent.now c.args.key.now c.args.bytes.now (state g.S.Store c.args.conn.now) (state g.S.Store c.query.new.conn) c.query.result asked;
-    }
+    let asked = subst (λ params. Asked SAME_BYTES.now params (state g.S.Store c.args.conn.now) (state g.S.Store c.query.new.conn) c.query.result) c.file_key.ensures c.query.ensures in
+    same_bytes_finds c.args.agent.now c.args.key.now c.args.bytes.now (state g.S.Store c.args.conn.now) (state g.S.Store c.query.new.conn) c.query.result asked

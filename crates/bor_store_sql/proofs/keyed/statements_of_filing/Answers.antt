@@ -2,19 +2,14 @@ use Rattle.std.proofs.Common.{subst}
 use Rattle.sqlite.specs.Held.{state}
 use Rattle.bor_store_sql.specs.declared.texts.queries.TheConstants.{STATEMENTS_OF_FILING}
 use Rattle.bor_store_sql.specs.Found.{Asked}
-use Rattle.bor_store_sql.proofs.BothKeyed.{statements_of_filing_finds as found_in_both}
-use Rattle.bor_store_sql.proofs.KeyedReads.{statements_of_filing_finds}
+use Rattle.bor_store_sql.proofs.BothKeyed.{statements_of_filing_finds}
 use Rattle.bor_store_sql.proofs.Plain.{statements_of_filing_asks}
 use Rattle.bor_store_sql.proofs.keyed.statements_of_filing.Goals as goal
 
 pub query-requires : goal.query-requires
-query-requires g c = record { settled = c.requires; asks = statements_of_filing_asks }
+query-requires g c = statements_of_filing_asks
 
 pub returns : goal.returns
 returns g c =
-    let asked = subst (λ params. Asked STATEMENTS_OF_FILING.now params (state g.S.Store c.args.conn.now) (state g.S.Store c.query.new.conn) c.query.result) c.filing_key.ensures c.query.ensures.asked in
-    record {
-      mode = c.query.ensures.mode;
-      finds = statements_of_filing_finds c.args.agent.now c.args.number (state g.S.Store c.args.conn.now) (state g.S.Store c.query.new.conn) c.query.result asked;
-      both = found_in_both c.args.agent.now c.args.number (state g.S.Store c.args.conn.now) (state g.S.Store c.query.new.conn) c.query.result asked;
-    }
+    let asked = subst (λ params. Asked STATEMENTS_OF_FILING.now params (state g.S.Store c.args.conn.now) (state g.S.Store c.query.new.conn) c.query.result) c.filing_key.ensures c.query.ensures in
+    statements_of_filing_finds c.args.agent.now c.args.number (state g.S.Store c.args.conn.now) (state g.S.Store c.query.new.conn) c.query.result asked

@@ -2,7 +2,7 @@ use Rattle.std.proofs.Common.{◌+◌, [], ◌∷◌, Ok, take, refl, subst, ◌
 use Rattle.std.proofs.lemmas.List.{take_all}
 use Rattle.sqlite.specs.Held.{state}
 use Rattle.bor_store_sql.specs.Moving.{PutsPeriods}
-use Rattle.bor_store_sql.specs.Ran.{Moves}
+use Rattle.bor_store_sql.specs.Ran.{MovesTo}
 use Rattle.bor_store_sql.proofs.Moves.{both_move, no_periods_put, none_moves, one_more_period, then_fails}
 use Rattle.bor_store_sql.proofs.moving.put_rows.Goals as goal
 
@@ -30,6 +30,6 @@ returns-in_err-put_row g c = record {
 pub returns : goal.returns
 returns g c = record {
   same_reference = c.loop-period.invariant.0;
-  moves = subst (λ ps. Moves (PutsPeriods ps) (state g.S.Store c.args.tx.now.conn.now) (state g.S.Store c.loop-period.tx.conn.now) (Ok (tt {0})))
+  moves = subst (λ ps. MovesTo (PutsPeriods ps) (state g.S.Store c.args.tx.now.conn.now) (state g.S.Store c.loop-period.tx.conn.now) (Ok (tt {0})))
       (take_all c.loop-period.period-index c.args.periods.now c.loop-period-test.false) c.loop-period.invariant.1;
 }

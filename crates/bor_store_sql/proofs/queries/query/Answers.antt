@@ -1,4 +1,4 @@
-use Rattle.std.proofs.Common.{List, Vec, IsTrue, not, ap, ◌∙◌}
+use Rattle.std.proofs.Common.{List, Vec, rules}
 use Rattle.std.specs.declared.alloc.Global.{Global}
 use Rattle.sqlite.specs.Order.{Row}
 use Rattle.sqlite.specs.Held.{state}
@@ -12,19 +12,21 @@ use Rattle.bor_store_sql.proofs.queries.query.Goals as goal
 abbrev rows_in : Vec Row Global → List Row
 rows_in v = v.items
 
-pub returns-clause-asked : goal.returns-clause-asked
-returns-clause-asked g c =
+pub returns : goal.returns
+returns g c =
     let old = state g.S.Store c.args.conn.now in
     let new = state g.S.Store c.query_all.new.self in
     let text = c.args.sql.now in
     let params = bound c.args.params.now in
-    let auto : IsTrue c.is_autocommit-settled.result = c.is_autocommit-settled.ensures.value ∙ ap not c.requires.settled in
-    let left = λ (disk : HasCleanDisk new). left_by old new text c.requires.asks params rows_in c.query_all.result (c.query_all.ensures.ok disk) (c.query_all.ensures.err disk) in
+    let left = λ (disk : HasCleanDisk new). left_by old new text c.requires params rows_in c.query_all.result (c.query_all.ensures.ok disk) (c.query_all.ensures.err disk) in
     record {
-      clean = was_clean old new _ c.query_all.ensures.survives;
-      stops = leaves_no_more old new text c.requires.asks params c.query_all.ensures.survives;
-      up = up_by old new text c.requires.asks params rows_in c.query_all.result c.query_all.ensures.ok;
-      began = λ clean. (was_clean old new _ c.query_all.ensures.survives clean.0, (left clean.0).was_open clean.1);
-      kept = λ clean. (left clean.0).committed clean.1;
-      shown = λ clean. settled_shown text params old new (c.is_autocommit-settled.ensures.settled auto ((left clean.0).was_open clean.1)) c.query_all.result (c.query_all.ensures.ok clean.0);
+      reads = record {
+        mode = c.query_all.ensures.mode;
+        clean = was_clean old new _ c.query_all.ensures.survives;
+        stops = leaves_no_more old new text c.requires params c.query_all.ensures.survives;
+        began = λ clean. (was_clean old new _ c.query_all.ensures.survives clean.0, (left clean.0).was_open clean.1);
+        kept = λ clean. (left clean.0).committed clean.1;
+      };
+      up = up_by old new text c.requires params rows_in c.query_all.result c.query_all.ensures.ok;
+      shown = λ clean. settled_shown text params old new (c.is_autocommit.ensures.settled (search rules) ((left clean.0).was_open clean.1)) c.query_all.result (c.query_all.ensures.ok clean.0);
     }

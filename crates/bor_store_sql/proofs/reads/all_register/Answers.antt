@@ -5,10 +5,7 @@ use Rattle.bor_store_sql.proofs.WholeReads.{all_register_finds}
 use Rattle.bor_store_sql.proofs.reads.all_register.Goals as goal
 
 pub query-requires : goal.query-requires
-query-requires g c = record { settled = c.requires; asks = all_register_asks }
+query-requires g c = all_register_asks
 
 pub returns : goal.returns
-returns g c = record {
-  mode = c.query.ensures.mode;
-  finds = all_register_finds _ (state g.S.Store c.args.conn.now) (state g.S.Store c.query.new.conn) c.query.result c.query.ensures.asked refl;
-}
+returns g c = all_register_finds _ (state g.S.Store c.args.conn.now) (state g.S.Store c.query.new.conn) c.query.result c.query.ensures refl

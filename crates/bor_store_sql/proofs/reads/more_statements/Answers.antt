@@ -4,10 +4,7 @@ use Rattle.bor_store_sql.proofs.WholeReads.{more_statements_finds}
 use Rattle.bor_store_sql.proofs.reads.more_statements.Goals as goal
 
 pub query-requires : goal.query-requires
-query-requires g c = record { settled = c.requires; asks = more_statements_asks }
+query-requires g c = more_statements_asks
 
 pub returns : goal.returns
-returns g c = record {
-  mode = c.query.ensures.mode;
-  finds = more_statements_finds c.args.count _ (state g.S.Store c.args.conn.now) (state g.S.Store c.query.new.conn) c.query.result c.query.ensures.asked c.one_number.ensures;
-}
+returns g c = more_statements_finds c.args.count _ (state g.S.Store c.args.conn.now) (state g.S.Store c.query.new.conn) c.query.result c.query.ensures c.one_number.ensures

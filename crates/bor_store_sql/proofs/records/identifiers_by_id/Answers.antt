@@ -7,12 +7,9 @@ use Rattle.bor_store_sql.proofs.Plain.{identifiers_by_id_asks}
 use Rattle.bor_store_sql.proofs.records.identifiers_by_id.Goals as goal
 
 pub query-requires : goal.query-requires
-query-requires g c = record { settled = c.requires; asks = identifiers_by_id_asks }
+query-requires g c = identifiers_by_id_asks
 
 pub returns : goal.returns
 returns g c =
-    let asked = subst (λ params. Asked IDENTIFIERS_BY_ID.now params (state g.S.Store c.args.conn.now) (state g.S.Store c.query.new.conn) c.query.result) c.two_texts.ensures c.query.ensures.asked in
-    record {
-      mode = c.query.ensures.mode;
-      finds = identifiers_by_id_finds c.args.scheme.now c.args.id.now (state g.S.Store c.args.conn.now) (state g.S.Store c.query.new.conn) c.query.result asked;
-    }
+    let asked = subst (λ params. Asked IDENTIFIERS_BY_ID.now params (state g.S.Store c.args.conn.now) (state g.S.Store c.query.new.conn) c.query.result) c.two_texts.ensures c.query.ensures in
+    identifiers_by_id_finds c.args.scheme.now c.args.id.now (state g.S.Store c.args.conn.now) (state g.S.Store c.query.new.conn) c.query.result asked

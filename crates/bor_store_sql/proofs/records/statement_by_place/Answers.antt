@@ -7,12 +7,9 @@ use Rattle.bor_store_sql.proofs.Plain.{statement_by_place_asks}
 use Rattle.bor_store_sql.proofs.records.statement_by_place.Goals as goal
 
 pub query-requires : goal.query-requires
-query-requires g c = record { settled = c.requires; asks = statement_by_place_asks }
+query-requires g c = statement_by_place_asks
 
 pub returns : goal.returns
 returns g c =
-    let asked = subst (λ params. Asked STATEMENT_BY_PLACE.now params (state g.S.Store c.args.conn.now) (state g.S.Store c.query.new.conn) c.query.result) c.statement_key.ensures c.query.ensures.asked in
-    record {
-      mode = c.query.ensures.mode;
-      finds = statement_by_place_finds c.args.agent.now c.args.number c.args.place (state g.S.Store c.args.conn.now) (state g.S.Store c.query.new.conn) c.query.result asked;
-    }
+    let asked = subst (λ params. Asked STATEMENT_BY_PLACE.now params (state g.S.Store c.args.conn.now) (state g.S.Store c.query.new.conn) c.query.result) c.statement_key.ensures c.query.ensures in
+    statement_by_place_finds c.args.agent.now c.args.number c.args.place (state g.S.Store c.args.conn.now) (state g.S.Store c.query.new.conn) c.query.result asked

@@ -7,12 +7,9 @@ use Rattle.bor_store_sql.proofs.Plain.{statements_of_record_asks}
 use Rattle.bor_store_sql.proofs.records.statements_of_record.Goals as goal
 
 pub query-requires : goal.query-requires
-query-requires g c = record { settled = c.requires; asks = statements_of_record_asks }
+query-requires g c = statements_of_record_asks
 
 pub returns : goal.returns
 returns g c =
-    let asked = subst (λ params. Asked STATEMENTS_OF_RECORD.now params (state g.S.Store c.args.conn.now) (state g.S.Store c.query.new.conn) c.query.result) c.two_texts.ensures c.query.ensures.asked in
-    record {
-      mode = c.query.ensures.mode;
-      finds = statements_of_record_finds c.args.agent.now c.args.rec.now (state g.S.Store c.args.conn.now) (state g.S.Store c.query.new.conn) c.query.result asked;
-    }
+    let asked = subst (λ params. Asked STATEMENTS_OF_RECORD.now params (state g.S.Store c.args.conn.now) (state g.S.Store c.query.new.conn) c.query.result) c.two_texts.ensures c.query.ensures in
+    statements_of_record_finds c.args.agent.now c.args.rec.now (state g.S.Store c.args.conn.now) (state g.S.Store c.query.new.conn) c.query.result asked

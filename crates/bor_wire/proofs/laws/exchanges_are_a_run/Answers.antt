@@ -2,4 +2,4 @@ use Rattle.bor_wire.proofs.SequenceLaws.{a_run}
 use Rattle.bor_wire.proofs.laws.exchanges_are_a_run.Goals as goal
 
 pub returns : goal.returns
-returns g c = a_run g.K.Keep.shows g.K.Keep.is_clean g.K.Keep.is_sound g.K.Keep.may_leave g.K.Keep.left_shows
+returns g c = a_run g.K.Keep.meaning

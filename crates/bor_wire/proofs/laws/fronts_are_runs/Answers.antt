@@ -2,4 +2,4 @@ use Rattle.bor_wire.proofs.TurnLaws.{fronts}
 use Rattle.bor_wire.proofs.laws.fronts_are_runs.Goals as goal
 
 pub returns : goal.returns
-returns g c = fronts g.K.Keep.shows g.K.Keep.is_clean g.K.Keep.is_sound g.K.Keep.may_leave g.K.Keep.left_shows
+returns g c = fronts g.K.Keep.meaning

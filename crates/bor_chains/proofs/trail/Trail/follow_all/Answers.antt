@@ -1,4 +1,4 @@
-use Rattle.std.proofs.Common.{◌≡◌, ◌∙◌, [], List, length, arith, rules, refl, sym, subst}
+use Rattle.std.proofs.Common.{◌∙◌, [], List, length, arith, rules, refl, sym, subst}
 use Rattle.std.proofs.lemmas.Iterator.Consumers.{YieldsList-end}
 use Rattle.std.proofs.lemmas.Iterator.Adapters.{YieldsList-from_vec}
 use Rattle.std.proofs.lemmas.List.{map-id}
@@ -13,7 +13,7 @@ loop-crossing-init g c = record {
   longer = omega arith;
   same_reference = refl;
   kept = search rules;
-  lasts = same_lasts _ _ _;
+  lasts = same_lasts _ _;
   counts = refl;
   walked = λ m e k beside whole. (whole, to_none (g.S.LinkSource.shown m) [] c.args.self.now);
 }
@@ -24,9 +24,9 @@ loop-crossing-preserved g c =
     record {
       longer = omega (arith, invariant.longer, c.in_ok-follow.ensures.longer);
       same_reference = cc (c.follow.ensures.same_reference, invariant.same_reference);
-      kept = kept_then _ _ _ _ _ _ _ invariant.kept c.follow.ensures.kept;
-      lasts = lasts_then _ _ _ _ _ invariant.lasts c.in_ok-follow.ensures.lasts;
-      counts = cc (c.in_ok-follow.ensures.counts, invariant.counts);
+      kept = kept_then _ _ _ _ invariant.kept c.follow.ensures.kept;
+      lasts = lasts_then _ _ _ _ invariant.lasts c.in_ok-follow.ensures.accounted.lasts;
+      counts = cc (c.in_ok-follow.ensures.accounted.counts, invariant.counts);
       walked = λ m e k beside whole.
           let s = g.S.LinkSource.shown m in
           let clean = c.follow.ensures.kept.began k in

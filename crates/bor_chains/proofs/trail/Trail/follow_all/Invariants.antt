@@ -10,9 +10,9 @@ invariant-loop-crossing g l =
     record {
       longer : length l.initial.self.marks ≤ length l.self.marks;
       same_reference : source.lender l.source ≡ source.lender l.initial.source;
-      kept : Kept source.shows source.is_clean source.is_sound source.may_leave l.initial.source l.source;
-      lasts : StaysClean source.is_clean source.is_sound l.initial.source l.source;
-      counts : source.fault_count l.source ≡ source.fault_count l.initial.source;
-      walked : Promised source.shows source.is_clean l.initial.source l.source
+      kept : Kept source.meaning l.initial.source l.source;
+      lasts : StaysClean source.meaning l.initial.source l.source;
+      counts : source.meaning.fault_count l.source ≡ source.meaning.fault_count l.initial.source;
+      walked : Promised source.meaning l.initial.source l.source
           (λ m. AreBeside l.initial.self → AreWhole (source.shown m) l.initial.self.marks → AreWhole (source.shown m) l.self.marks × FollowsTo (source.shown m) l.yielded (length l.yielded) l.initial.self l.self);
     }

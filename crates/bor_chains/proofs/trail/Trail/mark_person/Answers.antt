@@ -1,4 +1,4 @@
-use Rattle.std.proofs.Common.{◌≡◌, true, false, List, ℕ, length, sym, ◌∙◌, Option, Some, ap, subst, refl, inl, inr, Contains}
+use Rattle.std.proofs.Common.{◌≡◌, true, false, List, ℕ, length, sym, ◌∙◌, Option, Some, ap, subst, inl, inr, Contains}
 use Rattle.bor_records.specs.declared.links.node.Node.{Node}
 use Rattle.bor_records.specs.Links.Growth.{Grown}
 use Rattle.bor_chains.specs.declared.marks.Mark.TheVariants.{Holder}

@@ -17,9 +17,9 @@ loop-line-preserved g c =
     let lt : at < length links = omega arith in
     let pushed = c.push_reserved.ensures in
     record {
-      kept = kept_then keep.shows keep.is_clean keep.is_sound keep.may_leave _ _ _ inv.kept asked.kept;
-      lasts = lasts_then keep.is_clean keep.is_sound _ _ _ inv.lasts asked.lasts;
-      counts = asked.accounted ∙ inv.counts;
+      kept = kept_then keep.meaning _ _ _ inv.kept asked.kept;
+      lasts = lasts_then keep.meaning _ _ _ inv.lasts asked.accounted.lasts;
+      counts = asked.accounted.counted ∙ inv.counts;
       count = omega (arith, pushed.len, inv.count);
       room = omega (arith, pushed.capacity, inv.room);
       told = λ r is clean all.

@@ -10,11 +10,11 @@ abbrev pub invariant-loop-line : goal.invariant-loop-line
 invariant-loop-line g l =
     let keep = g.K.Keep in
     record {
-      kept : Kept keep.shows keep.is_clean keep.is_sound keep.may_leave l.initial.keep l.keep;
-      lasts : StaysClean keep.is_clean keep.is_sound l.initial.keep l.keep;
-      counts : keep.fault_count l.keep ≡ keep.fault_count l.initial.keep;
+      kept : Kept keep.meaning l.initial.keep l.keep;
+      lasts : StaysClean keep.meaning l.initial.keep l.keep;
+      counts : keep.meaning.fault_count l.keep ≡ keep.meaning.fault_count l.initial.keep;
       count : length l.lines.items ≡ l.line-index;
       room : length l.links ≤ vec_capacity l.lines;
-      told : Promised keep.shows keep.is_clean l.initial.keep l.keep
+      told : Promised keep.meaning l.initial.keep l.keep
           (λ r. AreLinked (seen_at l.viewer l.day r) l.entity l.links → AreGoals (seen_at l.viewer l.day r) l.goals × AreLinkEvidence (seen_at l.viewer l.day r) l.entity (take l.line-index l.links) l.lines.items);
     }

@@ -20,8 +20,8 @@ loop-node-preserved g c =
       | in_default w ↦ told_closed c.in_ok-row.field-0 was now w.in_default.is w.records-is
     ] in
     record {
-      kept = kept_then keep.shows keep.is_clean keep.is_sound keep.may_leave _ _ _ inv.kept reads.kept;
-      lasts = lasts_then keep.is_clean keep.is_sound _ _ _ inv.lasts reads.lasts;
+      kept = kept_then keep.meaning _ _ _ inv.kept reads.kept;
+      lasts = lasts_then keep.meaning _ _ _ inv.lasts reads.lasts;
       counted = reads.counts ∙ inv.counted;
       count = omega (arith, more.few);
       room = omega (arith, more.room);

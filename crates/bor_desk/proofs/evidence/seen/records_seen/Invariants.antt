@@ -9,10 +9,10 @@ abbrev pub invariant-loop-node : goal.invariant-loop-node
 invariant-loop-node g l =
     let keep = g.K.Keep in
     record {
-      kept : Kept keep.shows keep.is_clean keep.is_sound keep.may_leave l.fn.keep l.keep;
-      lasts : StaysClean keep.is_clean keep.is_sound l.fn.keep l.keep;
-      counted : keep.fault_count l.keep ≡ keep.fault_count l.fn.keep;
+      kept : Kept keep.meaning l.fn.keep l.keep;
+      lasts : StaysClean keep.meaning l.fn.keep l.keep;
+      counted : keep.meaning.fault_count l.keep ≡ keep.meaning.fault_count l.fn.keep;
       count : length l.records.items ≤ l.node-index;
       room : length l.nodes ≤ vec_capacity l.records;
-      told : Promised keep.shows keep.is_clean l.fn.keep l.keep (λ r. l.records.items ≡ records_at l.day (seen_by l.viewer r) (take l.node-index l.nodes));
+      told : Promised keep.meaning l.fn.keep l.keep (λ r. l.records.items ≡ records_at l.day (seen_by l.viewer r) (take l.node-index l.nodes));
     }

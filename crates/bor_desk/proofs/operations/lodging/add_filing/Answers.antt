@@ -14,7 +14,7 @@ returns-clause-number g c = λ r is clean1.
 
 pub returns-clause-changes : goal.returns-clause-changes
 returns-clause-changes g c =
-    sure_changes g.K.Keep.shows g.K.Keep.is_clean g.K.Keep.is_sound g.K.Keep.may_leave g.K.Keep.left_shows g.K.Keep.fault_count g.K.Keep.may_tell
+    sure_changes g.K.Keep.meaning
     {Fits = MayFile c.args.agent.now c.args.key.now c.args.statements.now}
     (λ r is clean. record {
       enrolled = c.requires.enrolled r is clean;

@@ -16,7 +16,7 @@ returns-in_err-new-clause-step g c = λ r is clean1.
     let clean0 = c.in_err-new.ensures.kept.began clean1 in
     let kept = (c.in_err-new.ensures.kept.same clean1 r).0 is in
     let told = refuses_new (sight_of c.args.agent.now r) key c.args.due c.args.bytes.now e (c.requires.new_key r is clean0) (c.in_err-new.ensures.answer r is clean1 key) in
-    rw (p.1, p.2) (refused_lodging-outcome (g.K.Keep.shows c.prepare.new.keep) r c.args.agent.now key c.args.due c.args.bytes.now e told kept)
+    rw (p.1, p.2) (refused_lodging-outcome (g.K.Keep.meaning.shows c.prepare.new.keep) r c.args.agent.now key c.args.due c.args.bytes.now e told kept)
 
 pub add_filing-requires-clause-room : goal.add_filing-requires-clause-room
 add_filing-requires-clause-room g c = λ r kept clean.

@@ -30,9 +30,9 @@ loop-i-preserved g c =
     let lt : c.loop-i.i < length ss = omega arith in
     let next = as_settled c.in_ok-status.status (get_or ss c.loop-i.i c.index-statements-i-in-loop-i.result) in
     record {
-      kept = kept_then keep.shows keep.is_clean keep.is_sound keep.may_leave _ _ _ inv.kept c.in_ok-status.ensures.kept;
-      lasts = lasts_then keep.is_clean keep.is_sound _ _ _ inv.lasts c.in_ok-status.ensures.lasts;
-      counted = c.in_ok-status.ensures.accounted ∙ inv.counted;
+      kept = kept_then keep.meaning _ _ _ inv.kept c.in_ok-status.ensures.kept;
+      lasts = lasts_then keep.meaning _ _ _ inv.lasts c.in_ok-status.ensures.accounted.lasts;
+      counted = c.in_ok-status.ensures.accounted.counted ∙ inv.counted;
       found = subst (λ live. AreFound live c.add.new.self) (live_so_far c.args.due ss c.loop-i.i next c.index-statements-i-in-loop-i-2.result lt)
           (c.in_ok-add.ensures (map (as_live c.args.due) (take c.loop-i.i ss)) inv.found);
       done = λ r is clean.

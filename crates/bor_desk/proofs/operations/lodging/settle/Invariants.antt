@@ -12,10 +12,10 @@ abbrev pub invariant-loop-i : goal.invariant-loop-i
 invariant-loop-i g l =
     let keep = g.K.Keep in
     record {
-      kept : Kept keep.shows keep.is_clean keep.is_sound keep.may_leave l.fn.keep l.keep;
-      lasts : StaysClean keep.is_clean keep.is_sound l.fn.keep l.keep;
-      counted : keep.fault_count l.keep ≡ keep.fault_count l.fn.keep;
+      kept : Kept keep.meaning l.fn.keep l.keep;
+      lasts : StaysClean keep.meaning l.fn.keep l.keep;
+      counted : keep.meaning.fault_count l.keep ≡ keep.meaning.fault_count l.fn.keep;
       found : AreFound (map (as_live l.due) (take l.i l.statements)) l.earlier;
-      done : Promised keep.shows keep.is_clean l.fn.keep l.keep (λ r.
+      done : Promised keep.meaning l.fn.keep l.keep (λ r.
           so_far (live_of (filings_of l.agent r.members)) l.due l.statements l.i ≡ settled (live_of (filings_of l.agent r.members)) l.due l.fn.statements);
     }

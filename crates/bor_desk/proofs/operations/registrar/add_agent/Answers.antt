@@ -4,7 +4,7 @@ use Rattle.bor_desk.proofs.operations.registrar.add_agent.Goals as goal
 
 pub returns : goal.returns
 returns g c =
-    sure_changes g.K.Keep.shows g.K.Keep.is_clean g.K.Keep.is_sound g.K.Keep.may_leave g.K.Keep.left_shows g.K.Keep.fault_count g.K.Keep.may_tell
+    sure_changes g.K.Keep.meaning
     {Fits = MayEnrol c.args.name.now c.args.token.now}
     (λ r is clean. record { new_name = c.requires.new_name r is clean; new_token = c.requires.new_token r is clean })
     c.add_agent.ensures

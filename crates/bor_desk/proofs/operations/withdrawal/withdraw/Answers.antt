@@ -13,14 +13,14 @@ pub returns-in_err-line-clause-step : goal.returns-in_err-line-clause-step
 returns-in_err-line-clause-step g c = λ r is clean.
     let p = err_from_is_err_and c.from_residual.result c.from_residual.ensures.1 in
     let kept = (c.in_err-line.ensures.kept.same clean r).0 is in
-    rw (p.1, p.2) (refused_withdrawal-outcome (g.K.Keep.shows c.withdrawable.new.keep) r c.args.agent.now c.args.key.now c.in_err-line.field-0.0 (c.in_err-line.ensures.answer r is clean) kept)
+    rw (p.1, p.2) (refused_withdrawal-outcome (g.K.Keep.meaning.shows c.withdrawable.new.keep) r c.args.agent.now c.args.key.now c.in_err-line.field-0.0 (c.in_err-line.ensures.answer r is clean) kept)
 
 pub returns-then-eq-clause-step : goal.returns-then-eq-clause-step
 returns-then-eq-clause-step g c = λ r is clean.
     let kept = (c.in_ok-line.ensures.kept.same clean r).0 is in
     let state : c.in_ok-line.line.state ≡ Withdrawn = search rules in
     let left = again_left r c.args.agent.now c.args.key.now c.in_ok-line.line (c.in_ok-line.ensures.found r is clean) state in
-    (c.in_ok-line.ensures.answer r is clean ∙ ap (λ (s : State). Ok (record c.in_ok-line.line { state = s })) (sym state), subst (g.K.Keep.shows c.withdrawable.new.keep) (sym left) kept)
+    (c.in_ok-line.ensures.answer r is clean ∙ ap (λ (s : State). Ok (record c.in_ok-line.line { state = s })) (sym state), subst (g.K.Keep.meaning.shows c.withdrawable.new.keep) (sym left) kept)
 
 pub returns-clause-legal : goal.returns-clause-legal
 returns-clause-legal g c = λ r is clean2 legal.

@@ -14,14 +14,16 @@ returns c =
     let f = with_path-inserted paths.Snapshot c.insert-4.new.self c.insert-5.new.self tt c.in_ok-insert-5.ensures in
     let h = with_path-inserted paths.Chains c.insert-5.new.self c.insert-6.new.self tt c.in_ok-insert-6.ensures in
     let i = with_path-inserted paths.Evidence c.insert-6.new.self c.insert-7.new.self tt c.in_ok-insert-7.ensures in
-    let j = with_path-inserted paths.Day c.insert-7.new.self c.insert-8.new.self tt c.in_ok-insert-8.ensures in
-    let k = with_path-inserted paths.Agents c.insert-8.new.self c.insert-9.new.self tt c.in_ok-insert-9.ensures in
-    k ∙ ap (λ rows. with_path rows paths.Agents)
-    (j ∙ ap (λ rows. with_path rows paths.Day)
+    let j = with_path-inserted paths.Entities c.insert-7.new.self c.insert-8.new.self tt c.in_ok-insert-8.ensures in
+    let k = with_path-inserted paths.Day c.insert-8.new.self c.insert-9.new.self tt c.in_ok-insert-9.ensures in
+    let l = with_path-inserted paths.Agents c.insert-9.new.self c.insert-10.new.self tt c.in_ok-insert-10.ensures in
+    l ∙ ap (λ rows. with_path rows paths.Agents)
+    (k ∙ ap (λ rows. with_path rows paths.Day)
+    (j ∙ ap (λ rows. with_path rows paths.Entities)
     (i ∙ ap (λ rows. with_path rows paths.Evidence)
     (h ∙ ap (λ rows. with_path rows paths.Chains)
     (f ∙ ap (λ rows. with_path rows paths.Snapshot)
     (e ∙ ap (λ rows. with_path rows paths.Published)
     (d ∙ ap (λ rows. with_path rows paths.File)
     (b ∙ ap (λ rows. with_path rows paths.Filings)
-    (a ∙ ap (λ rows. with_path rows paths.Filing) c.new-router.ensures))))))))
+    (a ∙ ap (λ rows. with_path rows paths.Filing) c.new-router.ensures)))))))))

@@ -6,16 +6,16 @@ pub returns-in-Over-clause-held : goal.returns-in-Over-clause-held
 returns-in-Over-clause-held g c =
     let old = c.args.draining in
     let new = c.drain.new.self in
-    rw (c.drain.ensures.request, c.drain.ensures.reply) (drains_more g.S.Read.remaining g.S.Write.contents old.stream new.stream (answer_of old.request.items old.reply) old.left new.left c.requires c.drain.ensures.dropped)
+    rw (c.drain.ensures.request, c.drain.ensures.reply) (drains_more _ old.stream new.stream (answer_of old.request.value.items old.reply) old.left new.left c.requires c.drain.ensures.dropped)
 
 pub returns-in-More-clause-held : goal.returns-in-More-clause-held
 returns-in-More-clause-held g c =
     let old = c.args.draining in
     let new = c.drain.new.self in
-    rw (c.drain.ensures.request, c.drain.ensures.reply) (drains_more g.S.Read.remaining g.S.Write.contents old.stream new.stream (answer_of old.request.items old.reply) old.left new.left c.requires c.drain.ensures.dropped)
+    rw (c.drain.ensures.request, c.drain.ensures.reply) (drains_more _ old.stream new.stream (answer_of old.request.value.items old.reply) old.left new.left c.requires c.drain.ensures.dropped)
 
 pub returns-in-Blocked-clause-held : goal.returns-in-Blocked-clause-held
 returns-in-Blocked-clause-held g c =
     let old = c.args.draining in
     let new = c.drain.new.self in
-    rw (c.drain.ensures.request, c.drain.ensures.reply) (drains_more g.S.Read.remaining g.S.Write.contents old.stream new.stream (answer_of old.request.items old.reply) old.left new.left c.requires c.drain.ensures.dropped)
+    rw (c.drain.ensures.request, c.drain.ensures.reply) (drains_more _ old.stream new.stream (answer_of old.request.value.items old.reply) old.left new.left c.requires c.drain.ensures.dropped)

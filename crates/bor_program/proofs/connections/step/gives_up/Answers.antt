@@ -14,12 +14,12 @@ pub returns-in-Writing : goal.returns-in-Writing
 returns-in-Writing g c =
     let w = c.in-Writing.writing in
     let held = rw c.in-Writing.is at c.requires in
-    let answer = answer_of w.request.items w.reply in
-    (Told answer w.sent, told_writing g.S.Read.remaining g.S.Write.contents w.stream answer w.sent held, rw c.in-Writing.is refl, c.has_failed.ensures, refl)
+    let answer = answer_of w.request.value.items w.reply in
+    (Told answer w.sent, told_writing _ w.stream answer w.sent held, rw c.in-Writing.is refl, c.has_failed.ensures, refl)
 
 pub returns : goal.returns
 returns g c =
     let d = c.in-Draining.draining in
     let held = rw c.in-Draining.is at c.requires in
-    let answer = answer_of d.request.items d.reply in
-    (Told answer (length (bytes_out d.reply)), told_draining g.S.Read.remaining g.S.Write.contents d.stream answer d.left held, rw c.in-Draining.is refl, c.has_failed-in-Draining.ensures, refl)
+    let answer = answer_of d.request.value.items d.reply in
+    (Told answer (length (bytes_out d.reply)), told_draining _ d.stream answer d.left held, rw c.in-Draining.is refl, c.has_failed-in-Draining.ensures, refl)

@@ -4,7 +4,7 @@ use Rattle.bor_program.proofs.connections.step.steps.Goals as goal
 
 pub returns-in-Ends-clause-step : goal.returns-in-Ends-clause-step
 returns-in-Ends-clause-step g c =
-    then_steps g.K.Keep.shows g.K.Keep.is_clean g.K.Keep.is_sound g.K.Keep.may_leave g.K.Keep.left_shows g.S.Read.remaining g.S.Write.contents c.args.keep.now c.loop.keep c.step.new.keep (telling c.args.phase) (telling c.loop.phase) (telling c.in-Ends.last)
+    then_steps _ _ c.args.keep.now c.loop.keep c.step.new.keep (telling c.args.phase) (telling c.loop.phase) (telling c.in-Ends.last)
     c.loop.invariant.step c.in-Ends.ensures.step
 
 pub returns-in-Ends-clause-time : goal.returns-in-Ends-clause-time
@@ -14,7 +14,7 @@ pub loop-preserved : goal.loop-preserved
 loop-preserved g c = record {
   held = c.in-Goes.ensures.held;
   step =
-      then_steps g.K.Keep.shows g.K.Keep.is_clean g.K.Keep.is_sound g.K.Keep.may_leave g.K.Keep.left_shows g.S.Read.remaining g.S.Write.contents c.args.keep.now c.loop.keep c.step.new.keep (telling c.args.phase) (telling c.loop.phase) (telling c.in-Goes.next)
+      then_steps _ _ c.args.keep.now c.loop.keep c.step.new.keep (telling c.args.phase) (telling c.loop.phase) (telling c.in-Goes.next)
       c.loop.invariant.step c.in-Goes.ensures.step;
   all = reads_then g.S.Read.remaining c.args.phase c.loop.phase c.in-Goes.next c.loop.invariant.all c.in-Goes.ensures.all;
   time = λ taking is. c.in-Goes.ensures.time taking (c.loop.invariant.time taking is);
@@ -23,7 +23,7 @@ loop-preserved g c = record {
 pub loop-init : goal.loop-init
 loop-init g c = record {
   held = c.requires;
-  step = λ start others connections pending absent told before. before;
+  step = λ start others tally before. before;
   all = reads_same g.S.Read.remaining c.args.phase;
   time = λ taking is. is;
 }

@@ -18,11 +18,11 @@ returns-clause-changes g c =
     let told = c.told.ensures in
     let same = c.connection.ensures.value in
     let changed : Register → Register = λ r. added c.args.agent.now c.args.key.now c.args.due c.args.bytes.now c.args.statements.now r in
-    let leaves = keep_leaves_where (λ k. state g.S.Store k.conn) c.args.self.now c.told.new.self (state g.S.Store c.connection.result.now) (state g.S.Store c.add_next_filing-made.new.conn)
+    let leaves = keep_leaves_where (λ k. state g.S.Store k.conn) (λ k. k.faults) c.args.self.now c.told.new.self (state g.S.Store c.connection.result.now) (state g.S.Store c.add_next_filing-made.new.conn)
     (ap (state g.S.Store) same) (ap (state g.S.Store) told.conn) made.clean made.began _ made.stops (MayFile c.args.agent.now c.args.key.now c.args.statements.now) changed (λ r shows fits trees stands. stands r shows fits.enrolled fits.room) in
     record {
       leaves = leaves;
-      lasts = lasts_told (λ k. state g.S.Store k.conn) c.args.self.now c.told.new.self
+      lasts = lasts_told (λ k. state g.S.Store k.conn) (λ k. k.faults) c.args.self.now c.told.new.self
           (λ clean. subst (λ k. HasCleanDisk (state g.S.Store k)) same (made.clean (subst (λ k. HasCleanDisk (state g.S.Store k)) told.conn clean))) c.add_next_filing-made.result c.told.result told.told
           (stays_up c.add_next_filing-made.result (state g.S.Store c.args.self.now.conn) (state g.S.Store c.told.new.self.conn) (subst (λ k. IfOk c.add_next_filing-made.result (λ x. IsUp (state g.S.Store k))) (sym told.conn) made.up));
       counts = counted_told c.add_next_filing-made.result c.told.result c.args.self.now.faults c.told.new.self.faults told.told told.counts;

@@ -23,7 +23,7 @@ returns g c =
         sound = λ clean. read.reads.clean (subst (λ k. HasCleanDisk (state g.S.Store k)) told.conn clean);
         stops = λ clean trees may. read.reads.stops (subst (λ k. HasCleanDisk (state g.S.Store k)) told.conn clean) trees (subst (λ k. (state g.S.Store k).may_leave trees) told.conn may);
       };
-      lasts = lasts_told (λ k. state g.S.Store k.conn) c.args.self.now c.told.new.self
+      lasts = lasts_told (λ k. state g.S.Store k.conn) (λ k. k.faults) c.args.self.now c.told.new.self
           (λ clean. read.reads.clean (subst (λ k. HasCleanDisk (state g.S.Store k)) told.conn clean)) c.read_links_into-answer.result c.told.result told.told
           (subst (λ k. IfOk c.read_links_into-answer.result (λ x. StaysUp (state g.S.Store c.args.self.now.conn) (state g.S.Store k))) (sym told.conn) read.up);
       counts = told_count c.read_links_into-answer.result c.told.result c.args.self.now.faults c.told.new.self.faults told.told told.counts;

@@ -17,13 +17,13 @@ returns g c =
     let told = c.made.ensures in
     let same = c.connection.ensures.value in
     let changed : Register → Register = λ r. record r { day = c.args.day } in
-    let leaves = keep_leaves (λ k. state g.S.Store k.conn) c.args.self.now c.made.new.self (state g.S.Store c.connection.result.now) (state g.S.Store c.set_day-made.new.conn)
-    (ap (state g.S.Store) same) (ap (state g.S.Store) told.conn) made.clean made.began _ made.stops changed (λ clean r shows trees stands. stands r shows) in
+    let leaves = keep_leaves (λ k. state g.S.Store k.conn) (λ k. k.faults) c.args.self.now c.made.new.self (state g.S.Store c.connection.result.now) (state g.S.Store c.set_day-made.new.conn)
+    (ap (state g.S.Store) same) (ap (state g.S.Store) told.conn) made.commits.clean made.commits.began _ made.stops changed (λ clean r shows trees stands. stands r shows (tt {0})) in
     record {
       leaves = leaves;
-      lasts = lasts_made (λ k. state g.S.Store k.conn) c.args.self.now c.made.new.self
-          (λ clean. subst (λ k. HasCleanDisk (state g.S.Store k)) same (made.clean (subst (λ k. HasCleanDisk (state g.S.Store k)) told.conn clean))) c.set_day-made.result c.made.result told.told
-          (subst (λ k. OnOk c.set_day-made.result (IsUp (state g.S.Store k))) (sym told.conn) made.up);
+      lasts = lasts_made (λ k. state g.S.Store k.conn) (λ k. k.faults) c.args.self.now c.made.new.self
+          (λ clean. subst (λ k. HasCleanDisk (state g.S.Store k)) same (made.commits.clean (subst (λ k. HasCleanDisk (state g.S.Store k)) told.conn clean))) c.set_day-made.result c.made.result told.told
+          (subst (λ k. OnOk c.set_day-made.result (IsUp (state g.S.Store k))) (sym told.conn) made.commits.up);
       counts = counted_made c.set_day-made.result c.made.result c.args.self.now.faults c.made.new.self.faults told.told told.counts;
       told = λ r shows clean. undamaged_made c.set_day-made.result c.made.result told.told;
       changed = λ r shows clean.
@@ -31,5 +31,5 @@ returns g c =
           let shown = subst (λ k. ShowsIn r (state g.S.Store k)) (sym same) shows in
           subst (λ k. ShowsIn (left_by c.made.result (changed r) r) (state g.S.Store k)) (sym told.conn)
           (change_left c.set_day-made.result c.made.result r (changed r) (state g.S.Store c.connection.result.now) (state g.S.Store c.set_day-made.new.conn) told.told
-          (made.made ended r shown) (made.kept ended) shown));
+          (made.made ended r shown (tt {0})) (made.commits.kept ended) shown));
     }

@@ -16,9 +16,9 @@ loop-node-preserved g c =
     let node = c.node-item.result in
     let lt : at < length nodes = omega arith in
     record {
-      kept = kept_then keep.shows keep.is_clean keep.is_sound keep.may_leave _ _ _ inv.kept asked.kept;
-      lasts = lasts_then keep.is_clean keep.is_sound _ _ _ inv.lasts asked.lasts;
-      counts = asked.accounted ∙ inv.counts;
+      kept = kept_then keep.meaning _ _ _ inv.kept asked.kept;
+      lasts = lasts_then keep.meaning _ _ _ inv.lasts asked.accounted.lasts;
+      counts = asked.accounted.counted ∙ inv.counts;
       kin = λ r is clean.
           let began = asked.kept.began clean in
           subst (λ (ns : List Node). AreKin (seen_at c.args.viewer.now c.args.day r) ns NoneFound c.add_open.new.self) (ap (λ (n : Node). take at nodes ++ n ∷ []) c.node-item.is ∙ sym (take_more nodes at node lt))

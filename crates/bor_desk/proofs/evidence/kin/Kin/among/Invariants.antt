@@ -9,8 +9,8 @@ abbrev pub invariant-loop-node : goal.invariant-loop-node
 invariant-loop-node g l =
     let keep = g.K.Keep in
     record {
-      kept : Kept keep.shows keep.is_clean keep.is_sound keep.may_leave l.initial.keep l.keep;
-      lasts : StaysClean keep.is_clean keep.is_sound l.initial.keep l.keep;
-      counts : keep.fault_count l.keep ≡ keep.fault_count l.initial.keep;
-      kin : Promised keep.shows keep.is_clean l.initial.keep l.keep (λ r. AreKin (seen_at l.viewer l.day r) (take l.node-index l.nodes) NoneFound l.kin);
+      kept : Kept keep.meaning l.initial.keep l.keep;
+      lasts : StaysClean keep.meaning l.initial.keep l.keep;
+      counts : keep.meaning.fault_count l.keep ≡ keep.meaning.fault_count l.initial.keep;
+      kin : Promised keep.meaning l.initial.keep l.keep (λ r. AreKin (seen_at l.viewer l.day r) (take l.node-index l.nodes) NoneFound l.kin);
     }

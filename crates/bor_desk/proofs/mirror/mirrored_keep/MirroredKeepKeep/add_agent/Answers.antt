@@ -12,11 +12,11 @@ returns-in-Ok g c =
     let Fits : Register → Type 0 = MayEnrol c.args.agent.now c.args.token.now in
     let change : Register → Register = with_agent c.args.agent.now c.args.token.now in
     let followed : IsFollowed c.self.inside.mirror c.enrolled.result Fits change = subst (λ (o : Option Holding). IsFollowed o c.enrolled.result Fits change) c.take.ensures.value c.enrolled.ensures in
-    made_both g.K.Keep.shows g.K.Keep.is_clean g.K.Keep.is_sound g.K.Keep.may_leave g.K.Keep.fault_count g.K.Keep.may_tell g.K.Keep.left_shows Fits change c.args.self.now c.self.inside.store c.add_agent.new.self (register_in c.self.inside.mirror) (register_in c.enrolled.result) c.self.view_is
+    made_both g.K.Keep.meaning Fits change c.args.self.now c.self.inside.store c.add_agent.new.self (register_in c.self.inside.mirror) (register_in c.enrolled.result) c.self.view_is
     (follows c.self.inside.mirror c.enrolled.result Fits change change followed (may_enrol-bare c.args.agent.now c.args.token.now) (enrolled_with-bare c.args.agent.now c.args.token.now))
     c.in-Ok.ensures
 
 pub returns-in-Err : goal.returns-in-Err
 returns-in-Err g c =
-    failed_both g.K.Keep.shows g.K.Keep.is_clean g.K.Keep.is_sound g.K.Keep.may_leave g.K.Keep.fault_count g.K.Keep.may_tell g.K.Keep.left_shows (MayEnrol c.args.agent.now c.args.token.now) (with_agent c.args.agent.now c.args.token.now)
+    failed_both g.K.Keep.meaning (MayEnrol c.args.agent.now c.args.token.now) (with_agent c.args.agent.now c.args.token.now)
     c.args.self.now c.self.inside.store c.add_agent.new.self (register_in c.self.inside.mirror) c.self.view_is c.in-Err.ensures

@@ -9,7 +9,7 @@ use Rattle.bor_desk.proofs.mirror.mirrored_keep.MirroredKeepKeep.has_successor.G
 
 pub returns-in-Ok : goal.returns-in-Ok
 returns-in-Ok g c =
-    by_mirror g.K.Keep.shows g.K.Keep.is_clean g.K.Keep.is_sound g.K.Keep.may_leave g.K.Keep.fault_count g.K.Keep.may_tell
+    by_mirror g.K.Keep.meaning
     c.args.self.now c.self.inside.store c.in-Some.mirror.register c.has_successor.new.self.register
     (ap (λ (o : Option Holding). (c.self.inside.store, register_in o)) (sym c.in-Some.is) ∙ c.self.view_is)
     (sym ((c.has_successor.ensures.kept.same tt c.in-Some.mirror.register).0 refl))
@@ -27,6 +27,6 @@ returns g c =
           ap register_in one ∙ ap (λ (q : Register). Some q) (sym register) ∙ sym (ap register_in two))
       | in_default w ↦ (let one : mid.mirror ≡ c.self.inside.mirror = (λ i. (w.self-inside-is i).mirror) in ap register_in (sym one))
     ] in
-    by_store g.K.Keep.shows g.K.Keep.is_clean g.K.Keep.is_sound g.K.Keep.may_leave g.K.Keep.fault_count g.K.Keep.may_tell
+    by_store g.K.Keep.meaning
     c.args.self.now mid.store c.has_successor-told.new.self (register_in c.self.inside.mirror) (register_in mid.mirror)
     (let both : (mid.store, register_in c.self.inside.mirror) ≡ (c.self.inside.store, register_in c.self.inside.mirror) = cc in both ∙ c.self.view_is) same c.has_successor-told.ensures

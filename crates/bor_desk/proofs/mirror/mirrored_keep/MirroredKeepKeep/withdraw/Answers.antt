@@ -5,23 +5,23 @@ use Rattle.bor_register.specs.declared.member.Member.{Member}
 use Rattle.bor_register.proofs.BareChanges.{withdrawn-bare}
 use Rattle.bor_register.specs.Register.{Register}
 use Rattle.bor_desk.specs.Memory.Holding.{Holding}
-use Rattle.bor_desk.specs.Mirror.Following.{IsFollowed}
-use Rattle.bor_desk.proofs.OnMirror.Mirroring.{Mirrors, failed_both, follows, made_both, register_in}
+use Rattle.bor_desk.specs.Mirror.Following.{IsFollowed, mirrored}
+use Rattle.bor_desk.proofs.OnMirror.Mirroring.{failed_both, follows, made_both, register_in}
 use Rattle.bor_desk.proofs.mirror.mirrored_keep.MirroredKeepKeep.withdraw.Goals as goal
 
 pub returns-in-Ok : goal.returns-in-Ok
 returns-in-Ok g c =
     let change : Register → Register = (with_withdrawal c.args.agent.now c.args.number) in
     let followed : IsFollowed c.self.inside.mirror c.withdrawn.result (λ r. Unit {0}) change = subst (λ (o : Option Holding). IsFollowed o c.withdrawn.result (λ r. Unit {0}) change) c.take.ensures.value c.withdrawn.ensures in
-    sure_changes (λ k r. g.K.Keep.shows k.0 r × Mirrors k.1 r) (λ k. g.K.Keep.is_clean k.0) (λ k. g.K.Keep.is_sound k.0) (λ k left. g.K.Keep.may_leave k.0 left) g.K.Keep.left_shows (λ k. g.K.Keep.fault_count k.0) g.K.Keep.may_tell
+    sure_changes (mirrored g.K.Keep.meaning)
     {Fits = λ r. Unit {0}} (λ r shown clean. tt)
-    (made_both g.K.Keep.shows g.K.Keep.is_clean g.K.Keep.is_sound g.K.Keep.may_leave g.K.Keep.fault_count g.K.Keep.may_tell g.K.Keep.left_shows (λ r. Unit {0}) change c.args.self.now c.self.inside.store c.withdraw.new.self (register_in c.self.inside.mirror) (register_in c.withdrawn.result) c.self.view_is
+    (made_both g.K.Keep.meaning (λ r. Unit {0}) change c.args.self.now c.self.inside.store c.withdraw.new.self (register_in c.self.inside.mirror) (register_in c.withdrawn.result) c.self.view_is
     (follows c.self.inside.mirror c.withdrawn.result (λ r. Unit {0}) change change followed (λ r fits. tt) (λ r. ap (λ (ms : List Member). let q : Register = record r { members = ms } in q) (withdrawn-bare c.args.agent.now c.args.number r.members)))
-    (changes_always g.K.Keep.shows g.K.Keep.is_clean g.K.Keep.is_sound g.K.Keep.may_leave g.K.Keep.left_shows g.K.Keep.fault_count g.K.Keep.may_tell c.in-Ok.ensures))
+    (changes_always g.K.Keep.meaning c.in-Ok.ensures))
 
 pub returns-in-Err : goal.returns-in-Err
 returns-in-Err g c =
-    sure_changes (λ k r. g.K.Keep.shows k.0 r × Mirrors k.1 r) (λ k. g.K.Keep.is_clean k.0) (λ k. g.K.Keep.is_sound k.0) (λ k left. g.K.Keep.may_leave k.0 left) g.K.Keep.left_shows (λ k. g.K.Keep.fault_count k.0) g.K.Keep.may_tell
+    sure_changes (mirrored g.K.Keep.meaning)
     {Fits = λ r. Unit {0}} (λ r shown clean. tt)
-    (failed_both g.K.Keep.shows g.K.Keep.is_clean g.K.Keep.is_sound g.K.Keep.may_leave g.K.Keep.fault_count g.K.Keep.may_tell g.K.Keep.left_shows (λ r. Unit {0}) (with_withdrawal c.args.agent.now c.args.number)
-    c.args.self.now c.self.inside.store c.withdraw.new.self (register_in c.self.inside.mirror) c.self.view_is (changes_always g.K.Keep.shows g.K.Keep.is_clean g.K.Keep.is_sound g.K.Keep.may_leave g.K.Keep.left_shows g.K.Keep.fault_count g.K.Keep.may_tell c.in-Err.ensures))
+    (failed_both g.K.Keep.meaning (λ r. Unit {0}) (with_withdrawal c.args.agent.now c.args.number)
+    c.args.self.now c.self.inside.store c.withdraw.new.self (register_in c.self.inside.mirror) c.self.view_is (changes_always g.K.Keep.meaning c.in-Err.ensures))

@@ -3,11 +3,11 @@ use Rattle.bor_program.proofs.OnConnections.Servers.{lets_same, lets_then}
 use Rattle.bor_program.proofs.connections.server.Server.give_up_all.Goals as goal
 
 pub loop-init : goal.loop-init
-loop-init g c = record { lets = lets_same g.S.Read.remaining g.S.Write.contents c.args.self.now c.requires; left = refl; count = omega arith }
+loop-init g c = record { lets = lets_same _ c.args.self.now c.requires; left = refl; count = omega arith }
 
 pub loop-preserved : goal.loop-preserved
 loop-preserved g c = record {
-  lets = lets_then g.S.Read.remaining g.S.Write.contents _ _ 0 0 _ c.loop.self c.give_up_first.new.self c.loop.invariant.lets c.give_up_first.ensures.lets;
+  lets = lets_then _ _ _ 0 0 _ c.loop.self c.give_up_first.new.self c.loop.invariant.lets c.give_up_first.ensures.lets;
   left = c.give_up_first.ensures.left ∙ c.loop.invariant.left;
   count = omega (arith, c.give_up_first.ensures.fewer, c.loop.invariant.count);
 }

@@ -5,4 +5,4 @@ use Rattle.bor_program.proofs.connections.server.Server.leave_out.Goals as goal
 
 pub returns-then-self-gt0-clause-lets : goal.returns-then-self-gt0-clause-lets
 returns-then-self-gt0-clause-lets g c =
-    lets_all_absent g.S.Read.remaining g.S.Write.contents (telling_in c.args.self.now) c.args.self.now.left _ c.args.self.now.status _ c.requires c.if-self-gt0.true refl refl refl refl
+    lets_all_absent _ (telling_in c.args.self.now) c.args.self.now.left _ c.args.self.now.status _ c.requires c.if-self-gt0.true refl refl refl refl

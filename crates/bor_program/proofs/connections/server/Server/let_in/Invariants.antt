@@ -1,5 +1,6 @@
-use Rattle.bor_program.specs.Connections.Servers.{LetsIn, pending_in, telling_in}
+use Rattle.bor_program.specs.Connections.Servers.{LetsIn}
+use Rattle.bor_program.specs.Connections.Streams.{wire_of}
 use Rattle.bor_program.proofs.connections.server.Server.let_in.Given as goal
 
 abbrev pub invariant-loop : goal.invariant-loop
-invariant-loop g l = LetsIn g.W.Watch.does l.fn.watch l.watch g.S.Read.remaining g.S.Write.contents (telling_in l.fn.self) (pending_in l.fn.self) l.fn.self.status l.self
+invariant-loop g l = LetsIn (wire_of g.S.Read.remaining g.S.Write.contents) (record { does = g.W.Watch.does; begun = l.fn.watch; ended = l.watch }) l.fn.self l.self

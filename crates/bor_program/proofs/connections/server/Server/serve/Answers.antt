@@ -1,6 +1,7 @@
 use Rattle.std.proofs.Common.{◌+◌, ◌++◌, subst, sym}
 use Rattle.bor_program.specs.Connections.Phases.{ReadsOn, telling}
-use Rattle.bor_program.specs.Connections.Servers.{pending_in, telling_in}
+use Rattle.bor_program.specs.Connections.Serving.{Tally}
+use Rattle.bor_program.specs.Connections.Servers.{pending_in, tally_in, telling_in}
 use Rattle.bor_program.specs.Connections.Times.{IsTaking, looked}
 use Rattle.bor_program.proofs.OnConnections.Phases.{reads_then}
 use Rattle.bor_program.proofs.OnConnections.Servers.{lets_go_same}
@@ -9,14 +10,16 @@ use Rattle.bor_program.proofs.connections.server.Server.serve.Goals as goal
 pub returns-in-Goes-clause-serves : goal.returns-in-Goes-clause-serves
 returns-in-Goes-clause-serves g c = λ start connections absent before.
     let old = c.args.self.now in
-    lets_go_same g.K.Keep.shows g.K.Keep.is_clean g.K.Keep.is_sound g.K.Keep.may_leave g.K.Keep.left_shows g.S.Read.remaining g.S.Write.contents start c.steps.new.keep (telling c.in-Goes.phase ++ telling_in old) connections (pending_in old + 1) absent old.status c.go_on.new.self
-    (c.in-Goes.ensures.step start (telling_in old) connections (pending_in old + 1) absent old.status (rw c.look-phase.ensures.tells before)) c.go_on.ensures.lets
+    let tally : Tally = record (tally_in connections absent old) { pending = pending_in old + 1 } in
+    lets_go_same _ _ start c.steps.new.keep (telling c.in-Goes.phase ++ telling_in old) tally c.go_on.new.self
+    (c.in-Goes.ensures.step start (telling_in old) tally (rw c.look-phase.ensures.tells before)) c.go_on.ensures.lets
 
 pub returns-in-Ends-clause-serves : goal.returns-in-Ends-clause-serves
 returns-in-Ends-clause-serves g c = λ start connections absent before.
     let old = c.args.self.now in
-    lets_go_same g.K.Keep.shows g.K.Keep.is_clean g.K.Keep.is_sound g.K.Keep.may_leave g.K.Keep.left_shows g.S.Read.remaining g.S.Write.contents start c.steps.new.keep (telling c.in-Ends.phase ++ telling_in old) connections (pending_in old + 1) absent old.status c.give_up.new.self
-    (c.in-Ends.ensures.step start (telling_in old) connections (pending_in old + 1) absent old.status (rw c.look-phase.ensures.tells before)) c.give_up.ensures.lets
+    let tally : Tally = record (tally_in connections absent old) { pending = pending_in old + 1 } in
+    lets_go_same _ _ start c.steps.new.keep (telling c.in-Ends.phase ++ telling_in old) tally c.give_up.new.self
+    (c.in-Ends.ensures.step start (telling_in old) tally (rw c.look-phase.ensures.tells before)) c.give_up.ensures.lets
 
 pub returns-in-Goes-clause-time : goal.returns-in-Goes-clause-time
 returns-in-Goes-clause-time g c = λ last is.

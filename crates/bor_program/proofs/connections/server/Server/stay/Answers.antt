@@ -4,4 +4,4 @@ use Rattle.bor_program.proofs.connections.server.Server.stay.Goals as goal
 
 pub returns-in-Ok-clause-lets : goal.returns-in-Ok-clause-lets
 returns-in-Ok-clause-lets g c =
-    stays g.S.Read.remaining g.S.Write.contents c.args.client c.args.self.now.queue.items c.args.self.now.left c.args.self.now.status _ c.in-Ok.ensures.items c.requires.held c.requires.client refl refl
+    stays _ c.args.client c.args.self.now.queue.items c.args.self.now.left c.args.self.now.status _ c.in-Ok.ensures.items c.requires.held c.requires.client refl refl

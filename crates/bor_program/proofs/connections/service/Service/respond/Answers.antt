@@ -9,7 +9,7 @@ use Rattle.bor_program.proofs.connections.service.Service.respond.Goals.{then-is
 pub returns-after-self-clause-noted : goal.returns-after-self-clause-noted
 returns-after-self-clause-noted g c =
     let out = c.respond-agent.result.outgoing in
-    let promised = Promised g.K.Keep.shows g.K.Keep.is_clean c.args.keep.now c.respond-agent.new.keep in
+    let promised = Promised g.K.Keep.meaning c.args.keep.now c.respond-agent.new.keep in
     let P = IsNoteOf promised c.args.request.now out in
     let before : c.if-is_none.self.notes.items ≡ c.args.self.now.notes.items = elim c.if-is_none.branch [
       | then-is_none+in-Some-1 w ↦ ap (λ s. s.notes.items) w.self-is

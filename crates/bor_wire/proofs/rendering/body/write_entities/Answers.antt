@@ -1,0 +1,17 @@
+use Rattle.bor_wire.proofs.OnRendering.Writing.{added, ended, wrote}
+use Rattle.bor_wire.proofs.rendering.body.write_entities.Goals as goal
+
+pub returns : goal.returns
+returns c =
+    rw (
+      c.as_str.ensures.value,
+      c.as_str-2.ensures.value,
+    ) at (
+    wrote c.in_ok-begin_object.ensures (
+    wrote c.in_ok-key.ensures (
+    added c.in_ok-write_day.ensures (
+    wrote c.in_ok-key-2.ensures (
+    added c.in_ok-write_array.ensures (
+    added c.in_ok-write_text.ensures (
+    added c.in_ok-write_text-2.ensures (
+    ended c.end_object.ensures))))))))
