@@ -57,12 +57,13 @@ of_now r s shows = record {
 
 -- what is found of a register in either version is found of one in version 2
 pub finds_now : {old new : State} {result : Result (Vec Row Global) Error} {rows_of : Register → List Row} → FindsRows ShowsLists old new result rows_of → FindsRows ShowsIn old new result rows_of
-finds_now found = record { reads = found.reads; up = found.up; rows = λ clean r shows. found.rows clean r (of_now r _ shows) }
+finds_now found = record { reads = found.reads; settled = found.settled; up = found.up; rows = λ clean r shows. found.rows clean r (of_now r _ shows) }
 
 pub finds_both : (text : List ℕ) (params given : Row) (rows_of : Register → List Row) (old new : State) (result : Result (Vec Row Global) Error) → Asked text given old new result → given ≡ params
     → ((r : Register) (rows : List Row) → ShowsLists r old → Shows text params old new rows → rows ≡ rows_of r) → FindsRows ShowsLists old new result rows_of
 finds_both text params given rows_of old new result asked is found = record {
   reads = asked.reads;
+  settled = asked.settled;
   up = asked.up;
   rows = λ clean r shows. go result r shows (subst (λ row. IfOk result (λ rows. Shows text row old new rows.items)) is (asked.shown clean));
 }

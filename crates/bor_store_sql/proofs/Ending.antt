@@ -86,6 +86,11 @@ where_up : (mid new : State) (done result : Result (Unit {0}) Error) → Ends mi
 where_up mid new done (Ok x) ends = ends.up
 where_up mid new done (Err e) ends = tt
 
+-- what is known is so where it went well
+known : {P : Type 0} (result : Result (Unit {0}) Error) → P → OnOk result P
+known (Ok x) p = p
+known (Err e) p = tt
+
 -- the trees of a database that has the register's rows
 pub stands_in : (r : Register) (after : Database) (trees : Trees) → after.trees ≡ trees → Has (contents r) after × IsStored r → Stands r trees
 stands_in r after trees same h = subst (Stands r) same (record {
@@ -120,18 +125,19 @@ pub record Ended (Makes : Database → Database → Type 0) (old new : State) (r
   pub stops : LeavesAtMost (IsMadeOf Makes old.committed) old new
 
 -- `began` is the connection once the transaction was begun
-pub ended : {S : Type 0} (g : Ghosts S) (Makes : Database → Database → Type 0) (was began : Held S) (mid new : State) (done result : Result (Unit {0}) Error) → (IsTrue (state g was).is_open → (state g was).now ≡ (state g was).committed)
+pub ended : {S : Type 0} (g : Ghosts S) (Makes : Database → Database → Type 0) (was began : Held S) (mid new : State) (done result : Result (Unit {0}) Error) → was.in_transaction ≡ false → (IsTrue (state g was).is_open → (state g was).now ≡ (state g was).committed)
     → began ≡ record was { in_transaction = true } → MovesTo Makes (state g began) mid done → RanOpenIn (state g began) mid done → new.in_transaction ≡ false → Ends mid new done result → Ended Makes (state g was) new result
-ended g Makes was began mid new done result settled begun moves opened mode ends =
-    by_moves g Makes was mid new done result settled (subst (λ h. MovesTo Makes (state g h) mid done) begun moves) (subst (λ h. RanOpenIn (state g h) mid done) begun opened) mode ends
+ended g Makes was began mid new done result alone settled begun moves opened mode ends =
+    by_moves g Makes was mid new done result alone settled (subst (λ h. MovesTo Makes (state g h) mid done) begun moves) (subst (λ h. RanOpenIn (state g h) mid done) begun opened) mode ends
   where
-    by_moves : {S : Type 0} (g : Ghosts S) (Makes : Database → Database → Type 0) (was : Held S) (mid new : State) (done result : Result (Unit {0}) Error) → (IsTrue (state g was).is_open → (state g was).now ≡ (state g was).committed)
+    by_moves : {S : Type 0} (g : Ghosts S) (Makes : Database → Database → Type 0) (was : Held S) (mid new : State) (done result : Result (Unit {0}) Error) → was.in_transaction ≡ false → (IsTrue (state g was).is_open → (state g was).now ≡ (state g was).committed)
         → MovesTo Makes (record (state g was) { in_transaction = true }) mid done → RanOpenIn (record (state g was) { in_transaction = true }) mid done → new.in_transaction ≡ false → Ends mid new done result → Ended Makes (state g was) new result
-    by_moves g Makes was mid new done result settled moves opened mode ends =
+    by_moves g Makes was mid new done result alone settled moves opened mode ends =
         let start = record (state g was) { in_transaction = true } in
         record {
           commits = record {
-            mode = λ before. mode;
+            mode = mode ∙ sym alone;
+            settled = known result alone;
             clean = λ clean. moves.clean (ends.clean clean);
             up = where_up mid new done result ends;
             began = λ clean. (moves.clean (ends.clean clean.0), (moves.inside (ends.clean clean.0) refl).was_open (ends.was_open clean.0 clean.1));

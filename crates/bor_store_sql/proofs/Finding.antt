@@ -25,11 +25,17 @@ pub settled_shown : (text : List ℕ) (params : Row) (old new : State) (settled 
 settled_shown text params old new settled (Ok x) h = (settled, h)
 settled_shown text params old new settled (Err e) h = tt
 
+-- what is known is so where rows come
+pub known : {X E P : Type 0} (result : Result X E) → P → IfOk result (λ x. P)
+known (Ok x) p = p
+known (Err e) p = tt
+
 -- what is asked is found, if the query is given what it is said to be given
 pub finds : (text : List ℕ) (params given : Row) (rows_of : Register → List Row) (old new : State) (result : Result (Vec Row Global) Error) → Asked text given old new result → given ≡ params
     → ((r : Register) (rows : List Row) → ShowsIn r old → Shows text params old new rows → rows ≡ rows_of r) → FindsRows ShowsIn old new result rows_of
 finds text params given rows_of old new result asked is found = record {
   reads = asked.reads;
+  settled = asked.settled;
   up = asked.up;
   rows = λ clean r shows. go result r shows (subst (λ row. IfOk result (λ rows. Shows text row old new rows.items)) is (asked.shown clean));
 }
@@ -49,11 +55,11 @@ module _ (r : Register) (old new : State) (shows : ShowsIn r old) (settled : old
 -- ---- reads change nothing
 
 pub nothing_read : {s : State} → ReadsOnly s s
-nothing_read = record { mode = λ settled. settled; clean = λ clean. clean; stops = λ clean trees left. left; began = λ clean. clean; kept = λ clean. refl }
+nothing_read = record { mode = refl; clean = λ clean. clean; stops = λ clean trees left. left; began = λ clean. clean; kept = λ clean. refl }
 
 pub read_on : {old mid new : State} → ReadsOnly old mid → ReadsOnly mid new → ReadsOnly old new
 read_on first second = record {
-  mode = λ settled. second.mode (first.mode settled);
+  mode = second.mode ∙ first.mode;
   clean = λ clean. first.clean (second.clean clean);
   stops = λ clean trees left. first.stops (second.clean clean) trees (second.stops clean trees left);
   began = λ clean. first.began (second.began clean);

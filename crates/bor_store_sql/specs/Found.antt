@@ -17,29 +17,32 @@ use Rattle.bor_store_sql.specs.Shown.{IsClean, IsUp, ShowsIn, ShowsLists}
 abbrev pub IsQuery : List ℕ → Type 0
 IsQuery text = (schema : Schema) → Returns (understood schema text) → ⊥
 
--- Reading changes nothing. A transaction is open afterwards only where one was before; a disk that
+-- Reading changes nothing. A transaction is open afterwards just where one was before; a disk that
 -- has returned what was written had done so before, and a stop leaves nothing that one before might
 -- not have left; a connection that ends clean began clean, and what was written stays as it was.
 pub record ReadsOnly (old new : State) : Type 0 where
-  pub mode : old.in_transaction ≡ false → new.in_transaction ≡ false
+  pub mode : new.in_transaction ≡ old.in_transaction
   pub clean : HasCleanDisk new → HasCleanDisk old
   pub stops : LeavesNoMore old new
   pub began : IsClean new → IsClean old
   pub kept : IsClean new → new.committed ≡ old.committed
 
 -- A query was asked of what the last commit left, or a fault is answered. Rows come from a
--- connection that is open, if its disk has returned what was written.
+-- connection that has no transaction open and, if its disk has returned what was written, is open.
 pub record Asked (text : List ℕ) (params : Row) (old new : State)
     (result : Result (Vec Row Global) Error) : Type 0 where
   pub reads : ReadsOnly old new
+  pub settled : IfOk result (λ rows. old.in_transaction ≡ false)
   pub up : IfOk result (λ rows. IsUp new)
   pub shown : IsClean new
       → IfOk result (λ rows. (old.now ≡ old.committed) × Shown text params old new rows.items)
 
--- of a register that is shown in this way the query gives these rows, or a fault
+-- Of a register that is shown in this way the query gives these rows, or a fault; it gives none
+-- where a transaction is open.
 pub record FindsRows (Shows : Register → State → Type 0) (old new : State)
     (result : Result (Vec Row Global) Error) (rows_of : Register → List Row) : Type 0 where
   pub reads : ReadsOnly old new
+  pub settled : IfOk result (λ rows. old.in_transaction ≡ false)
   pub up : IfOk result (λ rows. IsUp new)
   pub rows : IsClean new → (r : Register) → Shows r old
       → IfOk result (λ rows. rows.items ≡ rows_of r)

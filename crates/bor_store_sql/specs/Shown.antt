@@ -56,11 +56,12 @@ LeavesAtMost Made old new =
     HasCleanDisk new → (trees : Trees) → new.may_leave trees
     → old.may_leave trees ⊎ (IsClean old × Made trees)
 
--- A change in a transaction of its own. A transaction is open afterwards only where one was before;
--- a disk that has returned what was written had done so before; where all went well the connection
--- is open, and a failure leaves what the last commit left.
+-- A change in a transaction of its own. A transaction is open afterwards just where one was before,
+-- and then nothing went well; a disk that has returned what was written had done so before; where
+-- all went well the connection is open, and a failure leaves what the last commit left.
 pub record Commits {X E : Type 0} (old new : State) (result : Result X E) : Type 0 where
-  pub mode : old.in_transaction ≡ false → new.in_transaction ≡ false
+  pub mode : new.in_transaction ≡ old.in_transaction
+  pub settled : OnOk result (old.in_transaction ≡ false)
   pub clean : HasCleanDisk new → HasCleanDisk old
   pub up : OnOk result (IsUp new)
   pub began : IsClean new → IsClean old

@@ -215,15 +215,17 @@ fn keeps_rows<S: Alter>(
 
 /// Whether the tables, of either version, have of the agent's filing with this number just the rows
 /// that these statements make: of each its own, but for a status that it leaves out, and those of
-/// its interests, which have no days, and of its identifiers. The tables are left as they are.
+/// its interests, which have no days, and of its identifiers. The tables are left as they are. A
+/// connection with a transaction open is refused.
 pub fn keeps_statements<S: Alter>(
     conn: &mut Connection<S>,
     agent: &str,
     number: u32,
     statements: &[Statement],
 ) -> Result<bool, Error>
-    ensures { Tells S.Store conn.old conn.new result (λ r.
+    ensures tells { Tells S.Store conn.old conn.new result (λ r.
         Fit agent.now number 1 statements.now (statements_kept agent.now number r)) }
+    ensures settled { IfOk result (λ fits. conn.old.in_transaction ≡ false) }
 {
     let rows = statements_of_filing(conn, agent, number)?;
     keeps_rows(conn, rows.as_slice(), agent, number, statements)

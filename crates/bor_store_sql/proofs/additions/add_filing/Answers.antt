@@ -30,7 +30,7 @@ returns g c =
     let steps = subst (λ k. StepsTo Any (with_live_filing agent number k due bytes ss) (state g.S.Store began) mid c.insert_rows-done.result) c.as_str-lodge_key.ensures.value c.insert_rows-done.ensures.steps in
     let Makes : Database → Database → Type 0 = λ was is. Changes Any (with_live_filing agent number key due bytes ss) was is × AreCounted ss in
     let counted = with_known (AreCounted ss) (Changes Any (with_live_filing agent number key due bytes ss)) (state g.S.Store began) mid c.insert_rows-done.result c.insert_rows-done.ensures.counted steps in
-    let ends = ended g.S.Store Makes was began mid (state g.S.Store end) c.insert_rows-done.result c.finish.result (c.is_autocommit.ensures.settled (search rules)) c.transaction-tx.ensures.begun counted c.insert_rows-done.ensures.ran_open c.finish.ensures.mode c.finish.ensures.ends in
+    let ends = ended g.S.Store Makes was began mid (state g.S.Store end) c.insert_rows-done.result c.finish.result (search rules) (c.is_autocommit.ensures.settled (search rules)) c.transaction-tx.ensures.begun counted c.insert_rows-done.ensures.ran_open c.finish.ensures.mode c.finish.ensures.ends in
     let same : end ≡ c.conn-1.given.0 = search rules in
     let it = subst (λ h. Ended Makes (state g.S.Store was) (state g.S.Store h) c.finish.result) same ends in
     alters Makes ShowsIn (MayAdd agent number ss) (added agent key due bytes ss)

@@ -1,13 +1,17 @@
 use Rattle.std.proofs.Common.{◌∙◌}
+use Rattle.bor_store_sql.proofs.Finding.{known}
 use Rattle.bor_store_sql.proofs.Fits.{rows_fit}
 use Rattle.bor_store_sql.proofs.Told.{no_answer, told_after}
 use Rattle.bor_store_sql.proofs.fitting.keeps_statements.Goals as goal
 
-pub returns-in_err-rows : goal.returns-in_err-rows
-returns-in_err-rows g c = no_answer _ _ c.in_err-rows.ensures.reads c.from_residual.result c.from_residual.ensures.0
+pub returns-in_err-rows-clause-tells : goal.returns-in_err-rows-clause-tells
+returns-in_err-rows-clause-tells g c = no_answer _ _ c.in_err-rows.ensures.reads c.from_residual.result c.from_residual.ensures.0
 
 pub returns : goal.returns
 returns g c =
     let found = c.in_ok-rows.ensures in
-    told_after _ _ found.reads _ c.keeps_rows.result c.keeps_rows.ensures
-    (λ clean r shows. rows_fit c.args.agent.now c.args.number r shows.stored c.args.statements.now c.as_slice.result.now (c.as_slice.ensures.value ∙ found.rows clean r shows))
+    record {
+      tells = told_after _ _ found.reads _ c.keeps_rows.result c.keeps_rows.ensures
+          (λ clean r shows. rows_fit c.args.agent.now c.args.number r shows.stored c.args.statements.now c.as_slice.result.now (c.as_slice.ensures.value ∙ found.rows clean r shows));
+      settled = known c.keeps_rows.result found.settled;
+    }

@@ -14,7 +14,7 @@ returns g c =
     let mid = state g.S.Store c.move_rows-done.new.tx.conn.now in
     let end = c.finish.new.tx.0 in
     let ps = c.args.periods.now in
-    let ends = ended g.S.Store (MovesRows ps) was began mid (state g.S.Store end) c.move_rows-done.result c.finish.result (c.is_autocommit.ensures.settled (search rules)) c.transaction-tx.ensures.begun c.move_rows-done.ensures.moves c.move_rows-done.ensures.ran_open c.finish.ensures.mode c.finish.ensures.ends in
+    let ends = ended g.S.Store (MovesRows ps) was began mid (state g.S.Store end) c.move_rows-done.result c.finish.result (search rules) (c.is_autocommit.ensures.settled (search rules)) c.transaction-tx.ensures.begun c.move_rows-done.ensures.moves c.move_rows-done.ensures.ran_open c.finish.ensures.mode c.finish.ensures.ends in
     let same : end ≡ c.conn-1.given.0 = search rules in
     let it = subst (λ h. Ended (MovesRows ps) (state g.S.Store was) (state g.S.Store h) c.finish.result) same ends in
     alters (MovesRows ps) ShowsFirst _ (λ r. r) (λ r shows given db makes. (moved_has ps r db given (makes (first_contents r) (one_version tables_version r) shows.has), shows.stored)) it

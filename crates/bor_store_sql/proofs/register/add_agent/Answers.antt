@@ -20,7 +20,7 @@ returns g c =
     let token = c.args.token.now in
     let steps = subst₂ (λ n t. StepsTo Any (with_agent_row (agent_columns (new_member n t))) (state g.S.Store began) mid c.insert_agent-done.result) c.as_str-name.ensures.value c.as_str-secret.ensures.value c.insert_agent-done.ensures.steps in
     let Makes : Database → Database → Type 0 = Changes Any (with_agent_row (agent_columns (new_member name token))) in
-    let ends = ended g.S.Store Makes was began mid (state g.S.Store end) c.insert_agent-done.result c.finish.result (c.is_autocommit.ensures.settled (search rules)) c.transaction-tx.ensures.begun steps c.insert_agent-done.ensures.ran_open c.finish.ensures.mode c.finish.ensures.ends in
+    let ends = ended g.S.Store Makes was began mid (state g.S.Store end) c.insert_agent-done.result c.finish.result (search rules) (c.is_autocommit.ensures.settled (search rules)) c.transaction-tx.ensures.begun steps c.insert_agent-done.ensures.ran_open c.finish.ensures.mode c.finish.ensures.ends in
     let same : end ≡ c.conn-1.given.0 = search rules in
     let it = subst (λ h. Ended Makes (state g.S.Store was) (state g.S.Store h) c.finish.result) same ends in
     alters Makes ShowsIn _ (enrolled name token)

@@ -17,7 +17,7 @@ returns g c =
     let agent = c.args.agent.now in
     let number = c.args.number in
     let Makes : Database → Database → Type 0 = Changes (IsOnce agent number) (withdrawn_in agent number) in
-    let ends = ended g.S.Store Makes was began mid (state g.S.Store end) c.withdraw_rows-done.result c.finish.result (c.is_autocommit.ensures.settled (search rules)) c.transaction-tx.ensures.begun c.withdraw_rows-done.ensures.steps c.withdraw_rows-done.ensures.ran_open c.finish.ensures.mode c.finish.ensures.ends in
+    let ends = ended g.S.Store Makes was began mid (state g.S.Store end) c.withdraw_rows-done.result c.finish.result (search rules) (c.is_autocommit.ensures.settled (search rules)) c.transaction-tx.ensures.begun c.withdraw_rows-done.ensures.steps c.withdraw_rows-done.ensures.ran_open c.finish.ensures.mode c.finish.ensures.ends in
     let same : end ≡ c.conn-1.given.0 = search rules in
     let it = subst (λ h. Ended Makes (state g.S.Store was) (state g.S.Store h) c.finish.result) same ends in
     alters Makes ShowsIn Always (withdrawn agent number)
