@@ -5,7 +5,7 @@ ghost use Rattle.std.specs.Prelude.{true, []};
 use sqlite::Start;
 
 /// Whatever a file and its log hold. No code can look at what is supposed here: what is said of
-/// files is proved for each [`Start`], and `main` alone names this one.
+/// files is proved for each [`Start`], and `run` alone names this one.
 #[derive(Clone, Copy)]
 pub struct Anything;
 

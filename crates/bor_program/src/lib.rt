@@ -6,11 +6,11 @@
 //! let status = run(&rt, &mut host, &words, &mut rt.stdin(), &mut rt.stdout(), &mut rt.stderr());
 //! ```
 //!
-//! Each command is a function of its own over a register that is open ([`OpenRegister`], as any
-//! keep is): [`exchange_on`] prints the replies to requests, [`report_on`] who stands behind an
-//! entity. [`run`] says what is written where, and what each exit status stands for. How a register
-//! is kept in a file ([`Registers`]) and what a socket is ([`Ports`]) are no part of it. A socket
-//! is served in [`connections`].
+//! Each command is a function of its own over a register that is open ([`OpenRegister`], as
+//! whatever is [`Answering`] is): [`exchange_on`] prints the replies to requests, [`report_on`] who
+//! stands behind an entity. [`run`] says what is written where, and what each exit status stands
+//! for. How a register is kept in a file ([`Registers`]) and what a socket is ([`Ports`]) are no
+//! part of it. A socket is served in [`connections`].
 #![tactic(auto)]
 
 mod check;
