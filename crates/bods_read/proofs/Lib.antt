@@ -6,4 +6,6 @@ pub mod Bytes
 pub mod Bounds
 pub mod MembersRead
 pub mod InterestRead
+pub mod TextsRead
+pub mod FormsRead
 pub mod Examples

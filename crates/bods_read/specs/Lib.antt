@@ -9,3 +9,4 @@ pub mod Details
 pub mod Statement
 pub mod File
 pub mod Forms
+pub mod Laws

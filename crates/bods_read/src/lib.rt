@@ -16,7 +16,8 @@
 //!
 //! A file is a JSON array of 1 to 1,000 statements, each of an entity, a person or a relationship
 //! between two records. What BODS leaves open is settled in this register's profile: null counts as
-//! absent, unknown members are passed over, and unknown kinds are read as `Other`.
+//! absent, unknown members are passed over, and unknown kinds are read as `Other`. Each statement
+//! that is read has its form ([`laws`]).
 //!
 //! Left out: fractions of a percent, statements without a date, and all that the members of
 //! [`Statement`] do not name.
@@ -31,6 +32,7 @@ mod free_text;
 mod identifiers;
 mod interest;
 mod interests;
+pub mod laws;
 mod member;
 mod numeral;
 mod person;

@@ -9,3 +9,4 @@ pub mod Fronts
 pub mod Examples
 pub mod DayTexts
 pub mod Spelling
+pub mod DaysRead

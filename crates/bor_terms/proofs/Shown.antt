@@ -1,13 +1,14 @@
 -- The ends of a range are those shown of its points.
-use Rattle.std.proofs.Common.{◌≡◌, ℕ, ◌+◌, ◌-◌, ◌*◌, ◌/◌, ◌%◌, ◌<◌, ◌≤◌, Bool, true, false, cond, List, [], ◌∷◌, Option, Some, None, refl, ◌∙◌, arith, true≢false}
-use Rattle.std.specs.Prelude.{is_some, option_map, slice_get}
+use Rattle.std.proofs.Common.{◌≡◌, ℕ, zero, suc, ◌+◌, ◌-◌, ◌*◌, ◌/◌, ◌%◌, ◌<◌, ◌≤◌, Bool, true, false, cond, List, [], ◌∷◌, Option, Some, None, refl, ◌∙◌, arith, true≢false}
+use Rattle.std.specs.Prelude.{IfSome, is_some, option_map, slice_get}
 use Rattle.std.specs.List.{list_all, list_any, filter, range_with_len, last_or}
+use Rattle.std.proofs.lemmas.Bool.{cond_both}
 use Rattle.std.proofs.lemmas.Bool.Decides.{nat_tests}
 use Rattle.bor_terms.specs.Points.{Bound, meets, points, has_points, end_bounds}
-use Rattle.bor_terms.specs.Span.{Range}
+use Rattle.bor_terms.specs.Span.{Range, HasPoints}
 use Rattle.bor_terms.specs.Shown.{shown, range_from, is_odd}
 use Rattle.bor_terms.proofs.AnyPoint.{first_is, last_is, filter_same}
-use Rattle.bor_terms.proofs.Held.{is_held, least, greatest, meets_ends, held_is, least_meets, least_below, greatest_meets, greatest_below}
+use Rattle.bor_terms.proofs.Held.{is_held, least, greatest, meets_ends, held_is, has_points_ends, least_meets, least_below, greatest_meets, greatest_below}
 
 before_least : (low : ℕ) (low_open : Bool) (high : ℕ) (high_open : Bool) (j : ℕ) → j < least low low_open → meets_ends low low_open high high_open j ≡ false
 before_least low true high true j lt = grind (arith, nat_tests)
@@ -86,3 +87,38 @@ shown_by low low_open high high_open false le e = none_of _ (is_some-shown (poin
 -- what is made of two ends is what is shown of their points
 pub shown_made : (low : ℕ) (low_open : Bool) (high : ℕ) (high_open : Bool) → high ≤ 100 → shown (points (end_bounds low low_open high high_open)) ≡ cond (has_points (end_bounds low low_open high high_open)) (Some (ends low low_open high high_open)) None
 shown_made low low_open high high_open le = shown_by low low_open high high_open _ le refl
+
+-- ---- the ends of what is shown
+
+-- the last of the numbers from a on, or of one before them
+last_within : (p : ℕ → Bool) (a n first last : ℕ) → first ≤ a → first < 201 → a + n ≤ 201 → last_or (Some first) (filter p (range_with_len a n)) ≡ Some last → (first ≤ last) × (last < 201)
+last_within p a zero first last from small room e = let same : first ≡ last = cc in (omega arith, omega arith)
+last_within p a (suc n) first last from small room e =
+    cond_both (p a) (a ∷ filter p (range_with_len (a + 1) n)) (filter p (range_with_len (a + 1) n)) (λ xs. last_or (Some first) xs ≡ Some last → (first ≤ last) × (last < 201))
+    (λ yes h. let r = last_within p (a + 1) n a last (omega arith) (omega arith) (omega arith) h in (omega arith, r.1))
+    (λ no h. last_within p (a + 1) n first last (omega arith) small (omega arith) h) e
+
+-- its high end is a percent, and it has points
+abbrev pub IsRead : Range → Type 0
+IsRead r = (r.high ≤ 100) × HasPoints r
+
+ends_read : (p q : ℕ) → (p ≤ q) × (q < 201) → IsRead (range_from p q)
+ends_read p q h =
+    let le : (q + 1) / 2 ≤ 100 = omega arith in
+    (le, has_points_ends (p / 2) (is_odd p) ((q + 1) / 2) (is_odd q) le ∙ grind (arith, nat_tests))
+
+by_last : (a : ℕ) (o : Option ℕ) → ((q : ℕ) → o ≡ Some q → (a ≤ q) × (q < 201)) → IfSome (option_map (λ q. range_from a q) o) IsRead
+by_last a None h = tt
+by_last a (Some q) h = ends_read a q (h q refl)
+
+read_within : (p : ℕ → Bool) (a n : ℕ) → a + n ≤ 201 → IfSome (shown (filter p (range_with_len a n))) IsRead
+unfolding shown
+read_within p a zero room = tt
+read_within p a (suc n) room =
+    cond_both (p a) (a ∷ filter p (range_with_len (a + 1) n)) (filter p (range_with_len (a + 1) n)) (λ xs. IfSome (shown xs) IsRead)
+    (λ yes. by_last a _ (λ q. last_within p (a + 1) n a q (omega arith) (omega arith) (omega arith))) (λ no. read_within p (a + 1) n (omega arith))
+
+-- what is shown of the points that meet any bounds
+pub shown-IsRead : (bs : List Bound) → IfSome (shown (points bs)) IsRead
+unfolding points
+shown-IsRead bs = read_within (λ h. list_all (λ b. meets b h) bs) 0 201 (omega arith)

@@ -1,14 +1,16 @@
 -- A day has one spelling of ten bytes.
 use Rattle.std.proofs.Common.{◌≡◌, ℕ, zero, suc, ◌+◌, ◌-◌, ◌*◌, ◌/◌, ◌%◌, ◌<◌, ◌≤◌, Bool, true, false, cond, ◌&&◌, List, length, Some, None, ℤ, pos, refl, sym, ap, ◌∙◌, arith}
-use Rattle.std.specs.Prelude.{nat_le, nat_lt, ◌==◌, slice_index, option_and_then, IsAscii}
+use Rattle.std.specs.Prelude.{IfSome, nat_le, nat_lt, ◌==◌, slice_index, option_and_then, IsAscii}
 use Rattle.std.proofs.lemmas.Int.{ints}
 use Rattle.std.proofs.lemmas.List.{ext_get_or, get_or_past}
 use Rattle.std.proofs.lemmas.Option.{cond_some, option_and_then_some}
+use Rattle.std.proofs.lemmas.Bool.{cond_both}
 use Rattle.std.proofs.lemmas.Bool.Decides.{nat_tests}
 use Rattle.jiff_core.specs.declared.civil.date.Date.{Date}
 use Rattle.jiff_core.specs.Calendar.{days_in_month, days_from_civil}
 use Rattle.jiff_core.proofs.DateLemmas.{epoch_day_injective}
-use Rattle.bor_terms.specs.Day.{digit, pair_at, is_civil, number_of, has_marks, digits_day, day_of, IsSpelling}
+use Rattle.bor_terms.specs.Day.{digit, pair_at, is_civil, number_of, has_marks, digits_day, day_of, IsDay, IsSpelling}
+use Rattle.bor_terms.proofs.Years.{IsDay-from_year}
 
 -- ---- digits
 
@@ -79,6 +81,13 @@ number_of_injective y m d y₂ m₂ d₂ z e e₂ =
     let h = cond_some (is_civil y m d) (days_from_civil (pos y) m d) z e in
     let h₂ = cond_some (is_civil y₂ m₂ d₂) (days_from_civil (pos y₂) m₂ d₂) z e₂ in
     one_date y m d y₂ m₂ d₂ (within y m d (days_in_month (pos y) m) h.0) (within y₂ m₂ d₂ (days_in_month (pos y₂) m₂) h₂.0) (h.1 ∙ sym h₂.1)
+
+-- a day that the calendar has is one of the years from 0 to 9999
+pub number_of-IsDay : (y m d : ℕ) → IfSome (number_of y m d) IsDay
+unfolding number_of date_of
+number_of-IsDay y m d =
+    cond_both (is_civil y m d) (Some (days_from_civil (pos y) m d)) None (λ o. IfSome o IsDay)
+    (λ e. IsDay-from_year (date_of y m d (within y m d (days_in_month (pos y) m) e)) (omega (arith, ints))) (λ e. tt)
 
 -- ---- the bytes of a spelling
 
