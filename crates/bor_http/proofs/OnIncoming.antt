@@ -9,5 +9,6 @@ pub mod PartsLemmas
 pub mod ProgressLemmas
 pub mod ReadingLemmas
 pub mod MessageLemmas
+pub mod OnePass
 pub mod SendLemmas
 pub mod Examples

@@ -7,8 +7,8 @@ ghost use Rattle.bor_http.specs.Incoming.Message.{is_named, how_many, first_valu
 
 use httparse::spans::HeaderSpan;
 
-// Whether the field has the name, in whichever case.
-fn has_name(head: &[u8], field: HeaderSpan, name: &[u8]) -> bool
+/// Whether the field has the name, in whichever case.
+pub(crate) fn has_name(head: &[u8], field: HeaderSpan, name: &[u8]) -> bool
     requires { IsHeaderWithin (length head.now) field }
     ensures { result ≡ is_named name.now (header_bytes head.now field) }
 {

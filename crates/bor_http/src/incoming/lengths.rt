@@ -9,7 +9,7 @@ ghost use Rattle.bor_http.specs.Incoming.Message.{body_limit};
 ghost use Rattle.bor_http.specs.Incoming.Steps.{length_of, body_len};
 
 use crate::incoming::fault::Refusal;
-use crate::incoming::fields::{count_named, find_value};
+use crate::incoming::fields::has_name;
 use httparse::spans::HeaderSpan;
 
 // The most bytes of a body.
@@ -49,13 +49,19 @@ pub(crate) fn body_length(head: &[u8], fields: &[HeaderSpan]) -> Result<usize, R
     requires { All (IsHeaderWithin (length head.now)) fields.now }
     ensures { result ≡ body_len (map (header_bytes head.now) fields.now) }
 {
-    if count_named(head, fields, b"transfer-encoding") > 0 {
-        return Err(Refusal::BadLength);
+    let mut found: Option<&[u8]> = None;
+    for field in fields {
+        if has_name(head, *field, b"transfer-encoding") {
+            return Err(Refusal::BadLength);
+        }
+        if has_name(head, *field, b"content-length") {
+            if found.is_some() {
+                return Err(Refusal::BadLength);
+            }
+            found = Some(field.value.of(head));
+        }
     }
-    if count_named(head, fields, b"content-length") > 1 {
-        return Err(Refusal::BadLength);
-    }
-    match find_value(head, fields, b"content-length") {
+    match found {
         None => Ok(0),
         Some(value) => announced(value),
     }
