@@ -7,3 +7,5 @@ pub mod Streams
 pub mod Places
 pub mod Times
 pub mod Bounds
+pub mod Waits
+pub mod Remaining

@@ -52,4 +52,4 @@ pub record IsHosted {M L W K Left : Type 0} (meaning : Meaning K Register Left S
   pub within : hosting.serves opened listener limits asked.connections left status
   pub served : IsServedOver meaning hosting.ends
       (record { does = hosting.does; begun = begun; ended = ended })
-      opened left asked.connections status
+      limits opened left asked.connections status

@@ -125,7 +125,7 @@ pub trait OpenRegister {
         ensures streams { IsServedOver meaning
             (IsOf (wire_of L.Stream.remaining L.Stream.contents))
             (record { does = W.does; begun = watch.old; ended = watch.new })
-            self.old self.new connections result };
+            limits self.old self.new connections result };
 
     /// Answered changes last: the state that a stop of a clean one leaves shows each register that
     /// it showed.
@@ -233,7 +233,7 @@ pub trait Answering {
         ensures streams { IsServedOver meaning
             (IsOf (wire_of L.Stream.remaining L.Stream.contents))
             (record { does = W.does; begun = watch.old; ended = watch.new })
-            self.old self.new connections result };
+            limits self.old self.new connections result };
 
     /// Answered changes last: the state that a stop of a clean one leaves shows each register that
     /// it showed.

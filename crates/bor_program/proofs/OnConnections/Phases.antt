@@ -1,36 +1,48 @@
 -- Steps of clients are steps of the server.
 use Rattle.bor_register.specs.declared.fault.StoreFault.{StoreFault}
-use Rattle.std.proofs.Common.{◌≡◌, ◌++◌, List, [], ◌∷◌, ℕ, Option, Some, sym, subst}
-use Rattle.bor_records.specs.Promises.{Meaning}
+use Rattle.std.proofs.Common.{◌≡◌, ◌≢◌, ◌<◌, ◌∙◌, ◌++◌, List, [], ◌∷◌, ℕ, Option, Some, arith, inl, inr, refl, sym, subst}
+use Rattle.std.specs.declared.time.Duration.{Duration}
+use Rattle.bor_records.specs.Promises.{Meaning, Promised}
 use Rattle.bor_register.specs.Register.{Register}
 use Rattle.bor_wire.specs.declared.outgoing.Outgoing.{Outgoing}
 use Rattle.bor_wire.specs.Answering.{Responds}
-use Rattle.bor_program.specs.Connections.Serving.{Answer, IsServing, answer_of}
+use Rattle.bor_program.specs.Connections.Serving.{Answer, IsNoteOn, IsServing, answer_of}
+use Rattle.bor_program.specs.declared.log.Note.{Note}
+use Rattle.bor_program.specs.Logging.{IsNoteOf, MayAdd}
 use Rattle.bor_program.specs.Connections.Streams.{IsOf, Wire}
 use Rattle.bor_program.specs.declared.connections.phase.Phase.{Phase}
 use Rattle.bor_program.specs.declared.connections.phase.Phase.TheVariants.{Reading, Writing, Draining}
-use Rattle.bor_program.specs.Connections.Phases.{IsStep, ReadsOn}
+use Rattle.bor_program.specs.declared.connections.phase.Pace.{Pace}
+use Rattle.bor_program.specs.declared.connections.phase.Pace.TheVariants.{Blocked, Moved, Turned}
+use Rattle.bor_program.specs.declared.connections.phase.Step.TheVariants.{Goes}
+use Rattle.bor_program.specs.Connections.Phases.{IsStep, ReadsOn, Stand, stand_at}
+use Rattle.bor_program.specs.Connections.Times.{IsIdleSince, IsPaced, moves_of}
 use Rattle.bor_program.proofs.OnConnections.Served.{answers}
 
 -- nothing was answered
-pub same_step : {K S Left : Type 0} (meaning : Meaning K Register Left StoreFault) (wire : Wire S) (keep : K) (this that : List Answer)
-    → that ≡ this → IsStep meaning wire keep keep this that
-same_step meaning wire keep this that same = λ start others tally before.
-    subst (λ l. IsServing meaning (IsOf wire) start keep (l ++ others) tally) (sym same) before
+pub same_step : {K S Left : Type 0} (meaning : Meaning K Register Left StoreFault) (wire : Wire S) (keep : K) (this that : List Answer) (notes : List Note)
+    → that ≡ this → IsStep meaning wire (stand_at keep this notes) (stand_at keep that notes)
+same_step meaning wire keep this that notes same = λ start others tally noted before.
+    subst (λ l. IsServing meaning (IsOf wire) start keep (l ++ others) (record tally { notes = noted ++ notes })) (sym same) before
+
+noted_so : (promised : (Register → Type 0) → Type 0) (request : List ℕ) (reply : Outgoing) (before after : List Note) → MayAdd (IsNoteOf promised request reply) before after
+    → MayAdd (IsNoteOn promised (answer_of request reply)) before after
+noted_so promised request reply before after (inl same) = inl same
+noted_so promised request reply before after (inr more) = inr (more.0, more.1, record { out = reply; is = refl; so = more.2 })
 
 -- a reply in memory is an answer
-pub answer_step : {K S Left : Type 0} (meaning : Meaning K Register Left StoreFault) (wire : Wire S) (old new : K) (request : List ℕ) (reply : Outgoing) (that : List Answer)
-    → that ≡ answer_of request reply ∷ [] → Responds meaning old new (Some request) reply → IsStep meaning wire old new [] that
-answer_step meaning wire old new request reply that is responds = λ start others tally before.
-    subst (λ l. IsServing meaning (IsOf wire) start new (l ++ others) tally) (sym is)
-    (answers meaning (IsOf wire) start old new others tally (answer_of request reply) before responds.leaves
+pub answer_step : {K S Left : Type 0} (meaning : Meaning K Register Left StoreFault) (wire : Wire S) (old new : K) (request : List ℕ) (reply : Outgoing) (that : List Answer) (before after : List Note)
+    → that ≡ answer_of request reply ∷ [] → Responds meaning old new (Some request) reply → MayAdd (IsNoteOf (Promised meaning old new) request reply) before after
+    → IsStep meaning wire (stand_at old [] before) (stand_at new that after)
+answer_step meaning wire old new request reply that before after is responds notes = λ start others tally noted was.
+    subst (λ l. IsServing meaning (IsOf wire) start new (l ++ others) (record tally { notes = noted ++ after })) (sym is)
+    (answers meaning (IsOf wire) start old new others tally (answer_of request reply) noted before after was (noted_so (Promised meaning old new) request reply before after notes) responds.leaves
     (λ r shown clean legal. responds.exchanged r shown clean legal.names) responds.up)
 
-pub then_steps : {K S Left : Type 0} (meaning : Meaning K Register Left StoreFault) (wire : Wire S) (old keep new : K) (this between that : List Answer)
-    → IsStep meaning wire old keep this between → IsStep meaning wire keep new between that
-    → IsStep meaning wire old new this that
-then_steps meaning wire old keep new this between that first second = λ start others tally before.
-    second start others tally (first start others tally before)
+pub then_steps : {K S Left : Type 0} (meaning : Meaning K Register Left StoreFault) (wire : Wire S) (this between that : Stand K)
+    → IsStep meaning wire this between → IsStep meaning wire between that → IsStep meaning wire this that
+then_steps meaning wire this between that first second = λ start others tally noted before.
+    second start others tally noted (first start others tally noted before)
 
 -- ---- nothing that was read is forgotten
 
@@ -55,3 +67,25 @@ reads_then remaining (Draining p) q (Writing r) h k = tt
 reads_then remaining (Reading p) q (Draining r) h k = tt
 reads_then remaining (Writing p) q (Draining r) h k = tt
 reads_then remaining (Draining p) q (Draining r) h k = tt
+
+-- ---- since when a client is idle
+
+pub idle_still : (first old next : ℕ) (begun idle later now : Duration) → IsIdleSince first old begun now idle → next ≡ old → later ≡ idle → IsIdleSince first next begun now later
+idle_still first old next begun idle later now h same is = record {
+  on = omega (arith, h.on, same);
+  idle = λ none. is ∙ h.idle (omega (arith, none, same));
+  busy = λ some. is ∙ h.busy (omega (arith, some, same));
+}
+
+pub idle_moved : (first old next : ℕ) (begun idle later now : Duration) → IsIdleSince first old begun now idle → old < next → later ≡ now → IsIdleSince first next begun now later
+idle_moved first old next begun idle later now h more is =
+    record { on = omega (arith, h.on, more); idle = λ none. absurd (omega (arith, none, more, h.on)); busy = λ some. is }
+
+pub idle_on : {S : Type 0} (first old next : Phase S) (pace : Pace) (begun idle later now : Duration) → IsIdleSince (moves_of first) (moves_of old) begun now idle → IsPaced old (Goes next pace)
+    → (pace ≡ Blocked → later ≡ idle) → (pace ≢ Blocked → later ≡ now) → IsIdleSince (moves_of first) (moves_of next) begun now later
+idle_on first old next Moved begun idle later now h paced blocked other =
+    idle_moved (moves_of first) (moves_of old) (moves_of next) begun idle later now h paced (other (λ is. cc))
+idle_on first old next Turned begun idle later now h paced blocked other =
+    idle_moved (moves_of first) (moves_of old) (moves_of next) begun idle later now h paced (other (λ is. cc))
+idle_on first old next Blocked begun idle later now h paced blocked other =
+    idle_still (moves_of first) (moves_of old) (moves_of next) begun idle later now h paced (blocked refl)

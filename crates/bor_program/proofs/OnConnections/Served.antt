@@ -1,6 +1,6 @@
 -- A server of many connections: one answers, or some end.
 use Rattle.bor_register.specs.declared.fault.StoreFault.{StoreFault}
-use Rattle.std.proofs.Common.{◌≡◌, ◌+◌, ℕ, List, [], ◌∷◌, ◌++◌, length, Bool, true, false, Some, refl, sym, ap, subst, ◌∙◌, arith, append_assoc, length-append}
+use Rattle.std.proofs.Common.{◌≡◌, ◌+◌, ℕ, List, [], ◌∷◌, ◌++◌, length, Bool, true, false, Some, inl, inr, refl, sym, ap, subst, ◌∙◌, arith, append_assoc, length-append}
 use Rattle.std.specs.Prelude.{cond, if◌then◌else◌, ◌||◌}
 use Rattle.std.specs.List.{All, list_any}
 use Rattle.std.specs.List.Sorted.{IsPermutation}
@@ -18,7 +18,9 @@ use Rattle.bor_wire.specs.Sequences.{AreExchanged, Exchanged, IsRun, keep_left}
 use Rattle.bor_wire.specs.Turns.{AllAnswerClean, AnswersClean}
 use Rattle.bor_wire.proofs.SequenceLaws.{a_run}
 use Rattle.bor_wire.proofs.TurnLaws.{open_more}
-use Rattle.bor_program.specs.Connections.Serving.{Answer, Answered, Ended, IsServed, IsServedAs, IsServing, Tally, absent_in, answers_in, exchange_of, exchanges_of, has_failed, is_absent, told_in, told_on}
+use Rattle.bor_program.specs.declared.log.Note.{Note}
+use Rattle.bor_program.specs.Logging.{MayAdd}
+use Rattle.bor_program.specs.Connections.Serving.{Answer, Answered, AreNotes, Ended, IsNoteOn, IsServed, IsServedAs, IsServing, Tally, absent_in, answers_in, exchange_of, exchanges_of, has_failed, is_absent, told_in, told_on}
 
 -- ---- lists
 
@@ -44,10 +46,34 @@ each_more : {K Left : Type 0} (meaning : Meaning K Register Left StoreFault) (ke
 each_more meaning keep [] e h last = last
 each_more meaning keep (x ∷ es) e h last = (h.0, each_more meaning x.keep es e h.1 last)
 
+-- ---- notes of what was answered
+
+noted_none : {K Left : Type 0} (meaning : Meaning K Register Left StoreFault) (keep : K) (answered : List (Answered K)) (one : Answered K) (notes : List Note)
+    → AreNotes meaning keep answered notes → AreNotes meaning keep (answered ++ one ∷ []) notes
+noted_none meaning keep [] one notes h = inl h
+noted_none meaning keep (a ∷ rest) one notes (inl h) = inl (noted_none meaning a.keep rest one notes h)
+noted_none meaning keep (a ∷ rest) one notes (inr h) = inr (h.0, h.1, h.2, h.3, noted_none meaning a.keep rest one h.1 h.4)
+
+noted_one : {K Left : Type 0} (meaning : Meaning K Register Left StoreFault) (keep : K) (answered : List (Answered K)) (one : Answered K) (notes : List Note) (note : Note)
+    → AreNotes meaning keep answered notes → IsNoteOn (Promised meaning (keep_left keep (exchanges_of answered)) one.keep) one.answer note → AreNotes meaning keep (answered ++ one ∷ []) (notes ++ note ∷ [])
+noted_one meaning keep [] one notes note h is = inr (note, [], ap (λ l. l ++ note ∷ []) h, is, refl)
+noted_one meaning keep (a ∷ rest) one notes note (inl h) is = inl (noted_one meaning a.keep rest one notes note h is)
+noted_one meaning keep (a ∷ rest) one notes note (inr h) is =
+    inr (h.0, h.1 ++ note ∷ [], ap (λ l. l ++ note ∷ []) h.2, h.3, noted_one meaning a.keep rest one h.1 note h.4 is)
+
+noted_more : {K Left : Type 0} (meaning : Meaning K Register Left StoreFault) (old keep : K) (answered : List (Answered K)) (one : Answered K) (noted before after : List Note)
+    → keep_left old (exchanges_of answered) ≡ keep → AreNotes meaning old answered (noted ++ before) → MayAdd (IsNoteOn (Promised meaning keep one.keep) one.answer) before after
+    → AreNotes meaning old (answered ++ one ∷ []) (noted ++ after)
+noted_more meaning old keep answered one noted before after left h (inl same) =
+    subst (λ l. AreNotes meaning old (answered ++ one ∷ []) (noted ++ l)) (sym same) (noted_none meaning old answered one (noted ++ before) h)
+noted_more meaning old keep answered one noted before after left h (inr more) =
+    let is = subst (λ k. IsNoteOn (Promised meaning k one.keep) one.answer more.0) (sym left) more.2 in
+    subst (AreNotes meaning old (answered ++ one ∷ [])) (append_assoc noted before (more.0 ∷ []) ∙ ap (λ l. noted ++ l) (sym more.1)) (noted_one meaning old answered one (noted ++ before) more.0 h is)
+
 -- ---- the server
 
 pub nothing_served : {K Left : Type 0} (meaning : Meaning K Register Left StoreFault) (Is : Ended → Type 0) (keep : K) (connections : ℕ)
-    → IsServing meaning Is keep keep [] (record { connections = connections; pending = connections; absent = 0; status = 0 })
+    → IsServing meaning Is keep keep [] (record { connections = connections; pending = connections; absent = 0; status = 0; notes = [] })
 nothing_served meaning Is keep connections = record {
   answered = [];
   ended = [];
@@ -59,15 +85,16 @@ nothing_served meaning Is keep connections = record {
   ended_so = All-nil Is;
   missing = refl;
   status = refl;
+  noted = refl;
 }
 
 -- a request was answered
-pub answers : {K Left : Type 0} (meaning : Meaning K Register Left StoreFault) (Is : Ended → Type 0) (old keep new : K) (telling : List Answer) (tally : Tally) (answer : Answer)
-    → IsServing meaning Is old keep telling tally → Leaves meaning keep new (ShowsAfter meaning.left_shows (Some answer.request))
+pub answers : {K Left : Type 0} (meaning : Meaning K Register Left StoreFault) (Is : Ended → Type 0) (old keep new : K) (telling : List Answer) (tally : Tally) (answer : Answer) (noted before after : List Note)
+    → IsServing meaning Is old keep telling (record tally { notes = noted ++ before }) → MayAdd (IsNoteOn (Promised meaning keep new) answer) before after → Leaves meaning keep new (ShowsAfter meaning.left_shows (Some answer.request))
     → Promised meaning keep new (λ r. IsLegal r → IsExchanged (Replied answer.status) (meaning.shows new) r (Some answer.request) (Some []) (Some answer.reply))
     → AnswersClean meaning (exchange_of (record { answer = answer; keep = new }))
-    → IsServing meaning Is old new (answer ∷ telling) tally
-answers {K} meaning Is old keep new telling tally answer h leaves exchanged up =
+    → IsServing meaning Is old new (answer ∷ telling) (record tally { notes = noted ++ after })
+answers {K} meaning Is old keep new telling tally answer noted before after h notes leaves exchanged up =
     let one : Answered K = record { answer = answer; keep = new } in
     let es : List (Exchanged K) = exchanges_of h.answered in
     let more : exchanges_of (h.answered ++ one ∷ []) ≡ es ++ exchange_of one ∷ [] = map-append exchange_of h.answered (one ∷ []) in
@@ -89,12 +116,13 @@ answers {K} meaning Is old keep new telling tally answer h leaves exchanged up =
       ended_so = h.ended_so;
       missing = h.missing;
       status = h.status;
+      noted = noted_more meaning old keep h.answered one noted before after h.left h.noted notes;
     }
 
 -- some connections ended
 pub ends : {K Left : Type 0} (meaning : Meaning K Register Left StoreFault) (Is : Ended → Type 0) (old keep : K) (telling rest : List Answer) (tally : Tally) (left more : ℕ) (ended : List Ended)
     → IsServing meaning Is old keep telling tally → All Is ended → length ended + left ≡ tally.pending → absent_in ended ≡ more → IsPermutation telling (rest ++ told_in ended)
-    → IsServing meaning Is old keep rest (record { connections = tally.connections; pending = left; absent = more + tally.absent; status = if list_any has_failed ended then 3 else tally.status })
+    → IsServing meaning Is old keep rest (record { connections = tally.connections; pending = left; absent = more + tally.absent; status = if list_any has_failed ended then 3 else tally.status; notes = tally.notes })
 ends meaning Is old keep telling rest tally left more ended h so count gone once = record {
   answered = h.answered;
   ended = ended ++ h.ended;
@@ -111,6 +139,7 @@ ends meaning Is old keep telling rest tally left more ended h so count gone once
   status =
       ap (λ n. if list_any has_failed ended then 3 else n) h.status ∙ either (list_any has_failed ended) (list_any has_failed h.ended) 3 0
       ∙ ap (λ b. if b then 3 else 0) (sym (list_any-append has_failed ended h.ended));
+  noted = h.noted;
 }
 
 -- ---- all connections
@@ -119,14 +148,17 @@ a_run_to : {K Left : Type 0} (meaning : Meaning K Register Left StoreFault) (old
     → Promised meaning old new (λ r. IsLegal r → IsRun (meaning.shows new) r es)
 a_run_to meaning old new es each left = subst (λ k. Promised meaning old k (λ r. IsLegal r → IsRun (meaning.shows k) r es)) left (a_run meaning old es each)
 
-pub all_served : {K Left : Type 0} (meaning : Meaning K Register Left StoreFault) (Is : Ended → Type 0) (old new : K) (connections absent told : ℕ)
-    → IsServing meaning Is old new [] (record { connections = connections; pending = 0; absent = absent; status = told }) → (served : IsServedAs meaning Is old new connections told) × (served.absent ≡ absent)
-all_served meaning Is old new connections absent told h = (record { absent = absent; served = h; run = a_run_to meaning old new (exchanges_of h.answered) h.each h.left }, refl)
+pub all_served : {K Left : Type 0} (meaning : Meaning K Register Left StoreFault) (Is : Ended → Type 0) (old new : K) (connections absent told : ℕ) (notes : List Note)
+    → IsServing meaning Is old new [] (record { connections = connections; pending = 0; absent = absent; status = told; notes = notes })
+    → (served : IsServedAs meaning Is old new connections told) × (served.absent ≡ absent) × (served.notes ≡ notes)
+all_served meaning Is old new connections absent told notes h =
+    (record { absent = absent; notes = notes; served = h; run = a_run_to meaning old new (exchanges_of h.answered) h.each h.left }, refl, refl)
 
 pub served_by_any : {K Left : Type 0} (meaning : Meaning K Register Left StoreFault) (Is : Ended → Type 0) (old new : K) (connections told : ℕ)
     → IsServedAs meaning Is old new connections told → IsServed meaning old new connections told
 served_by_any meaning Is old new connections told h = record {
   absent = h.absent;
+  notes = h.notes;
   served = record {
     answered = h.served.answered;
     ended = h.served.ended;
@@ -138,6 +170,7 @@ served_by_any meaning Is old new connections told h = record {
     ended_so = All-weaker Is _ (λ e is. tt) h.served.ended h.served.ended_so;
     missing = h.served.missing;
     status = h.served.status;
+    noted = h.served.noted;
   };
   run = h.run;
 }

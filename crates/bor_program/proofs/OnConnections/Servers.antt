@@ -12,6 +12,7 @@ use Rattle.std.proofs.lemmas.List.Sums.{sum_by-cons}
 use Rattle.std.proofs.lemmas.List.Elements.{All-append, All-cons, All-nil, All-replicate}
 use Rattle.std.proofs.lemmas.List.Sorted.{IsPermutation-append_comm, IsPermutation-append_left, IsPermutation-append_right, IsPermutation-refl, IsPermutation-trans}
 use Rattle.bor_register.specs.Register.{Register}
+use Rattle.bor_program.specs.declared.log.Note.{Note}
 use Rattle.bor_program.specs.declared.connections.server.Client.{Client}
 use Rattle.bor_program.specs.declared.connections.server.Server.{Server}
 use Rattle.bor_program.specs.Connections.Serving.{Answer, Ended, Absent, IsServedAs, IsServing, Tally, absent_in, has_failed, is_absent, told_in, told_on}
@@ -176,20 +177,21 @@ lets_of wire telling other pending absent status new same h = record {
 
 -- ---- the server
 
-pub lets_go_on : {K S Left : Type 0} (meaning : Meaning K Register Left StoreFault) (wire : Wire S) (start keep : K) (telling : List Answer) (tally : Tally) (more : ℕ) (new : Server S)
-    → IsServing meaning (IsOf wire) start keep telling tally → Lets wire telling tally.pending more tally.status new
-    → GoesOnAs meaning wire start keep tally.connections (more + tally.absent) new
-lets_go_on meaning wire start keep telling tally more new h lets =
-    subst (λ n. IsServing meaning (IsOf wire) start keep (telling_in new) (record { connections = tally.connections; pending = pending_in new; absent = more + tally.absent; status = n })) (sym lets.told)
-    (ends meaning (IsOf wire) start keep telling (telling_in new) tally (pending_in new) more lets.ended h lets.ended_so lets.count lets.missing lets.told_once)
+pub lets_go_on : {K S Left : Type 0} (meaning : Meaning K Register Left StoreFault) (wire : Wire S) (start keep : K) (telling : List Answer) (tally : Tally) (more : ℕ) (noted : List Note) (new : Server S)
+    → IsServing meaning (IsOf wire) start keep telling tally → Lets wire telling tally.pending more tally.status new → tally.notes ≡ noted ++ new.service.notes.items
+    → GoesOnAs meaning wire start keep tally.connections (more + tally.absent) noted new
+lets_go_on meaning wire start keep telling tally more noted new h lets notes =
+    subst (λ l. IsServing meaning (IsOf wire) start keep (telling_in new) (record (tally_in tally.connections (more + tally.absent) noted new) { notes = l })) notes
+    (subst (λ n. IsServing meaning (IsOf wire) start keep (telling_in new) (record { connections = tally.connections; pending = pending_in new; absent = more + tally.absent; status = n; notes = tally.notes })) (sym lets.told)
+    (ends meaning (IsOf wire) start keep telling (telling_in new) tally (pending_in new) more lets.ended h lets.ended_so lets.count lets.missing lets.told_once))
 
 -- of those that ended a client came on each
-pub lets_go_same : {K S Left : Type 0} (meaning : Meaning K Register Left StoreFault) (wire : Wire S) (start keep : K) (telling : List Answer) (tally : Tally) (new : Server S)
-    → IsServing meaning (IsOf wire) start keep telling tally → Lets wire telling tally.pending 0 tally.status new
-    → GoesOnAs meaning wire start keep tally.connections tally.absent new
-lets_go_same meaning wire start keep telling tally new h lets =
+pub lets_go_same : {K S Left : Type 0} (meaning : Meaning K Register Left StoreFault) (wire : Wire S) (start keep : K) (telling : List Answer) (tally : Tally) (noted : List Note) (new : Server S)
+    → IsServing meaning (IsOf wire) start keep telling tally → Lets wire telling tally.pending 0 tally.status new → tally.notes ≡ noted ++ new.service.notes.items
+    → GoesOnAs meaning wire start keep tally.connections tally.absent noted new
+lets_go_same meaning wire start keep telling tally noted new h lets notes =
     let same : 0 + tally.absent ≡ tally.absent = omega arith in
-    subst (λ n. GoesOnAs meaning wire start keep tally.connections n new) same (lets_go_on meaning wire start keep telling tally 0 new h lets)
+    subst (λ n. GoesOnAs meaning wire start keep tally.connections n noted new) same (lets_go_on meaning wire start keep telling tally 0 noted new h lets notes)
 
 -- ---- a client goes to the end of the queue, or leaves it
 
@@ -237,38 +239,43 @@ taken wire (c ∷ rest) (suc i) client lt is held =
 
 -- ---- from the first to the last
 
-pub in_hand : {K S Left : Type 0} (meaning : Meaning K Register Left StoreFault) (wire : Wire S) (start keep : K) (connections absent : ℕ) (client : Client S) (rest : List (Client S)) (old : Server S)
-    → old.queue.items ≡ client ∷ rest → GoesOnAs meaning wire start keep connections absent old
-    → IsServing meaning (IsOf wire) start keep (telling client.phase ++ telling_to rest) (record (tally_in connections absent old) { pending = length rest + old.left + 1 })
-in_hand meaning wire start keep connections absent client rest old is h =
+pub in_hand : {K S Left : Type 0} (meaning : Meaning K Register Left StoreFault) (wire : Wire S) (start keep : K) (connections absent : ℕ) (noted : List Note) (client : Client S) (rest : List (Client S)) (old : Server S)
+    → old.queue.items ≡ client ∷ rest → GoesOnAs meaning wire start keep connections absent noted old
+    → IsServing meaning (IsOf wire) start keep (telling client.phase ++ telling_to rest) (record (tally_in connections absent noted old) { pending = length rest + old.left + 1 })
+in_hand meaning wire start keep connections absent noted client rest old is h =
     let count : pending_in old ≡ length rest + old.left + 1 = omega (arith, ap length is) in
-    subst (λ n. IsServing meaning (IsOf wire) start keep (telling client.phase ++ telling_to rest) (record (tally_in connections absent old) { pending = n })) count
-    (subst (λ l. IsServing meaning (IsOf wire) start keep l (tally_in connections absent old)) (ap telling_to is) h)
+    subst (λ n. IsServing meaning (IsOf wire) start keep (telling client.phase ++ telling_to rest) (record (tally_in connections absent noted old) { pending = n })) count
+    (subst (λ l. IsServing meaning (IsOf wire) start keep l (tally_in connections absent noted old)) (ap telling_to is) h)
 
-pub becomes_at : {K S Left : Type 0} (meaning : Meaning K Register Left StoreFault) (wire : Wire S) (start keep : K) (connections absent : ℕ) (old new : Server S)
-    → GoesOnAs meaning wire start keep connections absent old → Becomes old new → GoesOnAs meaning wire start keep connections absent new
-becomes_at meaning wire start keep connections absent old new h same = rw (same.queue, same.left, same.status) h
+-- some notes were told of those that were not
+pub becomes_at : {K S Left : Type 0} (meaning : Meaning K Register Left StoreFault) (wire : Wire S) (start keep : K) (connections absent : ℕ) (noted told : List Note) (old new : Server S)
+    → GoesOnAs meaning wire start keep connections absent noted old → Becomes old new → told ≡ old.service.notes.items → new.service.notes.items ≡ [] → GoesOnAs meaning wire start keep connections absent (noted ++ told) new
+becomes_at meaning wire start keep connections absent noted told old new h same all none =
+    let notes : noted ++ old.service.notes.items ≡ (noted ++ told) ++ new.service.notes.items = rw (all, none) (sym (append-nil (noted ++ old.service.notes.items))) in
+    rw (same.queue, same.left, same.status) (subst (λ l. IsServing meaning (IsOf wire) start keep (telling_in old) (record (tally_in connections absent noted old) { notes = l })) notes h)
 
 pub begun : {K S Left : Type 0} (meaning : Meaning K Register Left StoreFault) (wire : Wire S) (keep : K) (connections : ℕ) (server : Server S)
-    → server.queue.items ≡ [] → server.left ≡ connections → server.status ≡ 0 → GoesOnAs meaning wire keep keep connections 0 server
-begun meaning wire keep connections server none all told =
+    → server.queue.items ≡ [] → server.left ≡ connections → server.status ≡ 0 → server.service.notes.items ≡ [] → GoesOnAs meaning wire keep keep connections 0 [] server
+begun meaning wire keep connections server none all told silent =
     let Is = IsOf wire in
     let count : connections ≡ pending_in server = omega (arith, ap length none, all) in
-    let silent : [] ≡ telling_in server = sym (ap telling_to none) in
-    subst (λ n. IsServing meaning Is keep keep (telling_in server) (record (tally_in connections 0 server) { status = n })) (sym told)
-    (subst (λ l. IsServing meaning Is keep keep l (record (tally_in connections 0 server) { status = 0 })) silent
-    (subst (λ n. IsServing meaning Is keep keep [] (record { connections = connections; pending = n; absent = 0; status = 0 })) count (nothing_served meaning Is keep connections)))
+    let nobody : [] ≡ telling_in server = sym (ap telling_to none) in
+    subst (λ l. IsServing meaning Is keep keep (telling_in server) (record (tally_in connections 0 [] server) { notes = l })) (sym silent)
+    (subst (λ n. IsServing meaning Is keep keep (telling_in server) (record (tally_in connections 0 [] server) { status = n; notes = [] })) (sym told)
+    (subst (λ l. IsServing meaning Is keep keep l (record (tally_in connections 0 [] server) { status = 0; notes = [] })) nobody
+    (subst (λ n. IsServing meaning Is keep keep [] (record { connections = connections; pending = n; absent = 0; status = 0; notes = [] })) count (nothing_served meaning Is keep connections))))
 
 none_told : {S : Type 0} (clients : List (Client S)) (left : ℕ) → length clients + left ≡ 0 → telling_to clients ≡ []
 none_told [] left e = refl
 none_told (c ∷ rest) left e = absurd (omega (arith, e))
 
-pub finished : {K S Left : Type 0} (meaning : Meaning K Register Left StoreFault) (wire : Wire S) (start keep : K) (connections absent : ℕ) (server : Server S)
-    → GoesOnAs meaning wire start keep connections absent server → pending_in server ≡ 0 → (served : IsServedAs meaning (IsOf wire) start keep connections server.status) × (served.absent ≡ absent)
-finished meaning wire start keep connections absent server h none =
-    all_served meaning (IsOf wire) start keep connections absent server.status
-    (subst (λ n. IsServing meaning (IsOf wire) start keep [] (record (tally_in connections absent server) { pending = n })) none
-    (subst (λ l. IsServing meaning (IsOf wire) start keep l (tally_in connections absent server)) (none_told server.queue.items server.left none) h))
+pub finished : {K S Left : Type 0} (meaning : Meaning K Register Left StoreFault) (wire : Wire S) (start keep : K) (connections absent : ℕ) (noted : List Note) (server : Server S)
+    → GoesOnAs meaning wire start keep connections absent noted server → pending_in server ≡ 0
+    → (served : IsServedAs meaning (IsOf wire) start keep connections server.status) × (served.absent ≡ absent) × (served.notes ≡ noted ++ server.service.notes.items)
+finished meaning wire start keep connections absent noted server h none =
+    all_served meaning (IsOf wire) start keep connections absent server.status (noted ++ server.service.notes.items)
+    (subst (λ n. IsServing meaning (IsOf wire) start keep [] (record (tally_in connections absent noted server) { pending = n })) none
+    (subst (λ l. IsServing meaning (IsOf wire) start keep l (tally_in connections absent noted server)) (none_told server.queue.items server.left none) h))
 
 -- ---- which client gives way
 

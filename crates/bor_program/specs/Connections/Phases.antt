@@ -3,6 +3,7 @@ use Rattle.bor_register.specs.declared.fault.StoreFault.{StoreFault}
 use Rattle.bor_records.specs.Promises.{Meaning}
 use Rattle.std.specs.Prelude.{◌≡◌, ℕ, List, [], ◌∷◌, ◌++◌, Bool, false, Option, ⊤}
 use Rattle.bor_register.specs.Register.{Register}
+use Rattle.bor_program.specs.declared.log.Note.{Note}
 use Rattle.bor_program.specs.declared.connections.phase.Phase.{Phase}
 use Rattle.bor_program.specs.declared.connections.phase.Phase.TheVariants as phase
 use Rattle.bor_program.specs.declared.connections.phase.Step.{Step}
@@ -54,11 +55,23 @@ EndsAs wire told failed =
     (e : Ended) × IsOf wire e × (told_on e ≡ told) × (failed ≡ has_failed e)
     × (is_absent e ≡ false)
 
+-- where a client stands: the keep, the answer that is being sent to it, and the notes that were
+-- made and are not told yet
+pub record Stand (K : Type 0) : Type 0 where
+  pub keep : K
+  pub told : List Answer
+  pub notes : List Note
+
+abbrev pub stand_at : {K : Type 0} → K → List Answer → List Note → Stand K
+stand_at keep told notes = record { keep = keep; told = told; notes = notes }
+
 -- a client's step is one of the server, whatever it has done before and whichever other clients
--- there are: this answer was being sent to the client, and then that
-abbrev pub IsStep : {K S Left : Type 0} → Meaning K Register Left StoreFault → Wire S → K → K
-    → List Answer → List Answer → Type 0
-IsStep {K} meaning wire old new this that =
-    (start : K) (others : List Answer) (tally : Tally)
-    → IsServing meaning (IsOf wire) start old (this ++ others) tally
-    → IsServing meaning (IsOf wire) start new (that ++ others) tally
+-- there are: it stood here, and then there
+abbrev pub IsStep : {K S Left : Type 0} → Meaning K Register Left StoreFault → Wire S
+    → Stand K → Stand K → Type 0
+IsStep {K} meaning wire this that =
+    (start : K) (others : List Answer) (tally : Tally) (noted : List Note)
+    → IsServing meaning (IsOf wire) start this.keep (this.told ++ others)
+    (record tally { notes = noted ++ this.notes })
+    → IsServing meaning (IsOf wire) start that.keep (that.told ++ others)
+    (record tally { notes = noted ++ that.notes })

@@ -1,7 +1,7 @@
 -- The keep that serving many clients at once leaves, and its status.
 use Rattle.bor_register.specs.declared.fault.StoreFault.{StoreFault}
 use Rattle.std.specs.Prelude.{◌≡◌, ◌+◌, ℕ, List, [], ◌∷◌, ◌++◌, length, map, count_by, Some, Bool}
-use Rattle.std.specs.Prelude.{true, false, ◌==◌, ◌||◌, nat_lt, if◌then◌else◌, ⊤}
+use Rattle.std.specs.Prelude.{true, false, ◌==◌, ◌||◌, ◌⊎◌, nat_lt, if◌then◌else◌, ⊤}
 use Rattle.std.specs.List.{All, list_any}
 use Rattle.std.specs.List.Sorted.{IsPermutation}
 use Rattle.bor_records.specs.Promises.{Meaning, Promised}
@@ -12,8 +12,12 @@ use Rattle.bor_wire.specs.declared.outgoing.Outgoing.{Outgoing}
 use Rattle.bor_wire.specs.Exchanges.{bytes_out, status_out}
 use Rattle.bor_wire.specs.Sequences.{AreExchanged, Exchanged, IsRun, keep_left}
 use Rattle.bor_wire.specs.Turns.{AllAnswerClean}
+use Rattle.bor_program.specs.declared.log.Note.{Note}
 use Rattle.bor_program.specs.Courses.{Course}
-use Rattle.bor_program.specs.Connections.Watching.{Act, AreDone, IsExcused}
+use Rattle.bor_program.specs.Logging.{IsNoteOf}
+use Rattle.bor_program.specs.declared.connections.limits.Limits.{Limits}
+use Rattle.bor_program.specs.Connections.Times.{IsPatient}
+use Rattle.bor_program.specs.Connections.Watching.{Act, AreDone, IsExcused, OnWait, notes_in}
 
 -- ---- answers
 
@@ -47,6 +51,25 @@ exchanges_of answered = map exchange_of answered
 
 abbrev pub answers_in : {K : Type 0} → List (Answered K) → List Answer
 answers_in answered = map (λ a. a.answer) answered
+
+-- ---- notes
+
+-- this note is of a request that had this answer
+pub record IsNoteOn (promised : (Register → Type 0) → Type 0) (answer : Answer)
+    (note : Note) : Type 0 where
+  pub out : Outgoing
+  pub is : answer ≡ answer_of answer.request out
+  pub so : IsNoteOf promised answer.request out note
+
+-- These notes are of requests that were answered from this keep on, in the same order, each of
+-- another one. Some may have no note.
+abbrev pub AreNotes : {K Left : Type 0} → Meaning K Register Left StoreFault → K
+    → List (Answered K) → List Note → Type 0
+AreNotes meaning keep [] notes = notes ≡ []
+AreNotes meaning keep (a ∷ rest) notes =
+    AreNotes meaning a.keep rest notes
+    ⊎ ((note : Note) × (more : List Note) × (notes ≡ note ∷ more)
+    × IsNoteOn (Promised meaning keep a.keep) a.answer note × AreNotes meaning a.keep rest more)
 
 -- ---- how connections ended
 
@@ -91,12 +114,13 @@ told_in (e ∷ rest) = told_on e ++ told_in rest
 -- ---- the server
 
 -- How far a server has come: of so many connections so many are pending, on so many no client came;
--- and its status.
+-- its status; and its notes of what was answered.
 pub record Tally : Type 0 where
   pub connections : ℕ
   pub pending : ℕ
   pub absent : ℕ
   pub status : ℕ
+  pub notes : List Note
 
 -- Of so many connections some have ended, and some are pending, on which these answers are still
 -- being sent. The requests were answered one after the other, each from the keep that the one
@@ -115,6 +139,7 @@ pub record IsServing {K Left : Type 0} (meaning : Meaning K Register Left StoreF
   pub ended_so : All Is ended
   pub missing : absent_in ended ≡ tally.absent
   pub status : tally.status ≡ status_of_server ended
+  pub noted : AreNotes meaning old answered tally.notes
 
 -- So many connections were served and have ended, with this status. What was answered on them, one
 -- request after the other, is a run from a legal register: the bytes of each request and of its
@@ -122,8 +147,14 @@ pub record IsServing {K Left : Type 0} (meaning : Meaning K Register Left StoreF
 pub record IsServedAs {K Left : Type 0} (meaning : Meaning K Register Left StoreFault)
     (Is : Ended → Type 0) (old new : K) (connections told : ℕ) : Type 0 where
   pub absent : ℕ
-  pub served : IsServing meaning Is old new []
-      (record { connections = connections; pending = 0; absent = absent; status = told })
+  pub notes : List Note
+  pub served : IsServing meaning Is old new [] (record {
+    connections = connections;
+    pending = 0;
+    absent = absent;
+    status = told;
+    notes = notes;
+  })
   pub run : Promised meaning old new
       (λ r. IsLegal r → IsRun (meaning.shows new) r (exchanges_of served.answered))
 
@@ -134,11 +165,14 @@ IsServed meaning old new connections told =
     IsServedAs meaning (λ e. ⊤) old new connections told
 
 -- The same, of what the server asked of its watch: no client came only where one could not be let
--- in, or where the server may end.
+-- in, or where the server may end; and the notes of what was answered, and no others, were given to
+-- it, each once and in their order. No wait that has an end is longer than the limits.
 pub record IsServedOver {K W Left : Type 0} (meaning : Meaning K Register Left StoreFault)
-    (Is : Ended → Type 0) (calls : Course W Act) (old new : K) (connections told : ℕ)
-    : Type 0 where
+    (Is : Ended → Type 0) (calls : Course W Act) (limits : Limits) (old new : K)
+    (connections told : ℕ) : Type 0 where
   pub served : IsServedAs meaning Is old new connections told
   pub acts : List Act
   pub done : AreDone calls.does calls.begun acts calls.ended
   pub excused : IsExcused acts served.absent
+  pub noted : notes_in acts ≡ served.notes
+  pub patient : All (OnWait (IsPatient limits)) acts

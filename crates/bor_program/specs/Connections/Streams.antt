@@ -1,6 +1,8 @@
 -- How the bytes of a client's stream follow from the answers on it, where its bytes are known.
 use Rattle.std.specs.Prelude.{◌≡◌, ◌≤◌, ◌<◌, ◌⊎◌, ◌+◌, ◌++◌, ℕ, List, length, take, Option, ⊤}
 use Rattle.std.specs.Io.KnownBytes.{Appends, Consumes, IsAtEnd}
+use Rattle.std.specs.declared.io.ErrorKind.{ErrorKind}
+use Rattle.std.specs.declared.io.ErrorKind.TheVariants.{Interrupted, WouldBlock}
 use Rattle.bor_http.specs.declared.incoming.progress.Progress.{Progress}
 use Rattle.bor_http.specs.Incoming.Message.{request_limit}
 use Rattle.bor_http.specs.Incoming.Progress.{IsProgress, IsWhole, needs}
@@ -103,3 +105,12 @@ abbrev pub IsOf : {S : Type 0} → Wire S → Ended → Type 0
 IsOf wire Absent = ⊤
 IsOf wire (Unanswered request) = IsUnanswered wire.remaining request
 IsOf wire (Told answer sent) = IsReplySent wire answer sent
+
+-- nothing can be read or written at the moment, and nothing failed
+abbrev pub IsBlocked : ErrorKind → Type 0
+IsBlocked kind = (kind ≡ WouldBlock) ⊎ (kind ≡ Interrupted)
+
+-- a reply with this status may be written before its request is read to its end: to a head that is
+-- none or too large, to a body that is too large, and where memory was wanting for them
+abbrev pub MayBeUnread : ℕ → Type 0
+MayBeUnread status = (status ≡ 400) ⊎ ((status ≡ 413) ⊎ ((status ≡ 431) ⊎ (status ≡ 503)))

@@ -22,6 +22,7 @@
 mod limits;
 mod phase;
 mod reading;
+mod seats;
 mod server;
 mod service;
 mod serving;

@@ -1,11 +1,12 @@
 //! A client whose request is read.
 
-ghost use Rattle.std.specs.Prelude.{◌≡◌, ◌≤◌, ◌<◌, ◌+◌, ◌⊎◌, length, IfOk, MatchResult, vec_len, vec_capacity};
+ghost use Rattle.std.specs.Prelude.{◌≡◌, ◌≢◌, ◌↔◌, IsTrue, [], ◌≤◌, ◌<◌, ◌+◌, ◌⊎◌, length, IfOk, MatchResult, vec_len, vec_capacity};
+ghost use Rattle.std.specs.IoError.{error_kind};
 ghost use Rattle.std.specs.Io.KnownBytes.{IsAtEnd, Keeps};
 ghost use Rattle.bor_http.specs.Incoming.Message.{request_limit};
 ghost use Rattle.bor_http.specs.Incoming.Progress.{IsProgress, IsWhole, needs};
 ghost use Rattle.bor_program.specs.declared.connections.reading.Taken.TheVariants.{Blocked, Failed, More, Whole};
-ghost use Rattle.bor_program.specs.Connections.Streams.{Came, IsReading, KeepsAll, Received};
+ghost use Rattle.bor_program.specs.Connections.Streams.{Came, IsBlocked, IsReading, KeepsAll, Received};
 
 use bor_http::incoming::Progress;
 use std::alloc::{AllocError, Global};
@@ -44,7 +45,9 @@ pub(crate) enum Taken {
 impl<S: Read> Reading<S> {
     /// A client of which nothing was read.
     pub(crate) fn new(alloc: Global, stream: S) -> Reading<S>
-        ensures { IsReading S.remaining result.stream result.received.items result.progress }
+        ensures held { IsReading S.remaining result.stream result.received.items result.progress }
+        ensures stream { result.stream ≡ stream }
+        ensures nothing { result.received.items ≡ [] }
     {
         Reading {
             stream,
@@ -64,6 +67,10 @@ impl<S: Read> Reading<S> {
             IsReading S.remaining self.new.stream self.new.received.items self.new.progress }
         ensures whole { result ≡ Whole
             → IsWhole self.new.received.items ⊎ IsAtEnd (S.remaining self.new.stream) }
+        ensures on { length self.old.received.items ≤ length self.new.received.items }
+        ensures more { result ≡ More
+            → length self.old.received.items < length self.new.received.items }
+        ensures blocked { result ≡ Blocked → self.new.received.items ≡ self.old.received.items }
     {
         let wanted = self.progress.wanted(self.received.len());
         let Ok(room) = make_room(&mut self.received, wanted) else {
@@ -90,6 +97,8 @@ impl<S: Read> Reading<S> {
         ensures held { (result ≡ More) ⊎ ((result ≡ Blocked) ⊎ (result ≡ Failed)) →
             IsReading S.remaining self.new.stream self.new.received.items self.new.progress }
         ensures whole { result ≡ Whole → IsWhole self.new.received.items }
+        ensures same { self.new.received.items ≡ self.old.received.items }
+        ensures judged { result ≢ Blocked }
     {
         let Ok(progress) = self.progress.after(alloc, &self.received) else {
             return Taken::Unfit;
@@ -104,7 +113,9 @@ impl<S: Read> Reading<S> {
 }
 
 /// Whether nothing can be read or written at the moment, and nothing failed.
-pub(crate) fn is_blocked(error: &io::Error) -> bool {
+pub(crate) fn is_blocked(error: &io::Error) -> bool
+    ensures { IsTrue result ↔ IsBlocked (error_kind error.now) }
+{
     matches!(error.kind(), ErrorKind::WouldBlock | ErrorKind::Interrupted)
 }
 

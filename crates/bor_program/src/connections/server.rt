@@ -1,16 +1,19 @@
 //! A server: its clients, and how many are still to come.
 
-ghost use Rattle.std.specs.Prelude.{◌≡◌, ◌⊎◌, ◌+◌, ◌-◌, ◌<◌, ◌≤◌, ◌++◌, ℕ, [], false, true, length, if◌then◌else◌, is_err, IsTrue, MatchOption};
+ghost use Rattle.std.specs.Prelude.{◌≡◌, ◌⊎◌, ◌+◌, ◌-◌, ◌<◌, ◌≤◌, ◌++◌, ◌∷◌, ℕ, [], Some, false, true, drop, length, set, if◌then◌else◌, is_err, IsTrue, MatchOption};
+ghost use Rattle.std.specs.VecDeque.{deque_capacity, deque_len};
 ghost use Rattle.std.specs.Duration.{as_nanos};
 ghost use Rattle.bor_program.specs.Connections.Phases.{IsHeld, telling};
-ghost use Rattle.bor_program.specs.Connections.Servers.{Advances, AreHeld, Becomes, GivesWay, IsLongestIdle, IsTimed, IsTimely, Lets, LetsIn, Serves, Stays, pending_in, telling_in, IsReadOn};
+ghost use Rattle.bor_program.specs.Connections.Servers.{Advances, AllRemain, AreHeld, AreSeated, AreWaitedFor, Asks, Becomes, EndsWithNew, FirstRemains, GivesWay, HasRoom, IsAtOnce, IsIdleOn, IsLongestIdle, IsNobodyToCome, IsReadOn, IsSameElse, IsTimed, IsTimely, Lets, LetsIn, NamesNone, Remains, Serves, Stays, Waiting, Welcomes, pending_in, telling_in};
 ghost use Rattle.bor_program.specs.Connections.Streams.{wire_of};
-ghost use Rattle.bor_program.specs.Connections.Places.{Leaves, Takes, is_ready, place_count, taken_in};
+ghost use Rattle.bor_program.specs.Connections.Times.{IsPatient};
+ghost use Rattle.bor_program.specs.Connections.Places.{Takes, is_ready, place_count, taken_in};
 ghost use Rattle.bor_program.specs.Connections.Watching.{AreTold, Does, Waits, Watches};
 
-use crate::connections::limits::Limits;
+use crate::connections::limits::{Limits, shorter};
 use crate::connections::phase::{Phase, Step};
 use crate::connections::reading::Reading;
+use crate::connections::seats::Seats;
 use crate::connections::service::Service;
 use crate::connections::step::{gives_up, look, steps};
 use crate::connections::timing::Timing;
@@ -47,6 +50,7 @@ impl<S> Client<S> {
 pub(crate) struct Server<S> {
     service: Service,
     limits: Limits,
+    pub(crate) seats: Seats,
     places: Places,
     pub(crate) queue: VecDeque<Client<S>>,
     pub(crate) left: u32,
@@ -61,10 +65,15 @@ impl<S: Read + Write + OpenStream + Drop> Server<S> {
         ensures queue { result.queue.items ≡ [] }
         ensures left { result.left ≡ connections }
         ensures status { result.status ≡ 0 }
+        ensures none { result.service.notes.items ≡ [] }
+        ensures limits { result.limits ≡ limits }
+        ensures wait { IsPatient limits result.wait }
+        ensures seated { AreSeated result.seats.taken result.queue.items }
     {
         Server {
             service: Service::new(alloc, is_noting),
             limits,
+            seats: Seats::new(),
             places: Places::new(),
             queue: VecDeque::new(alloc),
             left: connections,
@@ -83,6 +92,7 @@ impl<S: Read + Write + OpenStream + Drop> Server<S> {
     /// Tells of the requests that were answered since this was last done.
     pub(crate) fn tell<L: OpenListener<Stream = S>, W: Watch<L>>(&mut self, watch: &mut W)
         ensures becomes { Becomes self.old self.new }
+        ensures seats { self.new.seats ≡ self.old.seats }
         ensures told { AreTold W.does watch.old self.old.service.notes.items watch.new }
         ensures none { self.new.service.notes.items ≡ [] }
     {
@@ -97,8 +107,9 @@ impl<S: Read + Write + OpenStream + Drop> Server<S> {
         watch: &mut W,
     ) -> std::io::Result<()>
         ensures becomes { Becomes self.old self.new }
+        ensures seats { self.new.seats ≡ self.old.seats }
         ensures does { (told : W) × AreTold W.does watch.old self.old.service.notes.items told
-            × W.does told (Waits (is_err result)) watch.new }
+            × W.does told (Waits self.old.wait (is_err result)) watch.new }
         ensures none { self.new.service.notes.items ≡ [] }
         ensures lost { is_err result ≡ true → (place : ℕ) → place < place_count
             → is_ready self.new.places place ≡ true }
@@ -118,9 +129,14 @@ impl<S: Read + Write + OpenStream + Drop> Server<S> {
         watch: &mut W,
         now: Duration,
     )
-        requires { AreHeld (wire_of S.remaining S.contents) self.old.queue.items }
-        ensures { LetsIn (wire_of S.remaining S.contents)
+        requires held { AreHeld (wire_of S.remaining S.contents) self.old.queue.items }
+        requires seated { AreSeated self.old.seats.taken self.old.queue.items }
+        ensures lets { LetsIn (wire_of S.remaining S.contents)
             (record { does = W.does; begun = watch.old; ended = watch.new }) self.old self.new }
+        ensures rest { IsSameElse self.old self.new }
+        ensures seated { AreSeated self.new.seats.taken self.new.queue.items }
+        ensures asks { (IsNobodyToCome self.old → ⊥) → HasRoom self.old
+            → Asks (record { does = W.does; begun = watch.old; ended = watch.new }) }
     {
         for _ in 0..LET_IN {
             if self.left == 0 || !self.places.is_called() {
@@ -139,8 +155,15 @@ impl<S: Read + Write + OpenStream + Drop> Server<S> {
     )
         requires some { 0 < self.old.left }
         requires held { AreHeld (wire_of S.remaining S.contents) self.old.queue.items }
-        ensures { LetsIn (wire_of S.remaining S.contents)
+        requires seated { AreSeated self.old.seats.taken self.old.queue.items }
+        ensures lets { LetsIn (wire_of S.remaining S.contents)
             (record { does = W.does; begun = watch.old; ended = watch.new }) self.old self.new }
+        ensures rest { IsSameElse self.old self.new }
+        ensures seated { AreSeated self.new.seats.taken self.new.queue.items }
+        ensures comes { Welcomes (record { does = W.does; begun = watch.old; ended = watch.new })
+            now self.new.queue.items }
+        ensures asks { HasRoom self.old
+            → Asks (record { does = W.does; begun = watch.old; ended = watch.new }) }
     {
         if self.queue.reserve(1).is_err() {
             return;
@@ -166,10 +189,16 @@ impl<S: Read + Write + OpenStream + Drop> Server<S> {
         watch: &mut W,
         now: Duration,
     )
-        requires { AreHeld (wire_of S.remaining S.contents) self.old.queue.items }
+        requires held { AreHeld (wire_of S.remaining S.contents) self.old.queue.items }
+        requires seated { AreSeated self.old.seats.taken self.old.queue.items }
         ensures lets { Lets (wire_of S.remaining S.contents) (telling_in self.old)
             (pending_in self.old + 1) 0 self.old.status self.new }
-        ensures does { Does W.does watch.old watch.new 0 }
+        ensures does { Does W.does watch.old watch.new 0 [] }
+        ensures rest { IsSameElse self.old self.new }
+        ensures seated { AreSeated self.new.seats.taken self.new.queue.items }
+        ensures comes { HasRoom self.old
+            → (EndsWithNew now self.new.queue.items × W.does watch.old (Watches false) watch.new)
+            ⊎ W.does watch.old (Watches true) watch.new }
     {
         self.make_way();
         match self.seat(&stream, watch) {
@@ -187,9 +216,14 @@ impl<S: Read + Write + OpenStream + Drop> Server<S> {
 
     // Where all places are taken, the client that was idle for the longest gives way.
     fn make_way(&mut self)
-        requires { AreHeld (wire_of S.remaining S.contents) self.old.queue.items }
+        requires held { AreHeld (wire_of S.remaining S.contents) self.old.queue.items }
+        requires seated { AreSeated self.old.seats.taken self.old.queue.items }
         ensures lets { Lets (wire_of S.remaining S.contents) (telling_in self.old)
             (pending_in self.old) 0 self.old.status self.new }
+        ensures seated { AreSeated self.new.seats.taken self.new.queue.items }
+        ensures rest { IsSameElse self.old self.new }
+        ensures free { taken_in self.new.seats.taken < place_count }
+        ensures room { HasRoom self.old → HasRoom self.new }
         ensures full { 256 ≤ length self.old.queue.items
             → GivesWay self.old.queue.items self.new.queue.items }
         ensures other { length self.old.queue.items < 256 → self.new.queue ≡ self.old.queue }
@@ -206,27 +240,32 @@ impl<S: Read + Write + OpenStream + Drop> Server<S> {
         watch: &mut W,
     ) -> Option<usize>
         ensures becomes { Becomes self.old self.new }
-        ensures does { Does W.does watch.old watch.new 0 }
+        ensures rest { IsSameElse self.old self.new }
+        ensures does { Does W.does watch.old watch.new 0 [] }
         ensures seats { MatchOption result
-            ((self.new.places.taken ≡ self.old.places.taken)
-            × ((taken_in self.old.places ≡ place_count)
+            ((self.new.seats.taken ≡ self.old.seats.taken)
+            × ((taken_in self.old.seats.taken ≡ place_count)
             ⊎ W.does watch.old (Watches true) watch.new))
-            (λ place. Takes self.old.places place self.new.places
+            (λ place. Takes self.old.seats.taken place self.new.seats.taken
             × W.does watch.old (Watches false) watch.new) }
     {
-        let place = self.places.take()?;
+        let place = self.seats.take()?;
         if watch.watch(stream, place).is_ok() {
             return Some(place);
         }
-        self.places.leave(place);
+        self.seats.leave(place);
         None
     }
 
     // Has the client give way that was idle for the longest.
     fn turn_out(&mut self)
-        requires { AreHeld (wire_of S.remaining S.contents) self.old.queue.items }
+        requires held { AreHeld (wire_of S.remaining S.contents) self.old.queue.items }
+        requires seated { AreSeated self.old.seats.taken self.old.queue.items }
         ensures lets { Lets (wire_of S.remaining S.contents) (telling_in self.old)
             (pending_in self.old) 0 self.old.status self.new }
+        ensures seated { AreSeated self.new.seats.taken self.new.queue.items }
+        ensures rest { IsSameElse self.old self.new }
+        ensures capacity { deque_capacity self.new.queue ≡ deque_capacity self.old.queue }
         ensures way { GivesWay self.old.queue.items self.new.queue.items }
     {
         let index = longest_idle(&self.queue);
@@ -237,27 +276,48 @@ impl<S: Read + Write + OpenStream + Drop> Server<S> {
 
     /// Serves each client that is ready, in the order in which they came to be so.
     pub(crate) fn serve_all<K: Keep>(&mut self, keep: &mut K, now: Option<Duration>)
-        requires { AreHeld (wire_of S.remaining S.contents) self.old.queue.items }
+        requires held { AreHeld (wire_of S.remaining S.contents) self.old.queue.items }
+        requires seated { AreSeated self.old.seats.taken self.old.queue.items }
         ensures held { AreHeld (wire_of S.remaining S.contents) self.new.queue.items }
+        ensures seated { AreSeated self.new.seats.taken self.new.queue.items }
         ensures advances { Advances K.meaning
             (wire_of S.remaining S.contents) keep.old keep.new self.old self.new }
+        ensures waits { AreWaitedFor self.old.limits now self.new.wait self.new.queue.items }
+        ensures comes { (IsNobodyToCome self.old → ⊥) → IsAtOnce self.new.wait }
+        ensures limits { self.new.limits ≡ self.old.limits }
+        ensures patient { IsPatient self.old.limits self.new.wait }
+        ensures remain { (at : Duration) → now ≡ Some at
+            → AllRemain at self.old self.old.queue.items self.new.queue.items }
     {
-        self.wait = if self.left > 0 && self.places.is_called() {
-            Some(Duration::ZERO)
-        } else {
-            None
-        };
+        self.wait = self.wait_to_come();
         for _ in 0..self.queue.len() {
             self.serve_next(keep, now);
         }
     }
 
+    // How long may be waited at most, for who may be waiting to come in.
+    fn wait_to_come(&self) -> Option<Duration>
+        ensures { MatchOption result (IsNobodyToCome self.now)
+            (λ wait. (IsNobodyToCome self.now → ⊥) × (as_nanos wait ≡ 0)) }
+    {
+        if self.left > 0 && self.places.is_called() {
+            Some(Duration::ZERO)
+        } else {
+            None
+        }
+    }
+
     // Serves the first client of the queue, and puts it behind the others.
     fn serve_next<K: Keep>(&mut self, keep: &mut K, now: Option<Duration>)
-        requires { AreHeld (wire_of S.remaining S.contents) self.old.queue.items }
+        requires held { AreHeld (wire_of S.remaining S.contents) self.old.queue.items }
+        requires seated { AreSeated self.old.seats.taken self.old.queue.items }
         ensures held { AreHeld (wire_of S.remaining S.contents) self.new.queue.items }
+        ensures seated { AreSeated self.new.seats.taken self.new.queue.items }
         ensures advances { Advances K.meaning
             (wire_of S.remaining S.contents) keep.old keep.new self.old self.new }
+        ensures waits { Waiting now (drop 1 self.old.queue.items) self.old self.new }
+        ensures remains { FirstRemains now self.old self.new }
+        ensures named { NamesNone self.old.places self.new.places }
     {
         let Some(client) = self.queue.pop_front() else {
             return;
@@ -272,20 +332,24 @@ impl<S: Read + Write + OpenStream + Drop> Server<S> {
     fn serve<K: Keep>(&mut self, keep: &mut K, client: Client<S>, now: Duration)
         requires held { AreHeld (wire_of S.remaining S.contents) self.old.queue.items }
         requires client { IsHeld (wire_of S.remaining S.contents) client.phase }
+        requires seated { AreSeated self.old.seats.taken (client ∷ self.old.queue.items) }
+        ensures seated { AreSeated self.new.seats.taken self.new.queue.items }
         ensures held { AreHeld (wire_of S.remaining S.contents) self.new.queue.items }
         ensures serves { Serves K.meaning (wire_of S.remaining S.contents) keep.old keep.new
             (telling client.phase) self.old self.new }
         ensures all { IsReadOn S.remaining client self.old self.new }
         ensures time { IsTimed now client self.old self.new }
+        ensures idle { IsIdleOn now client self.old self.new }
+        ensures remains { Remains now client self.old self.new }
+        ensures named { NamesNone self.old.places self.new.places }
+        ensures waits { Waiting (Some now) self.old.queue.items self.old self.new }
     {
         let Client {
             place,
             mut timing,
             phase,
         } = client;
-        if self.places.is_woken(place) {
-            timing.wake();
-        }
+        timing.rouse(&mut self.places, place);
         let phase = look(phase, now);
         match steps(&mut self.service, keep, phase, &mut timing, now) {
             Step::Goes(phase, _) => self.go_on(
@@ -308,10 +372,15 @@ impl<S: Read + Write + OpenStream + Drop> Server<S> {
     fn go_on(&mut self, client: Client<S>, now: Duration)
         requires held { AreHeld (wire_of S.remaining S.contents) self.old.queue.items }
         requires client { IsHeld (wire_of S.remaining S.contents) client.phase }
+        requires seated { AreSeated self.old.seats.taken (client ∷ self.old.queue.items) }
         ensures lets { Lets (wire_of S.remaining S.contents)
             (telling client.phase ++ telling_in self.old)
             (pending_in self.old + 1) 0 self.old.status self.new }
+        ensures seated { AreSeated self.new.seats.taken self.new.queue.items }
         ensures time { IsTimely now client self.old self.new }
+        ensures service { self.new.service ≡ self.old.service }
+        ensures places { self.new.places ≡ self.old.places }
+        ensures waits { Waiting (Some now) self.old.queue.items self.old self.new }
     {
         let Client {
             place,
@@ -331,7 +400,7 @@ impl<S: Read + Write + OpenStream + Drop> Server<S> {
                 } else {
                     left
                 };
-                self.wait = Some(self.wait.unwrap_or(wait).min(wait));
+                self.wait = Some(shorter(self.wait.unwrap_or(wait), wait));
                 self.stay(client);
             }
             None => self.give_up(client),
@@ -342,10 +411,14 @@ impl<S: Read + Write + OpenStream + Drop> Server<S> {
     fn stay(&mut self, client: Client<S>)
         requires held { AreHeld (wire_of S.remaining S.contents) self.old.queue.items }
         requires client { IsHeld (wire_of S.remaining S.contents) client.phase }
+        requires seated { AreSeated self.old.seats.taken (client ∷ self.old.queue.items) }
         ensures lets { Lets (wire_of S.remaining S.contents)
             (telling client.phase ++ telling_in self.old)
             (pending_in self.old + 1) 0 self.old.status self.new }
+        ensures seated { AreSeated self.new.seats.taken self.new.queue.items }
         ensures stays { Stays client self.old self.new }
+        ensures places { self.new.places ≡ self.old.places }
+        ensures rest { IsSameElse self.old self.new }
     {
         match self.queue.push_back(client) {
             Ok(()) => {}
@@ -358,11 +431,13 @@ impl<S: Read + Write + OpenStream + Drop> Server<S> {
         requires held { AreHeld (wire_of S.remaining S.contents) self.old.queue.items }
         requires client { IsHeld (wire_of S.remaining S.contents) client.phase }
         ensures queue { self.new.queue ≡ self.old.queue }
+        ensures places { self.new.places ≡ self.old.places }
+        ensures rest { IsSameElse self.old self.new }
         ensures left { self.new.left ≡ self.old.left }
         ensures lets { Lets (wire_of S.remaining S.contents)
             (telling client.phase ++ telling_in self.old)
             (pending_in self.old + 1) 0 self.old.status self.new }
-        ensures leaves { Leaves self.old.places client.place self.new.places }
+        ensures leaves { self.new.seats.taken ≡ set self.old.seats.taken client.place false }
     {
         let failed = gives_up(client.phase);
         self.end(client.place, failed);
@@ -371,11 +446,13 @@ impl<S: Read + Write + OpenStream + Drop> Server<S> {
     // Notes that a connection ended.
     fn end(&mut self, place: usize, failed: bool)
         ensures queue { self.new.queue ≡ self.old.queue }
+        ensures places { self.new.places ≡ self.old.places }
+        ensures rest { IsSameElse self.old self.new }
         ensures left { self.new.left ≡ self.old.left }
         ensures status { self.new.status ≡ (if failed then 3 else self.old.status) }
-        ensures leaves { Leaves self.old.places place self.new.places }
+        ensures leaves { self.new.seats.taken ≡ set self.old.seats.taken place false }
     {
-        self.places.leave(place);
+        self.seats.leave(place);
         if failed {
             self.status = 3;
         }
@@ -387,6 +464,7 @@ impl<S: Read + Write + OpenStream + Drop> Server<S> {
         ensures lets { Lets (wire_of S.remaining S.contents) (telling_in self.old)
             (pending_in self.old) self.old.left self.old.status self.new }
         ensures pending { pending_in self.new ≡ 0 }
+        ensures notes { self.new.service ≡ self.old.service }
     {
         self.give_up_all();
         self.leave_out();
@@ -398,6 +476,7 @@ impl<S: Read + Write + OpenStream + Drop> Server<S> {
         ensures lets { Lets (wire_of S.remaining S.contents) (telling_in self.old)
             (pending_in self.old) 0 self.old.status self.new }
         ensures left { self.new.left ≡ self.old.left }
+        ensures notes { self.new.service ≡ self.old.service }
         ensures empty { length self.new.queue.items ≡ 0 }
     {
         for _ in 0..self.queue.len() {
@@ -411,6 +490,7 @@ impl<S: Read + Write + OpenStream + Drop> Server<S> {
         ensures lets { Lets (wire_of S.remaining S.contents) (telling_in self.old)
             (pending_in self.old) 0 self.old.status self.new }
         ensures left { self.new.left ≡ self.old.left }
+        ensures notes { self.new.service ≡ self.old.service }
         ensures fewer { length self.new.queue.items ≡ length self.old.queue.items - 1 }
     {
         if let Some(client) = self.queue.pop_front() {
@@ -424,6 +504,7 @@ impl<S: Read + Write + OpenStream + Drop> Server<S> {
         ensures lets { Lets (wire_of S.remaining S.contents) (telling_in self.old)
             (pending_in self.old) self.old.left self.old.status self.new }
         ensures pending { pending_in self.new ≡ length self.old.queue.items }
+        ensures notes { self.new.service ≡ self.old.service }
     {
         if self.left > 0 {
             self.left = 0;

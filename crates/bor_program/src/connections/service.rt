@@ -1,6 +1,6 @@
 //! The service that answers requests: the register's desk, behind the paths that there are.
 
-ghost use Rattle.std.specs.Prelude.{◌≡◌, [], Some};
+ghost use Rattle.std.specs.Prelude.{◌≡◌, [], Some, false};
 ghost use Rattle.bor_records.specs.Promises.{Promised};
 ghost use Rattle.bor_wire.specs.Answering.{Responds};
 ghost use Rattle.bor_program.specs.Logging.{IsNoteOf, MayAdd};
@@ -24,7 +24,10 @@ pub(crate) struct Service {
 impl Service {
     /// A service that has answered nothing. Where `is_noting` is set, it notes each request that it
     /// answers, as far as there is memory.
-    pub(crate) fn new(alloc: Global, is_noting: bool) -> Service {
+    pub(crate) fn new(alloc: Global, is_noting: bool) -> Service
+        ensures noting { result.is_noting ≡ is_noting }
+        ensures none { result.notes.items ≡ [] }
+    {
         Service {
             alloc,
             paths: None,
@@ -34,7 +37,9 @@ impl Service {
     }
 
     /// The memory that it takes.
-    pub(crate) fn alloc(&self) -> Global {
+    pub(crate) fn alloc(&self) -> Global
+        ensures { result ≡ self.now.alloc }
+    {
         self.alloc
     }
 
@@ -44,6 +49,8 @@ impl Service {
         ensures noted { MayAdd (IsNoteOf
             (Promised K.meaning keep.old keep.new) request.now result)
             self.old.notes.items self.new.notes.items }
+        ensures silent { self.old.is_noting ≡ false
+            → self.new.notes.items ≡ self.old.notes.items }
     {
         if self.paths.is_none() {
             self.paths = Paths::new(self.alloc).ok();

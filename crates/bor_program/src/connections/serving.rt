@@ -2,8 +2,10 @@
 
 ghost use Rattle.bor_program.specs.Connections.Serving.{IsServed, IsServedOver};
 ghost use Rattle.bor_program.specs.Connections.Streams.{IsOf, wire_of};
-ghost use Rattle.std.specs.Prelude.{◌<◌};
-ghost use Rattle.bor_program.specs.Connections.Servers.{AreHeld, Becomes, Runs};
+ghost use Rattle.std.specs.Prelude.{◌<◌, ◌≡◌, []};
+ghost use Rattle.bor_program.specs.Connections.Servers.{AreHeld, AreSeated, Becomes, Runs};
+ghost use Rattle.bor_program.specs.Hosting.{AreOfServer};
+ghost use Rattle.bor_program.specs.Connections.Times.{IsPatient};
 ghost use Rattle.bor_program.specs.Connections.Watching.{WaitsOnce};
 
 use crate::connections::limits::Limits;
@@ -29,10 +31,10 @@ pub fn serve_on<R: Clock + AllocGlobal, K: Keep, L: OpenListener, W: Watch<L>>(
 where
     L::Stream: Read + Write + OpenStream,
     ensures served { IsServed K.meaning keep.old keep.new connections result }
-    ensures streams { IsServedOver K.meaning
+    ensures streams { (limits : Limits) × AreOfServer limits × IsServedOver K.meaning
         (IsOf (wire_of L.Stream.remaining L.Stream.contents))
         (record { does = W.does; begun = watch.old; ended = watch.new })
-        keep.old keep.new connections result }
+        limits keep.old keep.new connections result }
 {
     serve_within(
         rt,
@@ -66,7 +68,7 @@ where
     ensures streams { IsServedOver K.meaning
         (IsOf (wire_of L.Stream.remaining L.Stream.contents))
         (record { does = W.does; begun = watch.old; ended = watch.new })
-        keep.old keep.new connections result }
+        limits keep.old keep.new connections result }
 {
     let mut server = Server::new(rt.alloc(), limits, connections, watch.is_noting());
     run(rt, keep, listener, watch, &mut server);
@@ -85,7 +87,9 @@ fn run<R: Clock, K: Keep, L: OpenListener, W: Watch<L>>(
 )
 where
     L::Stream: Read + Write + OpenStream,
-    requires { AreHeld (wire_of L.Stream.remaining L.Stream.contents) server.old.queue.items }
+    requires held { AreHeld (wire_of L.Stream.remaining L.Stream.contents) server.old.queue.items }
+    requires seated { AreSeated server.old.seats.taken server.old.queue.items }
+    requires wait { IsPatient server.old.limits server.old.wait }
     ensures { Runs K.meaning W.does (wire_of L.Stream.remaining L.Stream.contents)
         (record { keep = keep.old; watch = watch.old; server = server.old })
         (record { keep = keep.new; watch = watch.new; server = server.new }) }
@@ -120,7 +124,10 @@ where
     L::Stream: Read + Write + OpenStream,
     requires { faults < 1000 }
     ensures becomes { Becomes server.old server.new }
-    ensures waits { WaitsOnce W.does watch.old watch.new faults result }
+    ensures seats { server.new.seats ≡ server.old.seats }
+    ensures waits { WaitsOnce W.does watch.old watch.new faults result
+        server.old.service.notes.items server.old.wait }
+    ensures none { server.new.service.notes.items ≡ [] }
 {
     match server.wait(watch) {
         Ok(()) => 0,

@@ -1,12 +1,15 @@
 //! One step of a client.
 
-ghost use Rattle.std.specs.Prelude.{◌≡◌, ◌∷◌, [], None, Option};
+ghost use Rattle.std.specs.Prelude.{◌≡◌, false, ◌∷◌, [], None, Option};
 ghost use Rattle.bor_program.specs.Connections.Serving.{answer_of};
 ghost use Rattle.bor_program.specs.declared.connections.phase.Phase.TheVariants as Phase;
 ghost use Rattle.bor_program.specs.declared.connections.taking.Taking.{Taking};
-ghost use Rattle.bor_program.specs.Connections.Phases.{EndsAs, IsHeld, IsStep, ReadsOn, phase_of, telling};
+ghost use Rattle.bor_program.specs.Connections.Phases.{EndsAs, IsHeld, IsStep, ReadsOn, phase_of, stand_at, telling};
 ghost use Rattle.bor_program.specs.Connections.Streams.{wire_of};
-ghost use Rattle.bor_program.specs.Connections.Times.{IsTaking, looked};
+ghost use Rattle.bor_program.specs.Connections.Times.{IfGoes, IsIdleSince, IsOverdue, IsPaced, IsTaking, IsTimeUp, looked, moves_of};
+ghost use Rattle.bor_program.specs.declared.connections.limits.Limits.{Limits};
+ghost use Rattle.bor_program.specs.declared.connections.phase.Pace.TheVariants as Pace;
+ghost use Rattle.bor_program.specs.declared.connections.phase.Step.TheVariants as Step;
 
 use crate::connections::phase::{Pace, Phase, Step};
 use crate::connections::reading::{Reading, Taken};
@@ -31,11 +34,13 @@ pub(crate) fn step<K: Keep, S: Read + Write + OpenStream + Drop>(
 ) -> Step<S>
     requires { IsHeld (wire_of S.remaining S.contents) phase }
     ensures held { IsHeld (wire_of S.remaining S.contents) (phase_of result) }
-    ensures step { IsStep K.meaning (wire_of S.remaining S.contents) keep.old keep.new
-        (telling phase) (telling (phase_of result)) }
+    ensures step { IsStep K.meaning (wire_of S.remaining S.contents)
+        (stand_at keep.old (telling phase) service.old.notes.items)
+        (stand_at keep.new (telling (phase_of result)) service.new.notes.items) }
     ensures all { ReadsOn S.remaining phase (phase_of result) }
     ensures time { (taking : Option Taking) → IsTaking taking phase
         → IsTaking taking (phase_of result) }
+    ensures pace { IsPaced phase result }
 {
     match phase {
         Phase::Reading(reading) => read_on(service, keep, reading),
@@ -52,10 +57,12 @@ fn read_on<K: Keep, S: Read + Write + OpenStream + Drop>(
 ) -> Step<S>
     requires { IsHeld (wire_of S.remaining S.contents) (Phase.Reading reading) }
     ensures held { IsHeld (wire_of S.remaining S.contents) (phase_of result) }
-    ensures step { IsStep K.meaning (wire_of S.remaining S.contents) keep.old keep.new
-        [] (telling (phase_of result)) }
+    ensures step { IsStep K.meaning (wire_of S.remaining S.contents)
+        (stand_at keep.old [] service.old.notes.items)
+        (stand_at keep.new (telling (phase_of result)) service.new.notes.items) }
     ensures all { ReadsOn S.remaining (Phase.Reading reading) (phase_of result) }
     ensures time { IsTaking None (phase_of result) }
+    ensures pace { IsPaced (Phase.Reading reading) result }
 {
     match reading.read(service.alloc()) {
         Taken::More => Step::Goes(Phase::Reading(reading), Pace::Moved),
@@ -80,6 +87,7 @@ fn write_on<S: Read + Write + OpenStream + Drop>(mut writing: Writing<S>) -> Ste
         ≡ answer_of writing.request.value.items writing.reply ∷ [] }
     ensures all { ReadsOn S.remaining (Phase.Writing writing) (phase_of result) }
     ensures time { IsTaking writing.taking (phase_of result) }
+    ensures pace { IsPaced (Phase.Writing writing) result }
 {
     match writing.write() {
         Written::More => Step::Goes(Phase::Writing(writing), Pace::Moved),
@@ -97,6 +105,7 @@ fn drain_on<S: Read + Write + Drop>(mut draining: Draining<S>) -> Step<S>
         ≡ answer_of draining.request.value.items draining.reply ∷ [] }
     ensures all { ReadsOn S.remaining (Phase.Draining draining) (phase_of result) }
     ensures time { (taking : Option Taking) → IsTaking taking (phase_of result) }
+    ensures pace { IsPaced (Phase.Draining draining) result }
 {
     match draining.drain() {
         Drained::More => Step::Goes(Phase::Draining(draining), Pace::Moved),
@@ -112,6 +121,9 @@ pub(crate) fn look<S: Read + Write + OpenStream + Drop>(phase: Phase<S>, now: Du
     ensures tells { telling result ≡ telling phase }
     ensures all { ReadsOn S.remaining phase result }
     ensures time { IsTaking (looked phase now) result }
+    ensures same { moves_of result ≡ moves_of phase }
+    ensures due { (limits : Limits) (timing : Timing) → IsTimeUp limits timing result now
+        → IsOverdue limits timing.since phase now }
 {
     match phase {
         Phase::Writing(mut writing) => {
@@ -133,11 +145,16 @@ pub(crate) fn steps<K: Keep, S: Read + Write + OpenStream + Drop>(
 ) -> Step<S>
     requires { IsHeld (wire_of S.remaining S.contents) phase }
     ensures held { IsHeld (wire_of S.remaining S.contents) (phase_of result) }
-    ensures step { IsStep K.meaning (wire_of S.remaining S.contents) keep.old keep.new
-        (telling phase) (telling (phase_of result)) }
+    ensures step { IsStep K.meaning (wire_of S.remaining S.contents)
+        (stand_at keep.old (telling phase) service.old.notes.items)
+        (stand_at keep.new (telling (phase_of result)) service.new.notes.items) }
     ensures all { ReadsOn S.remaining phase (phase_of result) }
     ensures time { (taking : Option Taking) → IsTaking taking phase
         → IsTaking taking (phase_of result) }
+    ensures idle { IfGoes result (λ next. IsIdleSince (moves_of phase) (moves_of next)
+        timing.old.idle_since now timing.new.idle_since) }
+    ensures still { timing.old.is_ready ≡ false
+        → (result ≡ Step.Goes phase Pace.Blocked) × (timing.new ≡ timing.old) }
 {
     for _ in 0..STEPS {
         if !timing.is_ready() {

@@ -1,11 +1,11 @@
 //! How a client takes its reply, as a clock tells that is read now and then.
 
-ghost use Rattle.std.specs.Prelude.{◌≡◌, ◌↔◌, IsTrue};
-ghost use Rattle.std.specs.Duration.{as_nanos};
+ghost use Rattle.std.specs.Prelude.{◌≡◌, ◌↔◌, ◌<◌, ◌≤◌, ◌+◌, ℕ, IsTrue};
+ghost use Rattle.std.specs.Duration.{as_nanos, max_nanos};
 ghost use Rattle.bor_program.specs.Connections.Limits.{IsBelowFloor};
-ghost use Rattle.bor_program.specs.Connections.Times.{IsSlow, begun, taking_after};
+ghost use Rattle.bor_program.specs.Connections.Times.{IsSlow, IsSlowBehind, begun, taking_after};
 
-use crate::connections::limits::Limits;
+use crate::connections::limits::{Limits, shorter};
 use std::time::Duration;
 
 /// The times of the clock, each time that it was read since the reply was made.
@@ -75,21 +75,32 @@ impl Taking {
     }
 
     /// How long it may be waited for at this time, where it takes nothing more.
-    pub(crate) fn left(&self, limits: Limits, now: Duration) -> Duration {
+    pub(crate) fn left(&self, limits: Limits, now: Duration) -> Duration
+        ensures { IsSlowBehind limits self.now now result }
+    {
         let idle = now.saturating_sub(self.idle_since);
         let in_all = now.saturating_sub(self.since);
-        let taken = Duration::from_secs(self.taken as u64);
-        let behind = in_all.saturating_sub(limits.reply);
-        let spare = taken
-            .saturating_sub(behind.saturating_mul(limits.floor))
-            .checked_div(limits.floor)
-            .unwrap_or(Duration::MAX);
-        limits
-            .reply
-            .saturating_sub(in_all)
-            .saturating_add(spare)
-            .min(limits.reply.saturating_sub(idle))
+        shorter(
+            limits.reply.saturating_sub(idle),
+            above_floor(limits, self.taken, in_all),
+        )
     }
+}
+
+// For how long a client that took so many bytes in all this time may take nothing more, before that
+// is below the floor.
+fn above_floor(limits: Limits, taken: usize, in_all: Duration) -> Duration
+    ensures before { (more : ℕ) → more < as_nanos result
+        → IsBelowFloor limits.floor (as_nanos limits.reply) taken (as_nanos in_all + more) → ⊥ }
+    ensures behind { (more : ℕ) → as_nanos result < more → more ≤ max_nanos
+        → IsBelowFloor limits.floor (as_nanos limits.reply) taken (as_nanos in_all + more) }
+{
+    let behind = in_all.saturating_sub(limits.reply);
+    let spare = Duration::from_secs(taken as u64)
+        .saturating_sub(behind.saturating_mul(limits.floor))
+        .checked_div(limits.floor)
+        .unwrap_or(Duration::MAX);
+    limits.reply.saturating_sub(in_all).saturating_add(spare)
 }
 
 // Whether so many bytes are less than the floor of all this time. (A byte is counted as a second,

@@ -1,12 +1,14 @@
 //! Since when a client is in its phase, and since when it is idle.
 
-ghost use Rattle.std.specs.Prelude.{◌≡◌, ◌≢◌, ◌-◌, Some, unwrap_or, MatchOption};
+ghost use Rattle.std.specs.Prelude.{◌≡◌, ◌≢◌, ◌||◌, None, Some, false, set, unwrap_or, MatchOption};
 ghost use Rattle.std.specs.Duration.{as_nanos};
-ghost use Rattle.bor_program.specs.declared.connections.phase.Pace.TheVariants.{Blocked};
-ghost use Rattle.bor_program.specs.Connections.Times.{IsTimeUp};
+ghost use Rattle.bor_program.specs.declared.connections.phase.Pace.TheVariants.{Blocked, Turned};
+ghost use Rattle.bor_program.specs.Connections.Places.{is_ready};
+ghost use Rattle.bor_program.specs.Connections.Times.{IsLeft, IsTimeUp, fresh, left_of};
 
 use crate::connections::limits::Limits;
 use crate::connections::phase::{Pace, Phase};
+use crate::connections::watch::Places;
 use std::time::Duration;
 
 /// Since when a client's request is read, or what it sends behind its reply, once a clock was read
@@ -21,7 +23,7 @@ pub(crate) struct Timing {
 impl Timing {
     /// That of a client that comes now.
     pub(crate) fn new(now: Duration) -> Timing
-        ensures { as_nanos result.idle_since ≡ as_nanos now }
+        ensures { result ≡ fresh now }
     {
         Timing {
             since: None,
@@ -31,7 +33,9 @@ impl Timing {
     }
 
     /// Whether something may be read or written.
-    pub(crate) fn is_ready(&self) -> bool {
+    pub(crate) fn is_ready(&self) -> bool
+        ensures { result ≡ self.now.is_ready }
+    {
         self.is_ready
     }
 
@@ -42,17 +46,28 @@ impl Timing {
         self.idle_since
     }
 
-    /// Something may be read or written.
-    pub(crate) fn wake(&mut self)
-        ensures { self.new.idle_since ≡ self.old.idle_since }
+    /// The turn of a client at this place has come: something may be read or written where it
+    /// might before, or its place was named since.
+    pub(crate) fn rouse(&mut self, places: &mut Places, place: usize)
+        ensures ready { self.new.is_ready ≡ (self.old.is_ready || is_ready places.old place) }
+        ensures idle { self.new.idle_since ≡ self.old.idle_since }
+        ensures begun { self.new.since ≡ self.old.since }
+        ensures heeded { places.new.ready ≡ set places.old.ready place false }
+        ensures called { places.new.is_called ≡ places.old.is_called }
     {
-        self.is_ready = true;
+        if places.is_woken(place) {
+            self.is_ready = true;
+        }
     }
 
     /// A step was made at this time.
     pub(crate) fn pass(&mut self, pace: Pace, now: Duration)
         ensures idle { pace ≡ Blocked → self.new.idle_since ≡ self.old.idle_since }
         ensures busy { pace ≢ Blocked → self.new.idle_since ≡ now }
+        ensures waits { pace ≡ Blocked → self.new.is_ready ≡ false }
+        ensures ready { pace ≢ Blocked → self.new.is_ready ≡ self.old.is_ready }
+        ensures begins { pace ≡ Turned → self.new.since ≡ None }
+        ensures begun { pace ≢ Turned → self.new.since ≡ self.old.since }
     {
         match pace {
             Pace::Blocked => self.is_ready = false,
@@ -72,33 +87,27 @@ impl Timing {
         now: Duration,
     ) -> Option<Duration>
         ensures idle { self.new.idle_since ≡ self.old.idle_since }
-        ensures up { MatchOption result (IsTimeUp limits self.old phase.now now)
-            (λ _. IsTimeUp limits self.old phase.now now → ⊥) }
-    {
-        match phase {
-            Phase::Reading(_) => some_left(self.left_of(limits.request, now)),
-            Phase::Writing(writing) => writing.left(limits, now),
-            Phase::Draining(_) => some_left(self.left_of(limits.rest, now)),
-        }
-    }
-
-    // How much of a limit is left at this time. The time of a phase begins when it is first asked
-    // for.
-    fn left_of(&mut self, limit: Duration, now: Duration) -> Duration
-        ensures idle { self.new.idle_since ≡ self.old.idle_since }
+        ensures ready { self.new.is_ready ≡ self.old.is_ready }
         ensures begun { self.new.since ≡ Some (unwrap_or self.old.since now) }
-        ensures left { as_nanos result
-            ≡ as_nanos limit - (as_nanos now - as_nanos (unwrap_or self.old.since now)) }
+        ensures up { MatchOption result (IsTimeUp limits self.old phase.now now)
+            (λ left. (IsTimeUp limits self.old phase.now now → ⊥)
+            × IsLeft limits self.old.since phase.now now left) }
     {
         let since = self.since.unwrap_or(now);
         self.since = Some(since);
-        limit.saturating_sub(now.saturating_sub(since))
+        match phase {
+            Phase::Reading(_) => some_left(limits.request, since, now),
+            Phase::Writing(writing) => writing.left(limits, now),
+            Phase::Draining(_) => some_left(limits.rest, since, now),
+        }
     }
 }
 
-// The rest of a time, where some is left.
-fn some_left(left: Duration) -> Option<Duration>
-    ensures { MatchOption result (as_nanos left ≡ 0) (λ _. as_nanos left ≢ 0) }
+// How much of a limit is left at this time, where some is and its time began then.
+fn some_left(limit: Duration, since: Duration, now: Duration) -> Option<Duration>
+    ensures { MatchOption result (left_of limit (Some since) now ≡ 0)
+        (λ left. (as_nanos left ≡ left_of limit (Some since) now) × (as_nanos left ≢ 0)) }
 {
+    let left = limit.saturating_sub(now.saturating_sub(since));
     if left.is_zero() { None } else { Some(left) }
 }

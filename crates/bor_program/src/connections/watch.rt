@@ -1,9 +1,11 @@
 //! Which clients may be read or written on, and waiting until one may.
 
-ghost use Rattle.std.specs.Prelude.{◌≡◌, ◌<◌, ℕ, false, true, MatchOption, set};
+ghost use Rattle.std.specs.Prelude.{◌≡◌, ◌<◌, ℕ, None, Ok, Err, false, true, set};
+ghost use Rattle.std.specs.IoError.{error_kind};
+ghost use Rattle.bor_program.specs.Connections.Streams.{IsBlocked};
 ghost use Rattle.std.specs.Result.{is_err};
-ghost use Rattle.bor_program.specs.Connections.Places.{Leaves, Takes, is_ready, place_count, taken_in};
-ghost use Rattle.bor_program.specs.Connections.Watching.{Act, Accepts, Listens, Notes, Waits, Watches};
+ghost use Rattle.bor_program.specs.Connections.Places.{is_ready, place_count};
+ghost use Rattle.bor_program.specs.Connections.Watching.{Act, Accepts, Listens, Notes, Waits, Watches, coming};
 
 use crate::connections::reading::is_blocked;
 use crate::log::Note;
@@ -14,22 +16,20 @@ use std::time::Duration;
 /// How many clients are served at once.
 pub const PLACES: usize = 256;
 
-/// The places of clients: which are taken, and where something may be read or written.
+/// The places of clients: where something may be read or written, and whether a client may be
+/// waiting to come in.
 #[derive(Clone, Copy, PartialEq, Eq)]
 pub struct Places {
-    taken: [bool; PLACES],
     ready: [bool; PLACES],
     is_called: bool,
 }
 
 impl Places {
-    /// Free places, and a client that may be waiting to come in.
+    /// Nothing may be read or written, and a client may be waiting to come in.
     pub fn new() -> Places
-        ensures taken { taken_in result ≡ 0 }
         ensures called { result.is_called ≡ true }
     {
         Places {
-            taken: [false; PLACES],
             ready: [false; PLACES],
             is_called: true,
         }
@@ -37,7 +37,6 @@ impl Places {
 
     /// Something may be read or written at this place.
     pub fn wake(&mut self, place: usize)
-        ensures taken { self.new.taken ≡ self.old.taken }
         ensures ready { self.new.ready ≡ set self.old.ready place true }
         ensures called { self.new.is_called ≡ self.old.is_called }
     {
@@ -48,7 +47,6 @@ impl Places {
 
     /// A client may be waiting to come in.
     pub fn call(&mut self)
-        ensures taken { self.new.taken ≡ self.old.taken }
         ensures ready { self.new.ready ≡ self.old.ready }
         ensures called { self.new.is_called ≡ true }
     {
@@ -57,12 +55,10 @@ impl Places {
 
     /// Something may be read or written anywhere.
     pub(crate) fn wake_all(&mut self)
-        ensures taken { self.new.taken ≡ self.old.taken }
         ensures ready { (place : ℕ) → place < place_count → is_ready self.new place ≡ true }
         ensures called { self.new.is_called ≡ true }
     {
         *self = Places {
-            taken: self.taken,
             ready: [true; PLACES],
             is_called: true,
         };
@@ -77,41 +73,15 @@ impl Places {
 
     /// No client is waiting to come in.
     pub(crate) fn answer_call(&mut self)
-        ensures taken { self.new.taken ≡ self.old.taken }
         ensures ready { self.new.ready ≡ self.old.ready }
         ensures called { self.new.is_called ≡ false }
     {
         self.is_called = false;
     }
 
-    /// Takes a place that is free, if there is one.
-    pub(crate) fn take(&mut self) -> Option<usize>
-        ensures { MatchOption result ((taken_in self.old ≡ place_count) × (self.new ≡ self.old))
-            (λ place. Takes self.old place self.new) }
-    {
-        for place in 0..PLACES {
-            if !self.taken[place] {
-                self.taken[place] = true;
-                self.ready[place] = false;
-                return Some(place);
-            }
-        }
-        None
-    }
-
-    /// Leaves a place.
-    pub(crate) fn leave(&mut self, place: usize)
-        ensures { Leaves self.old place self.new }
-    {
-        if place < PLACES {
-            self.taken[place] = false;
-        }
-    }
-
     /// Whether something may be read or written at this place. The mark is taken away.
     pub(crate) fn is_woken(&mut self, place: usize) -> bool
         ensures woken { result ≡ is_ready self.old place }
-        ensures taken { self.new.taken ≡ self.old.taken }
         ensures ready { self.new.ready ≡ set self.old.ready place false }
         ensures called { self.new.is_called ≡ self.old.is_called }
     {
@@ -145,7 +115,7 @@ pub trait Watch<L: OpenListener> {
     ///
     /// A client can't be let in, and is lost.
     fn accept(&mut self, listener: &L) -> io::Result<Option<L::Stream>>
-        ensures { does self.old (Accepts (is_err result)) self.new };
+        ensures { does self.old (Accepts (coming result)) self.new };
 
     /// Watches a client at this place, until its stream is dropped.
     ///
@@ -162,7 +132,7 @@ pub trait Watch<L: OpenListener> {
     ///
     /// Waiting failed.
     fn wait(&mut self, limit: Option<Duration>, places: &mut Places) -> io::Result<()>
-        ensures { does self.old (Waits (is_err result)) self.new };
+        ensures { does self.old (Waits limit (is_err result)) self.new };
 
     /// Whether requests that were answered are to be noted.
     fn is_noting(&self) -> bool {
@@ -189,7 +159,18 @@ where
             stream.set_nonblocking(true)?;
             Ok(Some(stream))
         }
-        Err(error) if is_blocked(&error) => Ok(None),
-        Err(error) => Err(error),
+        Err(error) => nobody(error),
+    }
+}
+
+// Nobody waits to come in where accepting one fails because it would block. Else one is lost.
+fn nobody<S>(error: io::Error) -> io::Result<Option<S>>
+    ensures nobody { IsBlocked (error_kind error) → result ≡ Ok None }
+    ensures lost { (IsBlocked (error_kind error) → ⊥) → result ≡ Err error }
+{
+    if is_blocked(&error) {
+        Ok(None)
+    } else {
+        Err(error)
     }
 }

@@ -1,12 +1,13 @@
 //! A client to whom its reply is written, and what it still sends behind it.
 
-ghost use Rattle.std.specs.Prelude.{◌≡◌, ◌≤◌, length, MatchOption, None, Some, unwrap_or};
+ghost use Rattle.std.specs.Prelude.{◌≡◌, ◌≢◌, ◌↔◌, ◌≤◌, ◌<◌, IsTrue, length, MatchOption, None, Some, unwrap_or};
 ghost use Rattle.bor_http.specs.Incoming.Message.{request_limit};
-ghost use Rattle.bor_wire.specs.Exchanges.{bytes_out};
-ghost use Rattle.bor_program.specs.declared.connections.writing.Written.TheVariants.{Whole};
+ghost use Rattle.bor_wire.specs.Exchanges.{bytes_out, status_out};
+ghost use Rattle.bor_program.specs.declared.connections.writing.Drained.TheVariants as Drained;
+ghost use Rattle.bor_program.specs.declared.connections.writing.Written.TheVariants as Written;
 ghost use Rattle.bor_program.specs.Connections.Serving.{Told, answer_of, has_failed};
-ghost use Rattle.bor_program.specs.Connections.Streams.{Came, Drops, IsDraining, IsReady, IsWriting, wire_of};
-ghost use Rattle.bor_program.specs.Connections.Times.{IsSlow, begun, taking_after};
+ghost use Rattle.bor_program.specs.Connections.Streams.{Came, Drops, IsDraining, IsReady, IsWriting, MayBeUnread, wire_of};
+ghost use Rattle.bor_program.specs.Connections.Times.{IsReplyLeft, IsSlow, begun, taking_after};
 
 use crate::connections::limits::Limits;
 use crate::connections::reading::{Reading, is_blocked};
@@ -45,7 +46,8 @@ impl<S> Writing<S> {
     pub(crate) fn left(&self, limits: Limits, now: Duration) -> Option<Duration>
         ensures { let taking = unwrap_or self.now.taking (begun self.now.sent now) in
             MatchOption result (IsSlow limits taking self.now.sent now)
-            (λ _. IsSlow limits taking self.now.sent now → ⊥) }
+            (λ left. (IsSlow limits taking self.now.sent now → ⊥)
+            × IsReplyLeft limits self.now.taking self.now.sent now left) }
     {
         let taking = self.taking.unwrap_or(Taking::begun(self.sent, now));
         if taking.is_slow(limits, self.sent, now) {
@@ -85,6 +87,7 @@ impl<S: Read + Write + OpenStream> Writing<S> {
         ensures request { result.request.value.items ≡ reading.received.items }
         ensures reply { result.reply ≡ reply }
         ensures taking { result.taking ≡ None }
+        ensures nothing { result.sent ≡ 0 }
     {
         let request = Snapshot::of(&reading.received);
         Writing {
@@ -105,7 +108,9 @@ impl<S: Read + Write + OpenStream> Writing<S> {
         ensures request { self.new.request ≡ self.old.request }
         ensures reply { self.new.reply ≡ self.old.reply }
         ensures taking { self.new.taking ≡ self.old.taking }
-        ensures whole { result ≡ Whole → self.new.sent ≡ length (bytes_out self.new.reply) }
+        ensures whole { result ≡ Written.Whole → self.new.sent ≡ length (bytes_out self.new.reply) }
+        ensures more { result ≡ Written.More → self.old.sent < self.new.sent }
+        ensures other { result ≢ Written.More → self.new.sent ≡ self.old.sent }
     {
         let rest = &self.reply.bytes()[self.sent..];
         if rest.is_empty() {
@@ -139,6 +144,7 @@ impl<S: Read + Write + OpenStream> Writing<S> {
             (answer_of result.request.value.items result.reply) result.left }
         ensures request { result.request ≡ self.request }
         ensures reply { result.reply ≡ self.reply }
+        ensures waited { IsTrue result.is_waited_for ↔ MayBeUnread (status_out self.reply) }
     {
         let _ = self.stream.shutdown(Shutdown::Write);
         Draining {
@@ -153,7 +159,9 @@ impl<S: Read + Write + OpenStream> Writing<S> {
 
 // Whether a reply with this status may be written before its request is read to its end: to a head
 // that is none or too large, to a body that is too large, and where memory was wanting for them.
-fn may_be_unread(status: u16) -> bool {
+fn may_be_unread(status: u16) -> bool
+    ensures { IsTrue result ↔ MayBeUnread status }
+{
     matches!(status, 400 | 413 | 431 | 503)
 }
 
@@ -201,6 +209,8 @@ impl<S: Read + Write> Draining<S> {
         ensures reply { self.new.reply ≡ self.old.reply }
         ensures dropped { Drops (S.remaining self.old.stream)
             (S.remaining self.new.stream) self.old.left self.new.left }
+        ensures more { result ≡ Drained.More → self.new.left < self.old.left }
+        ensures blocked { result ≡ Drained.Blocked → self.new.left ≡ self.old.left }
     {
         let mut part = [0; DROPPED];
         let room = self.left.min(DROPPED);

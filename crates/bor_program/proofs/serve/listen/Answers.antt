@@ -26,5 +26,5 @@ returns-clause-hosted g c =
       within = subst (λ n. g.H.Register.OpenRegister.serves c.args.register.now c.in-Some.listener limits.result c.args.asked.connections c.serve-served.new.self n) same
           c.serve-served.ensures.within;
       served = subst (λ n. IsServedOver g.H.Register.OpenRegister.meaning (IsOf (wire_of g.H.Listener.Stream.Read.remaining g.H.Listener.Stream.Write.contents))
-          (record { does = g.H.Waiter.Watch.does; begun = c.waiter-waiter.result; ended = c.serve-served.new.watch }) c.args.register.now c.serve-served.new.self c.args.asked.connections n) same over;
+          (record { does = g.H.Waiter.Watch.does; begun = c.waiter-waiter.result; ended = c.serve-served.new.watch }) limits.result c.args.register.now c.serve-served.new.self c.args.asked.connections n) same over;
     }

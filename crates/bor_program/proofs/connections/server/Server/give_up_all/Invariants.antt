@@ -7,5 +7,6 @@ abbrev pub invariant-loop : goal.invariant-loop
 invariant-loop g l = record {
   lets : Lets (wire_of g.S.Read.remaining g.S.Write.contents) (telling_in l.fn.self) (pending_in l.fn.self) 0 l.fn.self.status l.self;
   left : l.self.left ≡ l.fn.self.left;
+  notes : l.self.service ≡ l.fn.self.service;
   count : length l.self.queue.items ≡ length l.fn.self.queue.items - l.counter;
 }

@@ -18,6 +18,6 @@ pub returns-clause-seats : goal.returns-clause-seats
 returns-clause-seats g c =
     let takes = c.in_ok-place.ensures in
     let failed : is_err c.watch.result ≡ true = grind (arith, common_steps) in (
-      c.leave.ensures.taken ∙ ap (λ l. set l c.in_ok-place.place false) takes.taken ∙ set_back c.args.self.now.places.taken c.in_ok-place.place takes.free,
+      c.leave.ensures ∙ ap (λ l. set l c.in_ok-place.place false) takes.taken ∙ set_back c.args.self.now.seats.taken c.in_ok-place.place takes.free,
       inr (subst (λ b. g.W.Watch.does c.args.watch.now (Watches b) c.watch.new.self) failed c.watch.ensures),
     )

@@ -1,6 +1,6 @@
 use Rattle.std.proofs.Common.{◌≡◌, take}
 use Rattle.std.specs.List.{count_by}
-use Rattle.bor_program.proofs.connections.watch.Places.take.Given as goal
+use Rattle.bor_program.proofs.connections.seats.Seats.take.Given as goal
 
 -- all places before this one are taken
 abbrev pub invariant-loop-place : goal.invariant-loop-place
