@@ -13,7 +13,7 @@ use bor_program::{Answering, Reply, Report, replay, report_in};
 use bor_records::links::{Link, Node, NodeInfo};
 use bor_records::{Last, Row};
 use bor_register::keeping::Keep;
-use bor_register::{Caller, Filing, FilingLine, Outward, StoreFault};
+use bor_register::{AgentLine, Caller, Filing, FilingLine, Outward, StoreFault};
 use bor_store::SqlKeep;
 use bor_terms::{AgentName, Day, Ident, LodgeKey, Token};
 use sqlite::Alter;
@@ -219,6 +219,10 @@ impl<S: Alter + Drop, N: Notice + Drop> Keep for ServedKeep<S, N> {
         self.keep.published()
     }
 
+    fn agents(&mut self) -> Result<Vec<AgentLine>, StoreFault> {
+        self.keep.agents()
+    }
+
     fn add_filing(
         &mut self,
         agent: &AgentName,
@@ -250,6 +254,13 @@ impl<S: Alter + Drop, N: Notice + Drop> Keep for ServedKeep<S, N> {
     fn add_agent(&mut self, agent: &AgentName, token: &Token) -> Result<(), StoreFault> {
         let was_mirrored = self.keep.is_mirrored();
         let told = self.keep.add_agent(agent, token);
+        self.notice_from(was_mirrored);
+        told
+    }
+
+    fn set_token(&mut self, agent: &AgentName, token: &Token) -> Result<(), StoreFault> {
+        let was_mirrored = self.keep.is_mirrored();
+        let told = self.keep.set_token(agent, token);
         self.notice_from(was_mirrored);
         told
     }

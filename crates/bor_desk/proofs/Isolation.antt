@@ -6,15 +6,15 @@ use Rattle.bor_terms.proofs.Texts.{same_is, same_refl}
 use Rattle.bor_register.specs.declared.caller.Caller.{Caller}
 use Rattle.bor_register.specs.declared.caller.Caller.TheVariants.{Registrar, Agent}
 use Rattle.bor_register.specs.declared.member.Member.{Member}
-use Rattle.bor_register.specs.declared.filing.AcceptedFiling.{AcceptedFiling}
-use Rattle.bor_register.specs.Register.{Register, caller_of, is_enrolled, is_taken, filings_of, with_filings, new_member, with_member}
+use Rattle.bor_register.specs.Register.{Register, caller_of, is_enrolled, is_taken, filings_of, new_member, with_member}
 use Rattle.bor_register.proofs.Callers.{caller_is_enrolled}
+use Rattle.bor_register.proofs.Members.{filings_absent, filings_written, other_filings}
 use Rattle.bor_desk.specs.Operations.Legality.{IsLegal}
 use Rattle.bor_desk.specs.Operations.Sight.{sight_of}
 use Rattle.bor_desk.specs.Operations.Registrar.{advance_step, enrol_step}
 use Rattle.bor_desk.specs.Operations.Solo.{published_beside, with_outwards, member_with, alone}
-use Rattle.bor_desk.specs.Operations.Laws.{KeepsAgents}
-use Rattle.bor_desk.proofs.OnOperations.Legality.{other-with_filings, leaves-with_filings, advance-keeps_agents, enrolment-keeps_agents}
+use Rattle.bor_desk.proofs.OnOperations.Legality.{leaves-with_filings, advance-keeps_agents, enrolment-keeps_agents}
+use Rattle.bor_desk.proofs.OnOperations.Renewals.{renewal-filings, renewal-renews_token}
 use Rattle.bor_desk.proofs.OnOperations.Alone.{filings-with_member, sight-alone}
 use Rattle.bor_desk.specs.declared.request.Request.{Request}
 use Rattle.bor_desk.specs.declared.request.Request.TheVariants as ask
@@ -22,7 +22,7 @@ use Rattle.bor_desk.specs.Step.{own_after, agent_answer, agent_step, registrar_s
 use Rattle.bor_desk.specs.Runs.{Asked, exchange, register_after, request_by, occasion_then, history, told_then, answers_to, solo}
 use Rattle.bor_desk.specs.declared.reply.DeskReply.{DeskReply}
 use Rattle.bor_desk.specs.Outcomes.{IsAnswered}
-use Rattle.bor_desk.specs.Laws.{is_agent, OwnFilingsUntouched, IsAsAlone, IsToldAlone, OneExchangeAlone, IsolationOfHistories}
+use Rattle.bor_desk.specs.Laws.{is_agent, IsLeftBy, OwnFilingsUntouched, IsAsAlone, IsToldAlone, OneExchangeAlone, IsolationOfHistories}
 use Rattle.bor_desk.proofs.Steps.{step-stays_legal}
 
 -- ---- the filings of the others
@@ -31,16 +31,12 @@ other-with_member : (new : Member) (ms : List Member) (name : List ℕ) → is_s
 other-with_member new [] name other = rw other refl
 other-with_member new (m ∷ ms) name other = grind (arith, other-with_member new ms name other)
 
-none-unenrolled : (name : List ℕ) (ms : List Member) → is_enrolled name ms ≡ false → filings_of name ms ≡ []
-none-unenrolled name [] h = refl
-none-unenrolled name (m ∷ ms) h = grind (arith, none-unenrolled name ms)
-
 -- a new agent brings no filings
 enrolled-filings : (name token : List ℕ) (ms : List Member) (asked : List ℕ) (b : Bool) → is_same name asked ≡ b → is_enrolled name ms ≡ false →
     filings_of asked (with_member (new_member name token) ms) ≡ filings_of asked ms
 enrolled-filings name token ms asked true same fresh =
     ap (λ n. filings_of n (with_member (new_member name token) ms)) (sym (same_is name asked same))
-    ∙ filings-with_member (new_member name token) ms ∙ sym (none-unenrolled name ms fresh) ∙ ap (λ n. filings_of n ms) (same_is name asked same)
+    ∙ filings-with_member (new_member name token) ms ∙ sym (filings_absent name ms fresh) ∙ ap (λ n. filings_of n ms) (same_is name asked same)
 enrolled-filings name token ms asked false other fresh = other-with_member (new_member name token) ms asked other
 
 enrol-filings : (r : Register) (name token asked : List ℕ) (b c : Bool) → is_enrolled name r.members ≡ b → is_taken token r ≡ c → filings_of asked (enrol_step r name token).register.members ≡ filings_of asked r.members
@@ -52,7 +48,7 @@ advance-filings : (r : Register) (day : ℤ) (asked : List ℕ) (b : Bool) → i
 advance-filings r day asked true h = rw h refl
 advance-filings r day asked false h = rw h refl
 
-registrar-filings : (r : Register) (request : Request) (asked : List ℕ) → filings_of asked (registrar_step r request).register.members ≡ filings_of asked r.members
+pub registrar-filings : (r : Register) (request : Request) (asked : List ℕ) → filings_of asked (registrar_step r request).register.members ≡ filings_of asked r.members
 registrar-filings r (ask.Day date) asked = advance-filings r date asked (int_lt date r.day) refl
 registrar-filings r (ask.Enrol name token) asked = enrol-filings r name token asked _ _ refl refl
 registrar-filings r (ask.Lodge key due file) asked = refl
@@ -64,17 +60,20 @@ registrar-filings r (ask.Snapshot agent declaration date) asked = refl
 registrar-filings r (ask.Chains entity date) asked = refl
 registrar-filings r (ask.Evidence entity date) asked = refl
 registrar-filings r (ask.Entities identifier date) asked = refl
+registrar-filings r (ask.Renew name token) asked = renewal-filings r name token asked
+registrar-filings r ask.Register asked = refl
 
 others-filings : (r : Register) (caller : Option Caller) (request : Request) (name : List ℕ) → is_agent name caller ≡ false → filings_of name (step r caller request).register.members ≡ filings_of name r.members
 others-filings r None request name other = refl
 others-filings r (Some Registrar) request name other = registrar-filings r request name
-others-filings r (Some (Agent asking)) request name other = other-with_filings asking name (own_after (sight_of asking r) request) r.members other
+others-filings r (Some (Agent asking)) request name other = other_filings asking name (own_after (sight_of asking r) request) r.members other
 
 -- ---- the agents that were there
 
-registrar-keeps : (r : Register) (request : Request) → KeepsAgents r (registrar_step r request).register
+registrar-keeps : (r : Register) (request : Request) → IsLeftBy request r (registrar_step r request).register
 registrar-keeps r (ask.Day date) = advance-keeps_agents r date
 registrar-keeps r (ask.Enrol name token) = enrolment-keeps_agents r name token
+registrar-keeps r (ask.Renew name token) = renewal-renews_token r name token
 registrar-keeps r request = record { registrar = refl; agents = λ m on. on }
 
 pub own_filings : OwnFilingsUntouched
@@ -91,19 +90,15 @@ enrolled-with_member : (new : Member) (ms : List Member) → is_enrolled new.nam
 enrolled-with_member new [] = rw (same_refl new.name) refl
 enrolled-with_member new (m ∷ ms) = grind (arith, same_refl new.name, enrolled-with_member new ms)
 
-filings-with_filings : (name : List ℕ) (fs : List AcceptedFiling) (ms : List Member) → is_enrolled name ms ≡ true → filings_of name (with_filings name fs ms) ≡ fs
-filings-with_filings name fs [] h = absurd cc
-filings-with_filings name fs (m ∷ ms) h = grind (arith, filings-with_filings name fs ms)
-
 as_alone : (r : Register) (name : List ℕ) (request : Request) → IsLegal r → is_enrolled name r.members ≡ true → IsAsAlone r name request
 as_alone r name request legal enrolled =
     let sight = sight-alone r name legal enrolled in
     let others = with_outwards (published_beside name r.day r.members) [] in
     record {
       answer = ap (λ s. agent_answer s request) sight;
-      filings = filings-with_filings name (own_after (sight_of name (alone name r)) request) (alone name r).members (enrolled-with_member (member_with name (filings_of name r.members)) others)
+      filings = filings_written name (own_after (sight_of name (alone name r)) request) (alone name r).members (enrolled-with_member (member_with name (filings_of name r.members)) others)
           ∙ ap (λ s. own_after s request) sight
-          ∙ sym (filings-with_filings name (own_after (sight_of name r) request) r.members enrolled);
+          ∙ sym (filings_written name (own_after (sight_of name r) request) r.members enrolled);
     }
 
 pub exchange_alone : OneExchangeAlone
@@ -151,7 +146,7 @@ unfolding Goes ByItself
 by_agent r name asking request rest true same legal enrolled goes =
     subst (λ n. ByItself r asking request rest n) (same_is asking name same) (by_itself r asking request rest legal enrolled) goes
 by_agent r name asking request rest false other legal enrolled goes =
-    passed r (agent_step r asking request).register name rest (other-with_filings asking name (own_after (sight_of asking r) request) r.members other) goes
+    passed r (agent_step r asking request).register name rest (other_filings asking name (own_after (sight_of asking r) request) r.members other) goes
 
 by_caller : (r : Register) (token name : List ℕ) (request : Request) (rest : List Asked) (caller : Option Caller) → caller_of token r ≡ caller → IsLegal r →
     Goes (step r caller request).register name rest →

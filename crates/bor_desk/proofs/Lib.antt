@@ -16,3 +16,5 @@ pub mod OnMirror
 pub mod OnEvidence
 pub mod Past
 pub mod PastExamples
+pub mod Standing
+pub mod Overview

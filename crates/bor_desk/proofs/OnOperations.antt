@@ -7,6 +7,7 @@ pub mod Keyed
 pub mod Withdrawing
 pub mod Withdrawals
 pub mod Legality
+pub mod Renewals
 pub mod Forms
 pub mod Prefixes
 pub mod Alone

@@ -119,3 +119,5 @@ later_statements_change_no_past name day r q (ask.File key) reply is same told =
 later_statements_change_no_past name day r q ask.Published reply is same told = absurd (none_named day is)
 later_statements_change_no_past name day r q (ask.Day date) reply is same told = absurd (none_named day is)
 later_statements_change_no_past name day r q (ask.Enrol other token) reply is same told = absurd (none_named day is)
+later_statements_change_no_past name day r q (ask.Renew other token) reply is same told = absurd (none_named day is)
+later_statements_change_no_past name day r q ask.Register reply is same told = absurd (none_named day is)

@@ -1,9 +1,9 @@
 -- Who asks decides first, and what is asked next: each refusal of the desk on an instance, and its place before the next one.
-use Rattle.std.proofs.Common.{◌≡◌, ℕ, ℤ, pos, List, [], Some, None, codes, refl}
+use Rattle.std.proofs.Common.{◌≡◌, ℕ, ℤ, pos, List, [], ◌∷◌, Some, None, codes, refl}
 use Rattle.bor_register.specs.Register.{Register, empty_register, new_member, with_member, caller_of}
 use Rattle.bor_desk.specs.declared.request.Request.{Request}
 use Rattle.bor_desk.specs.declared.request.Request.TheVariants as ask
-use Rattle.bor_desk.specs.declared.refusal.Refusal.TheVariants.{NoAgent, NotRegistrar, NotAgent, NoSuchFiling, NoEntity, DayBack, NameTaken, TokenTaken}
+use Rattle.bor_desk.specs.declared.refusal.Refusal.TheVariants.{NoAgent, NotRegistrar, NotAgent, NoSuchFiling, NoEntity, DayBack, NameTaken, TokenTaken, NoSuchAgent}
 use Rattle.bor_desk.specs.declared.reply.DeskReply.TheVariants as tell
 use Rattle.bor_desk.specs.Step.{Answer, exactly, refused, step}
 
@@ -77,6 +77,25 @@ registrars_token_taken = refl
 
 enrolled : answer registrar (ask.Enrol (codes "birch") (codes "birch-token-000001")) ≡ exactly (tell.Enrolled (codes "birch"))
 enrolled = refl
+
+-- a renewal, and the register at a glance
+renewal_is_the_registrars : answer alder (ask.Renew (codes "alder") (codes "alder-token-000002")) ≡ refused NotRegistrar
+renewal_is_the_registrars = refl
+
+no_such_agent : answer registrar (ask.Renew (codes "birch") alder) ≡ refused NoSuchAgent
+no_such_agent = refl
+
+renewal_taken : answer registrar (ask.Renew (codes "alder") registrar) ≡ refused TokenTaken
+renewal_taken = refl
+
+renewed : answer registrar (ask.Renew (codes "alder") (codes "alder-token-000002")) ≡ exactly (tell.Renewed (codes "alder"))
+renewed = refl
+
+glance_is_the_registrars : answer alder ask.Register ≡ refused NotRegistrar
+glance_is_the_registrars = refl
+
+glance : answer registrar ask.Register ≡ exactly (tell.Register (record { agent = codes "alder"; published = 0 } ∷ []) today)
+glance = refl
 
 -- what isn't there
 no_filing : answer alder (ask.Withdraw (codes "f1")) ≡ refused NoSuchFiling

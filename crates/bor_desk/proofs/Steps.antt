@@ -9,6 +9,7 @@ use Rattle.bor_register.specs.Register.{Register, IsOrdered, filings_of, with_fi
 use Rattle.bor_register.proofs.Members.{with_filings_same}
 use Rattle.bor_desk.specs.Operations.Legality.{IsLegal}
 use Rattle.bor_desk.proofs.OnOperations.Legality.{lodging-stays_legal, withdrawal-stays_legal, advance-stays_legal, enrolment-stays_legal}
+use Rattle.bor_desk.proofs.OnOperations.Renewals.{renewal-stays_legal}
 use Rattle.bor_desk.specs.declared.request.Request.{Request}
 use Rattle.bor_desk.specs.declared.request.Request.TheVariants as ask
 use Rattle.bor_desk.specs.declared.reply.DeskReply.{DeskReply}
@@ -38,10 +39,14 @@ agent-stays_legal r name (ask.Evidence entity date) legal = reading-legal r name
 agent-stays_legal r name (ask.Entities identifier date) legal = reading-legal r name legal
 agent-stays_legal r name (ask.Day date) legal = reading-legal r name legal
 agent-stays_legal r name (ask.Enrol new token) legal = reading-legal r name legal
+agent-stays_legal r name (ask.Renew other token) legal = reading-legal r name legal
+agent-stays_legal r name ask.Register legal = reading-legal r name legal
 
 registrar-stays_legal : (r : Register) (request : Request) → IsLegal r → IsLegal (registrar_step r request).register
 registrar-stays_legal r (ask.Day date) legal = advance-stays_legal r date legal
 registrar-stays_legal r (ask.Enrol name token) legal = enrolment-stays_legal r name token legal
+registrar-stays_legal r (ask.Renew name token) legal = renewal-stays_legal r name token legal
+registrar-stays_legal r ask.Register legal = legal
 registrar-stays_legal r (ask.Lodge key due file) legal = legal
 registrar-stays_legal r (ask.Withdraw key) legal = legal
 registrar-stays_legal r ask.Filings legal = legal

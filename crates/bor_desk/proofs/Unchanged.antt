@@ -9,17 +9,20 @@ use Rattle.bor_register.specs.Publication.{line_of}
 use Rattle.bor_register.specs.Withdrawal.{has_successor, as_withdrawn, with_withdrawn}
 use Rattle.bor_desk.specs.declared.operations.fault.LodgeFault.{LodgeFault}
 use Rattle.bor_desk.specs.declared.operations.fault.WithdrawFault.TheVariants as withdraws
-use Rattle.bor_desk.specs.Operations.Sight.{Sight, sight_of}
+use Rattle.bor_desk.specs.declared.operations.fault.RenewFault.{RenewFault}
+use Rattle.bor_desk.specs.Operations.Registrar.{renew_step}
+use Rattle.bor_desk.specs.Operations.Sight.{Outcome, Sight, sight_of}
 use Rattle.bor_desk.specs.Operations.Lodging.{addition, told_added, own_added, lodging_at, own_lodged_at}
 use Rattle.bor_desk.specs.Operations.Withdrawing.{withdrawal_at, own_withdrawn_at}
 use Rattle.bor_desk.specs.declared.request.Request.{Request}
 use Rattle.bor_desk.specs.declared.request.Request.TheVariants as ask
 use Rattle.bor_desk.specs.declared.reply.DeskReply.{DeskReply}
 use Rattle.bor_desk.specs.declared.reply.DeskReply.TheVariants as tell
-use Rattle.bor_desk.specs.Refusals.{of_lodging, of_withdrawal}
+use Rattle.bor_desk.specs.Refusals.{of_lodging, of_renewal, of_withdrawal}
 use Rattle.bor_desk.specs.Step.{Answer, exactly, report, evidence, entities, told, own_after, may_change_own, agent_step, registrar_step, step}
 use Rattle.bor_desk.specs.Outcomes.{IsTold}
 use Rattle.bor_desk.specs.Laws.{may_tell_a_change, RefusalChangesNothing, is_read, is_long, ReadsLeave}
+use Rattle.bor_desk.proofs.OnOperations.Renewals.{refused_renewal}
 use Rattle.bor_desk.proofs.Steps.{written_back}
 
 -- an agent's request leaves the register where it leaves the agent's filings
@@ -69,6 +72,8 @@ unchanged_by_agent r name (ask.Evidence entity date) h = refl
 unchanged_by_agent r name (ask.Entities identifier date) h = refl
 unchanged_by_agent r name (ask.Day date) h = refl
 unchanged_by_agent r name (ask.Enrol new token) h = refl
+unchanged_by_agent r name (ask.Renew other token) h = refl
+unchanged_by_agent r name ask.Register h = refl
 
 -- ---- the registrar
 
@@ -82,9 +87,19 @@ unenrolled r name token true taken e f h = rw e refl
 unenrolled r name token false true e f h = rw (e, f) refl
 unenrolled r name token false false e f h = absurd (let no = rw (e, f) at h in cc)
 
+unrenewed : (r : Register) (name token : List ℕ) (o : Outcome (Result (List ℕ) RenewFault)) → renew_step r name token ≡ o →
+    may_tell_a_change (told tell.Renewed of_renewal o.answer) ≡ false → o.register ≡ r
+unrenewed r name token o is h = refused o.answer refl h
+  where
+    refused : (answer : Result (List ℕ) RenewFault) → o.answer ≡ answer → may_tell_a_change (told tell.Renewed of_renewal answer) ≡ false → o.register ≡ r
+    refused (Ok told) e k = absurd cc
+    refused (Err fault) e k = ap (λ (x : Outcome (Result (List ℕ) RenewFault)). x.register) (sym is) ∙ refused_renewal r name token fault (ap (λ (x : Outcome (Result (List ℕ) RenewFault)). x.answer) is ∙ e)
+
 unchanged_by_registrar : (r : Register) (request : Request) → may_tell_a_change (registrar_step r request).answer ≡ false → (registrar_step r request).register ≡ r
 unchanged_by_registrar r (ask.Day date) h = unadvanced r date (int_lt date r.day) refl h
 unchanged_by_registrar r (ask.Enrol name token) h = unenrolled r name token (is_enrolled name r.members) (is_taken token r) refl refl h
+unchanged_by_registrar r (ask.Renew name token) h = unrenewed r name token (renew_step r name token) refl h
+unchanged_by_registrar r ask.Register h = refl
 unchanged_by_registrar r (ask.Lodge key due file) h = refl
 unchanged_by_registrar r (ask.Withdraw key) h = refl
 unchanged_by_registrar r ask.Filings h = refl
@@ -112,6 +127,7 @@ read_is_no_change request h = refl
 registrar_reads : (r : Register) (request : Request) → is_read request ≡ true → (registrar_step r request).register ≡ r
 registrar_reads r (ask.Day date) h = absurd cc
 registrar_reads r (ask.Enrol name token) h = absurd cc
+registrar_reads r (ask.Renew name token) h = absurd cc
 registrar_reads r request h = refl
 
 reads_leave_by_request : (r : Register) (caller : Option Caller) (request : Request) → is_read request ≡ true → (step r caller request).register ≡ r
@@ -125,6 +141,7 @@ long_is_unchanged (tell.Lodged lodged) h = absurd cc
 long_is_unchanged (tell.Withdrawn line) h = absurd cc
 long_is_unchanged (tell.Day day) h = absurd cc
 long_is_unchanged (tell.Enrolled name) h = absurd cc
+long_is_unchanged (tell.Renewed name) h = absurd cc
 long_is_unchanged reply h = refl
 
 long_told : (answer : Answer) (reply : DeskReply) → IsTold answer reply → is_long reply ≡ true → may_tell_a_change answer ≡ false

@@ -10,7 +10,7 @@ use Rattle.bor_register.specs.declared.caller.Caller.{Caller}
 use Rattle.bor_register.specs.declared.caller.Caller.TheVariants.{Agent}
 use Rattle.bor_register.specs.Register.{Register, caller_of, filings_of}
 use Rattle.bor_desk.specs.Operations.Legality.{IsLegal}
-use Rattle.bor_desk.specs.Operations.Laws.{KeepsAgents, LeavesOthers}
+use Rattle.bor_desk.specs.Operations.Laws.{KeepsAgents, LeavesOthers, RenewsToken}
 use Rattle.bor_desk.specs.Operations.Sight.{seen_by}
 use Rattle.bor_desk.specs.Operations.Solo.{alone}
 use Rattle.bor_desk.specs.declared.request.Request.{Request}
@@ -29,9 +29,14 @@ abbrev pub is_agent : List ℕ → Option Caller → Bool
 is_agent name (Some (Agent other)) = is_same other name
 is_agent name caller = false
 
+-- the registrar's request leaves each agent as it was, but for the token that it renews
+abbrev pub IsLeftBy : Request → Register → Register → Type 0
+IsLeftBy (ask.Renew name token) old new = RenewsToken name old new
+IsLeftBy request old new = KeepsAgents old new
+
 -- After an exchange the filings of all agents but the one that asks are as they were. After an
 -- exchange of an agent the day is too, and who has which token; after one of the registrar, the
--- registrar's token and each agent; after one of nobody, all.
+-- registrar's token and each agent, but for a token that it renews; after one of nobody, all.
 pub record OwnFilingsUntouched : Type 0 where
   pub by_others : (r : Register) (caller : Option Caller) (request : Request) (name : List ℕ)
       → is_agent name caller ≡ false →
@@ -39,16 +44,17 @@ pub record OwnFilingsUntouched : Type 0 where
   pub by_an_agent : (r : Register) (name : List ℕ) (request : Request)
       → LeavesOthers name r (agent_step r name request).register
   pub by_the_registrar : (r : Register) (request : Request)
-      → KeepsAgents r (registrar_step r request).register
+      → IsLeftBy request r (registrar_step r request).register
   pub by_nobody : (r : Register) (request : Request) → (step r None request).register ≡ r
 
 -- whether the answer may be that of a change: a filing that is lodged and wasn't before, a
--- withdrawal, the day, or an agent that is enrolled
+-- withdrawal, the day, an agent that is enrolled, or one whose token is renewed
 abbrev pub may_tell_a_change : Answer → Bool
 may_tell_a_change (exactly (tell.Lodged lodged)) = lodged.fresh
 may_tell_a_change (exactly (tell.Withdrawn line)) = true
 may_tell_a_change (exactly (tell.Day day)) = true
 may_tell_a_change (exactly (tell.Enrolled name)) = true
+may_tell_a_change (exactly (tell.Renewed name)) = true
 may_tell_a_change answer = false
 
 -- Whatever else is answered, a refusal above all, leaves the register as it was.
@@ -67,6 +73,7 @@ is_read (ask.Snapshot agent declaration date) = true
 is_read (ask.Chains entity date) = true
 is_read (ask.Evidence entity date) = true
 is_read (ask.Entities identifier date) = true
+is_read ask.Register = true
 is_read request = false
 
 -- whether the reply is to a request that only reads, a refusal apart: it may be of any length
@@ -78,6 +85,7 @@ is_long (tell.Snapshot date records) = true
 is_long (tell.Chains entity date persons) = true
 is_long (tell.Evidence entity date evidence) = true
 is_long (tell.Entities identifier date records) = true
+is_long (tell.Register agents day) = true
 is_long reply = false
 
 -- Evidence names exactly the persons that are joined to the entity, those of the report on it.

@@ -8,6 +8,7 @@ pub mod Step
 pub mod Outcomes
 pub mod Runs
 pub mod Laws
+pub mod Standing
 pub mod Limits
 pub mod CheckReport
 pub mod ChainReport

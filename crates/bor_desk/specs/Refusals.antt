@@ -13,6 +13,8 @@ use Rattle.bor_desk.specs.declared.operations.fault.AdvanceFault.{AdvanceFault}
 use Rattle.bor_desk.specs.declared.operations.fault.AdvanceFault.TheVariants as advances
 use Rattle.bor_desk.specs.declared.operations.fault.EnrolFault.{EnrolFault}
 use Rattle.bor_desk.specs.declared.operations.fault.EnrolFault.TheVariants as enrols
+use Rattle.bor_desk.specs.declared.operations.fault.RenewFault.{RenewFault}
+use Rattle.bor_desk.specs.declared.operations.fault.RenewFault.TheVariants as renews
 use Rattle.bor_chains.specs.declared.fault.ChainFault.{ChainFault}
 use Rattle.bor_chains.specs.declared.fault.ChainFault.TheVariants as chains
 use Rattle.bor_desk.specs.declared.refusal.Refusal.{Refusal}
@@ -21,7 +23,7 @@ use Rattle.bor_desk.specs.declared.refusal.Refusal.TheVariants.{KeyReused, Filin
 use Rattle.bor_desk.specs.declared.refusal.Refusal.TheVariants.{Read, StatementTwice, Record}
 use Rattle.bor_desk.specs.declared.refusal.Refusal.TheVariants.{NoSuchFiling, Published}
 use Rattle.bor_desk.specs.declared.refusal.Refusal.TheVariants.{HasSuccessor, NoEntity, DayBack}
-use Rattle.bor_desk.specs.declared.refusal.Refusal.TheVariants.{NameTaken, TokenTaken}
+use Rattle.bor_desk.specs.declared.refusal.Refusal.TheVariants.{NameTaken, TokenTaken, NoSuchAgent}
 use Rattle.bor_desk.specs.declared.refusal.DeskFault.{DeskFault}
 use Rattle.bor_desk.specs.declared.refusal.DeskFault.TheVariants.{Refused, Failed}
 
@@ -44,6 +46,7 @@ refusal_name NoEntity = codes "NoEntity"
 refusal_name DayBack = codes "DayBack"
 refusal_name NameTaken = codes "NameTaken"
 refusal_name TokenTaken = codes "TokenTaken"
+refusal_name NoSuchAgent = codes "NoSuchAgent"
 
 -- the place of the statement that is refused, from 1
 abbrev pub refusal_place : Refusal → Option ℕ
@@ -82,6 +85,11 @@ abbrev pub of_enrolment : EnrolFault → DeskFault
 of_enrolment enrols.NameTaken = Refused NameTaken
 of_enrolment enrols.TokenTaken = Refused TokenTaken
 of_enrolment (enrols.Store fault) = Failed fault
+
+abbrev pub of_renewal : RenewFault → DeskFault
+of_renewal renews.NoSuchAgent = Refused NoSuchAgent
+of_renewal renews.TokenTaken = Refused TokenTaken
+of_renewal (renews.Store fault) = Failed fault
 
 -- the refusal of a report on chains; a fault of the source becomes the store's fault that it is
 -- made into

@@ -12,11 +12,11 @@ use Rattle.bor_register.specs.declared.caller.Caller.{Caller}
 use Rattle.bor_register.specs.declared.caller.Caller.TheVariants.{Registrar, Agent}
 use Rattle.bor_register.specs.declared.filing.AcceptedFiling.{AcceptedFiling}
 use Rattle.bor_register.specs.Register.{Register, filing_keyed, with_filings}
-use Rattle.bor_register.specs.Publication.{line_of}
+use Rattle.bor_register.specs.Publication.{agent_line, line_of}
 use Rattle.bor_desk.specs.Operations.Sight.{Sight, sight_of, Outcome}
 use Rattle.bor_desk.specs.Operations.Lodging.{lodging, own_lodged}
 use Rattle.bor_desk.specs.Operations.Withdrawing.{withdrawal, own_withdrawn}
-use Rattle.bor_desk.specs.Operations.Registrar.{advance_step, enrol_step}
+use Rattle.bor_desk.specs.Operations.Registrar.{advance_step, enrol_step, renew_step}
 use Rattle.bor_desk.specs.declared.request.Request.{Request}
 use Rattle.bor_desk.specs.declared.request.Request.TheVariants as ask
 use Rattle.bor_desk.specs.declared.reply.DeskReply.{DeskReply}
@@ -27,6 +27,7 @@ use Rattle.bor_desk.specs.declared.refusal.Refusal.TheVariants.{NoSuchFiling, No
 use Rattle.bor_desk.specs.declared.refusal.DeskFault.{DeskFault}
 use Rattle.bor_desk.specs.declared.refusal.DeskFault.TheVariants as faults
 use Rattle.bor_desk.specs.Refusals.{of_lodging, of_withdrawal, of_advance, of_enrolment}
+use Rattle.bor_desk.specs.Refusals.{of_renewal}
 
 -- An answer: exactly a reply, or the report on an entity on a day, by the nodes and links that the
 -- caller sees, or its evidence, by the rows that the caller sees, or the entities that have an
@@ -91,6 +92,8 @@ agent_answer s (ask.Evidence entity date) = evidence_answer s.seen entity (unwra
 agent_answer s (ask.Entities identifier date) = entities identifier (unwrap_or date s.day) s.seen
 agent_answer s (ask.Day date) = refused NotRegistrar
 agent_answer s (ask.Enrol name token) = refused NotRegistrar
+agent_answer s (ask.Renew name token) = refused NotRegistrar
+agent_answer s ask.Register = refused NotRegistrar
 
 -- the agent's filings after its request
 abbrev pub own_after : Sight → Request → List AcceptedFiling
@@ -120,6 +123,12 @@ abbrev pub registrar_step : Register → Request → Outcome Answer
 registrar_step r (ask.Day date) = told_step tell.Day of_advance (advance_step r date)
 registrar_step r (ask.Enrol name token) =
     told_step tell.Enrolled of_enrolment (enrol_step r name token)
+registrar_step r (ask.Renew name token) =
+    told_step tell.Renewed of_renewal (renew_step r name token)
+registrar_step r ask.Register = record {
+  answer = exactly (tell.Register (map (agent_line r.day) r.members) r.day);
+  register = r;
+}
 registrar_step r request = refuses r NotAgent
 
 -- ---- the step

@@ -7,11 +7,12 @@ ghost use Rattle.bor_desk.specs.Operations.Legality.{IsLegal};
 ghost use Rattle.bor_desk.specs.Operations.Sight.{seen_by, sight_of};
 ghost use Rattle.bor_desk.specs.Operations.Outcomes.{Accounts};
 ghost use Rattle.bor_desk.specs.Step.{entities, step, agent_answer, agent_step, may_change_own, registrar_step, file_answer, chains_answer, evidence_answer, snapshot_answer};
+ghost use Rattle.bor_desk.specs.declared.request.Request.TheVariants as ask;
 ghost use Rattle.bor_desk.specs.Laws.{IsToldAlone};
 ghost use Rattle.bor_desk.specs.Outcomes.{fault_of, UnlessReplyFailed, IsAnswered, IsLeft, IsNamed, IsOrderedFor, agent_of, reply_of, denial};
 
 use crate::evidence::{entities_seen, evidence_seen};
-use crate::operations::{Caller, Keep, StoreFault, advance, enrol, lodge, withdraw};
+use crate::operations::{Caller, Keep, StoreFault, advance, enrol, lodge, renew, withdraw};
 use crate::refusal::{DeskFault, Refusal};
 use crate::reply::{Answered, DeskReply};
 use crate::report::persons_seen;
@@ -183,9 +184,8 @@ fn tell_agent<K: Keep>(
         Request::Entities { identifier, date } => {
             entities_for(alloc, keep, name, identifier, *date)
         }
-        Request::Day { .. } | Request::Enrol { .. } => {
-            Err(DeskFault::Refused(Refusal::NotRegistrar))
-        }
+        Request::Day { .. } | Request::Enrol { .. } | Request::Renew { .. } | Request::Register =>
+            Err(DeskFault::Refused(Refusal::NotRegistrar)),
         Request::Withdraw { .. } | Request::Lodge { .. } => unreachable!(),
     }
 }
@@ -222,6 +222,21 @@ fn answer_agent<K: Keep>(
     }
 }
 
+// The register's day and its agents, as the registrar sees them.
+fn overview<K: Keep>(keep: &mut K) -> Result<DeskReply, DeskFault>
+    ensures kept { Kept K.meaning keep.old keep.new }
+    ensures accounted { Accounts K.meaning keep.old keep.new (fault_of (reply_of result)) }
+    ensures answer { Promised K.meaning keep.old keep.new (λ r.
+        IsAnswered (reply_of result) (registrar_step r ask.Register).answer) }
+{
+    let agents = keep.agents()?;
+    let day = keep.day()?;
+    Ok(DeskReply::Register {
+        agents: Listed::new(agents),
+        day,
+    })
+}
+
 fn answer_registrar<K: Keep>(
     alloc: Global,
     keep: &mut K,
@@ -243,6 +258,12 @@ fn answer_registrar<K: Keep>(
             let token = token.copy(alloc)?;
             Ok(DeskReply::Enrolled(enrol(keep, name, token)?))
         }
+        Request::Renew { name, token } => {
+            let name = name.copy(alloc)?;
+            let token = token.copy(alloc)?;
+            Ok(DeskReply::Renewed(renew(keep, name, token)?))
+        }
+        Request::Register => overview(keep),
         Request::Lodge { .. }
         | Request::Withdraw { .. }
         | Request::Filings

@@ -2,6 +2,7 @@
 
 ghost use Rattle.bor_desk.specs.Outcomes.{AnswerIsDetermined};
 ghost use Rattle.bor_desk.specs.Laws.{EachIsAnswered, EvidenceNamesTheJoined, LaterStatementsChangeNoPast, OwnFilingsUntouched, ReadsLeave, RefusalChangesNothing, StepStaysLegal, OneExchangeAlone, IsolationOfHistories};
+ghost use Rattle.bor_desk.specs.Standing.{PublishedStays, RegistrarSeesNoDraft, TokenIsRenewed};
 
 /// Two replies that tell one answer are equal.
 pub fn answer_is_determined()
@@ -15,15 +16,16 @@ pub fn evidence_names_the_joined()
 {}
 
 /// After an exchange the filings of all agents but the one that asks are as they were. An agent
-/// changes neither the day nor who has which token. The registrar changes at most the day and who
-/// is enrolled: its token stays, and each agent that was there, with its name, token and filings.
-/// An unknown token changes nothing. This holds of every register.
+/// changes neither the day nor who has which token. The registrar changes at most the day, who is
+/// enrolled, and the token of the one agent that a renewal names: its own token stays, and so does
+/// each agent that was there. An unknown token changes nothing. This holds of every register.
 pub fn own_filings_untouched()
     ensures { OwnFilingsUntouched }
 {}
 
 /// A refusal leaves the register as it was: only a filing that is lodged and wasn't before, a
-/// withdrawal, a day or an enrolment changes it. This holds of every register, caller and request.
+/// withdrawal, a day, an enrolment or a renewal changes it. This holds of every register, caller
+/// and request.
 pub fn refusal_changes_nothing()
     ensures { RefusalChangesNothing }
 {}
@@ -65,4 +67,24 @@ pub fn each_is_answered()
 /// register.
 pub fn later_statements_change_no_past()
     ensures { LaterStatementsChangeNoPast }
+{}
+
+/// What is published stays: the day never goes back, a published filing stays with its file and its
+/// place among its agent's, and of a record more is published only behind what was. This holds of
+/// every run from a legal register.
+pub fn published_stays_published()
+    ensures { PublishedStays }
+{}
+
+/// The registrar is told nothing of drafts: its answers hang on the day, the tokens, the agents'
+/// names and the outward forms of what is published alone. This holds of every request to two legal
+/// registers.
+pub fn registrar_sees_no_draft()
+    ensures { RegistrarSeesNoDraft }
+{}
+
+/// After a renewal the agent is known by the token that was given, and a token that it had before
+/// is nobody's. This holds of every legal register.
+pub fn token_is_renewed()
+    ensures { TokenIsRenewed }
 {}

@@ -3,9 +3,11 @@
 ghost use Rattle.std.specs.Prelude.{◌≡◌};
 ghost use Rattle.bor_register.specs.declared.fault.StoreFault.TheVariants as stores;
 ghost use Rattle.bor_desk.specs.declared.refusal.DeskFault.TheVariants as faults;
-ghost use Rattle.bor_desk.specs.Refusals.{refusal_name, refusal_place, refusal_field, of_lodging, of_withdrawal, of_advance, of_enrolment, IsOfChains};
+ghost use Rattle.bor_desk.specs.Refusals.{refusal_name, refusal_place, refusal_field, of_lodging, of_withdrawal, of_advance, of_enrolment, of_renewal, IsOfChains};
 
-use crate::operations::{AdvanceFault, EnrolFault, LodgeFault, StoreFault, WithdrawFault};
+use crate::operations::{
+    AdvanceFault, EnrolFault, LodgeFault, RenewFault, StoreFault, WithdrawFault,
+};
 use bods_read::{Field, FileFault};
 use bor_chains::ChainFault;
 use bor_records::RecordFault;
@@ -16,7 +18,7 @@ use std::alloc::AllocError;
 pub enum Refusal {
     /// Nobody has the token.
     NoAgent,
-    /// An agent asks for the day to be moved or for an enrolment.
+    /// An agent asks for what only the registrar may ask.
     NotRegistrar,
     /// The registrar asks for anything else.
     NotAgent,
@@ -45,8 +47,10 @@ pub enum Refusal {
     DayBack,
     /// An agent has the name.
     NameTaken,
-    /// An agent or the registrar has the token.
+    /// An agent or the registrar has the token; of a renewal, another agent or the registrar.
     TokenTaken,
+    /// No agent has the name.
+    NoSuchAgent,
 }
 
 impl Refusal {
@@ -72,6 +76,7 @@ impl Refusal {
             Refusal::DayBack => "DayBack",
             Refusal::NameTaken => "NameTaken",
             Refusal::TokenTaken => "TokenTaken",
+            Refusal::NoSuchAgent => "NoSuchAgent",
         }
     }
 
@@ -170,6 +175,18 @@ impl From<EnrolFault> for DeskFault {
             EnrolFault::NameTaken => DeskFault::Refused(Refusal::NameTaken),
             EnrolFault::TokenTaken => DeskFault::Refused(Refusal::TokenTaken),
             EnrolFault::Store(fault) => DeskFault::Failed(fault),
+        }
+    }
+}
+
+impl From<RenewFault> for DeskFault {
+    ghost from_gives = { λ fault given. given ≡ of_renewal fault };
+
+    fn from(fault: RenewFault) -> Self {
+        match fault {
+            RenewFault::NoSuchAgent => DeskFault::Refused(Refusal::NoSuchAgent),
+            RenewFault::TokenTaken => DeskFault::Refused(Refusal::TokenTaken),
+            RenewFault::Store(fault) => DeskFault::Failed(fault),
         }
     }
 }

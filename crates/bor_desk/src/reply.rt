@@ -1,7 +1,7 @@
 //! The replies to a caller.
 
 use crate::evidence::{EntityEvidence, RecordEvidence};
-use crate::operations::{FilingLine, Lodged, Outward, StoreFault};
+use crate::operations::{AgentLine, FilingLine, Lodged, Outward, StoreFault};
 use crate::refusal::Refusal;
 use bods_read::Identifier;
 use bor_chains::{Node, PersonLine};
@@ -51,6 +51,13 @@ pub enum DeskReply {
     Day(Day),
     /// The agent that is enrolled.
     Enrolled(AgentName),
+    /// The agent whose token is the one that was given.
+    Renewed(AgentName),
+    /// The register's day, and its agents by name.
+    Register {
+        agents: Listed<AgentLine>,
+        day: Day,
+    },
     /// The request is refused. The register is as before.
     Refused(Refusal),
     /// The keep failed, or memory was wanting. The register is as before, unless the store shut in

@@ -4,7 +4,8 @@ use bods_read::Identifier;
 use bor_chains::Node;
 use bor_terms::{AgentName, Day, Ident, Listed, LodgeKey, Token};
 
-/// A request. Those of agents are all but `Day` and `Enrol`, which are the registrar's.
+/// A request. The registrar's are `Day`, `Enrol`, `Renew` and `Register`, and all others are the
+/// agents'.
 #[derive(Drop)]
 pub enum Request {
     /// Lodges a file under a key, due on a day.
@@ -55,4 +56,11 @@ pub enum Request {
         name: AgentName,
         token: Token,
     },
+    /// Gives an agent another token.
+    Renew {
+        name: AgentName,
+        token: Token,
+    },
+    /// Shows the register's day, and its agents with how much each has published.
+    Register,
 }

@@ -20,6 +20,8 @@ routed asks.Evidence = refl
 routed asks.Entities = refl
 routed asks.Day = refl
 routed asks.Enrol = refl
+routed asks.Renew = refl
+routed asks.Register = refl
 
 -- a note is added where there is memory for it
 pub may_add : (P : Note → Type 0) (old new : List Note) (added : Bool) (note : Note) → new ≡ (if added then old ++ note ∷ [] else old) → P note → MayAdd P old new

@@ -49,6 +49,8 @@ route_path asks.Evidence = paths.Evidence
 route_path asks.Entities = paths.Entities
 route_path asks.Day = paths.Day
 route_path asks.Enrol = paths.Agents
+route_path asks.Renew = paths.Agent
+route_path asks.Register = paths.Register
 
 abbrev pub route_method : Route → List ℕ
 route_method asks.Lodge = codes "PUT"
@@ -62,6 +64,8 @@ route_method asks.Evidence = codes "GET"
 route_method asks.Entities = codes "GET"
 route_method asks.Day = codes "POST"
 route_method asks.Enrol = codes "POST"
+route_method asks.Renew = codes "PUT"
+route_method asks.Register = codes "GET"
 
 -- a hyphen stands for a value that isn't shown
 abbrev pub untold : List ℕ
@@ -72,7 +76,7 @@ method_word (asked.Route route) = route_method route
 method_word (asked.Path path) = untold
 method_word asked.Nothing = untold
 
--- the path as the table of routes writes it, with {key} for a key
+-- the path as the table of routes writes it, with {key} for a key and {name} for a name
 abbrev pub asked_path_word : Asked → List ℕ
 asked_path_word (asked.Route route) = path_word (route_path route)
 asked_path_word (asked.Path path) = path_word path

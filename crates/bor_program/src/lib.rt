@@ -35,7 +35,7 @@ pub use bor_words::{Report, joined};
 pub use exchange::exchange_on;
 pub use failure::Failure;
 pub use host::{Answering, NamedFiles, OpenRegister, Opened, Origin, Ports, Registers, Stage};
-pub use output::Output;
+pub use output::{Output, write_text};
 pub use program::run;
 pub use report::{report_in, report_on};
 pub use status::Status;

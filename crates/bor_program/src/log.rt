@@ -195,10 +195,12 @@ fn line_of(route: Route) -> (Path, &'static str)
         Route::Entities => (Path::Entities, "GET"),
         Route::Day => (Path::Day, "POST"),
         Route::Enrol => (Path::Agents, "POST"),
+        Route::Renew => (Path::Agent, "PUT"),
+        Route::Register => (Path::Register, "GET"),
     }
 }
 
-// A path as it is written, with {key} for a key.
+// A path as it is written, with {key} for a key and {name} for a name.
 fn path_text(path: Path) -> &'static str
     ensures { result.now ≡ path_word path }
 {
@@ -213,6 +215,8 @@ fn path_text(path: Path) -> &'static str
         Path::Entities => "/entities",
         Path::Day => "/day",
         Path::Agents => "/agents",
+        Path::Agent => "/agents/{name}",
+        Path::Register => "/register",
     }
 }
 

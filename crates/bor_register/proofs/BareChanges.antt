@@ -7,13 +7,13 @@ use Rattle.bods_read.specs.declared.statement.Statement.{Statement}
 use Rattle.bor_records.specs.Admission.{Live}
 use Rattle.bor_register.specs.Limits.{filings_limit}
 use Rattle.bor_register.specs.Live.{AreNew, accepted}
-use Rattle.bor_register.specs.Register.{Register, filing_keyed, filings_of, is_agents_token, new_member, with_filings, with_member}
+use Rattle.bor_register.specs.Register.{Register, filing_keyed, filings_of, is_agents_token, new_member, with_filings, with_member, with_token}
 use Rattle.bor_register.specs.Withdrawal.{as_withdrawn, with_withdrawn}
 use Rattle.bor_register.specs.declared.filing.AcceptedFiling.{AcceptedFiling}
 use Rattle.bor_register.specs.declared.member.Member.{Member}
 use Rattle.bor_register.specs.Bare.{bare_register, member_without_files, without_file, without_files}
 use Rattle.bor_register.proofs.WithoutFiles.{filings_of-bare}
-use Rattle.bor_register.specs.Additions.{MayEnrol, MayFile, with_agent, with_filing}
+use Rattle.bor_register.specs.Additions.{MayEnrol, MayFile, with_agent, with_filing, with_renewal}
 use Rattle.bor_register.proofs.BareReads.{count_is, enrolled-bare, keyed-bare, live_is}
 
 with_filings-bare : (name : List ℕ) (fs : List AcceptedFiling) (ms : List Member) → with_filings name (map without_file fs) (without_files ms) ≡ without_files (with_filings name fs ms)
@@ -59,6 +59,17 @@ with_member-bare new (m ∷ ms) =
 
 pub enrolled_with-bare : (agent token : List ℕ) (r : Register) → with_agent agent token (bare_register r) ≡ bare_register (with_agent agent token r)
 enrolled_with-bare agent token r = ap (λ (ms : List Member). let q : Register = record r { members = ms } in q) (with_member-bare (new_member agent token) r.members)
+
+with_token-bare : (agent token : List ℕ) (ms : List Member) → with_token agent token (without_files ms) ≡ without_files (with_token agent token ms)
+with_token-bare agent token [] = refl
+with_token-bare agent token (m ∷ ms) =
+    elim (is_same m.name agent) as (λ b. (if b then record (member_without_files m) { token = token } ∷ without_files ms else member_without_files m ∷ with_token agent token (without_files ms)) ≡ without_files (if b then record m { token = token } ∷ ms else m ∷ with_token agent token ms)) [
+      | true ↦ refl
+      | false ↦ ap (λ (l : List Member). member_without_files m ∷ l) (with_token-bare agent token ms)
+    ]
+
+pub renewed-bare : (agent token : List ℕ) (r : Register) → with_renewal agent token (bare_register r) ≡ bare_register (with_renewal agent token r)
+renewed-bare agent token r = ap (λ (ms : List Member). let q : Register = record r { members = ms } in q) (with_token-bare agent token r.members)
 
 -- what fits a register fits it without files
 pub may_file-bare : (agent key : List ℕ) (statements : List Statement) (r : Register) → MayFile agent key statements r → MayFile agent key statements (bare_register r)

@@ -1,6 +1,6 @@
 -- All reads of a register, but of the files themselves, are the same of one without files.
-use Rattle.std.proofs.Common.{◌≡◌, ℕ, ℤ, Bool, true, false, List, [], ◌∷◌, map, length, Option, Some, None, option_map, suc, refl, ap, ◌∙◌}
-use Rattle.std.specs.Prelude.{if◌then◌else◌, ◌||◌}
+use Rattle.std.proofs.Common.{◌≡◌, ℕ, ℤ, Bool, true, false, List, [], ◌∷◌, map, length, Option, Some, None, option_map, suc, refl, ap, ap₂, cond, ◌∙◌}
+use Rattle.std.specs.Prelude.{filter, if◌then◌else◌, ◌||◌}
 use Rattle.bor_terms.specs.Texts.{is_same}
 use Rattle.bor_records.specs.Admission.{last_of}
 use Rattle.bor_records.specs.Settling.{has_id}
@@ -8,12 +8,13 @@ use Rattle.bor_records.specs.declared.links.node.Node.{Node}
 use Rattle.bor_records.specs.Links.Rows.{shown_of}
 use Rattle.bor_records.specs.Links.Series.{open_at}
 use Rattle.bor_register.specs.Live.{live_of}
-use Rattle.bor_register.specs.Publication.{line_of, published}
+use Rattle.bor_register.specs.Publication.{agent_line, is_published, line_of, published, published_count}
 use Rattle.bor_register.specs.Register.{Register, agent_with, caller_of, filing_keyed, filings_of, is_enrolled}
 use Rattle.bor_register.specs.Rows.{rows_of, visible}
 use Rattle.bor_register.specs.Seen.{seen_at}
 use Rattle.bor_register.specs.Withdrawal.{has_successor}
 use Rattle.bor_register.specs.declared.caller.Caller.TheVariants.{Registrar, Agent}
+use Rattle.bor_register.specs.declared.agents.AgentLine.{AgentLine}
 use Rattle.bor_register.specs.declared.filing.AcceptedFiling.{AcceptedFiling}
 use Rattle.bor_register.specs.declared.member.Member.{Member}
 use Rattle.bor_register.specs.Bare.{bare_register, without_file, without_files}
@@ -83,3 +84,16 @@ seen_is viewer day r = ap (shown_of day) (visible_are viewer r)
 
 pub published_are : (r : Register) → published r.day (without_files r.members) ≡ published r.day r.members
 published_are r = published-bare r.day r.members
+
+published_count-bare : (day : ℤ) (fs : List AcceptedFiling) → published_count day (map without_file fs) ≡ published_count day fs
+published_count-bare day [] = refl
+published_count-bare day (f ∷ fs) =
+    elim (is_published day f) as (λ b. length (cond b (without_file f ∷ filter (is_published day) (map without_file fs)) (filter (is_published day) (map without_file fs))) ≡ length (cond b (f ∷ filter (is_published day) fs) (filter (is_published day) fs))) [
+      | true ↦ ap (λ n. suc n) (published_count-bare day fs)
+      | false ↦ published_count-bare day fs
+    ]
+
+pub agents_are : (day : ℤ) (ms : List Member) → map (agent_line day) (without_files ms) ≡ map (agent_line day) ms
+agents_are day [] = refl
+agents_are day (m ∷ ms) =
+    ap₂ (λ (n : ℕ) (l : List AgentLine). let line : AgentLine = record { agent = m.name; published = n } in line ∷ l) (published_count-bare day m.filings) (agents_are day ms)

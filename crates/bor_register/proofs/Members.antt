@@ -5,7 +5,7 @@ use Rattle.bor_terms.specs.Texts.{is_same}
 use Rattle.bor_terms.proofs.Texts.{same_is}
 use Rattle.bor_register.specs.declared.member.Member.{Member}
 use Rattle.bor_register.specs.declared.filing.AcceptedFiling.{AcceptedFiling}
-use Rattle.bor_register.specs.Register.{is_enrolled, filings_of, with_filings}
+use Rattle.bor_register.specs.Register.{is_enrolled, filings_of, with_filings, with_token}
 
 -- to write an agent's filings back changes nothing
 pub with_filings_same : (name : List ℕ) (ms : List Member) → with_filings name (filings_of name ms) ms ≡ ms
@@ -16,6 +16,11 @@ with_filings_same name (m ∷ ms) = grind (arith, with_filings_same name ms)
 pub with_filings_absent : (name : List ℕ) (fs : List AcceptedFiling) (ms : List Member) → is_enrolled name ms ≡ false → with_filings name fs ms ≡ ms
 with_filings_absent name fs [] h = refl
 with_filings_absent name fs (m ∷ ms) h = grind (arith, with_filings_absent name fs ms)
+
+-- an agent that isn't enrolled has no token to be changed
+pub with_token_absent : (name token : List ℕ) (ms : List Member) → is_enrolled name ms ≡ false → with_token name token ms ≡ ms
+with_token_absent name token [] h = refl
+with_token_absent name token (m ∷ ms) h = grind (arith, with_token_absent name token ms)
 
 -- ---- the filings of one agent, once some agent's are written
 
@@ -35,3 +40,18 @@ pub long-with_filings : (name : List ℕ) (fs : List AcceptedFiling) (ms : List 
 long-with_filings name fs [] = refl
 long-with_filings name fs (m ∷ ms) =
     elim (is_same m.name name) as (λ b. length (if b then record m { filings = fs } ∷ ms else m ∷ with_filings name fs ms) ≡ length (m ∷ ms)) [ true ↦ refl | false ↦ ap suc (long-with_filings name fs ms) ]
+
+-- ---- an agent's token is another
+
+pub filings-with_token : (name agent token : List ℕ) (ms : List Member) → filings_of name (with_token agent token ms) ≡ filings_of name ms
+filings-with_token name agent token [] = refl
+filings-with_token name agent token (m ∷ ms) =
+    elim (is_same m.name agent) as (λ b. filings_of name (if b then record m { token = token } ∷ ms else m ∷ with_token agent token ms) ≡ filings_of name (m ∷ ms)) [
+      | true ↦ refl
+      | false ↦ ap (λ (fs : List AcceptedFiling). if is_same m.name name then m.filings else fs) (filings-with_token name agent token ms)
+    ]
+
+pub long-with_token : (name token : List ℕ) (ms : List Member) → length (with_token name token ms) ≡ length ms
+long-with_token name token [] = refl
+long-with_token name token (m ∷ ms) =
+    elim (is_same m.name name) as (λ b. length (if b then record m { token = token } ∷ ms else m ∷ with_token name token ms) ≡ length (m ∷ ms)) [ true ↦ refl | false ↦ ap suc (long-with_token name token ms) ]

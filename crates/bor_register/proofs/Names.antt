@@ -5,7 +5,7 @@ use Rattle.bor_terms.specs.Texts.{is_below, is_same}
 use Rattle.bor_terms.proofs.Texts.{below_trans, above}
 use Rattle.bor_register.specs.declared.member.Member.{Member}
 use Rattle.bor_register.specs.declared.filing.AcceptedFiling.{AcceptedFiling}
-use Rattle.bor_register.specs.Register.{is_enrolled, with_filings, with_member, AllAbove, IsOrdered}
+use Rattle.bor_register.specs.Register.{is_enrolled, with_filings, with_member, with_token, AllAbove, IsOrdered}
 
 above-with_member : (low : List ℕ) (new : Member) (ms : List Member) → is_below low new.name ≡ true → AllAbove low ms → AllAbove low (with_member new ms)
 above-with_member low new [] lt h = (lt, tt)
@@ -41,4 +41,19 @@ ordered-with_filings name fs (m ∷ ms) h =
     elim (is_same m.name name) as (λ b. IsOrdered (if b then record m { filings = fs } ∷ ms else m ∷ with_filings name fs ms)) [
       | true ↦ h
       | false ↦ (above-with_filings m.name name fs ms h.0, ordered-with_filings name fs ms h.1)
+    ]
+
+-- ---- an agent's token is another
+
+above-with_token : (low name token : List ℕ) (ms : List Member) → AllAbove low ms → AllAbove low (with_token name token ms)
+above-with_token low name token [] h = tt
+above-with_token low name token (m ∷ ms) h =
+    elim (is_same m.name name) as (λ b. AllAbove low (if b then record m { token = token } ∷ ms else m ∷ with_token name token ms)) [ true ↦ h | false ↦ (h.0, above-with_token low name token ms h.1) ]
+
+pub ordered-with_token : (name token : List ℕ) (ms : List Member) → IsOrdered ms → IsOrdered (with_token name token ms)
+ordered-with_token name token [] h = tt
+ordered-with_token name token (m ∷ ms) h =
+    elim (is_same m.name name) as (λ b. IsOrdered (if b then record m { token = token } ∷ ms else m ∷ with_token name token ms)) [
+      | true ↦ h
+      | false ↦ (above-with_token m.name name token ms h.0, ordered-with_token name token ms h.1)
     ]

@@ -1,10 +1,11 @@
--- The additions that a register takes, and the register after an addition or a withdrawal.
+-- The additions that a register takes, and the register after an addition, a withdrawal or the
+-- renewal of a token.
 use Rattle.std.specs.Prelude.{◌≡◌, ◌<◌, ◌++◌, ◌∷◌, [], ℕ, ℤ, List, None, length, true, false}
 use Rattle.bods_read.specs.declared.statement.Statement.{Statement}
 use Rattle.bor_register.specs.Limits.{filings_limit}
 use Rattle.bor_register.specs.Live.{AreNew, accepted, live_of}
 use Rattle.bor_register.specs.Register.{Register, filing_keyed, filings_of, is_enrolled, is_taken}
-use Rattle.bor_register.specs.Register.{new_member, with_filings, with_member}
+use Rattle.bor_register.specs.Register.{new_member, with_filings, with_member, with_token}
 use Rattle.bor_register.specs.Withdrawal.{with_withdrawn}
 
 -- The agent is enrolled, has room for one more filing and none under the key, and its live
@@ -36,3 +37,7 @@ with_withdrawal agent number r =
 -- the register with one agent more
 abbrev pub with_agent : List ℕ → List ℕ → Register → Register
 with_agent agent token r = record r { members = with_member (new_member agent token) r.members }
+
+-- the register once the agent's token is this one
+abbrev pub with_renewal : List ℕ → List ℕ → Register → Register
+with_renewal agent token r = record r { members = with_token agent token r.members }

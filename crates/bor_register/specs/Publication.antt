@@ -1,7 +1,8 @@
 -- The published filings, and their outward forms, which all see (this register's own rules).
-use Rattle.std.specs.Prelude.{ℕ, ℤ, int_le, List, [], ◌∷◌, ◌++◌, map, filter, Bool, false, not}
-use Rattle.std.specs.Prelude.{◌&&◌, Option, Some, None, codes, if◌then◌else◌}
+use Rattle.std.specs.Prelude.{ℕ, ℤ, int_le, List, [], ◌∷◌, ◌++◌, length, map, filter, Bool, false}
+use Rattle.std.specs.Prelude.{not, ◌&&◌, Option, Some, None, codes, if◌then◌else◌}
 use Rattle.bor_terms.specs.Texts.{is_same}
+use Rattle.bor_register.specs.declared.agents.AgentLine.{AgentLine}
 use Rattle.bor_register.specs.declared.member.Member.{Member}
 use Rattle.bor_register.specs.declared.filing.AcceptedFiling.{AcceptedFiling}
 use Rattle.bor_register.specs.declared.filing.Filing.{Filing}
@@ -47,6 +48,14 @@ outwards_of day name filings = map (outward name) (filter (is_published day) fil
 abbrev pub published : ℤ → List Member → List Outward
 published day [] = []
 published day (m ∷ ms) = outwards_of day m.name m.filings ++ published day ms
+
+-- how many of an agent's filings are published
+abbrev pub published_count : ℤ → List AcceptedFiling → ℕ
+published_count day filings = length (filter (is_published day) filings)
+
+-- the agent's line in the registrar's list: its name, and how many filings it has published
+abbrev pub agent_line : ℤ → Member → AgentLine
+agent_line day m = record { agent = m.name; published = published_count day m.filings }
 
 -- the word that is shown for a state
 unfoldable pub state_word : State → List ℕ

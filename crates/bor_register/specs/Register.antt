@@ -55,6 +55,12 @@ with_filings name filings (m ∷ ms) =
     if is_same m.name name then record m { filings = filings } ∷ ms
     else m ∷ with_filings name filings ms
 
+-- the members once the agent's token is this one
+abbrev pub with_token : List ℕ → List ℕ → List Member → List Member
+with_token name token [] = []
+with_token name token (m ∷ ms) =
+    if is_same m.name name then record m { token = token } ∷ ms else m ∷ with_token name token ms
+
 -- an agent that is new to the register
 abbrev pub new_member : List ℕ → List ℕ → Member
 new_member name token = record { name = name; token = token; filings = [] }

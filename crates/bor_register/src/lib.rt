@@ -15,10 +15,12 @@
 //!
 //! Each keep of members calls the functions here on them, wherever it gets them from: who has a
 //! token ([`caller_with`]), filings and their lines, live statements ([`last_live`],
-//! [`any_live_has_id`]), the rows that a viewer sees, and what is published. What a keep of a
+//! [`any_live_has_id`]), the rows that a viewer sees, what is published, and how much of it each
+//! agent has ([`all_agents`]). What a keep of a
 //! register promises stands in [`keeping`].
 #![tactic(auto)]
 
+mod agents;
 mod caller;
 mod fault;
 mod filing;
@@ -33,6 +35,7 @@ mod rows;
 mod statements;
 mod withdrawal;
 
+pub use agents::{AgentLine, all_agents};
 pub use caller::Caller;
 pub use fault::StoreFault;
 pub use filing::{AcceptedFiling, Filing, FilingLine, Outward, State};
@@ -40,7 +43,8 @@ pub use filings::{all_lines, filing_under, is_filed, line_under};
 pub use held::statement_count;
 pub use live::{any_live_has_id, last_live};
 pub use member::{
-    Member, caller_with, enrol_member, is_enrolled, own_filings, push_filing, withdraw_of,
+    Member, caller_with, enrol_member, is_enrolled, own_filings, push_filing, renew_token,
+    withdraw_of,
 };
 pub use publication::all_published;
 pub use rows::{all_visible, row_of, rows_seen};

@@ -2,7 +2,7 @@
 
 ghost use Rattle.std.specs.Prelude.{◌≡◌, ◌+◌, ◌<◌, ◌++◌, ◌∷◌, [], length, IfSome, IfNone, IfOk, OnOk, OnErr, option_map, true, false};
 ghost use Rattle.bor_register.specs.Limits.{filings_limit};
-ghost use Rattle.bor_register.specs.Register.{agent_with, is_enrolled, filings_of, new_member, with_member, with_filings};
+ghost use Rattle.bor_register.specs.Register.{agent_with, is_enrolled, filings_of, new_member, with_member, with_filings, with_token};
 ghost use Rattle.bor_register.specs.Live.{accepted};
 ghost use Rattle.bor_register.specs.Withdrawal.{with_withdrawn};
 ghost use Rattle.bor_register.specs.Places.{IsPlace, IsPlaceFor};
@@ -144,6 +144,24 @@ pub fn withdraw_of(alloc: Global, members: &mut [Member], name: &AgentName, numb
         let member = &mut members[at];
         withdraw_from(alloc, &mut member.filings, number);
     }
+}
+
+/// Gives the agent, where there is one, another token.
+#[tactic(auto, using(crate::proofs::Members::with_token_absent))]
+pub fn renew_token(
+    alloc: Global,
+    members: &mut [Member],
+    name: &AgentName,
+    token: &Token,
+) -> Result<(), AllocError>
+    ensures ok { OnOk result (members.new ≡ with_token name.now token.now members.old) }
+    ensures err { OnErr result (members.new ≡ members.old) }
+{
+    let token = token.copy(alloc)?;
+    if let Some(at) = position(members, name) {
+        members[at].token = token;
+    }
+    Ok(())
 }
 
 fn place_for(members: &[Member], name: &AgentName) -> usize

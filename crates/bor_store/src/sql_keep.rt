@@ -16,16 +16,16 @@ use bor_desk::mirror::MirrorStore;
 use bor_records::links::{Link, Node, NodeInfo};
 use bor_records::{Last, Row};
 use bor_register::keeping::Keep;
-use bor_register::{Caller, Filing, FilingLine, Outward, StoreFault};
+use bor_register::{AgentLine, Caller, Filing, FilingLine, Outward, StoreFault};
 use bor_store_keys::{
     Lookup, read_aliases, read_identified, read_links_into, read_node, read_open_row, read_same,
 };
 use bor_store_reads::{
-    ReadError, filing_count, has_agent, has_file, has_statement, has_successor, read_day,
-    read_filing, read_filings, read_last, read_line, read_published, read_rows_of, read_visible,
-    read_who, read_whole,
+    ReadError, filing_count, has_agent, has_file, has_statement, has_successor, read_agents,
+    read_day, read_filing, read_filings, read_last, read_line, read_published, read_rows_of,
+    read_visible, read_who, read_whole,
 };
-use bor_store_sql::{add_agent, set_day, withdraw_filing};
+use bor_store_sql::{add_agent, set_day, set_token, withdraw_filing};
 use bor_terms::{AgentName, Day, Ident, LodgeKey, Token};
 use sqlite::{Alter, Error, ErrorCode};
 use std::alloc::Global;
@@ -242,6 +242,11 @@ impl<S: Alter + Drop> Keep for SqlKeep<S> {
         self.told(answer)
     }
 
+    fn agents(&mut self) -> Result<Vec<AgentLine>, StoreFault> {
+        let answer = read_agents(self.conn.connection(), self.alloc);
+        self.told(answer)
+    }
+
     fn add_filing(
         &mut self,
         agent: &AgentName,
@@ -274,6 +279,11 @@ impl<S: Alter + Drop> Keep for SqlKeep<S> {
 
     fn add_agent(&mut self, agent: &AgentName, token: &Token) -> Result<(), StoreFault> {
         let made = add_agent(self.conn.connection(), agent, token);
+        self.made(made)
+    }
+
+    fn set_token(&mut self, agent: &AgentName, token: &Token) -> Result<(), StoreFault> {
+        let made = set_token(self.conn.connection(), agent, token);
         self.made(made)
     }
 

@@ -7,12 +7,12 @@ use Rattle.bor_register.specs.declared.member.Member.{Member}
 use Rattle.bor_register.specs.Register.{agent_with, is_enrolled}
 use Rattle.bor_store_sql.specs.declared.rows.typed.AgentRow.{AgentRow}
 use Rattle.bor_store_sql.specs.Rows.Placed.{agent_row}
-use Rattle.bor_store_sql.specs.Selected.{with_token}
+use Rattle.bor_store_sql.specs.Selected.{members_having}
 
 -- the first agent with the token is the one that has it
-pub first_with : (token : List ℕ) (ms : List Member) → option_map (λ (a : AgentRow). a.name) (slice_get (map agent_row (with_token token ms)) 0) ≡ agent_with token ms
+pub first_with : (token : List ℕ) (ms : List Member) → option_map (λ (a : AgentRow). a.name) (slice_get (map agent_row (members_having token ms)) 0) ≡ agent_with token ms
 first_with token [] = refl
-first_with token (m ∷ ms) = elim (is_same m.token token) as (λ b. option_map (λ (a : AgentRow). a.name) (slice_get (map agent_row (cond b (m ∷ with_token token ms) (with_token token ms))) 0) ≡ (if b then Some m.name else agent_with token ms)) [
+first_with token (m ∷ ms) = elim (is_same m.token token) as (λ b. option_map (λ (a : AgentRow). a.name) (slice_get (map agent_row (cond b (m ∷ members_having token ms) (members_having token ms))) 0) ≡ (if b then Some m.name else agent_with token ms)) [
   | true ↦ refl
   | false ↦ first_with token ms
 ]

@@ -1,16 +1,18 @@
-//! Agents, by name and by token.
+//! Agents: by name, by token, and all of them with how much each has published.
 
-ghost use Rattle.std.specs.Prelude.{◌≡◌, IfOk, option_map};
+ghost use Rattle.std.specs.Prelude.{◌≡◌, IfOk, map, option_map};
 ghost use Rattle.sqlite.specs.Held.{state};
+ghost use Rattle.bor_register.specs.Publication.{agent_line};
 ghost use Rattle.bor_register.specs.Register.{agent_with, caller_of, is_enrolled};
 ghost use Rattle.bor_store_sql.specs.Shown.{IsUp};
 ghost use Rattle.bor_store_reads.specs.Answering.{Reads};
 
 use crate::fault::ReadError;
-use crate::register::read_register;
+use crate::register::{read_day, read_register};
+use crate::tables::{agents, filings};
 use crate::values::{any, first_value};
-use bor_register::Caller;
-use bor_store_sql::rows::AgentRow;
+use bor_register::{AgentLine, Caller};
+use bor_store_sql::rows::{AgentRow, agent_lines};
 use bor_store_sql::{agent_by_name, agent_by_token};
 use bor_terms::{AgentName, Token};
 use sqlite::{Alter, Connection};
@@ -54,4 +56,19 @@ pub fn has_agent<S: Alter>(conn: &mut Connection<S>, agent: &AgentName) -> Resul
         has ≡ is_enrolled agent.now r.members) }
 {
     any(agent_by_name(conn, agent.as_str()))
+}
+
+/// The agents by name, each with how many filings it has published. No statement is read, and no
+/// file.
+pub fn read_agents<S: Alter>(
+    conn: &mut Connection<S>,
+    alloc: Global,
+) -> Result<Vec<AgentLine>, ReadError>
+    ensures { Reads S.Store conn.old conn.new result (λ r lines.
+        lines.items ≡ map (agent_line r.day) r.members) }
+{
+    let day = read_day(conn, alloc)?;
+    let agents = agents(conn, alloc)?;
+    let filings = filings(conn, alloc)?;
+    Ok(agent_lines(alloc, agents.as_slice(), filings.as_slice(), day)?)
 }

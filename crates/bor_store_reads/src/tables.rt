@@ -36,16 +36,22 @@ pub struct WholeRegister {
     pub members: Vec<Member>,
 }
 
-// The rows of all agents, by name.
-fn agents<S: Alter>(conn: &mut Connection<S>, alloc: Global) -> Result<Vec<AgentRow>, ReadError>
+/// The rows of all agents, by name.
+pub(crate) fn agents<S: Alter>(
+    conn: &mut Connection<S>,
+    alloc: Global,
+) -> Result<Vec<AgentRow>, ReadError>
     ensures { Reads S.Store conn.old conn.new result (λ r rows.
         rows.items ≡ map agent_row r.members) }
 {
     all_values(alloc, all_agents(conn))
 }
 
-// The rows of all filings without their files, by agent and number.
-fn filings<S: Alter>(conn: &mut Connection<S>, alloc: Global) -> Result<Vec<FilingRow>, ReadError>
+/// The rows of all filings without their files, by agent and number.
+pub(crate) fn filings<S: Alter>(
+    conn: &mut Connection<S>,
+    alloc: Global,
+) -> Result<Vec<FilingRow>, ReadError>
     ensures { Reads S.Store conn.old conn.new result (λ r rows.
         rows.items ≡ filing_lines r.members) }
 {

@@ -11,7 +11,7 @@ use Rattle.bor_register.specs.Publication.{filing_shown}
 use Rattle.bor_store_sql.specs.Texts.Queries.{agent_by_name_text, agent_by_token_text, filing_by_key_text, line_by_key_text, line_by_number_text, same_bytes_text, filings_of_agent_text, last_filing_text, last_of_series_text, statement_by_id_text, statements_of_declaration_text, statements_of_series_text, statements_of_record_text, statements_of_subject_text, statement_by_place_text, identifiers_by_id_text}
 use Rattle.bor_store_sql.specs.Rows.Placed.{bare, filing_row}
 use Rattle.bor_store_sql.specs.Rows.Encoding.{truth, agent_columns, line_columns, shown_columns, statement_columns, identifier_columns}
-use Rattle.bor_store_sql.specs.Selected.{members_named, with_token, keyed, numbered, last, placed_of, in_declaration, in_series, identified, place_columns, in_record, with_subject, standing_at, identified_by}
+use Rattle.bor_store_sql.specs.Selected.{members_named, members_having, keyed, numbered, last, placed_of, in_declaration, in_series, identified, place_columns, in_record, with_subject, standing_at, identified_by}
 use Rattle.bor_store_sql.specs.Shown.{ShowsIn}
 use Rattle.bor_store_sql.specs.Found.{Asked, FindsRows}
 use Rattle.bor_store_sql.proofs.Finding.{finds}
@@ -20,8 +20,8 @@ use Rattle.bor_store_sql.proofs.Selecting.{agent_by_name_found, agent_by_token_f
 pub agent_by_name_finds : (name : List ℕ) (old new : State) (result : Result (Vec Row Global) Error) → Asked agent_by_name_text (Text name ∷ []) old new result → FindsRows ShowsIn old new result (λ r. map agent_columns (members_named name r.members))
 agent_by_name_finds name old new result asked = finds agent_by_name_text (Text name ∷ []) (Text name ∷ []) (λ r. map agent_columns (members_named name r.members)) old new result asked refl (λ r rows shows h. agent_by_name_found r old new shows rows name h)
 
-pub agent_by_token_finds : (token : List ℕ) (old new : State) (result : Result (Vec Row Global) Error) → Asked agent_by_token_text (Text token ∷ []) old new result → FindsRows ShowsIn old new result (λ r. map agent_columns (with_token token r.members))
-agent_by_token_finds token old new result asked = finds agent_by_token_text (Text token ∷ []) (Text token ∷ []) (λ r. map agent_columns (with_token token r.members)) old new result asked refl (λ r rows shows h. agent_by_token_found r old new shows rows token h)
+pub agent_by_token_finds : (token : List ℕ) (old new : State) (result : Result (Vec Row Global) Error) → Asked agent_by_token_text (Text token ∷ []) old new result → FindsRows ShowsIn old new result (λ r. map agent_columns (members_having token r.members))
+agent_by_token_finds token old new result asked = finds agent_by_token_text (Text token ∷ []) (Text token ∷ []) (λ r. map agent_columns (members_having token r.members)) old new result asked refl (λ r rows shows h. agent_by_token_found r old new shows rows token h)
 
 pub filing_by_key_finds : (agent : List ℕ) (key : List ℕ) (old new : State) (result : Result (Vec Row Global) Error) → Asked filing_by_key_text (Text agent ∷ Text key ∷ []) old new result → FindsRows ShowsIn old new result (λ r. map (λ f. shown_columns (filing_shown f)) (keyed key (filings_of agent r.members)))
 filing_by_key_finds agent key old new result asked = finds filing_by_key_text (Text agent ∷ Text key ∷ []) (Text agent ∷ Text key ∷ []) (λ r. map (λ f. shown_columns (filing_shown f)) (keyed key (filings_of agent r.members))) old new result asked refl (λ r rows shows h. filing_by_key_found r old new shows rows agent key h)

@@ -16,6 +16,7 @@ pub mod Withdrawing
 pub mod WithdrawnContents
 pub mod AddedContents
 pub mod Dating
+pub mod Renewing
 pub mod Plain
 pub mod Keeping
 pub mod Finding

@@ -36,7 +36,7 @@ use Rattle.bor_store_sql.specs.declared.rows.typed.InterestRow.{InterestRow}
 use Rattle.bor_store_sql.specs.declared.rows.typed.IdentifierRow.{IdentifierRow}
 use Rattle.bor_store_sql.specs.Rows.Placed.{same_place, bare, filing_row, filing_lines, placed, placed_by, interest_rows, identifier_rows, interests_from, identifiers_from}
 use Rattle.bor_store_sql.specs.Rows.Encoding.{truth, register_columns, agent_columns, filing_rows, line_columns, shown_columns, statement_columns, interest_columns, identifier_columns}
-use Rattle.bor_store_sql.specs.Selected.{members_named, with_token, keyed, numbered, last, placed_of, in_declaration, in_series, identified, place_columns, in_record, names_subject, with_subject, standing_at, identified_by}
+use Rattle.bor_store_sql.specs.Selected.{members_named, members_having, keyed, numbered, last, placed_of, in_declaration, in_series, identified, place_columns, in_record, names_subject, with_subject, standing_at, identified_by}
 use Rattle.bor_store_sql.specs.Changing.{row_passes}
 use Rattle.bor_store_sql.specs.Shown.{ShowsIn}
 use Rattle.bor_store_sql.proofs.Finding.{Shows, answers, has_now}
@@ -203,7 +203,7 @@ module _ (r : Register) (old new : State) (shows : ShowsIn r old) (rows : List R
   agent_by_name_found name h =
       from_agents r old new shows rows agent_by_name_text (Text name ∷ []) _ agent_by_name_query.filter agent_by_name_query.project h (λ m. is_same m.name name) (λ m. and-true _ ∙ text_test m.name name) agent_by_name_is (λ id x. refl) (λ id x. refl) (λ m. refl)
 
-  pub agent_by_token_found : (token : List ℕ) → Shows agent_by_token_text (Text token ∷ []) old new rows → rows ≡ map agent_columns (with_token token r.members)
+  pub agent_by_token_found : (token : List ℕ) → Shows agent_by_token_text (Text token ∷ []) old new rows → rows ≡ map agent_columns (members_having token r.members)
   agent_by_token_found token h =
       from_agents r old new shows rows agent_by_token_text (Text token ∷ []) _ agent_by_token_query.filter agent_by_token_query.project h (λ m. is_same m.token token) (λ m. and-true _ ∙ text_test m.token token) agent_by_token_is (λ id x. refl) (λ id x. refl) (λ m. refl)
 

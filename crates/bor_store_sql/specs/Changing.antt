@@ -6,7 +6,7 @@ use Rattle.sqlite.specs.declared.types.Value.TheVariants.{Null, Int, Text, Blob}
 use Rattle.sqlite.specs.Order.{Row, column}
 use Rattle.sqlite.specs.Term.{Term, holds}
 use Rattle.sqlite.specs.Cast.{cast_all}
-use Rattle.bor_store_sql.specs.Texts.Tables.{register_table, filing_table}
+use Rattle.bor_store_sql.specs.Texts.Tables.{register_table, agent_table, filing_table}
 use Rattle.bor_store_sql.specs.Texts.Queries.{equals}
 use Rattle.bor_store_sql.specs.Texts.Changes.{equals_number}
 use Rattle.bods_read.specs.Forms.{IsFormedStatement}
@@ -191,3 +191,21 @@ with_day day t =
 -- the table register has at most one such row
 abbrev pub IsOneRegister : ℤ → Contents → Type 0
 IsOneRegister day t = length (filter (is_the_one day) t.register) ≤ 1
+
+-- ---- the row with an agent's token, for clauses of private functions alone
+
+-- the first column is the agent
+abbrev pub is_of_agent : List ℕ → Row → Bool
+is_of_agent agent = row_passes (equals 1 0 ∷ []) (Text agent ∷ [])
+
+-- a row of the table agent, with this token
+abbrev pub renewed : List ℕ → Row → Row
+renewed token x = cast_all agent_table.columns (column x 0 ∷ Text token ∷ [])
+
+abbrev pub with_token_row : List ℕ → List ℕ → Contents → Contents
+with_token_row agent token t =
+    record t { agents = map (λ x. cond (is_of_agent agent x) (renewed token x) x) t.agents }
+
+-- the table agent has at most one such row
+abbrev pub IsOneAgent : List ℕ → Contents → Type 0
+IsOneAgent agent t = length (filter (is_of_agent agent) t.agents) ≤ 1

@@ -22,8 +22,8 @@ abbrev pub members_named : List ℕ → List Member → List Member
 members_named name ms = filter (λ m. is_same m.name name) ms
 
 -- the agents that have the token
-abbrev pub with_token : List ℕ → List Member → List Member
-with_token token ms = filter (λ m. is_same m.token token) ms
+abbrev pub members_having : List ℕ → List Member → List Member
+members_having token ms = filter (λ m. is_same m.token token) ms
 
 -- of these filings those under a key; the first is the one that the register means
 abbrev pub keyed : List ℕ → List AcceptedFiling → List AcceptedFiling

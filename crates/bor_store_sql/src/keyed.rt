@@ -8,7 +8,7 @@ ghost use Rattle.bor_register.specs.Publication.{filing_shown};
 ghost use Rattle.bor_store_sql.specs.Rows.Placed.{period_rows, bare, filing_row};
 ghost use Rattle.bor_store_sql.specs.Rows.Encoding.{truth, agent_columns, line_columns, shown_columns, statement_columns, interest_columns, period_columns, identifier_columns};
 ghost use Rattle.bor_store_sql.specs.Found.{Finds, FindsBoth};
-ghost use Rattle.bor_store_sql.specs.Selected.{members_named, with_token, keyed, numbered, last, placed_of, in_filing, in_declaration, in_series, identified, interests_at, identifiers_at, place_columns};
+ghost use Rattle.bor_store_sql.specs.Selected.{members_named, members_having, keyed, numbered, last, placed_of, in_filing, in_declaration, in_series, identified, interests_at, identifiers_at, place_columns};
 
 use crate::columns::{file_key, filing_key, one_text, statement_key, three_texts, two_texts};
 use crate::queries::query;
@@ -31,7 +31,7 @@ pub fn agent_by_name<S: Alter>(conn: &mut Connection<S>, name: &str) -> Result<V
 /// The agents that have this token, by name.
 pub fn agent_by_token<S: Alter>(conn: &mut Connection<S>, token: &str) -> Result<Vec<Row>, Error>
     ensures { Finds S.Store conn.old conn.new result (λ r.
-        map agent_columns (with_token token.now r.members)) }
+        map agent_columns (members_having token.now r.members)) }
 {
     query(conn, AGENT_BY_TOKEN, &one_text(token))
 }

@@ -41,5 +41,5 @@ pub use records::{
     identifiers_by_id, statement_by_place, statements_of_record, statements_of_series,
     statements_of_subject,
 };
-pub use register::{add_agent, set_day};
+pub use register::{add_agent, set_day, set_token};
 pub use withdrawal::withdraw_filing;

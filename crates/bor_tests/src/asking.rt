@@ -42,7 +42,7 @@ pub(crate) fn node(rt: &impl Abort, alloc: Global, rec: &str) -> Node {
 pub(crate) fn request(rt: &impl Abort, alloc: Global, ask: Ask<'_>) -> Vec<u8> {
     let (asked, words) = ask;
     let (caller, line) = asked.split_once(' ').expect(rt, "no caller");
-    let is_in_words = line.starts_with("PUT") && !words.starts_with("[");
+    let is_in_words = line.starts_with("PUT /filings/") && !words.starts_with("[");
     let body = if is_in_words {
         file(rt, alloc, words)
     } else {

@@ -9,7 +9,7 @@ use std::alloc::Global;
 use std::process::Abort;
 
 // The requests that are asked one after the other, and the calls that they make.
-const CALLS: [(Ask<'static>, &str); 23] = [
+const CALLS: [(Ask<'static>, &str); 27] = [
     (ALDER, "who has_agent who add_agent"),
     (
         ("registrar POST /agents?name=alder", "birch-token-000001"),
@@ -17,6 +17,14 @@ const CALLS: [(Ask<'static>, &str); 23] = [
     ),
     (
         ("registrar POST /agents?name=birch", "alder-token-000001"),
+        "who has_agent who",
+    ),
+    (
+        ("registrar PUT /agents/birch", "birch-token-000001"),
+        "who has_agent",
+    ),
+    (
+        ("registrar PUT /agents/alder", "alder-token-000001"),
         "who has_agent who",
     ),
     (("nobody GET /published", ""), "who"),
@@ -86,6 +94,11 @@ const CALLS: [(Ask<'static>, &str); 23] = [
     (
         ("registrar POST /day?date=2024-03-01", ""),
         "who day set_day",
+    ),
+    (("registrar GET /register", ""), "who agents day"),
+    (
+        ("registrar PUT /agents/alder", "cedar-token-000001"),
+        "who has_agent who set_token",
     ),
 ];
 

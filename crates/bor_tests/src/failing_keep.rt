@@ -6,7 +6,7 @@ ghost use Rattle.bor_records.specs.Promises.{counted};
 use bods_read::{Identifier, Statement};
 use bor_chains::{Link, Node, NodeInfo};
 use bor_desk::Text;
-use bor_desk::operations::{Caller, Filing, FilingLine, Keep, Outward, StoreFault};
+use bor_desk::operations::{AgentLine, Caller, Filing, FilingLine, Keep, Outward, StoreFault};
 use bor_program::connections::{Limits, Watch, serve_within};
 use bor_program::{Answering, Reply, Report, replay, report_in};
 use bor_records::{Last, Row};
@@ -262,6 +262,12 @@ impl<K: Keep> Keep for FailingKeep<K> {
         self.end(told)
     }
 
+    fn agents(&mut self) -> Result<Vec<AgentLine>, StoreFault> {
+        self.begin("agents")?;
+        let told = self.keep.agents();
+        self.end(told)
+    }
+
     fn add_filing(
         &mut self,
         agent: &AgentName,
@@ -290,6 +296,12 @@ impl<K: Keep> Keep for FailingKeep<K> {
     fn add_agent(&mut self, agent: &AgentName, token: &Token) -> Result<(), StoreFault> {
         self.begin("add_agent")?;
         let told = self.keep.add_agent(agent, token);
+        self.end(told)
+    }
+
+    fn set_token(&mut self, agent: &AgentName, token: &Token) -> Result<(), StoreFault> {
+        self.begin("set_token")?;
+        let told = self.keep.set_token(agent, token);
         self.end(told)
     }
 

@@ -33,11 +33,12 @@ use Rattle.bor_desk.specs.declared.request.Request.{Request}
 use Rattle.bor_desk.specs.declared.request.Request.TheVariants as ask
 use Rattle.bor_desk.specs.Operations.Sight.{Sight, sight_of}
 use Rattle.bor_desk.specs.Operations.Lodging.{told_of, told_added, told_settled, settled_reading, filing_of, lodging_at}
+use Rattle.bor_desk.specs.Operations.Registrar.{renewal}
 use Rattle.bor_desk.specs.Operations.Withdrawing.{withdrawal_at}
 use Rattle.bor_desk.specs.Outcomes.{IsTold}
-use Rattle.bor_desk.specs.Refusals.{of_lodging, of_withdrawal}
+use Rattle.bor_desk.specs.Refusals.{of_lodging, of_renewal, of_withdrawal}
 use Rattle.bor_desk.specs.Runs.{Asked}
-use Rattle.bor_desk.specs.Step.{Answer, exactly, report, evidence, told, file_answer, agent_answer, registrar_step, step}
+use Rattle.bor_desk.specs.Step.{Answer, exactly, report, evidence, told, told_step, file_answer, agent_answer, registrar_step, step}
 use Rattle.bor_http.specs.declared.incoming.fault.Refusal as wire
 use Rattle.bor_http.specs.Incoming.Head.{head_end}
 use Rattle.bor_wire.specs.Spelling.Refusals.{refusals}
@@ -45,7 +46,7 @@ use Rattle.bor_wire.specs.Spelling.Spell.{asked_behind, spelling}
 use Rattle.bor_wire.specs.Rendering.Replies.{Said, refused, answered, status_of}
 use Rattle.bor_wire.specs.Rendering.Statuses.{desk_status}
 use Rattle.bor_wire.specs.Inputs.{IsSaid}
-use Rattle.bor_wire.specs.AllRefusals.{IsFirstRefusal, TheFirstRefusalIsSaid, is_registrars, register_refusals, lines_of_agent, lines_of_registrar, lines_of_lodging, lines_of_withdrawal, lines_of_statements, lines_of_places, faults_in, refusal_at_place}
+use Rattle.bor_wire.specs.AllRefusals.{IsFirstRefusal, TheFirstRefusalIsSaid, is_another, is_registrars, register_refusals, lines_of_agent, lines_of_registrar, lines_of_lodging, lines_of_withdrawal, lines_of_statements, lines_of_places, faults_in, refusal_at_place}
 
 -- the answer is the first of the refusals; where there is none, each reply that tells it has a status below 400
 abbrev Fits : List Refusal → Answer → Type 0
@@ -148,6 +149,8 @@ agent_fits s (ask.Evidence entity date) =
 agent_fits s (ask.Entities identifier date) = λ reply told. subst (λ x. desk_status x < 400) (sym told.2) (omega arith)
 agent_fits s (ask.Day date) = refl
 agent_fits s (ask.Enrol name token) = refl
+agent_fits s (ask.Renew name token) = refl
+agent_fits s ask.Register = refl
 
 -- ---- the registrar
 
@@ -161,9 +164,27 @@ enrolment_fits r name token true taken e f = rw e refl
 enrolment_fits r name token false true e f = rw (e, f) refl
 enrolment_fits r name token false false e f = rw (e, f) (below (tell.Enrolled name) (omega arith))
 
+renewal_fits : (r : Register) (name token : List ℕ) (owner : Option Caller) →
+    Fits (line (is_another name owner) refuse.TokenTaken ++ []) (told_step tell.Renewed of_renewal (renewal r name token owner)).answer
+renewal_fits r name token None = below (tell.Renewed name) (omega arith)
+renewal_fits r name token (Some Registrar) = refl
+renewal_fits r name token (Some (Agent owner)) = by_name (is_same owner name) refl
+  where
+    by_name : (own : Bool) → is_same owner name ≡ own →
+        Fits (line (not (is_same owner name)) refuse.TokenTaken ++ []) (told_step tell.Renewed of_renewal (renewal r name token (Some (Agent owner)))).answer
+    by_name true e = rw e (below (tell.Renewed name) (omega arith))
+    by_name false e = rw e refl
+
+named_fits : (r : Register) (name token : List ℕ) (named : Bool) → is_enrolled name r.members ≡ named →
+    Fits (line (not (is_enrolled name r.members)) refuse.NoSuchAgent ++ (line (is_another name (caller_of token r)) refuse.TokenTaken ++ [])) (registrar_step r (ask.Renew name token)).answer
+named_fits r name token true e = rw e (renewal_fits r name token (caller_of token r))
+named_fits r name token false e = rw e refl
+
 registrar_fits : (r : Register) (request : Request) → Fits (line (not (is_registrars request)) refuse.NotAgent ++ lines_of_registrar r request) (registrar_step r request).answer
 registrar_fits r (ask.Day date) = day_fits r date (int_lt date r.day) refl
 registrar_fits r (ask.Enrol name token) = enrolment_fits r name token (is_enrolled name r.members) (is_taken token r) refl refl
+registrar_fits r (ask.Renew name token) = named_fits r name token (is_enrolled name r.members) refl
+registrar_fits r ask.Register = below _ (omega arith)
 registrar_fits r (ask.Lodge key due file) = refl
 registrar_fits r (ask.Withdraw key) = refl
 registrar_fits r ask.Filings = refl

@@ -11,7 +11,7 @@ use Rattle.bods_read.specs.declared.fault.FileFault.TheVariants.{NoStatements}
 use Rattle.bods_read.specs.Faults.{file_fault_word, fault_word}
 use Rattle.bods_read.specs.Words.{field_word, type_word, status_word}
 use Rattle.bods_read.proofs.Examples.{reader}
-use Rattle.bor_register.specs.declared.caller.Caller.TheVariants.{Agent}
+use Rattle.bor_register.specs.declared.caller.Caller.TheVariants.{Registrar, Agent}
 use Rattle.bor_register.specs.declared.member.Member.{Member}
 use Rattle.bor_register.specs.declared.filing.AcceptedFiling.{AcceptedFiling}
 use Rattle.bor_register.specs.Publication.{state_word}
@@ -29,7 +29,7 @@ use Rattle.bor_desk.specs.Outcomes.{IsTold}
 use Rattle.bor_desk.specs.Runs.{Asked, Occasion, exchange, history, solo}
 use Rattle.bor_http.specs.declared.incoming.fault.Refusal.TheVariants.{NoPath}
 use Rattle.bor_http.specs.Incoming.Words.{refusal_word}
-use Rattle.bor_wire.specs.Rendering.Bodies.{filing_text, lines_text, published_text, moved_text, enrolled_text, refusal_text}
+use Rattle.bor_wire.specs.Rendering.Bodies.{filing_text, lines_text, published_text, moved_text, agent_text, register_text, refusal_text}
 use Rattle.bor_wire.specs.Rendering.Heads.{phrase, status_line, field_line, own_line, head_bytes}
 use Rattle.bor_wire.specs.Rendering.Replies.{Said, refused, answered, bytes_of}
 use Rattle.bor_wire.specs.Spelling.Spell.{Spelled}
@@ -102,7 +102,7 @@ to name = received name start inputs sent
 
 -- what is opened to compute a reply
 unfoldable replier : ⊤
-unfolding head_bytes status_line field_line own_line phrase digits filing_text lines_text published_text moved_text enrolled_text refusal_text escape_byte refusal_name refusal_word file_fault_word fault_word field_word type_word status_word state_word day_text year_at month_at calendar reader
+unfolding head_bytes status_line field_line own_line phrase digits filing_text lines_text published_text moved_text agent_text register_text refusal_text escape_byte refusal_name refusal_word file_fault_word fault_word field_word type_word status_word state_word day_text year_at month_at calendar reader
 replier = tt
 
 to_alder : to (codes "alder")
@@ -193,6 +193,45 @@ to_birch_again : received (codes "birch") start again (sent_by own [] start agai
 unfolding replier
 to_birch_again = refl
 
+-- ---- a token that is renewed
+
+abbrev renewal : Spelled
+renewal = registrar (ask.Renew (codes "birch") (codes "birch-token-000002"))
+
+-- the renewal is sent again; birch asks by its old token, and then by the new one; a draft isn't counted
+abbrev renewed : List Spelled
+renewed =
+    lodging
+    ∷ renewal
+    ∷ renewal
+    ∷ lodging
+    ∷ by (codes "birch-token-000002") (ask.Lodge (codes "f1") tomorrow file)
+    ∷ registrar ask.Register
+    ∷ registrar (ask.Day tomorrow)
+    ∷ registrar ask.Register
+    ∷ []
+
+sent_renewed : sent_by own [] start renewed
+    ≡ codes "HTTP/1.1 201 Created\r\nContent-Type: application/json\r\nContent-Length: 47\r\nConnection: close\r\n\r\n{\"due\":\"2024-02-02\",\"filing\":1,\"state\":\"draft\"}"
+    ∷ codes "HTTP/1.1 200 OK\r\nContent-Type: application/json\r\nContent-Length: 17\r\nConnection: close\r\n\r\n{\"agent\":\"birch\"}"
+    ∷ codes "HTTP/1.1 200 OK\r\nContent-Type: application/json\r\nContent-Length: 17\r\nConnection: close\r\n\r\n{\"agent\":\"birch\"}"
+    ∷ codes "HTTP/1.1 401 Unauthorized\r\nContent-Type: application/json\r\nContent-Length: 21\r\nWWW-Authenticate: Bearer\r\nConnection: close\r\n\r\n{\"refusal\":\"NoAgent\"}"
+    ∷ codes "HTTP/1.1 200 OK\r\nContent-Type: application/json\r\nContent-Length: 47\r\nConnection: close\r\n\r\n{\"due\":\"2024-02-02\",\"filing\":1,\"state\":\"draft\"}"
+    ∷ codes "HTTP/1.1 200 OK\r\nContent-Type: application/json\r\nContent-Length: 95\r\nConnection: close\r\n\r\n{\"agents\":[{\"agent\":\"alder\",\"published\":0},{\"agent\":\"birch\",\"published\":0}],\"day\":\"2024-02-01\"}"
+    ∷ codes "HTTP/1.1 200 OK\r\nContent-Type: application/json\r\nContent-Length: 20\r\nConnection: close\r\n\r\n{\"day\":\"2024-02-02\"}"
+    ∷ codes "HTTP/1.1 200 OK\r\nContent-Type: application/json\r\nContent-Length: 95\r\nConnection: close\r\n\r\n{\"agents\":[{\"agent\":\"alder\",\"published\":0},{\"agent\":\"birch\",\"published\":1}],\"day\":\"2024-02-02\"}"
+    ∷ []
+unfolding replier
+sent_renewed = refl
+
+-- by both tokens it is birch that asks, and not by the old one once it is renewed
+to_birch_renewed : received (codes "birch") start renewed (sent_by own [] start renewed)
+    ≡ codes "HTTP/1.1 201 Created\r\nContent-Type: application/json\r\nContent-Length: 47\r\nConnection: close\r\n\r\n{\"due\":\"2024-02-02\",\"filing\":1,\"state\":\"draft\"}"
+    ∷ codes "HTTP/1.1 200 OK\r\nContent-Type: application/json\r\nContent-Length: 47\r\nConnection: close\r\n\r\n{\"due\":\"2024-02-02\",\"filing\":1,\"state\":\"draft\"}"
+    ∷ []
+unfolding replier
+to_birch_renewed = refl
+
 -- ---- the order of refusals
 
 -- a file with no statements, due before the register's day: both refusals hold, and the first is said
@@ -203,6 +242,14 @@ two_refusals = refl
 -- an agent asks for what is the registrar's, and the day goes back: the second isn't looked at for an agent
 one_refusal : register_refusals (two_agents tomorrow) (Some (Agent (codes "alder"))) (ask.Day today) ≡ refuse.NotRegistrar ∷ []
 one_refusal = refl
+
+-- a renewal for nobody, by the registrar's own token: both hold
+no_renewal : register_refusals start (Some Registrar) (ask.Renew (codes "cedar") (codes "registrar-token-0001")) ≡ refuse.NoSuchAgent ∷ refuse.TokenTaken ∷ []
+no_renewal = refl
+
+-- an agent's own token is no other's
+own_token : register_refusals start (Some Registrar) (ask.Renew (codes "birch") (codes "birch-token-000001")) ≡ []
+own_token = refl
 
 -- ---- the replies are those of the run
 

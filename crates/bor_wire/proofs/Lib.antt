@@ -11,6 +11,7 @@ pub mod EvidenceBytes
 pub mod HistoryLaws
 pub mod NobodyLaws
 pub mod SequenceLaws
+pub mod TokenLaws
 pub mod TurnLaws
 pub mod StopLaws
 pub mod HistoryExamples

@@ -37,6 +37,8 @@ refusal_tells_none (tell.Evidence entity date told) h = refl
 refusal_tells_none (tell.Entities identifier date told) h = refl
 refusal_tells_none (tell.Day day) h = absurd (omega arith)
 refusal_tells_none (tell.Enrolled name) h = absurd (omega arith)
+refusal_tells_none (tell.Renewed name) h = absurd (omega arith)
+refusal_tells_none (tell.Register agents day) h = refl
 refusal_tells_none (tell.Refused why) h = refl
 refusal_tells_none (tell.Failed fault) h = refl
 

@@ -1,18 +1,18 @@
 -- A lodging that was told stands under its key, with its number, its due day and its file, whatever is asked after it.
-use Rattle.std.proofs.Common.{◌≡◌, ◌≢◌, ◌⊎◌, inl, inr, ℕ, ℤ, List, [], ◌∷◌, ◌++◌, Bool, true, false, ◌==◌, ◌&&◌, Option, Some, None, option_map, Result, Ok, Err, refl, sym, ap, subst, ◌∙◌, arith}
-use Rattle.std.specs.Prelude.{if◌then◌else◌, int_lt, int_le, is_some}
+use Rattle.std.proofs.Common.{◌≡◌, ◌≢◌, ◌⊎◌, inl, inr, ℕ, ℤ, List, [], ◌∷◌, ◌++◌, Bool, true, false, ◌==◌, ◌&&◌, Option, Some, None, Result, Ok, Err, refl, sym, ap, subst, ◌∙◌, arith}
+use Rattle.std.specs.Prelude.{if◌then◌else◌, int_le}
 use Rattle.std.specs.Ordering.{int_eq}
 use Rattle.std.proofs.lemmas.Bool.Decides.{Decides-int_eq}
 use Rattle.bor_terms.specs.Texts.{is_same}
 use Rattle.bor_terms.proofs.Texts.{same_is, same_refl, is_same-of}
 use Rattle.bor_register.specs.declared.caller.Caller.{Caller}
 use Rattle.bor_register.specs.declared.caller.Caller.TheVariants.{Registrar, Agent}
-use Rattle.bor_register.specs.declared.member.Member.{Member}
 use Rattle.bor_register.specs.declared.filing.AcceptedFiling.{AcceptedFiling}
-use Rattle.bor_register.specs.Register.{Register, agent_with, caller_of, is_enrolled, is_taken, filings_of, filing_keyed, new_member, with_filings, with_member}
+use Rattle.bor_register.specs.Register.{Register, caller_of, is_enrolled, filings_of, filing_keyed}
 use Rattle.bor_register.specs.Live.{accepted}
 use Rattle.bor_register.specs.Withdrawal.{has_successor, as_withdrawn, with_withdrawn}
-use Rattle.bor_register.proofs.Callers.{caller_is_enrolled, taken-caller}
+use Rattle.bor_register.proofs.Callers.{caller_is_enrolled}
+use Rattle.bor_register.proofs.Members.{filings_written}
 use Rattle.bor_desk.specs.declared.operations.fault.LodgeFault.{LodgeFault}
 use Rattle.bor_desk.specs.declared.operations.fault.LodgeFault.TheVariants as lodges
 use Rattle.bor_desk.specs.declared.operations.lodging.Lodged.{Lodged}
@@ -24,11 +24,11 @@ use Rattle.bor_desk.specs.declared.reply.DeskReply.TheVariants as tell
 use Rattle.bor_desk.specs.Operations.Sight.{Sight, sight_of}
 use Rattle.bor_desk.specs.Operations.Lodging.{told_of, told_added, addition, repeated, lodging_at, own_added, own_lodged_at}
 use Rattle.bor_desk.specs.Operations.Withdrawing.{own_withdrawn_at}
-use Rattle.bor_desk.specs.Operations.Registrar.{advance_step, enrol_step}
 use Rattle.bor_desk.specs.Refusals.{of_lodging}
+use Rattle.bor_desk.specs.Laws.{is_agent}
 use Rattle.bor_desk.specs.Outcomes.{IsTold}
 use Rattle.bor_desk.specs.Runs.{Asked}
-use Rattle.bor_desk.specs.Step.{Answer, exactly, told, own_after, agent_answer, agent_step, registrar_step, step}
+use Rattle.bor_desk.specs.Step.{Answer, exactly, told, own_after, agent_answer, agent_step, step}
 use Rattle.bor_desk.proofs.Isolation.{own_filings}
 use Rattle.bor_desk.proofs.OnOperations.Lodgings.{addition_is}
 use Rattle.bor_desk.proofs.Unchanged.{left_by_agent}
@@ -39,7 +39,8 @@ use Rattle.bor_wire.specs.Inputs.{IsSaid, IsReplyTo, after}
 use Rattle.bor_wire.specs.Refused.{HasStatus}
 use Rattle.bor_wire.specs.Runs.{register_left}
 use Rattle.bor_wire.proofs.RefusalLaws.{line_first}
-use Rattle.bor_wire.specs.Repeats.{IsLodged, IsRepliedAgain, IsToldAgain, IsReused, RepeatsActOnce, told_again}
+use Rattle.bor_wire.proofs.TokenLaws.{kept_by, renewed_again}
+use Rattle.bor_wire.specs.Repeats.{AreOneAgents, IsLodged, IsRepliedAgain, IsToldAgain, IsReused, RepeatsActOnce, told_again}
 
 -- ---- an agent's filings
 
@@ -115,97 +116,43 @@ keyed-after s (ask.Evidence entity date) number due key file k = k
 keyed-after s (ask.Entities identifier date) number due key file k = k
 keyed-after s (ask.Day date) number due key file k = k
 keyed-after s (ask.Enrol name token) number due key file k = k
-
--- ---- who has the token
-
-agent_with-filings : (token name : List ℕ) (fs : List AcceptedFiling) (ms : List Member) → agent_with token (with_filings name fs ms) ≡ agent_with token ms
-agent_with-filings token name fs [] = refl
-agent_with-filings token name fs (m ∷ ms) = grind (arith, agent_with-filings token name fs ms)
-
-agent_with-member : (token : List ℕ) (new : Member) (ms : List Member) → is_same new.token token ≡ false → agent_with token (with_member new ms) ≡ agent_with token ms
-agent_with-member token new [] other = rw other refl
-agent_with-member token new (m ∷ ms) other = grind (arith, agent_with-member token new ms other)
-
--- the caller, by who among the members has the token
-abbrev caller_by : Register → List ℕ → Option (List ℕ) → Option Caller
-caller_by q token agent = if is_same q.registrar token then Some Registrar else option_map Agent agent
-
-caller-agent : (q : Register) (token asking : List ℕ) (request : Request) → caller_of token (agent_step q asking request).register ≡ caller_of token q
-caller-agent q token asking request = ap (caller_by q token) (agent_with-filings token asking (own_after (sight_of asking q) request) q.members)
-
--- a token that somebody has is none of a new agent's
-not_taken : (q : Register) (token new : List ℕ) (caller : Caller) → caller_of token q ≡ Some caller → is_taken new q ≡ false → is_same new token ≡ false
-not_taken q token new caller is free = by_test (is_same new token) refl
-  where
-    by_test : (b : Bool) → is_same new token ≡ b → b ≡ false
-    by_test true same = absurd (let has = taken-caller token q ∙ ap is_some is in let other = ap (λ t. is_taken t q) (same_is new token same) in cc)
-    by_test false other = refl
-
-caller-enrolled : (q : Register) (token name new : List ℕ) (caller : Caller) (b c : Bool) → is_enrolled name q.members ≡ b → is_taken new q ≡ c → caller_of token q ≡ Some caller → caller_of token (enrol_step q name new).register ≡ Some caller
-caller-enrolled q token name new caller true c e f is = rw e is
-caller-enrolled q token name new caller false true e f is = rw (e, f) is
-caller-enrolled q token name new caller false false e f is =
-    rw (e, f) (ap (caller_by q token) (agent_with-member token (new_member name new) q.members (not_taken q token new caller is f)) ∙ is)
-
-caller-advanced : (q : Register) (token : List ℕ) (caller : Caller) (date : ℤ) (b : Bool) → int_lt date q.day ≡ b → caller_of token q ≡ Some caller → caller_of token (advance_step q date).register ≡ Some caller
-caller-advanced q token caller date true e is = rw e is
-caller-advanced q token caller date false e is = rw e is
-
-caller-registrar : (q : Register) (token : List ℕ) (caller : Caller) (request : Request) → caller_of token q ≡ Some caller → caller_of token (registrar_step q request).register ≡ Some caller
-caller-registrar q token caller (ask.Day date) is = caller-advanced q token caller date (int_lt date q.day) refl is
-caller-registrar q token caller (ask.Enrol name new) is = caller-enrolled q token name new caller (is_enrolled name q.members) (is_taken new q) refl refl is
-caller-registrar q token caller (ask.Lodge key due file) is = is
-caller-registrar q token caller (ask.Withdraw key) is = is
-caller-registrar q token caller ask.Filings is = is
-caller-registrar q token caller (ask.File key) is = is
-caller-registrar q token caller ask.Published is = is
-caller-registrar q token caller (ask.Snapshot agent declaration date) is = is
-caller-registrar q token caller (ask.Chains entity date) is = is
-caller-registrar q token caller (ask.Evidence entity date) is = is
-caller-registrar q token caller (ask.Entities identifier date) is = is
+keyed-after s (ask.Renew name token) number due key file k = k
+keyed-after s ask.Register number due key file k = k
 
 -- ---- the filing stands
 
--- the agent has the token, and its filing stands under the key
-record Stands (token name : List ℕ) (number : ℕ) (due : ℤ) (key file : List ℕ) (q : Register) : Type 0 where
-  caller : caller_of token q ≡ Some (Agent name)
-  keyed : Keyed number due key file (filings_of name q.members)
+-- the agent's filing stands under the key
+abbrev Stands : List ℕ → ℕ → ℤ → List ℕ → List ℕ → Register → Type 0
+Stands name number due key file q = Keyed number due key file (filings_of name q.members)
 
-filings-with_filings : (name : List ℕ) (fs : List AcceptedFiling) (ms : List Member) → is_enrolled name ms ≡ true → filings_of name (with_filings name fs ms) ≡ fs
-filings-with_filings name fs [] h = absurd cc
-filings-with_filings name fs (m ∷ ms) h = grind (arith, filings-with_filings name fs ms)
+stands-own : (name : List ℕ) (number : ℕ) (due : ℤ) (key file : List ℕ) (q : Register) (request : Request) → is_enrolled name q.members ≡ true → Stands name number due key file q
+    → Stands name number due key file (agent_step q name request).register
+stands-own name number due key file q request on h =
+    subst (Keyed number due key file) (sym (filings_written name (own_after (sight_of name q) request) q.members on)) (keyed-after (sight_of name q) request number due key file h)
 
--- whoever asks
-stands-others : (token name : List ℕ) (number : ℕ) (due : ℤ) (key file : List ℕ) (q after : Register) → filings_of name after.members ≡ filings_of name q.members → caller_of token after ≡ Some (Agent name)
-    → Stands token name number due key file q → Stands token name number due key file after
-stands-others token name number due key file q after same caller h = record { caller = caller; keyed = subst (Keyed number due key file) (sym same) h.keyed }
+stands-others : (name : List ℕ) (number : ℕ) (due : ℤ) (key file : List ℕ) (q : Register) (caller : Option Caller) (request : Request) → is_agent name caller ≡ false → Stands name number due key file q
+    → Stands name number due key file (step q caller request).register
+stands-others name number due key file q caller request other h = subst (Keyed number due key file) (sym (own_filings.by_others q caller request name other)) h
 
-stands-own : (token name : List ℕ) (number : ℕ) (due : ℤ) (key file : List ℕ) (q : Register) (request : Request) → Stands token name number due key file q → Stands token name number due key file (agent_step q name request).register
-stands-own token name number due key file q request h = record {
-  caller = caller-agent q token name request ∙ h.caller;
-  keyed =
-      subst (Keyed number due key file) (sym (filings-with_filings name (own_after (sight_of name q) request) q.members (caller_is_enrolled q token name h.caller)))
-      (keyed-after (sight_of name q) request number due key file h.keyed);
-}
+stands-agent : (name : List ℕ) (number : ℕ) (due : ℤ) (key file : List ℕ) (q : Register) (asking : List ℕ) (request : Request) (b : Bool) → is_same asking name ≡ b → is_enrolled asking q.members ≡ true
+    → Stands name number due key file q → Stands name number due key file (agent_step q asking request).register
+stands-agent name number due key file q asking request true same on h =
+    let is : asking ≡ name = same_is asking name same in
+    subst (λ n. Stands name number due key file (agent_step q n request).register) (sym is) (stands-own name number due key file q request (ap (λ n. is_enrolled n q.members) (sym is) ∙ on) h)
+stands-agent name number due key file q asking request false other on h = stands-others name number due key file q (Some (Agent asking)) request other h
 
-stands-agent : (token name : List ℕ) (number : ℕ) (due : ℤ) (key file : List ℕ) (q : Register) (asking : List ℕ) (request : Request) (b : Bool) → is_same asking name ≡ b
-    → Stands token name number due key file q → Stands token name number due key file (agent_step q asking request).register
-stands-agent token name number due key file q asking request true same h =
-    subst (λ n. Stands token name number due key file (agent_step q n request).register) (sym (same_is asking name same)) (stands-own token name number due key file q request h)
-stands-agent token name number due key file q asking request false other h =
-    stands-others token name number due key file q (agent_step q asking request).register (own_filings.by_others q (Some (Agent asking)) request name other) (caller-agent q token asking request ∙ h.caller) h
+stands-step : (name : List ℕ) (number : ℕ) (due : ℤ) (key file : List ℕ) (q : Register) (token : List ℕ) (caller : Option Caller) (request : Request) → caller_of token q ≡ caller → Stands name number due key file q
+    → Stands name number due key file (step q caller request).register
+stands-step name number due key file q token None request is h = h
+stands-step name number due key file q token (Some Registrar) request is h = stands-others name number due key file q (Some Registrar) request refl h
+stands-step name number due key file q token (Some (Agent asking)) request is h =
+    stands-agent name number due key file q asking request (is_same asking name) refl (caller_is_enrolled q token asking is) h
 
-stands-step : (token name : List ℕ) (number : ℕ) (due : ℤ) (key file : List ℕ) (q : Register) (caller : Option Caller) (request : Request) → Stands token name number due key file q → Stands token name number due key file (step q caller request).register
-stands-step token name number due key file q None request h = h
-stands-step token name number due key file q (Some Registrar) request h =
-    stands-others token name number due key file q (registrar_step q request).register (own_filings.by_others q (Some Registrar) request name refl) (caller-registrar q token (Agent name) request h.caller) h
-stands-step token name number due key file q (Some (Agent asking)) request h = stands-agent token name number due key file q asking request (is_same asking name) refl h
-
-stands-left : (token name : List ℕ) (number : ℕ) (due : ℤ) (key file : List ℕ) (q : Register) (ss : List Spelled) → Stands token name number due key file q → Stands token name number due key file (register_left q ss)
-stands-left token name number due key file q [] h = h
-stands-left token name number due key file q (Err why ∷ ss) h = stands-left token name number due key file q ss h
-stands-left token name number due key file q (Ok asked ∷ ss) h =
-    stands-left token name number due key file (step q (caller_of asked.token q) asked.request).register ss (stands-step token name number due key file q (caller_of asked.token q) asked.request h)
+stands-left : (name : List ℕ) (number : ℕ) (due : ℤ) (key file : List ℕ) (q : Register) (ss : List Spelled) → Stands name number due key file q → Stands name number due key file (register_left q ss)
+stands-left name number due key file q [] h = h
+stands-left name number due key file q (Err why ∷ ss) h = stands-left name number due key file q ss h
+stands-left name number due key file q (Ok asked ∷ ss) h =
+    stands-left name number due key file (after q (Ok asked)) ss (stands-step name number due key file q asked.token (caller_of asked.token q) asked.request refl h)
 
 -- ---- the lodging that is told
 
@@ -252,35 +199,30 @@ told_ok (Err fault) lodged h = refused_is fault h
     refused_is (lodges.Record place why) h = absurd cc
     refused_is (lodges.Store why) h = absurd cc
 
--- the agent that lodged, its filing, and the due day that it is told
-record IsFiled (token : List ℕ) (due : ℤ) (key file : List ℕ) (told : Lodged) (q : Register) : Type 0 where
-  name : List ℕ
-  stands : Stands token name told.number due key file q
+-- the filing of the agent that lodged, and the due day that it is told
+record IsFiled (name : List ℕ) (due : ℤ) (key file : List ℕ) (told : Lodged) (q : Register) : Type 0 where
+  stands : Stands name told.number due key file q
   due_is : told.due ≡ due
 
-filed_by : (r : Register) (token key : List ℕ) (due : ℤ) (file : List ℕ) (told : Lodged) (caller : Option Caller) → caller_of token r ≡ caller → IsTold (step r caller (ask.Lodge key due file)).answer (tell.Lodged told)
-    → IsFiled token due key file told (step r caller (ask.Lodge key due file)).register
-filed_by r token key due file told None is h = absurd cc
-filed_by r token key due file told (Some Registrar) is h = absurd cc
-filed_by r token key due file told (Some (Agent name)) is h =
+filed_by : (r : Register) (token name key : List ℕ) (due : ℤ) (file : List ℕ) (told : Lodged) → caller_of token r ≡ Some (Agent name) → IsTold (agent_step r name (ask.Lodge key due file)).answer (tell.Lodged told)
+    → IsFiled name due key file told (agent_step r name (ask.Lodge key due file)).register
+filed_by r token name key due file told is h =
     let s = sight_of name r in
     let own = own_told s key due file told (filing_keyed key s.own) refl (told_ok (lodging_at s key due file (filing_keyed key s.own)) told h) in
     record {
-      name = name;
-      stands = record {
-        caller = caller-agent r token name (ask.Lodge key due file) ∙ is;
-        keyed = subst (Keyed told.number due key file) (sym (filings-with_filings name (own_after s (ask.Lodge key due file)) r.members (caller_is_enrolled r token name is))) own.0;
-      };
+      stands = subst (Keyed told.number due key file) (sym (filings_written name (own_after s (ask.Lodge key due file)) r.members (caller_is_enrolled r token name is))) own.0;
       due_is = own.1;
     }
 
-filed : (r : Register) (asked : Asked) (key : List ℕ) (due : ℤ) (file : List ℕ) (told : Lodged) → IsLodged r asked key due file told → IsFiled asked.token due key file told (after r (Ok asked))
-filed r asked key due file told h =
-    let caller = caller_of asked.token r in
+filed : (r : Register) (asked : Asked) (name key : List ℕ) (due : ℤ) (file : List ℕ) (told : Lodged) → caller_of asked.token r ≡ Some (Agent name) → IsLodged r asked key due file told
+    → IsFiled name due key file told (after r (Ok asked))
+filed r asked name key due file told is h =
     let reply : h.said.0 ≡ tell.Lodged told = let e = h.said.2 in cc in
-    let tells : IsTold (step r caller asked.request).answer (tell.Lodged told) = subst (IsTold (step r caller asked.request).answer) reply h.said.1 in
-    subst (λ request. IsFiled asked.token due key file told (step r caller request).register) (sym h.request)
-    (filed_by r asked.token key due file told caller refl (subst (λ request. IsTold (step r caller request).answer (tell.Lodged told)) h.request tells))
+    let tells : IsTold (step r (caller_of asked.token r) asked.request).answer (tell.Lodged told) = subst (IsTold (step r (caller_of asked.token r) asked.request).answer) reply h.said.1 in
+    let by_name : IsTold (agent_step r name asked.request).answer (tell.Lodged told) = subst (λ c. IsTold (step r c asked.request).answer (tell.Lodged told)) is tells in
+    subst (λ c. IsFiled name due key file told (step r c asked.request).register) (sym is)
+    (subst (λ request. IsFiled name due key file told (agent_step r name request).register) (sym h.request)
+    (filed_by r asked.token name key due file told is (subst (λ request. IsTold (agent_step r name request).answer (tell.Lodged told)) h.request by_name)))
 
 -- ---- the key again
 
@@ -321,38 +263,41 @@ told_again_reply q f lodged = answered (tell.Lodged (told_again q.day f lodged))
 same_body : (q : Register) (f : AcceptedFiling) (lodged : Lodged) (said : Said) → said ≡ told_again_reply q f lodged → told_again q.day f lodged ≡ record lodged { fresh = false } → reply_body said ≡ reply_body (answered (tell.Lodged lodged))
 same_body q f lodged said is same = ap reply_body is ∙ ap (λ l. reply_body (answered (tell.Lodged l))) same
 
-told_again_is : (r : Register) (asked : Asked) (key : List ℕ) (due : ℤ) (file : List ℕ) (lodged : Lodged) (between : List Spelled) → IsLodged r asked key due file lodged
-    → IsToldAgain (register_left (after r (Ok asked)) between) asked key lodged
-told_again_is r asked key due file lodged between h =
+told_again_is : (r : Register) (asked again : Asked) (key : List ℕ) (due : ℤ) (file : List ℕ) (lodged : Lodged) (between : List Spelled) → IsLodged r asked key due file lodged → again.request ≡ asked.request
+    → AreOneAgents r asked.token (register_left (after r (Ok asked)) between) again.token → IsToldAgain (register_left (after r (Ok asked)) between) again key lodged
+told_again_is r asked again key due file lodged between h same one =
     let q : Register = register_left (after r (Ok asked)) between in
-    let first = filed r asked key due file lodged h in
-    let now = stands-left asked.token first.name lodged.number due key file (after r (Ok asked)) between first.stands in
-    let f : AcceptedFiling = now.keyed.filing in
+    let name = one.agent in
+    let request : again.request ≡ ask.Lodge key due file = same ∙ h.request in
+    let first = filed r asked name key due file lodged one.before h in
+    let now : Stands name lodged.number due key file q = stands-left name lodged.number due key file (after r (Ok asked)) between first.stands in
+    let f : AcceptedFiling = now.filing in
     let is : told_of false q.day f ≡ told_again q.day f lodged =
-    ap (λ n. record { number = n; due = f.due; state = (told_of false q.day f).state; fresh = false }) now.keyed.is.number_is
-    ∙ ap (λ d. record { number = lodged.number; due = d; state = (told_of false q.day f).state; fresh = false }) (now.keyed.is.due_is ∙ sym first.due_is) in
-    let says : (said : Said) → IsSaid q (Ok asked) said → said ≡ told_again_reply q f lodged = λ said s.
-    said_there q asked first.name key due file f (tell.Lodged (told_again q.day f lodged)) now.caller h.request now.keyed.found
-    (ap (told tell.Lodged of_lodging) (again_is q.day due file f now.keyed.is.due_is now.keyed.is.file_is) ∙ ap (λ l. exactly (tell.Lodged l)) is) said s in
+    ap (λ n. record { number = n; due = f.due; state = (told_of false q.day f).state; fresh = false }) now.is.number_is
+    ∙ ap (λ d. record { number = lodged.number; due = d; state = (told_of false q.day f).state; fresh = false }) (now.is.due_is ∙ sym first.due_is) in
+    let says : (said : Said) → IsSaid q (Ok again) said → said ≡ told_again_reply q f lodged = λ said s.
+    said_there q again name key due file f (tell.Lodged (told_again q.day f lodged)) one.now request now.found
+    (ap (told tell.Lodged of_lodging) (again_is q.day due file f now.is.due_is now.is.file_is) ∙ ap (λ l. exactly (tell.Lodged l)) is) said s in
     record {
-      agent = first.name;
-      caller = now.caller;
+      agent = name;
+      caller = one.now;
       filing = f;
-      keyed = now.keyed.found;
+      keyed = now.found;
       said = says;
       status = λ said s. ap status_of (says said s);
       body = λ said s state. same_body q f lodged said (says said s) (ap (λ t. record { number = lodged.number; due = lodged.due; state = t; fresh = false }) state);
-      left = left_there q asked first.name key due file f now.caller h.request now.keyed.found;
+      left = left_there q again name key due file f one.now request now.found;
     }
 
 -- the same bytes ask the same
 replied_again : (r : Register) (input : List ℕ) (asked : Asked) (again : Spelled) (key : List ℕ) (due : ℤ) (file : List ℕ) (lodged : Lodged) (between : List Spelled) (bytes : List ℕ) →
-    Spells input (Ok asked) → Spells input again → IsLodged r asked key due file lodged → IsReplyTo (register_left (after r (Ok asked)) between) again bytes →
+    Spells input (Ok asked) → Spells input again → IsLodged r asked key due file lodged → AreOneAgents r asked.token (register_left (after r (Ok asked)) between) asked.token
+    → IsReplyTo (register_left (after r (Ok asked)) between) again bytes →
     IsRepliedAgain (register_left (after r (Ok asked)) between) again bytes lodged
-replied_again r input asked again key due file lodged between bytes spells too h reply =
+replied_again r input asked again key due file lodged between bytes spells too h one reply =
     let q : Register = register_left (after r (Ok asked)) between in
     let same : again ≡ Ok asked = one_spelling input again (Ok asked) too spells in
-    let now = told_again_is r asked key due file lodged between h in
+    let now = told_again_is r asked asked key due file lodged between h refl one in
     let said : IsSaid q (Ok asked) reply.0 = subst (λ s. IsSaid q s reply.0) same reply.1 in
     record {
       filing = now.filing;
@@ -362,18 +307,19 @@ replied_again r input asked again key due file lodged between bytes spells too h
     }
 
 reused_again : (r : Register) (asked another : Asked) (key : List ℕ) (due date : ℤ) (file other : List ℕ) (lodged : Lodged) (between : List Spelled) → IsLodged r asked key due file lodged
-    → another.token ≡ asked.token → another.request ≡ ask.Lodge key date other → (date ≢ due) ⊎ (other ≢ file) → IsReused (register_left (after r (Ok asked)) between) another
-reused_again r asked another key due date file other lodged between h token request differs =
+    → AreOneAgents r asked.token (register_left (after r (Ok asked)) between) another.token → another.request ≡ ask.Lodge key date other → (date ≢ due) ⊎ (other ≢ file)
+    → IsReused (register_left (after r (Ok asked)) between) another
+reused_again r asked another key due date file other lodged between h one request differs =
     let q : Register = register_left (after r (Ok asked)) between in
-    let first = filed r asked key due file lodged h in
-    let now = stands-left asked.token first.name lodged.number due key file (after r (Ok asked)) between first.stands in
-    let f : AcceptedFiling = now.keyed.filing in
-    let caller : caller_of another.token q ≡ Some (Agent first.name) = ap (λ t. caller_of t q) token ∙ now.caller in
+    let name = one.agent in
+    let first = filed r asked name key due file lodged one.before h in
+    let now : Stands name lodged.number due key file q = stands-left name lodged.number due key file (after r (Ok asked)) between first.stands in
+    let f : AcceptedFiling = now.filing in
     record {
-      said = said_there q another first.name key date other f (tell.Refused KeyReused) caller request now.keyed.found
-          (ap (told tell.Lodged of_lodging) (reused_is q.day due date file other f now.keyed.is.due_is now.keyed.is.file_is differs));
-      left = left_there q another first.name key date other f caller request now.keyed.found;
+      said = said_there q another name key date other f (tell.Refused KeyReused) one.now request now.found
+          (ap (told tell.Lodged of_lodging) (reused_is q.day due date file other f now.is.due_is now.is.file_is differs));
+      left = left_there q another name key date other f one.now request now.found;
     }
 
 pub repeats : RepeatsActOnce
-repeats = record { told = told_again_is; replied = replied_again; reused = reused_again }
+repeats = record { told = told_again_is; replied = replied_again; reused = reused_again; kept = kept_by; renewed = renewed_again }

@@ -42,6 +42,8 @@ use Rattle.bor_wire.specs.Inputs.{IsSaid}
 abbrev pub is_registrars : Request → Bool
 is_registrars (ask.Day date) = true
 is_registrars (ask.Enrol name token) = true
+is_registrars (ask.Renew name token) = true
+is_registrars ask.Register = true
 is_registrars request = false
 
 abbrev pub lines_of_caller : Option Caller → Request → List Refusal
@@ -105,11 +107,20 @@ lines_of_agent s (ask.Evidence entity date) =
     (not (is_entity_info (info_of (shown_of (unwrap_or date s.day) s.seen) entity))) refuse.NoEntity
 lines_of_agent s request = []
 
+-- whether whoever has a token is another than this agent
+abbrev pub is_another : List ℕ → Option Caller → Bool
+is_another name None = false
+is_another name (Some Registrar) = true
+is_another name (Some (Agent owner)) = not (is_same owner name)
+
 abbrev pub lines_of_registrar : Register → Request → List Refusal
 lines_of_registrar r (ask.Day date) = line (int_lt date r.day) refuse.DayBack
 lines_of_registrar r (ask.Enrol name token) =
     table (line (is_enrolled name r.members) refuse.NameTaken
     ∷ line (is_taken token r) refuse.TokenTaken ∷ [])
+lines_of_registrar r (ask.Renew name token) =
+    table (line (not (is_enrolled name r.members)) refuse.NoSuchAgent
+    ∷ line (is_another name (caller_of token r)) refuse.TokenTaken ∷ [])
 lines_of_registrar r request = []
 
 -- ---- the whole table

@@ -29,14 +29,14 @@ replies_to_requests (spelled ∷ rest) [] = []
 replies_to_requests (Err why ∷ rest) (bytes ∷ replies) = replies_to_requests rest replies
 replies_to_requests (Ok asked ∷ rest) (bytes ∷ replies) = bytes ∷ replies_to_requests rest replies
 
--- of the replies in a run those to the agent: to requests that have its token, from its enrolment
--- on
+-- of the replies in a run those to the agent: to requests that have the token that it has then,
+-- from its enrolment on
 abbrev pub received : List ℕ → Register → List Spelled → List (List ℕ) → List (List ℕ)
 received name r inputs replies =
     told_to name r (asked_in inputs) (replies_to_requests inputs replies)
 
--- The agent's history in a run: of the inputs the requests that have its token, from its enrolment
--- on, each with the day and what the others had published then.
+-- The agent's history in a run: of the inputs the requests that have the token that it has then,
+-- from its enrolment on, each with the day and what the others had published then.
 abbrev pub history_in : List ℕ → Register → List Spelled → List Occasion
 history_in name r inputs = history name r (asked_in inputs)
 

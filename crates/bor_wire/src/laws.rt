@@ -35,10 +35,13 @@ pub fn exchanges_keep_drafts_invisible<K: Keep>()
     ensures { ExchangesKeepDraftsInvisible K.meaning.shows }
 {}
 
-/// A lodging that is sent again acts once. Whatever came between, the reply has the number and the
-/// due day as before, its filing's state now, and that it isn't new, with status 200, and changes
-/// nothing; so it is for a withdrawn filing too. The key with another due day or another file is
-/// refused, and nothing changes. This holds of every register and run.
+/// A lodging that its agent sends again acts once, with whatever token the agent has by then.
+/// Whatever came between, the reply has the number and the due day as before, its filing's state
+/// now, and that it isn't new, with status 200, and changes nothing; so it is for a withdrawn filing
+/// too. The key with another due day or another file is refused, and nothing changes.
+///
+/// An agent keeps its token until a request to renew it. A renewal that is sent again before the
+/// next one acts once. This holds of every register and run.
 pub fn repeats_act_once()
     ensures { RepeatsActOnce }
 {}

@@ -52,7 +52,8 @@ Commands:
   help      Print this message or the help of the given subcommand(s)
 
 Options:
-  -h, --help  Print help
+  -h, --help     Print help
+  -V, --version  Print version
 
 Without a command, standard input is checked. The pages of the commands:
 "

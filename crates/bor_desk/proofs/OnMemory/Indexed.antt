@@ -55,7 +55,7 @@ key_apart agent k s e = go (is_eq (key_cmp (key_of agent s) k)) refl
 
 -- ---- what holds of each agent's filings
 
-changed : (P : List AcceptedFiling → Type 0) (name agent : List ℕ) (fs : List AcceptedFiling) (ms : List Member) → P (filings_of name ms) → (agent ≡ name → P fs) → P (filings_of name (with_filings agent fs ms))
+pub changed : (P : List AcceptedFiling → Type 0) (name agent : List ℕ) (fs : List AcceptedFiling) (ms : List Member) → P (filings_of name ms) → (agent ≡ name → P fs) → P (filings_of name (with_filings agent fs ms))
 changed P name agent fs ms was now = go (is_enrolled agent ms) refl (is_same agent name) refl
   where
     go : (a : Bool) → is_enrolled agent ms ≡ a → (b : Bool) → is_same agent name ≡ b → P (filings_of name (with_filings agent fs ms))

@@ -168,7 +168,7 @@ not_below a b lt = by_test (is_below b a) refl
     by_test true gt = let round = below_trans a b a lt gt in let no = below_irrefl a in absurd cc
     by_test false gt = refl
 
-above-not_enrolled : (name : List ℕ) (ms : List Member) → AllAbove name ms → is_enrolled name ms ≡ false
+pub above-not_enrolled : (name : List ℕ) (ms : List Member) → AllAbove name ms → is_enrolled name ms ≡ false
 above-not_enrolled name [] h = refl
 above-not_enrolled name (m ∷ ms) h = rw (same_sym m.name name, below_differs name m.name h.0) (above-not_enrolled name ms h.1)
 

@@ -10,6 +10,7 @@ use Rattle.bods_read.specs.declared.statement.Status.{Status}
 use Rattle.bods_read.specs.declared.fault.FileFault.{FileFault}
 use Rattle.bods_read.specs.File.{reading}
 use Rattle.bods_read.specs.Forms.{IsFormedStatement}
+use Rattle.bods_read.proofs.FormsRead.{reading_formed}
 use Rattle.bor_records.specs.Admission.{Live}
 use Rattle.bor_records.specs.Settling.{Refusal, PlacedRefusal, verdict, as_settled, as_live, ahead, settled_then, settled_from, settled}
 use Rattle.bor_register.specs.declared.filing.AcceptedFiling.{AcceptedFiling}
@@ -29,6 +30,7 @@ use Rattle.bor_desk.specs.Operations.Sight.{Sight, sight_of, Outcome}
 use Rattle.bor_desk.specs.Operations.Lodging.{told_settled, settled_reading, filing_of, addition, own_added, own_lodged_at, own_lodged, lodge_step}
 use Rattle.bor_desk.specs.Operations.Withdrawing.{own_withdrawn_at, own_withdrawn, withdraw_step}
 use Rattle.bor_desk.specs.Operations.Registrar.{advance_step, enrol_step}
+use Rattle.bor_desk.proofs.OnOperations.Renewals.{formed-by_renewal}
 use Rattle.bor_desk.specs.Operations.Forms.{StaysFormed}
 
 -- ---- the settled statements of a file
@@ -64,9 +66,8 @@ formed-read live due (Err fault) ss formed h = absurd cc
 
 -- ---- a lodging
 
-formed-addition : (sight : Sight) (key : List ℕ) (due : ℤ) (bytes : List ℕ) → All IsFormedFiling sight.own → is_lodge_key key ≡ true → IsDay due → All (λ b. b < 256) bytes → IfOk (reading bytes) (All IsFormedStatement) →
-    All IsFormedFiling (own_added sight.own (addition sight key due bytes))
-formed-addition sight key due bytes own is_key is_due are_bytes formed =
+formed-addition : (sight : Sight) (key : List ℕ) (due : ℤ) (bytes : List ℕ) → All IsFormedFiling sight.own → is_lodge_key key ≡ true → IsDay due → All (λ b. b < 256) bytes → All IsFormedFiling (own_added sight.own (addition sight key due bytes))
+formed-addition sight key due bytes own is_key is_due are_bytes =
     by_tests (nat_le filings_limit (length sight.own)) (int_lt due sight.day) (settled_reading (live_of sight.own) due (reading bytes)) refl refl
   where
     by_tests : (full past : Bool) (read : Result (List Statement) LodgeFault) → nat_le filings_limit (length sight.own) ≡ full → settled_reading (live_of sight.own) due (reading bytes) ≡ read →
@@ -76,24 +77,22 @@ formed-addition sight key due bytes own is_key is_due are_bytes formed =
     by_tests false false (Err fault) e f = own
     by_tests false false (Ok ss) e f =
         let room = leb-false filings_limit (length sight.own) e in
-        let statements = formed-read (live_of sight.own) due (reading bytes) ss formed f in
+        let statements = formed-read (live_of sight.own) due (reading bytes) ss (reading_formed bytes) f in
         formed-added sight.own (accepted sight.own key due bytes ss) own (formed-accepted sight.own key due bytes ss room is_key is_due are_bytes statements)
 
-formed-lodged : (sight : Sight) (key : List ℕ) (due : ℤ) (bytes : List ℕ) (at : Option AcceptedFiling) → All IsFormedFiling sight.own → is_lodge_key key ≡ true → IsDay due → All (λ b. b < 256) bytes →
-    IfOk (reading bytes) (All IsFormedStatement) → All IsFormedFiling (own_lodged_at sight key due bytes at)
-formed-lodged sight key due bytes (Some f) own is_key is_due are_bytes formed = own
-formed-lodged sight key due bytes None own is_key is_due are_bytes formed = formed-addition sight key due bytes own is_key is_due are_bytes formed
+formed-lodged : (sight : Sight) (key : List ℕ) (due : ℤ) (bytes : List ℕ) (at : Option AcceptedFiling) → All IsFormedFiling sight.own → is_lodge_key key ≡ true → IsDay due → All (λ b. b < 256) bytes → All IsFormedFiling (own_lodged_at sight key due bytes at)
+formed-lodged sight key due bytes (Some f) own is_key is_due are_bytes = own
+formed-lodged sight key due bytes None own is_key is_due are_bytes = formed-addition sight key due bytes own is_key is_due are_bytes
 
 -- a register once an agent's filings are these
 formed-own : (r : Register) (name : List ℕ) (fs : List AcceptedFiling) → IsFormed r → All IsFormedFiling fs → IsFormed (record r { members = with_filings name fs r.members })
 formed-own r name fs h own = record { day = h.day; registrar = h.registrar; members = formed-with_filings name fs r.members own h.members }
 
-formed-by_lodging : (r : Register) (name key : List ℕ) (due : ℤ) (bytes : List ℕ) → IsFormed r → is_lodge_key key ≡ true → IsDay due → All (λ b. b < 256) bytes → IfOk (reading bytes) (All IsFormedStatement) →
-    IsFormed (lodge_step r name key due bytes).register
-formed-by_lodging r name key due bytes h is_key is_due are_bytes formed =
+formed-by_lodging : (r : Register) (name key : List ℕ) (due : ℤ) (bytes : List ℕ) → IsFormed r → is_lodge_key key ≡ true → IsDay due → All (λ b. b < 256) bytes → IsFormed (lodge_step r name key due bytes).register
+formed-by_lodging r name key due bytes h is_key is_due are_bytes =
     let sight = sight_of name r in
     formed-own r name (own_lodged sight key due bytes) h
-    (formed-lodged sight key due bytes (filing_keyed key sight.own) (formed-filings_of name r.members h.members) is_key is_due are_bytes formed)
+    (formed-lodged sight key due bytes (filing_keyed key sight.own) (formed-filings_of name r.members h.members) is_key is_due are_bytes)
 
 -- ---- a withdrawal
 
@@ -139,4 +138,5 @@ stays_formed = record {
   by_withdrawal = formed-by_withdrawal;
   by_advance = formed-by_advance;
   by_enrolment = formed-by_enrolment;
+  by_renewal = formed-by_renewal;
 }

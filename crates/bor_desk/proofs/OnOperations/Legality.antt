@@ -6,17 +6,18 @@ use Rattle.std.proofs.lemmas.List.{append-nil}
 use Rattle.std.proofs.lemmas.List.Elements.{Contains-append_left, Contains-append_right, Contains-append_cases}
 use Rattle.std.proofs.lemmas.Bool.{leb-false, or_parts}
 use Rattle.std.proofs.lemmas.Grind.{common_steps}
-use Rattle.bor_terms.proofs.Texts.{same_is, same_sym}
+use Rattle.bor_terms.proofs.Texts.{same_sym}
 use Rattle.bor_records.specs.Admission.{Live}
 use Rattle.bor_records.specs.Settling.{as_live}
 use Rattle.bods_read.specs.declared.statement.Statement.{Statement}
 use Rattle.bods_read.specs.File.{reading}
 use Rattle.bor_register.specs.declared.member.Member.{Member}
 use Rattle.bor_register.specs.declared.filing.AcceptedFiling.{AcceptedFiling}
-use Rattle.bor_register.specs.Register.{Register, is_enrolled, filings_of, filing_keyed, new_member, with_member, with_filings, is_agents_token, is_taken, AllAbove, IsOrdered, empty_register}
+use Rattle.bor_register.specs.Register.{Register, is_enrolled, filings_of, filing_keyed, new_member, with_member, with_filings, is_agents_token, is_taken, empty_register}
 use Rattle.bor_register.specs.Live.{live_of, accepted}
 use Rattle.bor_register.specs.Withdrawal.{has_successor, with_withdrawn}
-use Rattle.bor_register.proofs.Names.{ordered-with_member}
+use Rattle.bor_register.proofs.Members.{other_filings}
+use Rattle.bor_register.proofs.Names.{ordered-with_filings, ordered-with_member}
 use Rattle.bor_desk.specs.declared.operations.fault.LodgeFault.{LodgeFault}
 use Rattle.bor_desk.specs.declared.operations.fault.LodgeFault.TheVariants.{FilingsFull, DuePast}
 use Rattle.bor_desk.specs.declared.operations.fault.AdvanceFault.{AdvanceFault}
@@ -34,10 +35,6 @@ use Rattle.bor_desk.proofs.OnOperations.Withdrawals.{withdrawn-legal}
 
 -- ---- another agent's filings
 
-pub other-with_filings : (name other : List ℕ) (fs : List AcceptedFiling) (ms : List Member) → is_same name other ≡ false → filings_of other (with_filings name fs ms) ≡ filings_of other ms
-other-with_filings name other fs [] h = refl
-other-with_filings name other fs (m ∷ ms) h = grind (arith, other-with_filings name other fs ms h, same_is m.name name)
-
 agents-with_filings : (name : List ℕ) (fs : List AcceptedFiling) (ms : List Member) → agents_of (with_filings name fs ms) ≡ agents_of ms
 agents-with_filings name fs [] = refl
 agents-with_filings name fs (m ∷ ms) =
@@ -48,7 +45,7 @@ leaves-with_filings r name fs = record {
   day = refl;
   registrar = refl;
   agents = agents-with_filings name fs r.members;
-  filings = λ other h. other-with_filings name other fs r.members h;
+  filings = λ other h. other_filings name other fs r.members h;
 }
 
 pub lodging-leaves_others : (r : Register) (name key : List ℕ) (due : ℤ) (bytes : List ℕ) → LeavesOthers name r (lodge_step r name key due bytes).register
@@ -89,19 +86,6 @@ pub enrolment-keeps_agents : (r : Register) (name token : List ℕ) → KeepsAge
 enrolment-keeps_agents r name token = enrol-keeps r name token _ _ refl refl
 
 -- ---- names and tokens
-
-above-with_filings : (low name : List ℕ) (fs : List AcceptedFiling) (ms : List Member) → AllAbove low ms → AllAbove low (with_filings name fs ms)
-above-with_filings low name fs [] h = tt
-above-with_filings low name fs (m ∷ ms) h =
-    elim (is_same m.name name) as (λ b. AllAbove low (if b then record m { filings = fs } ∷ ms else m ∷ with_filings name fs ms)) [ true ↦ h | false ↦ (h.0, above-with_filings low name fs ms h.1) ]
-
-ordered-with_filings : (name : List ℕ) (fs : List AcceptedFiling) (ms : List Member) → IsOrdered ms → IsOrdered (with_filings name fs ms)
-ordered-with_filings name fs [] h = tt
-ordered-with_filings name fs (m ∷ ms) h =
-    elim (is_same m.name name) as (λ b. IsOrdered (if b then record m { filings = fs } ∷ ms else m ∷ with_filings name fs ms)) [
-      | true ↦ h
-      | false ↦ (above-with_filings m.name name fs ms h.0, ordered-with_filings name fs ms h.1)
-    ]
 
 token-with_filings : (token name : List ℕ) (fs : List AcceptedFiling) (ms : List Member) → is_agents_token token (with_filings name fs ms) ≡ is_agents_token token ms
 token-with_filings token name fs [] = refl

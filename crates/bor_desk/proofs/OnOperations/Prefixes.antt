@@ -19,11 +19,11 @@ use Rattle.bor_records.specs.Admission.{Live, is_of, last_of, known_of, has_last
 use Rattle.bor_records.specs.Settling.{Refusal, PlacedRefusal, statement_twice, has_id, verdict, as_settled, as_live, ahead, settled_then, settled_from, settled}
 use Rattle.bor_records.proofs.Settled.{last_of-append, has_id-append, of_rules, verdict_is}
 use Rattle.bor_register.specs.declared.filing.AcceptedFiling.{AcceptedFiling}
-use Rattle.bor_register.specs.Register.{Register, filings_of}
+use Rattle.bor_register.specs.Register.{filings_of}
 use Rattle.bor_register.specs.Publication.{is_published}
 use Rattle.bor_register.specs.Live.{live_of}
 use Rattle.bor_desk.specs.Operations.Lodging.{told_settled, settled_reading}
-use Rattle.bor_desk.specs.Operations.Legality.{IsReadFromFile, AreRead, IsLegal}
+use Rattle.bor_desk.specs.Operations.Legality.{IsReadFromFile, AreRead}
 use Rattle.bor_desk.specs.Operations.Laws.{live_series, IsPrefix, PublishedPrefix}
 use Rattle.bor_desk.proofs.OnOperations.Legality.{own_legal}
 
@@ -232,12 +232,15 @@ published_from day live kept (f ∷ fs) w h = by_tests f.withdrawn (int_le f.due
         let later = again (kept ++ here) both.1 in
         ((subst (λ b. IsReadFromFile b kept f) (sym e) both.0, later.0), rw (append_assoc live here (live_of fs), append_assoc kept here (live_of rest)) at later.1)
 
+-- of filings that are read, those published by a day are read by themselves, and are the front of each record
+pub published_read : (day : ℤ) (fs : List AcceptedFiling) → AreRead [] fs → AreRead [] (filter (is_published day) fs)
+published_read day fs read = (published_from day [] [] fs (none_front day) read).0
+
+pub front_by : (day : ℤ) (fs : List AcceptedFiling) (declaration rec : List ℕ) → AreRead [] fs → IsPrefix (live_series declaration rec (live_of (filter (is_published day) fs))) (live_series declaration rec (live_of fs))
+front_by day fs declaration rec read = (published_from day [] [] fs (none_front day) read).1.front declaration rec
+
 pub published_is_front : PublishedPrefix
 published_is_front = record {
-  of_each_record = λ r name declaration rec legal. (both r name legal).1.front declaration rec;
-  by_themselves = λ r name legal. (both r name legal).0;
+  of_each_record = λ r name declaration rec legal. front_by r.day (filings_of name r.members) declaration rec (own_legal name r.members legal.own).read;
+  by_themselves = λ r name legal. published_read r.day (filings_of name r.members) (own_legal name r.members legal.own).read;
 }
-  where
-    both : (r : Register) (name : List ℕ) → IsLegal r →
-        let own = filings_of name r.members in AreRead [] (filter (is_published r.day) own) × IsFront r.day (live_of own) (live_of (filter (is_published r.day) own))
-    both r name legal = published_from r.day [] [] (filings_of name r.members) (none_front r.day) (own_legal name r.members legal.own).read

@@ -18,12 +18,13 @@ use Rattle.bor_desk.specs.declared.operations.fault.LodgeFault.{LodgeFault}
 use Rattle.bor_desk.specs.declared.operations.fault.WithdrawFault.{WithdrawFault}
 use Rattle.bor_desk.specs.declared.operations.fault.AdvanceFault.{AdvanceFault}
 use Rattle.bor_desk.specs.declared.operations.fault.EnrolFault.{EnrolFault}
+use Rattle.bor_desk.specs.declared.operations.fault.RenewFault.{RenewFault}
 use Rattle.bor_desk.specs.declared.operations.lodging.Lodged.{Lodged}
 use Rattle.bor_desk.specs.Operations.Sight.{seen_by, sight_of}
 use Rattle.bor_desk.specs.Operations.Solo.{alone}
 use Rattle.bor_desk.specs.Operations.Lodging.{settled_reading, lodge_step}
 use Rattle.bor_desk.specs.Operations.Withdrawing.{withdraw_step}
-use Rattle.bor_desk.specs.Operations.Registrar.{advance_step, enrol_step}
+use Rattle.bor_desk.specs.Operations.Registrar.{advance_step, enrol_step, renew_step}
 use Rattle.bor_desk.specs.Operations.Legality.{AreRead, IsLegal}
 
 -- the agents' names, each with its token
@@ -44,8 +45,21 @@ pub record KeepsAgents (old new : Register) : Type 0 where
   pub registrar : new.registrar ≡ old.registrar
   pub agents : (m : Member) → Contains old.members m → Contains new.members m
 
+-- the agents' names, each with its filings
+abbrev pub filings_by_name : List Member → List (List ℕ × List AcceptedFiling)
+filings_by_name members = map (λ m. (m.name, m.filings)) members
+
+-- The day, the registrar's token, and each agent with its name and its filings are as they were,
+-- and so is each other agent's token.
+pub record RenewsToken (name : List ℕ) (old new : Register) : Type 0 where
+  pub day : new.day ≡ old.day
+  pub registrar : new.registrar ≡ old.registrar
+  pub filings : filings_by_name new.members ≡ filings_by_name old.members
+  pub others : (m : Member) → is_same m.name name ≡ false → Contains old.members m
+      → Contains new.members m
+
 -- An agent's operation leaves the filings of all others as they were; the registrar's leaves each
--- agent that was there as it was.
+-- agent that was there as it was, but for the token that it renews.
 pub record OwnFilingsUntouched : Type 0 where
   pub by_lodging : (r : Register) (name key : List ℕ) (due : ℤ) (bytes : List ℕ)
       → LeavesOthers name r (lodge_step r name key due bytes).register
@@ -54,6 +68,8 @@ pub record OwnFilingsUntouched : Type 0 where
   pub by_advance : (r : Register) (day : ℤ) → KeepsAgents r (advance_step r day).register
   pub by_enrolment : (r : Register) (name token : List ℕ)
       → KeepsAgents r (enrol_step r name token).register
+  pub by_renewal : (r : Register) (name token : List ℕ)
+      → RenewsToken name r (renew_step r name token).register
 
 -- A refusal leaves the register as it was. So does a lodging that is sent again, and the withdrawal
 -- of a filing that is withdrawn already.
@@ -74,6 +90,8 @@ pub record RefusalChangesNothing : Type 0 where
       → (advance_step r day).answer ≡ Err fault → (advance_step r day).register ≡ r
   pub of_enrolment : (r : Register) (name token : List ℕ) (fault : EnrolFault)
       → (enrol_step r name token).answer ≡ Err fault → (enrol_step r name token).register ≡ r
+  pub of_renewal : (r : Register) (name token : List ℕ) (fault : RenewFault)
+      → (renew_step r name token).answer ≡ Err fault → (renew_step r name token).register ≡ r
 
 -- A new register is legal, and each operation leaves a legal register legal.
 pub record StaysLegal : Type 0 where
@@ -85,6 +103,8 @@ pub record StaysLegal : Type 0 where
   pub by_advance : (r : Register) (day : ℤ) → IsLegal r → IsLegal (advance_step r day).register
   pub by_enrolment : (r : Register) (name token : List ℕ) → IsLegal r
       → IsLegal (enrol_step r name token).register
+  pub by_renewal : (r : Register) (name token : List ℕ) → IsLegal r
+      → IsLegal (renew_step r name token).register
 
 -- the live statements of one record of an agent
 abbrev pub live_series : List ℕ → List ℕ → List Live → List Live

@@ -12,6 +12,8 @@ use Rattle.bor_desk.specs.declared.operations.fault.AdvanceFault.{AdvanceFault}
 use Rattle.bor_desk.specs.declared.operations.fault.AdvanceFault.TheVariants as advances
 use Rattle.bor_desk.specs.declared.operations.fault.EnrolFault.{EnrolFault}
 use Rattle.bor_desk.specs.declared.operations.fault.EnrolFault.TheVariants as enrols
+use Rattle.bor_desk.specs.declared.operations.fault.RenewFault.{RenewFault}
+use Rattle.bor_desk.specs.declared.operations.fault.RenewFault.TheVariants as renews
 use Rattle.bor_desk.specs.Operations.Sight.{Outcome}
 
 -- ---- which faults are the store's
@@ -31,6 +33,10 @@ of_advance refusal = None
 abbrev pub of_enrolment : EnrolFault → Option StoreFault
 of_enrolment (enrols.Store fault) = Some fault
 of_enrolment refusal = None
+
+abbrev pub of_renewal : RenewFault → Option StoreFault
+of_renewal (renews.Store fault) = Some fault
+of_renewal refusal = None
 
 -- ---- the answer, and the register that is left
 

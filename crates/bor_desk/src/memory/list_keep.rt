@@ -10,7 +10,7 @@ ghost use Rattle.bor_records.specs.Links.Series.{open_at};
 ghost use Rattle.bor_records.specs.Links.Shown.{info_of};
 ghost use Rattle.bor_register.specs.declared.filing.AcceptedFiling.{AcceptedFiling};
 ghost use Rattle.bor_desk.specs.Memory.Indexed.{IsIndex};
-ghost use Rattle.bor_desk.specs.Memory.Sighted.{IsIndexed, in_sight, rows_in_sight};
+ghost use Rattle.bor_desk.specs.Memory.Sighted.{IsIndexed, rows_in_sight};
 ghost use Rattle.bor_register.specs.Held.{statement_count};
 ghost use Rattle.bor_register.specs.Limits.{filings_limit};
 ghost use Rattle.bor_register.specs.Live.{live_of};
@@ -23,22 +23,20 @@ ghost use Rattle.bor_terms.specs.Texts.{is_below};
 
 use crate::memory::identified::identified_told;
 use crate::memory::index::{Index, StatementKey, node_named};
-use crate::memory::last_asked::{LastAsked, forget};
 use crate::memory::sames::{aliases_told, same_told};
 use crate::memory::sight::{Sight, links_told, node_told, row_told};
 use crate::memory::standing::{any_stands, last_known};
 use crate::memory::succession;
 use crate::operations::FILINGS_LIMIT;
 use bods_read::{Identifier, Statement};
-use bor_chains::{LinkSource, ListSource};
 use bor_records::links::{Link, Node, NodeInfo};
 use bor_records::{Last, Row};
 use bor_register::keeping::Keep;
 use bor_register::{
-    AcceptedFiling, Caller, Filing, FilingLine, Member, Outward, StoreFault, all_lines,
-    all_published, all_visible, any_live_has_id, caller_with, enrol_member, filing_under,
-    is_enrolled, is_filed, is_succeeded, last_live, line_under, own_filings, push_filing,
-    rows_seen, statement_count, withdraw_of,
+    AcceptedFiling, AgentLine, Caller, Filing, FilingLine, Member, Outward, StoreFault, all_agents,
+    all_lines, all_published, all_visible, any_live_has_id, caller_with, enrol_member,
+    filing_under, is_enrolled, is_filed, is_succeeded, last_live, line_under, own_filings,
+    push_filing, renew_token, rows_seen, statement_count, withdraw_of,
 };
 use bor_terms::{AgentName, Day, Ident, LodgeKey, Token};
 use std::alloc::{AllocError, Global};
@@ -49,11 +47,9 @@ use std::marker::Model;
 ///
 /// Maps beside the filings (`Index`) follow each change, so what is asked of a record is read by
 /// its key, and a report takes what it meets. Where memory is wanting for them while a filing is
-/// added, it isn't added and they are let go: from then on statements are looked for one by one,
-/// and what a viewer sees is listed as nodes and links where a chain first asks for one of them.
-/// These lists are kept until another viewer or day is asked for, or the register changes. The maps
-/// are made again where the row of a record or the aliases of a node are asked for. An addition
-/// that doesn't fit the register is answered as want of memory, too, and changes nothing.
+/// added, it isn't added and they are let go. They are made again where an open record, a node or
+/// links are asked for; until then statements are looked for one by one. An addition that doesn't
+/// fit the register is answered as want of memory, too, and changes nothing.
 #[derive(Drop)]
 pub struct ListKeep {
     alloc: Global,
@@ -61,7 +57,6 @@ pub struct ListKeep {
     registrar: Token,
     members: Vec<Member>,
     index: Option<Index>,
-    last_asked: Option<LastAsked>,
     faults: u64,
 }
 
@@ -70,7 +65,6 @@ impl Model for ListKeep {
     ghost use Rattle.bor_desk.specs.Memory.Holding.{Holding};
     ghost use Rattle.bor_desk.specs.Memory.Indexed.{IsIndex};
     ghost use Rattle.bor_register.specs.Register.{IsOrdered};
-    ghost use Rattle.bor_register.specs.Seen.{seen_at};
 
     ghost Value = { Holding };
 
@@ -79,14 +73,9 @@ impl Model for ListKeep {
       faults = k.faults;
     } };
 
-    // Members stand in the order of their names, and the maps and what was last asked are of the
-    // register as it is.
+    // Members stand in the order of their names, and the maps are of the register as it is.
     ghost invariant = { λ k. IsOrdered k.members.items
-        × IfSome k.index (λ x. IsIndex k.members.items x)
-        × IfSome k.last_asked
-        (λ o. o.source.shown
-        ≡ seen_at o.viewer o.day
-        (record { day = k.day; registrar = k.registrar; members = k.members.items })) };
+        × IfSome k.index (λ x. IsIndex k.members.items x) };
 }
 
 impl ListKeep {
@@ -102,7 +91,6 @@ impl ListKeep {
             registrar,
             members: Vec::new(alloc),
             index: Some(Index::new(alloc)),
-            last_asked: None,
             faults: 0,
         }
     }
@@ -130,7 +118,6 @@ impl ListKeep {
                 registrar,
                 members,
                 index: Some(index),
-                last_asked: None,
                 faults: 0,
             }),
             Err(_) => None,
@@ -142,84 +129,6 @@ impl ListKeep {
         ensures { result ≡ min (statement_count self.now.register.members) usize.MAX }
     {
         statement_count(&self.members)
-    }
-
-    // The nodes and links that the viewer sees on a day. They are taken out, so that they can be
-    // asked.
-    fn take_source(&mut self, viewer: &AgentName, day: Day) -> Result<ListSource, AllocError>
-        ensures kept { self.new ≡ self.old }
-        ensures seen { IfOk result (λ source.
-            source.shown ≡ seen_at viewer.now day self.old.register) }
-    {
-        match self.last_asked.take() {
-            Some(last) if last.is_of(viewer, day) => Ok(last.source),
-            _ => {
-                let rows = all_visible(self.alloc, viewer, self.day, &self.members)?;
-                ListSource::from_rows(self.alloc, &rows, day)
-            }
-        }
-    }
-
-    // Puts them back, where there is memory for the viewer's name.
-    fn put_source(&mut self, viewer: &AgentName, day: Day, source: ListSource)
-        requires { source.shown ≡ seen_at viewer.now day self.old.register }
-        ensures { self.new ≡ self.old }
-    {
-        if let Ok(viewer) = viewer.copy(self.alloc) {
-            self.last_asked = Some(LastAsked {
-                viewer,
-                day,
-                source,
-            });
-        }
-    }
-
-    fn node_listed(
-        &mut self,
-        viewer: &AgentName,
-        day: Day,
-        node: &Node,
-    ) -> Result<Option<NodeInfo>, AllocError>
-        ensures kept { self.new ≡ self.old }
-        ensures told { IfOk result (λ info.
-            info ≡ info_of (seen_at viewer.now day self.old.register) node.now) }
-    {
-        let mut source = self.take_source(viewer, day)?;
-        let told = source.node(node);
-        self.put_source(viewer, day, source);
-        told
-    }
-
-    fn same_listed(
-        &mut self,
-        viewer: &AgentName,
-        day: Day,
-        node: &Node,
-    ) -> Result<Vec<Node>, AllocError>
-        ensures kept { self.new ≡ self.old }
-        ensures told { IfOk result (λ nodes.
-            AreSame (seen_at viewer.now day self.old.register) node.now nodes.items) }
-    {
-        let mut source = self.take_source(viewer, day)?;
-        let told = source.same(node);
-        self.put_source(viewer, day, source);
-        told
-    }
-
-    fn links_listed(
-        &mut self,
-        viewer: &AgentName,
-        day: Day,
-        node: &Node,
-    ) -> Result<Vec<Link>, AllocError>
-        ensures kept { self.new ≡ self.old }
-        ensures told { IfOk result (λ links.
-            AreLinksInto (seen_at viewer.now day self.old.register) node.now links.items) }
-    {
-        let mut source = self.take_source(viewer, day)?;
-        let told = source.links_into(node);
-        self.put_source(viewer, day, source);
-        told
     }
 
     // The part that the viewer sees on a day, by these maps.
@@ -237,17 +146,6 @@ impl ListKeep {
             viewer,
             today: self.day,
             day,
-        }
-    }
-
-    // The part that the viewer sees on a day, where the maps are there.
-    fn sight<'a>(&'a self, viewer: &'a AgentName, day: Day) -> Option<Sight<'a>>
-        ensures { IfSome result (λ sight.
-            IsIndexed sight × (in_sight sight ≡ seen_at viewer.now day self.now.register)) }
-    {
-        match &self.index {
-            Some(index) => Some(self.sight_by(index, viewer, day)),
-            None => None,
         }
     }
 
@@ -329,10 +227,10 @@ impl ListKeep {
         ensures told { IfOk result (λ info.
             info ≡ info_of (seen_at viewer.now day self.old.register) node.now) }
     {
-        if let Some(sight) = self.sight(viewer, day) {
-            return node_told(&sight, node);
-        }
-        self.node_listed(viewer, day, node)
+        let index = self.take_maps()?;
+        let told = node_told(&self.sight_by(&index, viewer, day), node);
+        self.put_maps(index);
+        told
     }
 
     fn same_seen(
@@ -345,10 +243,10 @@ impl ListKeep {
         ensures told { IfOk result (λ nodes.
             AreSame (seen_at viewer.now day self.old.register) node.now nodes.items) }
     {
-        if let Some(sight) = self.sight(viewer, day) {
-            return same_told(&sight, node);
-        }
-        self.same_listed(viewer, day, node)
+        let index = self.take_maps()?;
+        let told = same_told(&self.sight_by(&index, viewer, day), node);
+        self.put_maps(index);
+        told
     }
 
     fn links_seen(
@@ -361,10 +259,10 @@ impl ListKeep {
         ensures told { IfOk result (λ links.
             AreLinksInto (seen_at viewer.now day self.old.register) node.now links.items) }
     {
-        if let Some(sight) = self.sight(viewer, day) {
-            return links_told(&sight, node);
-        }
-        self.links_listed(viewer, day, node)
+        let index = self.take_maps()?;
+        let told = links_told(&self.sight_by(&index, viewer, day), node);
+        self.put_maps(index);
+        told
     }
 
     fn last_of(&self, agent: &AgentName, declaration: &Ident, rec: &Ident) -> Option<Last>
@@ -674,6 +572,11 @@ impl Keep for ListKeep {
         self.told(outwards)
     }
 
+    fn agents(&mut self) -> Result<Vec<AgentLine>, StoreFault> {
+        let lines = all_agents(self.alloc, &self.members, self.day);
+        self.told(lines)
+    }
+
     fn add_filing(
         &mut self,
         agent: &AgentName,
@@ -690,7 +593,6 @@ impl Keep for ListKeep {
         if had_index && index.is_none() {
             return Err(self.want_of_memory());
         }
-        forget(&mut self.last_asked);
         match push_filing(
             self.alloc,
             &mut self.members,
@@ -709,13 +611,11 @@ impl Keep for ListKeep {
     }
 
     fn withdraw(&mut self, agent: &AgentName, number: u32) -> Result<(), StoreFault> {
-        forget(&mut self.last_asked);
         withdraw_of(self.alloc, &mut self.members, agent, number);
         Ok(())
     }
 
     fn set_day(&mut self, day: Day) -> Result<(), StoreFault> {
-        forget(&mut self.last_asked);
         self.day = day;
         Ok(())
     }
@@ -724,8 +624,12 @@ impl Keep for ListKeep {
         if is_enrolled(&self.members, agent) {
             return Err(self.want_of_memory());
         }
-        forget(&mut self.last_asked);
         let made = enrol_member(self.alloc, &mut self.members, agent, token);
+        self.told(made)
+    }
+
+    fn set_token(&mut self, agent: &AgentName, token: &Token) -> Result<(), StoreFault> {
+        let made = renew_token(self.alloc, &mut self.members, agent, token);
         self.told(made)
     }
 

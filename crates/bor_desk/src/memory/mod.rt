@@ -12,12 +12,10 @@
 //!
 //! Maps beside the filings lead from a record, an identifier, a subject or a sign to the statements
 //! that are asked for. Where memory was wanting for the maps, the statements are looked at one by
-//! one, until the row of a record or the aliases of a node are asked for: the maps are made again
-//! then.
+//! one, until an open record, a node or links are asked for: the maps are made again then.
 
 mod identified;
 mod index;
-mod last_asked;
 mod list_keep;
 mod sames;
 mod sight;

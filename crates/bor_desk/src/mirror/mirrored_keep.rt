@@ -2,7 +2,7 @@
 
 ghost use Rattle.std.specs.Prelude.{◌≡◌, ◌≤◌, ◌-◌, ⊤, [], IfSome, IsSome, None, is_some, length, min, option_map};
 ghost use Rattle.bor_records.specs.Promises.{Kept};
-ghost use Rattle.bor_register.specs.Additions.{MayEnrol, MayFile, with_agent, with_filing, with_withdrawal};
+ghost use Rattle.bor_register.specs.Additions.{MayEnrol, MayFile, with_agent, with_filing, with_renewal, with_withdrawal};
 ghost use Rattle.bor_register.specs.Held.{statement_count};
 ghost use Rattle.bor_register.specs.Register.{Register};
 ghost use Rattle.bor_desk.specs.Memory.Holding.{Holding};
@@ -14,7 +14,7 @@ use bods_read::{Identifier, Statement};
 use bor_records::links::{Link, Node, NodeInfo};
 use bor_records::{Last, Row};
 use bor_register::keeping::Keep;
-use bor_register::{Caller, Filing, FilingLine, Outward, StoreFault};
+use bor_register::{AgentLine, Caller, Filing, FilingLine, Outward, StoreFault};
 use bor_terms::{AgentName, Day, Ident, LodgeKey, Token};
 use std::marker::Model;
 
@@ -179,6 +179,17 @@ fn enrolled(mirror: Option<ListKeep>, agent: &AgentName, token: &Token) -> Optio
 {
     let mut mirror = mirror?;
     match mirror.add_agent(agent, token) {
+        Ok(()) => Some(mirror),
+        Err(_) => None,
+    }
+}
+
+// The mirror once the agent has the token; `None` where memory is wanting.
+fn renewed(mirror: Option<ListKeep>, agent: &AgentName, token: &Token) -> Option<ListKeep>
+    ensures { IsFollowed mirror result (λ _. ⊤) (with_renewal agent.now token.now) }
+{
+    let mut mirror = mirror?;
+    match mirror.set_token(agent, token) {
         Ok(()) => Some(mirror),
         Err(_) => None,
     }
@@ -451,6 +462,17 @@ impl<K: MirrorStore + Drop> Keep for MirroredKeep<K> {
         told
     }
 
+    fn agents(&mut self) -> Result<Vec<AgentLine>, StoreFault> {
+        if let Some(mirror) = &mut self.mirror {
+            if let Ok(lines) = mirror.agents() {
+                return Ok(lines);
+            }
+        }
+        let told = self.store.agents();
+        self.is_up = self.is_up && told.is_ok();
+        told
+    }
+
     fn add_filing(
         &mut self,
         agent: &AgentName,
@@ -502,6 +524,19 @@ impl<K: MirrorStore + Drop> Keep for MirroredKeep<K> {
         match self.store.add_agent(agent, token) {
             Ok(()) => {
                 self.mirror = enrolled(self.mirror.take(), agent, token);
+                Ok(())
+            }
+            Err(fault) => {
+                self.is_up = false;
+                Err(fault)
+            }
+        }
+    }
+
+    fn set_token(&mut self, agent: &AgentName, token: &Token) -> Result<(), StoreFault> {
+        match self.store.set_token(agent, token) {
+            Ok(()) => {
+                self.mirror = renewed(self.mirror.take(), agent, token);
                 Ok(())
             }
             Err(fault) => {

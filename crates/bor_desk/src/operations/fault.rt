@@ -6,6 +6,7 @@ ghost use Rattle.bor_desk.specs.declared.operations.fault.LodgeFault.TheVariants
 ghost use Rattle.bor_desk.specs.declared.operations.fault.WithdrawFault.TheVariants as withdraw_faults;
 ghost use Rattle.bor_desk.specs.declared.operations.fault.AdvanceFault.TheVariants as advance_faults;
 ghost use Rattle.bor_desk.specs.declared.operations.fault.EnrolFault.TheVariants as enrol_faults;
+ghost use Rattle.bor_desk.specs.declared.operations.fault.RenewFault.TheVariants as renew_faults;
 
 use bods_read::FileFault;
 use bor_records::RecordFault;
@@ -104,5 +105,25 @@ impl From<StoreFault> for EnrolFault {
 
     fn from(fault: StoreFault) -> Self {
         EnrolFault::Store(fault)
+    }
+}
+
+/// Why an agent's token was not renewed. The register is as before, unless the store shut in its
+/// commit.
+#[derive(Clone, Copy, Debug, PartialEq, Eq)]
+pub enum RenewFault {
+    /// No agent has the name.
+    NoSuchAgent,
+    /// Another agent or the registrar has the token.
+    TokenTaken,
+    /// The keep failed, or memory was wanting.
+    Store(StoreFault),
+}
+
+impl From<StoreFault> for RenewFault {
+    ghost from_gives = { λ fault given. given ≡ renew_faults.Store fault };
+
+    fn from(fault: StoreFault) -> Self {
+        RenewFault::Store(fault)
     }
 }

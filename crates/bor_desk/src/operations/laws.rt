@@ -4,7 +4,8 @@ ghost use Rattle.bor_desk.specs.Operations.Laws.{OwnFilingsUntouched, RefusalCha
 
 /// After a lodging and after a withdrawal every other agent's filings are as they were, and so are
 /// the day, and who has which token. After a new day and an enrolment each agent that was there has
-/// its name, token and filings. This holds of every register.
+/// its name, token and filings; after a renewal all but the one agent's token. This holds of every
+/// register.
 pub fn own_filings_untouched()
     ensures { OwnFilingsUntouched }
 {}

@@ -1,5 +1,5 @@
 //! The operations of a register of filings: lodging and withdrawing by its agents, the day and the
-//! enrolment of agents by its registrar.
+//! agents' enrolment and tokens by its registrar.
 //!
 //! Agents lodge files of statements. A filing is a draft until its due day, seen by its agent
 //! alone, and published from then on; a draft may be withdrawn. Any [`Keep`] keeps a register;
@@ -32,10 +32,10 @@ mod withdrawal;
 pub use crate::memory::ListKeep;
 pub use bor_register::keeping::Keep;
 pub use bor_register::{
-    AcceptedFiling, Caller, Filing, FilingLine, Member, Outward, State, StoreFault,
+    AcceptedFiling, AgentLine, Caller, Filing, FilingLine, Member, Outward, State, StoreFault,
 };
-pub use fault::{AdvanceFault, EnrolFault, LodgeFault, WithdrawFault};
+pub use fault::{AdvanceFault, EnrolFault, LodgeFault, RenewFault, WithdrawFault};
 pub use keep_source::KeepSource;
 pub use lodging::{FILINGS_LIMIT, Lodged, lodge};
-pub use registrar::{advance, enrol};
+pub use registrar::{advance, enrol, renew};
 pub use withdrawal::withdraw;

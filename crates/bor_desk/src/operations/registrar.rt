@@ -1,16 +1,16 @@
-//! The registrar's operations: the day goes on, and agents are enrolled.
+//! The registrar's operations: the day goes on, agents are enrolled, and their tokens renewed.
 
 ghost use Rattle.std.specs.Prelude.{◌≡◌, false};
 ghost use Rattle.bor_register.specs.Register.{Register, is_enrolled, is_taken};
 ghost use Rattle.bor_register.specs.Additions.{with_agent};
 ghost use Rattle.bor_records.specs.Promises.{Changes, Leaves, Promised, Reads, Sure};
-ghost use Rattle.bor_desk.specs.Operations.Registrar.{advance_step, enrol_step};
-ghost use Rattle.bor_desk.specs.Operations.Outcomes.{Accounts, store_fault, of_advance, of_enrolment, IsOutcome};
+ghost use Rattle.bor_desk.specs.Operations.Registrar.{advance_step, enrol_step, renew_step};
+ghost use Rattle.bor_desk.specs.Operations.Outcomes.{Accounts, store_fault, of_advance, of_enrolment, of_renewal, IsOutcome};
 ghost use Rattle.bor_desk.specs.Operations.Legality.{IsLegal};
 
-use crate::operations::fault::{AdvanceFault, EnrolFault};
-use bor_register::StoreFault;
+use crate::operations::fault::{AdvanceFault, EnrolFault, RenewFault};
 use bor_register::keeping::Keep;
+use bor_register::{Caller, StoreFault};
 use bor_terms::{AgentName, Day, Token};
 
 /// Moves the register's day to this one, and hands it back. What is due by then is published.
@@ -75,4 +75,32 @@ pub fn enrol<K: Keep>(keep: &mut K, name: AgentName, token: Token) -> Result<Age
     }
     add_agent(keep, &name, &token)?;
     Ok(name)
+}
+
+/// Gives an agent another token, and hands its name back. From then on its old token is nobody's.
+///
+/// The refusals are, in their order: `NoSuchAgent` where no agent has the name, and `TokenTaken`
+/// where another agent or the registrar has the token. The agent's own token changes nothing, so a
+/// renewal that is sent again acts once. A refusal leaves the register as it was, and so does
+/// `Store`, unless the store shut in its commit; name and token are dropped then.
+pub fn renew<K: Keep>(keep: &mut K, name: AgentName, token: Token) -> Result<AgentName, RenewFault>
+    ensures leaves { Leaves K.meaning keep.old keep.new
+        (λ r left. K.meaning.left_shows left (renew_step r name token).register) }
+    ensures step { Promised K.meaning keep.old keep.new (λ r.
+        IsOutcome of_renewal result (K.meaning.shows keep.new) r (renew_step r name token)) }
+    ensures accounted { Accounts K.meaning keep.old keep.new (store_fault of_renewal result) }
+    ensures legal { Promised K.meaning keep.old keep.new (λ r.
+        IsLegal r → (left : Register) × K.meaning.shows keep.new left × IsLegal left) }
+{
+    if !keep.has_agent(&name)? {
+        return Err(RenewFault::NoSuchAgent);
+    }
+    match keep.who(&token)? {
+        None => {
+            keep.set_token(&name, &token)?;
+            Ok(name)
+        }
+        Some(Caller::Agent(owner)) if owner == name => Ok(name),
+        Some(_) => Err(RenewFault::TokenTaken),
+    }
 }

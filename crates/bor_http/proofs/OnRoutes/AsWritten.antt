@@ -17,7 +17,7 @@ use Rattle.bor_http.specs.Routes.Paths.{IsSegment, IsPath}
 use Rattle.bor_http.specs.Routes.Routers.{router, path_in}
 use Rattle.bor_http.proofs.OnRoutes.Rows.{led, along, along-found, into, past, found, only_end, seek-none}
 use Rattle.bor_http.proofs.OnRoutes.Utf8Bytes.{text_bytes}
-use Rattle.bor_http.proofs.OnRoutes.Keys.{keyed, text_of, filing_found, file_found, FoundBehind, filing_of, file_of, found_behind}
+use Rattle.bor_http.proofs.OnRoutes.Keys.{keyed, text_of, filing_found, file_found, FoundBehind, filing_of, file_of, found_behind, named, agent_found, NamedBehind, named_behind}
 
 -- ---- the router, as rows that begin alike
 
@@ -42,11 +42,17 @@ end path = ([], entry path) ∷ []
 abbrev of_filings : RowsOf (RouteOf Path)
 of_filings = led (codes "/") (keyed (entry paths.File) (entry paths.Filing)) ++ end paths.Filings
 
+abbrev of_agents : RowsOf (RouteOf Path)
+of_agents = led (codes "/") (named (entry paths.Agent)) ++ end paths.Agents
+
 abbrev from_snapshot : RowsOf (RouteOf Path)
 from_snapshot = led (codes "snapshot") (end paths.Snapshot) ++ []
 
+abbrev from_register : RowsOf (RouteOf Path)
+from_register = led (codes "register") (end paths.Register) ++ from_snapshot
+
 abbrev from_published : RowsOf (RouteOf Path)
-from_published = led (codes "published") (end paths.Published) ++ from_snapshot
+from_published = led (codes "published") (end paths.Published) ++ from_register
 
 abbrev from_filings : RowsOf (RouteOf Path)
 from_filings = led (codes "filings") of_filings ++ from_published
@@ -67,7 +73,7 @@ abbrev from_chains : RowsOf (RouteOf Path)
 from_chains = led (codes "chains") (end paths.Chains) ++ from_day
 
 abbrev from_agents : RowsOf (RouteOf Path)
-from_agents = led (codes "agents") (end paths.Agents) ++ from_chains
+from_agents = led (codes "agents") of_agents ++ from_chains
 
 router_is : router ≡ led (codes "/") from_agents
 unfolding matchit_on_literals router entry scanned
@@ -101,7 +107,7 @@ to_filings : (rest : List ℕ) → first router (codes "/filings" ++ rest) ≡ f
 to_filings rest =
     ap (λ rows. first rows (codes "/filings" ++ rest)) router_is
     ∙ along (codes "/") from_agents (codes "filings" ++ rest) (text_of (codes "/") refl)
-    ∙ past 97 102 (codes "gents") (end paths.Agents) from_chains (codes "ilings" ++ rest) (omega arith) (record { param = refl; catch_all = refl }) (λ e. omega arith)
+    ∙ past 97 102 (codes "gents") of_agents from_chains (codes "ilings" ++ rest) (omega arith) (record { param = refl; catch_all = refl }) (λ e. omega arith)
     ∙ past 99 102 (codes "hains") (end paths.Chains) from_day (codes "ilings" ++ rest) (omega arith) (record { param = refl; catch_all = refl }) (λ e. omega arith)
     ∙ past 100 102 (codes "ay") (end paths.Day) from_e (codes "ilings" ++ rest) (omega arith) (record { param = refl; catch_all = refl }) (λ e. omega arith)
     ∙ past 101 102 [] of_e from_filings (codes "ilings" ++ rest) (omega arith) (record { param = refl; catch_all = refl }) (λ e. omega arith)
@@ -111,6 +117,13 @@ to_keyed : (rest : List ℕ) → first router (codes "/filings/" ++ rest) ≡ fi
 to_keyed rest =
     to_filings (codes "/" ++ rest)
     ∙ into 47 [] (keyed (entry paths.File) (entry paths.Filing)) (end paths.Filings) rest (text_of (codes "/") refl) (record { param = refl; catch_all = refl }) refl
+
+to_named : (rest : List ℕ) → first router (codes "/agents/" ++ rest) ≡ first (named (entry paths.Agent)) rest
+to_named rest =
+    ap (λ rows. first rows (codes "/agents/" ++ rest)) router_is
+    ∙ along (codes "/") from_agents (codes "agents/" ++ rest) (text_of (codes "/") refl)
+    ∙ into 97 (codes "gents") of_agents from_chains (codes "/" ++ rest) (text_of (codes "agents") refl) (record { param = refl; catch_all = refl }) refl
+    ∙ into 47 [] (named (entry paths.Agent)) (end paths.Agents) rest (text_of (codes "/") refl) (record { param = refl; catch_all = refl }) refl
 
 pub is_found : (path : Path) (text : List ℕ) → IsText text → IsPath path text → path_in router text ≡ Some path
 unfolding matchit_on_literals router
@@ -131,6 +144,11 @@ is_found paths.Evidence text bytes is = ap (path_in router) is
 is_found paths.Entities text bytes is = ap (path_in router) is
 is_found paths.Day text bytes is = ap (path_in router) is
 is_found paths.Agents text bytes is = ap (path_in router) is
+is_found paths.Agent text bytes (name, segment, is) =
+    let slash : has_slash name ≡ false = slash_is name ∙ segment.one in
+    ap (path_in router) is ∙ value_found (codes "/agents/" ++ name) paths.Agent
+    (to_named name ∙ agent_found (entry paths.Agent) name (text_behind (codes "/agents/") name (subst IsText is bytes)) segment.some slash)
+is_found paths.Register text bytes is = ap (path_in router) is
 
 -- ---- what is found is the path that the text is
 
@@ -180,11 +198,18 @@ in_snapshot rest row e =
       | inr h ↦ absurd (not_both (first [] rest) row (seek-none 0 rest) h)
     ]
 
+in_register : (rest : List ℕ) (row : Row) → first from_register rest ≡ Some row → IsPath row.value (47 ∷ rest)
+in_register rest row e =
+    elim (found 114 (codes "egister") (end paths.Register) from_snapshot rest row (text_of (codes "register") refl) (record { param = refl; catch_all = refl }) refl e) [
+      | inl h ↦ leaf paths.Register (codes "register") rest h.0 row (λ text e. e) refl h.1 h.2
+      | inr h ↦ in_snapshot rest row h
+    ]
+
 in_published : (rest : List ℕ) (row : Row) → first from_published rest ≡ Some row → IsPath row.value (47 ∷ rest)
 in_published rest row e =
-    elim (found 112 (codes "ublished") (end paths.Published) from_snapshot rest row (text_of (codes "published") refl) (record { param = refl; catch_all = refl }) refl e) [
+    elim (found 112 (codes "ublished") (end paths.Published) from_register rest row (text_of (codes "published") refl) (record { param = refl; catch_all = refl }) refl e) [
       | inl h ↦ leaf paths.Published (codes "published") rest h.0 row (λ text e. e) refl h.1 h.2
-      | inr h ↦ in_snapshot rest row h
+      | inr h ↦ in_register rest row h
     ]
 
 from_filings_on : (rest : List ℕ) (row : Row) → IsText rest → first from_filings rest ≡ Some row → IsPath row.value (47 ∷ rest)
@@ -229,10 +254,22 @@ from_chains_on rest row bytes e =
       | inr h ↦ from_day_on rest row bytes h
     ]
 
+in_agents : (rest behind : List ℕ) (row : Row) → IsText rest → rest ≡ codes "agents" ++ behind → first of_agents behind ≡ Some row → IsPath row.value (47 ∷ rest)
+in_agents rest behind row bytes is e =
+    elim (found 47 [] (named (entry paths.Agent)) (end paths.Agents) behind row (text_of (codes "/") refl) (record { param = refl; catch_all = refl }) refl e) [
+      | inl h ↦
+          let whole : rest ≡ codes "agents/" ++ h.0 = is ∙ ap (λ xs. codes "agents" ++ xs) h.1 in
+          let b : NamedBehind (entry paths.Agent) row h.0 =
+          named_behind (entry paths.Agent) row h.0 (text_behind (codes "agents/") h.0 (subst IsText whole bytes)) h.2 in
+          let segment : IsSegment h.0 = record { some = b.some; one = sym (slash_is h.0) ∙ b.one } in
+          subst (λ q. IsPath q (47 ∷ rest)) (sym (entry_value paths.Agent) ∙ ap (λ r. r.value) b.is) (h.0, segment, ap (λ xs. 47 ∷ xs) whole)
+      | inr h ↦ leaf paths.Agents (codes "agents") rest behind row (λ text e. e) refl is h
+    ]
+
 from_agents_on : (rest : List ℕ) (row : Row) → IsText rest → first from_agents rest ≡ Some row → IsPath row.value (47 ∷ rest)
 from_agents_on rest row bytes e =
-    elim (found 97 (codes "gents") (end paths.Agents) from_chains rest row (text_of (codes "agents") refl) (record { param = refl; catch_all = refl }) refl e) [
-      | inl h ↦ leaf paths.Agents (codes "agents") rest h.0 row (λ text e. e) refl h.1 h.2
+    elim (found 97 (codes "gents") of_agents from_chains rest row (text_of (codes "agents") refl) (record { param = refl; catch_all = refl }) refl e) [
+      | inl h ↦ in_agents rest h.0 row bytes h.1 h.2
       | inr h ↦ from_chains_on rest row bytes h
     ]
 

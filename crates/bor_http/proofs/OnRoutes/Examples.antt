@@ -54,6 +54,8 @@ each_path =
     ∷ (codes "/entities", Some paths.Entities)
     ∷ (codes "/day", Some paths.Day)
     ∷ (codes "/agents", Some paths.Agents)
+    ∷ (codes "/agents/cedar", Some paths.Agent)
+    ∷ (codes "/register", Some paths.Register)
     ∷ []
 
 each_path_found : found each_path ≡ expected each_path
@@ -68,6 +70,8 @@ as_it_stands =
     ∷ (codes "/filings/f%31", Some paths.Filing)
     ∷ (codes "/filings/f1%2Ffile", Some paths.Filing)
     ∷ (codes "/filings/{key}", Some paths.Filing)
+    ∷ (codes "/agents/cedar%20", Some paths.Agent)
+    ∷ (codes "/agents/{name}", Some paths.Agent)
     ∷ (codes "/filin%67s", None)
     ∷ []
 
@@ -82,6 +86,7 @@ empty_segments =
     ∷ (codes "/filings//file", None)
     ∷ (codes "/filings/f1/", None)
     ∷ (codes "//day", None)
+    ∷ (codes "/agents/", None)
     ∷ []
 
 empty_segments_found : found empty_segments ≡ expected empty_segments
@@ -95,6 +100,8 @@ further_segments =
     ∷ (codes "/filings/f/files", None)
     ∷ (codes "/filings/f/g", None)
     ∷ (codes "/filings/f/file/g", None)
+    ∷ (codes "/agents/cedar/", None)
+    ∷ (codes "/agents/cedar/file", None)
     ∷ []
 
 further_segments_found : found further_segments ≡ expected further_segments
@@ -110,6 +117,8 @@ other_texts =
     ∷ (codes "/da", None)
     ∷ (codes "/e", None)
     ∷ (codes "/entity", None)
+    ∷ (codes "/registers", None)
+    ∷ (codes "/agent", None)
     ∷ (codes "day", None)
     ∷ (codes "/", None)
     ∷ ([], None)
@@ -134,6 +143,8 @@ asked =
     ∷ ((paths.Entities, codes "GET"), Some asks.Entities)
     ∷ ((paths.Day, codes "POST"), Some asks.Day)
     ∷ ((paths.Agents, codes "POST"), Some asks.Enrol)
+    ∷ ((paths.Agent, codes "PUT"), Some asks.Renew)
+    ∷ ((paths.Register, codes "GET"), Some asks.Register)
     ∷ ((paths.Filings, codes "HEAD"), None)
     ∷ ((paths.Filings, codes "get"), None)
     ∷ ((paths.Filings, codes "GETS"), None)
@@ -147,6 +158,8 @@ asked =
     ∷ ((paths.Entities, codes "POST"), None)
     ∷ ((paths.Day, codes "GET"), None)
     ∷ ((paths.Agents, codes "PUT"), None)
+    ∷ ((paths.Agent, codes "POST"), None)
+    ∷ ((paths.Register, codes "PUT"), None)
     ∷ []
 
 asked_found : map (λ a. route_at a.0.0 a.0.1) asked ≡ map (λ a. a.1) asked
@@ -156,9 +169,9 @@ asked_found = refl
 -- ---- the methods of a path
 
 abbrev every_path : List Path
-every_path = paths.Filing ∷ paths.Filings ∷ paths.File ∷ paths.Published ∷ paths.Snapshot ∷ paths.Chains ∷ paths.Evidence ∷ paths.Entities ∷ paths.Day ∷ paths.Agents ∷ []
+every_path = paths.Filing ∷ paths.Filings ∷ paths.File ∷ paths.Published ∷ paths.Snapshot ∷ paths.Chains ∷ paths.Evidence ∷ paths.Entities ∷ paths.Day ∷ paths.Agents ∷ paths.Agent ∷ paths.Register ∷ []
 
 methods : map allow every_path
-    ≡ codes "DELETE, PUT" ∷ codes "GET" ∷ codes "GET" ∷ codes "GET" ∷ codes "GET" ∷ codes "GET" ∷ codes "GET" ∷ codes "GET" ∷ codes "POST" ∷ codes "POST" ∷ []
+    ≡ codes "DELETE, PUT" ∷ codes "GET" ∷ codes "GET" ∷ codes "GET" ∷ codes "GET" ∷ codes "GET" ∷ codes "GET" ∷ codes "GET" ∷ codes "POST" ∷ codes "POST" ∷ codes "PUT" ∷ codes "GET" ∷ []
 unfolding allow
 methods = refl

@@ -179,7 +179,60 @@ module _ {K : Type 0} where
       behind file filing b key (codes "file") text.0 h
       ∙ along (codes "/file") (([], file) ∷ []) [] (text_of (codes "/file") refl)
 
-  -- what a text is that is found there
+  -- ---- the row behind "/agents/"
+
+  abbrev pub named : K → RowsOf K
+  named agent = (256 ∷ [], agent) ∷ []
+
+  named-taken : (agent : K) (b : ℕ) (path : List ℕ) → b < 256
+      → first (named agent) (b ∷ path)
+      ≡ seek ((param_step (([], agent) ∷ []) (b ∷ path)).0 - 1) (param_step (([], agent) ∷ []) (b ∷ path)).1 path
+  unfolding seek
+  named-taken agent b path lt =
+      let other : (256 == b) ≡ false = grind (arith, nat_tests) in
+      rw (other, seek-none 0 path, or_else-none) refl
+
+  named-step : (agent : K) (path : List ℕ) → param_step (([], agent) ∷ []) path ≡ cond (has_slash path) (0, []) (length path, ([], agent) ∷ [])
+  unfolding param_step
+  named-step agent path = refl
+
+  pub agent_found : (agent : K) (name : List ℕ) → IsText name → 0 < length name → has_slash name ≡ false → first (named agent) name ≡ Some agent
+  unfolding seek
+  agent_found agent [] text some h = absurd (omega arith)
+  agent_found agent (b ∷ name) text some h =
+      let step : param_step (([], agent) ∷ []) (b ∷ name) ≡ (length (b ∷ name), ([], agent) ∷ []) =
+      named-step agent (b ∷ name)
+      ∙ ap (λ t. cond {A = ℕ × RowsOf K} t (0, []) (length (b ∷ name), ([], agent) ∷ [])) h in
+      let rest : drop (length (b ∷ name) - 1) name ≡ [] = ap (λ n. drop n name) (one_less (length name)) ∙ drop_all (length name) name (omega arith) in
+      named-taken agent b name text.0
+      ∙ ap (λ r. seek (r.0 - 1) r.1 name) step
+      ∙ seek-drop (length (b ∷ name) - 1) (([], agent) ∷ []) name
+      ∙ ap (λ xs. first (([], agent) ∷ []) xs) rest
+
+  -- a text that is found there is a segment
+  pub record NamedBehind (agent k : K) (text : List ℕ) : Type 0 where
+    pub some : 0 < length text
+    pub one : has_slash text ≡ false
+    pub is : agent ≡ k
+
+  pub named_behind : (agent k : K) (text : List ℕ) → IsText text → first (named agent) text ≡ Some k → NamedBehind agent k text
+  unfolding seek
+  named_behind agent k [] text e = cc
+  named_behind agent k (b ∷ path) text e = by_slash (has_slash (b ∷ path)) refl
+    where
+      by_slash : (t : Bool) → has_slash (b ∷ path) ≡ t → NamedBehind agent k (b ∷ path)
+      by_slash true h =
+          let step : param_step (([], agent) ∷ []) (b ∷ path) ≡ (0, []) =
+          named-step agent (b ∷ path)
+          ∙ ap (λ t. cond {A = ℕ × RowsOf K} t (0, []) (length (b ∷ path), ([], agent) ∷ [])) h in
+          let none : first (named agent) (b ∷ path) ≡ None =
+          named-taken agent b path text.0 ∙ ap (λ r. seek (r.0 - 1) r.1 path) step ∙ seek-none (0 - 1) path in
+          cc
+      by_slash false h =
+          let is : Some agent ≡ Some k = sym (agent_found agent (b ∷ path) text (omega arith) h) ∙ e in
+          record { some = omega arith; one = h; is = cc }
+
+  -- what a text is that is found behind "/filings/"
   pub data FoundBehind (file filing k : K) (text : List ℕ) : Type 0 where
     filing_of : 0 < length text → has_slash text ≡ false → filing ≡ k → FoundBehind file filing k text
     file_of : (key : List ℕ) → 0 < length key → has_slash key ≡ false → text ≡ key ++ codes "/file" → file ≡ k → FoundBehind file filing k text

@@ -10,7 +10,7 @@ use Rattle.std.proofs.lemmas.Bool.Decides.{nat_tests}
 use Rattle.bor_http.specs.declared.incoming.fault.Path.{Path}
 use Rattle.bor_http.specs.declared.incoming.fault.Path.TheVariants as paths
 use Rattle.bor_http.specs.Routes.Routes.{Line, route_table, path_word}
-use Rattle.bor_http.specs.Routes.Paths.{segments, stands_for, is_written_as, path_of, IsSegment, IsPath}
+use Rattle.bor_http.specs.Routes.Paths.{segments, is_open, stands_for, is_written_as, path_of, IsSegment, IsPath}
 use Rattle.bor_http.specs.Routes.Routers.{router, path_in}
 use Rattle.bor_http.proofs.OnRoutes.AsWritten.{is_found, is_path}
 use Rattle.bor_http.proofs.OnRoutes.Utf8Bytes.{text_bytes}
@@ -85,15 +85,15 @@ none_left [] h = refl
 none_left (part ∷ parts) h = cc
 
 -- where no word is a key, the segments are the words
-same_words : (parts words : List (List ℕ)) → list_all (λ word. not (bytes_eq word (codes "{key}"))) words ≡ true → pointwise stands_for parts words ≡ true → parts ≡ words
+same_words : (parts words : List (List ℕ)) → list_all (λ word. not (is_open word)) words ≡ true → pointwise stands_for parts words ≡ true → parts ≡ words
 same_words [] [] plain h = refl
 same_words [] (word ∷ words) plain h = cc
 same_words (part ∷ parts) [] plain h = cc
-same_words (part ∷ parts) (word ∷ words) plain h = by_word (bytes_eq word (codes "{key}")) plain h (same_words parts words)
+same_words (part ∷ parts) (word ∷ words) plain h = by_word (is_open word) plain h (same_words parts words)
   where
-    by_word : (key : Bool) → (not key && list_all (λ word. not (bytes_eq word (codes "{key}"))) words) ≡ true
+    by_word : (key : Bool) → (not key && list_all (λ word. not (is_open word)) words) ≡ true
         → ((if key then nat_lt 0 (length part) else bytes_eq part word) && pointwise stands_for parts words) ≡ true
-        → (list_all (λ word. not (bytes_eq word (codes "{key}"))) words ≡ true → pointwise stands_for parts words ≡ true → parts ≡ words)
+        → (list_all (λ word. not (is_open word)) words ≡ true → pointwise stands_for parts words ≡ true → parts ≡ words)
         → part ∷ parts ≡ word ∷ words
     by_word true plain h more = cc
     by_word false plain h more =
@@ -103,39 +103,47 @@ same_words (part ∷ parts) (word ∷ words) plain h = by_word (bytes_eq word (c
 
 -- ---- a text that is written as a path is that path
 
-plain_path : (text : List ℕ) (path : Path) → list_all (λ word. not (bytes_eq word (codes "{key}"))) (segments (path_word path)) ≡ true
+plain_path : (text : List ℕ) (path : Path) → list_all (λ word. not (is_open word)) (segments (path_word path)) ≡ true
     → is_written_as text path ≡ true → text ≡ path_word path
 plain_path text path plain h =
     sym (join_with_byte-slice_split 47 text) ∙ ap (join_with_byte 47) (same_words (segments text) (segments (path_word path)) plain h)
     ∙ join_with_byte-slice_split 47 (path_word path)
 
-abbrev filing_key : List ℕ → List (List ℕ) → List (List ℕ)
-filing_key key rest = [] ∷ codes "filings" ∷ key ∷ rest
+abbrev behind : List ℕ → List ℕ → List (List ℕ) → List (List ℕ)
+behind front key rest = [] ∷ front ∷ key ∷ rest
 
--- a key behind "/filings/", with what stands for the words behind it
-record Keyed (text : List ℕ) (words : List (List ℕ)) : Type 0 where
+-- a key behind a first segment, with what stands for the words behind it
+record Keyed (front text : List ℕ) (words : List (List ℕ)) : Type 0 where
   key : List ℕ
   rest : List (List ℕ)
-  are : segments text ≡ filing_key key rest
+  are : segments text ≡ behind front key rest
   segment : IsSegment key
   more : pointwise stands_for rest words ≡ true
 
-keyed : (text : List ℕ) (words : List (List ℕ)) → pointwise stands_for (segments text) (filing_key (codes "{key}") words) ≡ true → Keyed text words
-keyed text words h =
-    let a : Stand (segments text) [] (codes "filings" ∷ codes "{key}" ∷ words) = stand (segments text) [] (codes "filings" ∷ codes "{key}" ∷ words) h in
-    let b : Stand a.others (codes "filings") (codes "{key}" ∷ words) = stand a.others (codes "filings") (codes "{key}" ∷ words) a.more in
-    let c : Stand b.others (codes "{key}") words = stand b.others (codes "{key}") words b.more in
-    let front : a.first ≡ [] = same_text a.first [] (sym a.one) in
-    let filings : b.first ≡ codes "filings" = same_text b.first (codes "filings") (sym b.one) in
-    let later : b.first ∷ b.others ≡ codes "filings" ∷ c.first ∷ c.others = ap (λ p. p ∷ b.others) filings ∙ ap (λ ps. codes "filings" ∷ ps) c.are in
-    let are : segments text ≡ filing_key c.first c.others = a.are ∙ ap (λ p. p ∷ a.others) front ∙ ap (λ ps. [] ∷ ps) (b.are ∙ later) in
-    let lack : (not (has_slash c.first) && lack_slashes c.others) ≡ true = subst (λ parts. lack_slashes parts ≡ true) are (segments_lack text) in
+plain_word : (part word : List ℕ) → is_open word ≡ false → stands_for part word ≡ true → part ≡ word
+plain_word part word plain h = same_text part word (sym (rw plain at h))
+
+open_word : (part word : List ℕ) → is_open word ≡ true → stands_for part word ≡ true → nat_lt 0 (length part) ≡ true
+open_word part word is h = rw is at h
+
+keyed : (front word text : List ℕ) (words : List (List ℕ)) → is_open front ≡ false → is_open word ≡ true
+    → pointwise stands_for (segments text) (behind front word words) ≡ true → Keyed front text words
+keyed front word text words plain is h =
+    let a : Stand (segments text) [] (front ∷ word ∷ words) = stand (segments text) [] (front ∷ word ∷ words) h in
+    let b : Stand a.others front (word ∷ words) = stand a.others front (word ∷ words) a.more in
+    let c : Stand b.others word words = stand b.others word words b.more in
+    let empty : a.first ≡ [] = plain_word a.first [] refl a.one in
+    let same : b.first ≡ front = plain_word b.first front plain b.one in
+    let later : b.first ∷ b.others ≡ front ∷ c.first ∷ c.others = ap (λ p. p ∷ b.others) same ∙ ap (λ ps. front ∷ ps) c.are in
+    let are : segments text ≡ behind front c.first c.others = a.are ∙ ap (λ p. p ∷ a.others) empty ∙ ap (λ ps. [] ∷ ps) (b.are ∙ later) in
+    let lack : (not (has_slash c.first) && lack_slashes c.others) ≡ true =
+    (both (not (has_slash front)) (not (has_slash c.first) && lack_slashes c.others) (subst (λ parts. lack_slashes parts ≡ true) are (segments_lack text))).1 in
     record {
       key = c.first;
       rest = c.others;
       are = are;
       segment = record {
-        some = some_bytes (length c.first) c.one;
+        some = some_bytes (length c.first) (open_word c.first word is c.one);
         one = lacks (has_slash c.first) (both (not (has_slash c.first)) (lack_slashes c.others) lack).0;
       };
       more = c.more;
@@ -143,14 +151,19 @@ keyed text words h =
 
 is_filing : (text : List ℕ) → is_written_as text paths.Filing ≡ true → IsPath paths.Filing text
 is_filing text h =
-    let k : Keyed text [] = keyed text [] h in
-    (k.key, k.segment, sym (join_with_byte-slice_split 47 text) ∙ ap (join_with_byte 47) (k.are ∙ ap (filing_key k.key) (none_left k.rest k.more)))
+    let k : Keyed (codes "filings") text [] = keyed (codes "filings") (codes "{key}") text [] refl refl h in
+    (k.key, k.segment, sym (join_with_byte-slice_split 47 text) ∙ ap (join_with_byte 47) (k.are ∙ ap (behind (codes "filings") k.key) (none_left k.rest k.more)))
 
 is_file : (text : List ℕ) → is_written_as text paths.File ≡ true → IsPath paths.File text
 is_file text h =
-    let k : Keyed text (codes "file" ∷ []) = keyed text (codes "file" ∷ []) h in
+    let k : Keyed (codes "filings") text (codes "file" ∷ []) = keyed (codes "filings") (codes "{key}") text (codes "file" ∷ []) refl refl h in
     let last : k.rest ≡ codes "file" ∷ [] = same_words k.rest (codes "file" ∷ []) refl k.more in
-    (k.key, k.segment, sym (join_with_byte-slice_split 47 text) ∙ ap (join_with_byte 47) (k.are ∙ ap (filing_key k.key) last))
+    (k.key, k.segment, sym (join_with_byte-slice_split 47 text) ∙ ap (join_with_byte 47) (k.are ∙ ap (behind (codes "filings") k.key) last))
+
+is_agent : (text : List ℕ) → is_written_as text paths.Agent ≡ true → IsPath paths.Agent text
+is_agent text h =
+    let k : Keyed (codes "agents") text [] = keyed (codes "agents") (codes "{name}") text [] refl refl h in
+    (k.key, k.segment, sym (join_with_byte-slice_split 47 text) ∙ ap (join_with_byte 47) (k.are ∙ ap (behind (codes "agents") k.key) (none_left k.rest k.more)))
 
 is_the_path : (path : Path) (text : List ℕ) → is_written_as text path ≡ true → IsPath path text
 is_the_path paths.Filing text h = is_filing text h
@@ -163,6 +176,8 @@ is_the_path paths.Evidence text h = plain_path text paths.Evidence refl h
 is_the_path paths.Entities text h = plain_path text paths.Entities refl h
 is_the_path paths.Day text h = plain_path text paths.Day refl h
 is_the_path paths.Agents text h = plain_path text paths.Agents refl h
+is_the_path paths.Agent text h = is_agent text h
+is_the_path paths.Register text h = plain_path text paths.Register refl h
 
 -- the line that is found has the path
 written_so : (lines : List Line) (text : List ℕ) (path : Path) → option_map (λ line. line.path) (find (λ line. is_written_as text line.path) lines) ≡ Some path
@@ -186,19 +201,22 @@ said_path path text e = is_the_path path text (written_so route_table text path 
 abbrev path_by : List (List ℕ) → Option Path
 path_by parts = option_map (λ line. line.path) (find (λ line. pointwise stands_for parts (segments (path_word line.path))) route_table)
 
-filing_by : (key : List ℕ) → nat_lt 0 (length key) ≡ true → path_by (filing_key key []) ≡ Some paths.Filing
+filing_by : (key : List ℕ) → nat_lt 0 (length key) ≡ true → path_by (behind (codes "filings") key []) ≡ Some paths.Filing
 filing_by key some = rw some refl
 
-file_by : (key : List ℕ) → nat_lt 0 (length key) ≡ true → path_by (filing_key key (codes "file" ∷ [])) ≡ Some paths.File
+file_by : (key : List ℕ) → nat_lt 0 (length key) ≡ true → path_by (behind (codes "filings") key (codes "file" ∷ [])) ≡ Some paths.File
 file_by key some = simp some
+
+agent_by : (name : List ℕ) → nat_lt 0 (length name) ≡ true → path_by (behind (codes "agents") name []) ≡ Some paths.Agent
+agent_by name some = rw some refl
 
 path_said : (path : Path) (text : List ℕ) → IsPath path text → path_of text ≡ Some path
 unfolding path_of
 path_said paths.Filing text (key, segment, is) =
-    let parts : segments (codes "/filings/" ++ key) ≡ filing_key key [] = ap (λ ps. [] ∷ codes "filings" ∷ ps) (one_segment key segment.one) in
+    let parts : segments (codes "/filings/" ++ key) ≡ behind (codes "filings") key [] = ap (λ ps. [] ∷ codes "filings" ∷ ps) (one_segment key segment.one) in
     ap path_by (ap segments is ∙ parts) ∙ filing_by key (tests_some (length key) segment.some)
 path_said paths.File text (key, segment, is) =
-    let parts : segments (codes "/filings/" ++ key ++ codes "/file") ≡ filing_key key (codes "file" ∷ []) =
+    let parts : segments (codes "/filings/" ++ key ++ codes "/file") ≡ behind (codes "filings") key (codes "file" ∷ []) =
     ap (λ ps. [] ∷ codes "filings" ∷ ps) (first_segment key (codes "file") segment.one) in
     ap path_by (ap segments is ∙ parts) ∙ file_by key (tests_some (length key) segment.some)
 path_said paths.Filings text is = ap path_of is
@@ -209,6 +227,10 @@ path_said paths.Evidence text is = ap path_of is
 path_said paths.Entities text is = ap path_of is
 path_said paths.Day text is = ap path_of is
 path_said paths.Agents text is = ap path_of is
+path_said paths.Agent text (name, segment, is) =
+    let parts : segments (codes "/agents/" ++ name) ≡ behind (codes "agents") name [] = ap (λ ps. [] ∷ codes "agents" ∷ ps) (one_segment name segment.one) in
+    ap path_by (ap segments is ∙ parts) ∙ agent_by name (tests_some (length name) segment.some)
+path_said paths.Register text is = ap path_of is
 
 -- ---- what is found
 

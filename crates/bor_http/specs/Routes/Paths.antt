@@ -1,6 +1,6 @@
 -- The path that a text is, by the segments between its slashes.
 use Rattle.std.specs.Prelude.{◌≡◌, ◌<◌, ◌==◌, ℕ, nat_lt, Bool, List, length, false, find, Option}
-use Rattle.std.specs.Prelude.{◌++◌, codes, if◌then◌else◌}
+use Rattle.std.specs.Prelude.{◌++◌, ◌||◌, codes, if◌then◌else◌}
 use Rattle.std.specs.List.{list_any, slice_split}
 use Rattle.std.specs.Option.{option_map}
 use Rattle.std.specs.Str.{bytes_eq}
@@ -13,11 +13,15 @@ use Rattle.bor_http.specs.Routes.Routes.{route_table, path_word}
 abbrev pub segments : List ℕ → List (List ℕ)
 segments text = slice_split (λ b. b == 47) text
 
--- a segment stands for a word of a path: {key} for any that isn't empty, another word for itself;
--- nothing is decoded
+-- whether a word of a path stands for a segment of the text
+abbrev pub is_open : List ℕ → Bool
+is_open word = bytes_eq word (codes "{key}") || bytes_eq word (codes "{name}")
+
+-- a segment stands for a word of a path: any that isn't empty for {key} or {name}, and for another
+-- word itself; nothing is decoded
 abbrev pub stands_for : List ℕ → List ℕ → Bool
 stands_for segment word =
-    if bytes_eq word (codes "{key}") then nat_lt 0 (length segment) else bytes_eq segment word
+    if is_open word then nat_lt 0 (length segment) else bytes_eq segment word
 
 -- there are as many segments as words, and each stands for its word
 abbrev pub is_written_as : List ℕ → Path → Bool
@@ -35,9 +39,11 @@ pub record IsSegment (key : List ℕ) : Type 0 where
   pub some : 0 < length key
   pub one : list_any (λ b. b == 47) key ≡ false
 
--- The text is the path as it is written, with a segment in the place of {key}. Nothing is decoded.
+-- The text is the path as it is written, with a segment in the place of {key} or {name}. Nothing is
+-- decoded.
 abbrev pub IsPath : Path → List ℕ → Type 0
 IsPath paths.Filing text = (key : List ℕ) × IsSegment key × (text ≡ codes "/filings/" ++ key)
 IsPath paths.File text =
     (key : List ℕ) × IsSegment key × (text ≡ codes "/filings/" ++ key ++ codes "/file")
+IsPath paths.Agent text = (name : List ℕ) × IsSegment name × (text ≡ codes "/agents/" ++ name)
 IsPath path text = text ≡ path_word path

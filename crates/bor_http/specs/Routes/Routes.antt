@@ -10,7 +10,7 @@ use Rattle.bor_http.specs.declared.incoming.fault.Path.TheVariants as paths
 use Rattle.bor_http.specs.declared.routes.route.Route.{Route}
 use Rattle.bor_http.specs.declared.routes.route.Route.TheVariants as asks
 
--- how a path is written; {key} stands for one segment
+-- how a path is written; {key} and {name} stand for one segment each
 abbrev pub path_word : Path → List ℕ
 path_word paths.Filing = codes "/filings/{key}"
 path_word paths.Filings = codes "/filings"
@@ -22,6 +22,8 @@ path_word paths.Evidence = codes "/evidence"
 path_word paths.Entities = codes "/entities"
 path_word paths.Day = codes "/day"
 path_word paths.Agents = codes "/agents"
+path_word paths.Agent = codes "/agents/{name}"
+path_word paths.Register = codes "/register"
 
 -- a line of the table of routes: a path, a method, and what is asked for by it
 pub record Line : Type 0 where
@@ -46,6 +48,8 @@ route_table =
     ∷ route_line (codes "GET") paths.Entities asks.Entities
     ∷ route_line (codes "POST") paths.Day asks.Day
     ∷ route_line (codes "POST") paths.Agents asks.Enrol
+    ∷ route_line (codes "PUT") paths.Agent asks.Renew
+    ∷ route_line (codes "GET") paths.Register asks.Register
     ∷ []
 
 abbrev pub is_same_path : Path → Path → Bool

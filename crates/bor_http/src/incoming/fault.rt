@@ -28,6 +28,10 @@ pub enum Path {
     Day,
     /// `/agents`
     Agents,
+    /// `/agents/{name}`
+    Agent,
+    /// `/register`
+    Register,
 }
 
 /// The names of what routes ask for, in a path, a query or a body.
@@ -49,9 +53,10 @@ pub enum Name {
     Id,
     /// The day of a report, or the one that the register is to have.
     Date,
-    /// The name of an agent that is enrolled.
+    /// The name of an agent that is enrolled or whose token is renewed; of the latter it is a segment
+    /// of the path.
     Name,
-    /// The token of an agent that is enrolled, which is the body.
+    /// The token that an agent gets, which is the body.
     Token,
 }
 

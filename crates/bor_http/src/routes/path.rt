@@ -23,6 +23,8 @@ fn router_of_paths(alloc: Global) -> Result<Router<Path>, InsertError>
     router.insert("/entities", Path::Entities)?;
     router.insert("/day", Path::Day)?;
     router.insert("/agents", Path::Agents)?;
+    router.insert("/agents/{name}", Path::Agent)?;
+    router.insert("/register", Path::Register)?;
     Ok(router)
 }
 

@@ -31,6 +31,10 @@ pub enum Route {
     Day,
     /// Enrols an agent.
     Enrol,
+    /// Renews an agent's token.
+    Renew,
+    /// Shows the register's day and its agents.
+    Register,
 }
 
 // The route, where the method is the one that it is asked for by.
@@ -64,6 +68,8 @@ pub fn route_at(path: Path, method: &[u8]) -> Option<Route>
         Path::Entities => by(&Method::GET, method, Route::Entities),
         Path::Day => by(&Method::POST, method, Route::Day),
         Path::Agents => by(&Method::POST, method, Route::Enrol),
+        Path::Agent => by(&Method::PUT, method, Route::Renew),
+        Path::Register => by(&Method::GET, method, Route::Register),
     }
 }
 
@@ -80,7 +86,9 @@ pub fn allow_of(path: Path) -> &'static str
         | Path::Snapshot
         | Path::Chains
         | Path::Evidence
-        | Path::Entities => "GET",
+        | Path::Entities
+        | Path::Register => "GET",
         Path::Day | Path::Agents => "POST",
+        Path::Agent => "PUT",
     }
 }

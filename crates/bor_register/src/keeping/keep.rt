@@ -3,12 +3,12 @@
 ghost use Rattle.std.specs.Prelude.{◌≡◌, ℕ, ◌+◌, IfOk, map, option_map, length};
 ghost use Rattle.bor_register.specs.declared.fault.StoreFault.{StoreFault};
 ghost use Rattle.bor_register.specs.Register.{Register, caller_of, is_enrolled, filings_of, filing_keyed};
-ghost use Rattle.bor_register.specs.Publication.{published, line_of, filing_shown, has_bytes};
+ghost use Rattle.bor_register.specs.Publication.{agent_line, published, line_of, filing_shown, has_bytes};
 ghost use Rattle.bor_register.specs.Live.{live_of};
 ghost use Rattle.bor_register.specs.Rows.{rows_of, visible};
 ghost use Rattle.bor_register.specs.Seen.{seen_at};
 ghost use Rattle.bor_register.specs.Withdrawal.{has_successor};
-ghost use Rattle.bor_register.specs.Additions.{MayEnrol, MayFile, with_agent, with_filing, with_withdrawal};
+ghost use Rattle.bor_register.specs.Additions.{MayEnrol, MayFile, with_agent, with_filing, with_renewal, with_withdrawal};
 ghost use Rattle.bor_records.specs.Admission.{last_of};
 ghost use Rattle.bor_records.specs.Settling.{has_id};
 ghost use Rattle.bor_records.specs.Promises.{Changes, ChangesWhere, Meaning, Promised, Reads};
@@ -16,7 +16,7 @@ ghost use Rattle.bor_records.specs.Links.Series.{open_at};
 ghost use Rattle.bor_records.specs.Links.Shown.{info_of};
 ghost use Rattle.bor_records.specs.Links.Answers.{AreAliases, AreIdentified, AreSame, AreLinksInto};
 
-use crate::{Caller, Filing, FilingLine, Outward, StoreFault};
+use crate::{AgentLine, Caller, Filing, FilingLine, Outward, StoreFault};
 use bods_read::{Identifier, Statement};
 use bor_records::links::{Link, Node, NodeInfo};
 use bor_records::{Last, Row};
@@ -212,6 +212,11 @@ pub trait Keep {
         ensures { Reads meaning self.old self.new result (λ r outwards.
             outwards.items ≡ published r.day r.members) };
 
+    /// The agents by name, each with how many filings it has published.
+    fn agents(&mut self) -> Result<Vec<AgentLine>, StoreFault>
+        ensures { Reads meaning self.old self.new result (λ r lines.
+            lines.items ≡ map (agent_line r.day) r.members) };
+
     /// Adds a filing to those of an agent, and gives its number. That is promised of each register
     /// that the filing fits (`MayFile`): the agent is enrolled, and has room for one more and none
     /// under the key; each statement has a status, and their identifiers are distinct and
@@ -245,6 +250,11 @@ pub trait Keep {
     fn add_agent(&mut self, agent: &AgentName, token: &Token) -> Result<(), StoreFault>
         ensures { ChangesWhere meaning self.old self.new result
             (MayEnrol agent.now token.now) (with_agent agent.now token.now) };
+
+    /// Gives an agent another token; with no such agent all stays. That the token is nobody's is for
+    /// the caller to test.
+    fn set_token(&mut self, agent: &AgentName, token: &Token) -> Result<(), StoreFault>
+        ensures { Changes meaning self.old self.new result (with_renewal agent.now token.now) };
 
     /// Answered changes last: the state that a stop of a clean keep leaves shows each register that
     /// it showed.

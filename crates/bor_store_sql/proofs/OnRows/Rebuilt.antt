@@ -96,7 +96,7 @@ all_filings agent all out statements l = go l.left l.whole l.rows_are
 
 -- ---- the rows of an agent
 
-filings_at : (agent : List ℕ) (fs : List AcceptedFiling) → AllByRecursion (λ (row : FilingRow). is_same row.agent agent ≡ true) (map (filing_row agent) fs)
+pub filings_at : (agent : List ℕ) (fs : List AcceptedFiling) → AllByRecursion (λ (row : FilingRow). is_same row.agent agent ≡ true) (map (filing_row agent) fs)
 filings_at agent [] = tt
 filings_at agent (f ∷ fs) = (same_refl agent, filings_at agent fs)
 
@@ -123,7 +123,7 @@ other_by agent other (f ∷ fs) e = all-append _ (placed_from other f.number 1 f
 pub differs : (agent other : List ℕ) → is_below agent other ≡ true → is_same other agent ≡ false
 differs agent other h = same_sym other agent ∙ below_differs agent other h
 
-above_filings : (agent : List ℕ) (ms : List Member) → AllAbove agent ms → AllByRecursion (λ (row : FilingRow). is_same row.agent agent ≡ false) (filing_lines ms)
+pub above_filings : (agent : List ℕ) (ms : List Member) → AllAbove agent ms → AllByRecursion (λ (row : FilingRow). is_same row.agent agent ≡ false) (filing_lines ms)
 above_filings agent [] h = tt
 above_filings agent (m ∷ ms) h = all-append _ (map (filing_row m.name) m.filings) (filing_lines ms) (other_filings agent m.name m.filings (differs agent m.name h.0)) (above_filings agent ms h.1)
 

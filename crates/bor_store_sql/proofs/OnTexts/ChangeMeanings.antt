@@ -3,7 +3,7 @@ use Rattle.std.proofs.Common.{refl}
 use Rattle.sqlite.specs.Listing.{understood}
 use Rattle.sqlite_tied.specs.Compute.{everything}
 use Rattle.bor_store_sql.specs.Texts.Meanings.{Does}
-use Rattle.bor_store_sql.specs.Texts.Changes.{insert_register_text, insert_register_command, insert_agent_text, insert_agent_command, insert_filing_text, insert_filing_command, insert_statement_text, insert_statement_command, insert_interest_text, insert_interest_command, insert_identifier_text, insert_identifier_command, delete_identifiers_text, delete_identifiers_command, delete_interests_text, delete_interests_command, delete_statements_text, delete_statements_command, mark_withdrawn_text, mark_withdrawn_command, update_day_text, update_day_command, insert_period_text, insert_period_command, delete_periods_text, delete_periods_command, update_version_text, update_version_command}
+use Rattle.bor_store_sql.specs.Texts.Changes.{insert_register_text, insert_register_command, insert_agent_text, insert_agent_command, insert_filing_text, insert_filing_command, insert_statement_text, insert_statement_command, insert_interest_text, insert_interest_command, insert_identifier_text, insert_identifier_command, delete_identifiers_text, delete_identifiers_command, delete_interests_text, delete_interests_command, delete_statements_text, delete_statements_command, mark_withdrawn_text, mark_withdrawn_command, update_token_text, update_token_command, update_day_text, update_day_command, insert_period_text, insert_period_command, delete_periods_text, delete_periods_command, update_version_text, update_version_command}
 
 pub insert_register_is : Does insert_register_text insert_register_command
 unfolding understood everything
@@ -44,6 +44,10 @@ delete_statements_is = (refl, (refl, refl))
 pub mark_withdrawn_is : Does mark_withdrawn_text mark_withdrawn_command
 unfolding understood everything
 mark_withdrawn_is = (refl, (refl, refl))
+
+pub update_token_is : Does update_token_text update_token_command
+unfolding understood everything
+update_token_is = (refl, (refl, refl))
 
 pub update_day_is : Does update_day_text update_day_command
 unfolding understood everything

@@ -20,10 +20,14 @@ use Rattle.bor_store_sql.specs.declared.rows.typed.Part.TheVariants as part
 use Rattle.bor_store_sql.specs.declared.rows.typed.Placed.{Placed}
 use Rattle.bor_store_sql.specs.declared.rows.typed.StatementRow.{StatementRow}
 
+-- the filing of this row is published
+abbrev pub is_line_published : ℤ → FilingRow → Bool
+is_line_published day f = not f.withdrawn && int_le f.due day
+
 -- the viewer sees the filing of this row: its own where it is live, another's where it is published
 abbrev pub is_line_visible : List ℕ → ℤ → FilingRow → Bool
 is_line_visible viewer day f =
-    if is_same viewer f.agent then not f.withdrawn else (not f.withdrawn && int_le f.due day)
+    if is_same viewer f.agent then not f.withdrawn else is_line_published day f
 
 -- the row of a statement where it stands
 abbrev pub row_placed : Placed → Row

@@ -19,7 +19,7 @@ use Rattle.bor_store_sql.specs.declared.texts.changes.TheConstants.{DELETE_INTER
 use Rattle.bor_store_sql.specs.declared.texts.changes.TheConstants.{DELETE_STATEMENTS}
 use Rattle.bor_store_sql.specs.declared.texts.changes.TheConstants.{MARK_WITHDRAWN, UPDATE_DAY}
 use Rattle.bor_store_sql.specs.declared.texts.changes.TheConstants.{INSERT_PERIOD, DELETE_PERIODS}
-use Rattle.bor_store_sql.specs.declared.texts.changes.TheConstants.{UPDATE_VERSION}
+use Rattle.bor_store_sql.specs.declared.texts.changes.TheConstants.{UPDATE_TOKEN, UPDATE_VERSION}
 
 -- Columns are counted from 1, parameters from 0. An update gives the row's identity twice and then
 -- its columns, a deletion its identity.
@@ -130,6 +130,19 @@ mark_withdrawn_program =
 
 abbrev pub mark_withdrawn_command : Command
 mark_withdrawn_command = Update 2 mark_withdrawn_program
+
+abbrev pub update_token_text : List ℕ
+update_token_text = UPDATE_TOKEN.now
+
+abbrev pub update_token_program : Program
+update_token_program =
+    record {
+      lets = [];
+      body = table_query 2 (equals 1 0 ∷ []) (col 1 0 ∷ col 1 0 ∷ col 1 1 ∷ col 0 1 ∷ []) [];
+    }
+
+abbrev pub update_token_command : Command
+update_token_command = Update 1 update_token_program
 
 abbrev pub update_day_text : List ℕ
 update_day_text = UPDATE_DAY.now

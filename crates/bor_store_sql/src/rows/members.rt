@@ -114,7 +114,11 @@ fn copied(alloc: Global, statements: &[Placed]) -> Result<Vec<Statement>, AllocE
     Ok(copied)
 }
 
-fn split_filings<'a>(rows: &'a [FilingRow], agent: &AgentName) -> (&'a [FilingRow], &'a [FilingRow])
+/// The filings of an agent, and those that follow, where none of them is its own.
+pub(crate) fn split_filings<'a>(
+    rows: &'a [FilingRow],
+    agent: &AgentName,
+) -> (&'a [FilingRow], &'a [FilingRow])
     ensures { (mine more : _) → rows.now ≡ mine ++ more
         → AllByRecursion (λ row. is_same row.agent agent.now ≡ true) mine
         → AllByRecursion (λ row. is_same row.agent agent.now ≡ false) more

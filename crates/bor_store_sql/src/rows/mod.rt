@@ -4,8 +4,10 @@
 //! [`TableRow`] reads a row of SQL as the value whose columns it has. [`with_periods`] puts
 //! interests together from the rows of both their tables, [`joined`] statements from theirs, and
 //! [`members_of`] the members of a register from agents, filings and statements, without the files
-//! of the filings. Nothing here speaks to a store.
+//! of the filings. [`agent_lines`] counts what each agent has published. Nothing here speaks to a
+//! store.
 
+mod agents;
 mod answers;
 mod fault;
 mod joining;
@@ -20,6 +22,7 @@ mod typed;
 mod values;
 mod words;
 
+pub use agents::agent_lines;
 pub use answers::{first_flag, first_row, lines_of};
 pub use fault::RowFault;
 pub use joining::joined;

@@ -1,7 +1,7 @@
 //! Filings and statements as callers see them, from their rows.
 
 ghost use Rattle.std.specs.Prelude.{◌≡◌};
-ghost use Rattle.bor_store_sql.specs.Rows.Seen.{is_line_visible, line_shown, row_placed};
+ghost use Rattle.bor_store_sql.specs.Rows.Seen.{is_line_published, is_line_visible, line_shown, row_placed};
 
 use crate::rows::typed::{FilingRow, Placed};
 use bods_read::Status;
@@ -10,6 +10,13 @@ use bor_register::{FilingLine, State};
 use bor_terms::{AgentName, Day};
 
 impl FilingRow {
+    /// Whether the filing is published on a day.
+    pub(crate) fn is_published(&self, day: Day) -> bool
+        ensures { result ≡ is_line_published day self.now }
+    {
+        !self.withdrawn && self.due <= day
+    }
+
     /// Whether the viewer sees the filing on a day: its own where it is live, another's where it is
     /// published.
     pub fn is_visible(&self, viewer: &AgentName, day: Day) -> bool
@@ -18,7 +25,7 @@ impl FilingRow {
         if *viewer == self.agent {
             !self.withdrawn
         } else {
-            !self.withdrawn && self.due <= day
+            self.is_published(day)
         }
     }
 

@@ -53,6 +53,9 @@ pub const DELETE_STATEMENTS: &str = "DELETE FROM statement WHERE agent = ?1 AND 
 /// Marks a filing as withdrawn, by agent and number.
 pub const MARK_WITHDRAWN: &str = "UPDATE filing SET withdrawn = 1 WHERE agent = ?1 AND number = ?2";
 
+/// Sets an agent's token, by the agent's name.
+pub const UPDATE_TOKEN: &str = "UPDATE agent SET token = ?2 WHERE name = ?1";
+
 /// Sets the register's day.
 pub const UPDATE_DAY: &str = "UPDATE register SET day = ?1 WHERE one = 1";
 

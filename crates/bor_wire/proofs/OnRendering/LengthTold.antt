@@ -122,6 +122,8 @@ allowed paths.Evidence body = refl
 allowed paths.Entities body = refl
 allowed paths.Day body = refl
 allowed paths.Agents body = refl
+allowed paths.Agent body = refl
+allowed paths.Register body = refl
 
 behind_tail : (status : ℕ) (path : Option Path) (body : List ℕ) → behind (codes "\r\n\r\n") (tail status path body) ≡ body
 unfolding own_line

@@ -137,6 +137,7 @@ refusal_short refuse.NoEntity = omega arith
 refusal_short refuse.DayBack = omega arith
 refusal_short refuse.NameTaken = omega arith
 refusal_short refuse.TokenTaken = omega arith
+refusal_short refuse.NoSuchAgent = omega arith
 
 pub wire_refusal_short : (why : wire.Refusal) → length (refusal_word why) ≤ 15
 unfolding refusal_word
@@ -162,3 +163,5 @@ allow_short paths.Evidence = omega arith
 allow_short paths.Entities = omega arith
 allow_short paths.Day = omega arith
 allow_short paths.Agents = omega arith
+allow_short paths.Agent = omega arith
+allow_short paths.Register = omega arith

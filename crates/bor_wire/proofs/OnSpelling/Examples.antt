@@ -18,14 +18,14 @@ use Rattle.bor_http.specs.Incoming.Head.{head_len, head_limit}
 use Rattle.bor_http.specs.Incoming.Message.{Parts, FieldText}
 use Rattle.bor_http.proofs.OnRoutes.OnLiterals.{routes_on_literals}
 use Rattle.bor_wire.specs.Spelling.Query.{as_text}
-use Rattle.bor_wire.specs.Spelling.Parts.{text_in, path_in, bearer_token, token, once, at_most_once, key_in}
+use Rattle.bor_wire.specs.Spelling.Parts.{text_in, path_in, bearer_token, token, once, at_most_once, key_in, name_in}
 use Rattle.bor_wire.specs.Spelling.Refusals.{lines_of_message, refusals}
 use Rattle.bor_wire.specs.Spelling.Spell.{Spelled, Spells, asked, spell, spelling}
 use Rattle.bor_http.proofs.OnIncoming.Examples.{begins, of_literal}
 
 -- what is opened to compute what an input spells
 unfoldable pub speller : ⊤
-unfolding is_utf8 chars encode as_text form_urlencoded_on_literals is_agent_name is_lodge_key is_ident is_token pair_at number_of has_marks digits_day day_of name_word head_len routes_on_literals text_in path_in bearer_token token once at_most_once key_in lines_of_message refusals asked spell spelling
+unfolding is_utf8 chars encode as_text form_urlencoded_on_literals is_agent_name is_lodge_key is_ident is_token pair_at number_of has_marks digits_day day_of name_word head_len routes_on_literals text_in path_in bearer_token token once at_most_once key_in name_in lines_of_message refusals asked spell spelling
 speller = tt
 
 -- ---- inputs
@@ -304,6 +304,25 @@ by_the_registrar_found : found by_the_registrar ≡ expected by_the_registrar
 unfolding speller
 by_the_registrar_found = refl
 
+-- the agent's name is the segment of the path as it stands, and its new token the whole body
+abbrev renew : List ℕ → List ℕ → List ℕ → List ℕ × Option Parts
+renew target length body = request (codes "PUT") target (by_alder ∷ length_is length ∷ []) body
+
+abbrev renewals : Cases
+renewals =
+    (renew (codes "/agents/cedar") (codes "18") (codes "cedar-token-000002"), [])
+    ∷ (renew (codes "/agents/cedar?name=alder") (codes "18") (codes "cedar-token-000002 and more"), [])
+    ∷ (renew (codes "/agents/ced%61r") (codes "18") (codes "cedar-token-000002"), BadQuery names.Name ∷ [])
+    ∷ (renew (codes "/agents/Cedar") (codes "18") (codes "cedar-token-000002"), BadQuery names.Name ∷ [])
+    ∷ (renew (codes "/agents/cedar") (codes "19") (codes "cedar-token-000002 and more"), BadQuery names.Token ∷ [])
+    -- together
+    ∷ (renew (codes "/agents/cedar,?token=cedar-token-000002") (codes "0") [], BadQuery names.Name ∷ BadQuery names.Token ∷ [])
+    ∷ []
+
+renewals_found : found renewals ≡ expected renewals
+unfolding speller
+renewals_found = refl
+
 -- ---- what is asked where no refusal holds
 
 abbrev Askings : Type 0
@@ -334,6 +353,8 @@ of_each_route =
     ∷ (get (codes "/entities?scheme=50%25&id=00000001"), ask.Entities (record { scheme = codes "50%"; id = codes "00000001" }) None)
     ∷ (post (codes "/day?date=2024-03-01") (codes "0") [], ask.Day (day (codes "2024-03-01")))
     ∷ (post (codes "/agents?name=cedar&token=x") (codes "18") (codes "cedar-token-000001, and more"), ask.Enrol (codes "cedar") (codes "cedar-token-000001"))
+    ∷ (renew (codes "/agents/cedar") (codes "18") (codes "cedar-token-000002, and more"), ask.Renew (codes "cedar") (codes "cedar-token-000002"))
+    ∷ (get (codes "/register?date=1"), ask.Register)
     ∷ []
 
 of_each_route_spelled : spelled of_each_route ≡ asked_by_alder of_each_route

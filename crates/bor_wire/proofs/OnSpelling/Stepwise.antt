@@ -22,7 +22,7 @@ use Rattle.bor_wire.specs.Spelling.Parts as part
 use Rattle.bor_http.specs.Incoming.Refusals.{refuse}
 use Rattle.bor_wire.specs.Spelling.Refusals.{asks, lines_of_method, lines_of_names, lines_of_message}
 use Rattle.bor_wire.specs.Spelling.Spell.{request_of, asked, spell}
-use Rattle.bor_wire.specs.Spelling.Steps.{or_refuse, named, identifier_by_steps, node_by_steps, request_by_steps, spell_by_steps}
+use Rattle.bor_wire.specs.Spelling.Steps.{or_refuse, named, identifier_by_steps, node_by_steps, lodging_by_steps, snapshot_by_steps, enrolment_by_steps, renewal_by_steps, request_by_steps, spell_by_steps}
 
 abbrev asking : List ℕ → Request → Asked
 asking token request = record { token = token; request = request }
@@ -77,7 +77,7 @@ abbrev identifier : List ℕ → List ℕ → Identifier
 identifier scheme id = record { scheme = scheme; id = id }
 
 request_stepwise : (r : Route) (m : Message) → request_by_steps r m ≡ outcome (lines_of_names (Some r) m) (request_of (Some r) m)
-unfolding request_by_steps node_by_steps identifier_by_steps
+unfolding request_by_steps node_by_steps identifier_by_steps lodging_by_steps snapshot_by_steps enrolment_by_steps renewal_by_steps
 request_stepwise routes.Lodge m = two_names names.Key names.Due (part.key m) (part.due m) [] (pos 0) (λ key due. ask.Lodge key due m.body)
 request_stepwise routes.Withdraw m = one_name names.Key (part.key m) [] (λ key. ask.Withdraw key)
 request_stepwise routes.Filings m = refl
@@ -98,6 +98,9 @@ request_stepwise routes.Entities m =
 request_stepwise routes.Day m = one_name names.Date (part.date m) (pos 0) (λ date. ask.Day date)
 request_stepwise routes.Enrol m =
     two_names names.Name names.Token (part.new_name m) (part.new_token m) [] [] (λ name token. ask.Enrol name token)
+request_stepwise routes.Renew m =
+    two_names names.Name names.Token (part.name m) (part.new_token m) [] [] (λ name token. ask.Renew name token)
+request_stepwise routes.Register m = refl
 
 -- ---- the lines about the whole message
 

@@ -7,6 +7,7 @@ use Rattle.bods_read.specs.declared.details.Identifier.{Identifier}
 use Rattle.bor_records.specs.declared.row.Entry.{Entry}
 use Rattle.bor_records.specs.declared.links.node.Node.{Node}
 use Rattle.bor_chains.specs.declared.line.PersonLine.{PersonLine}
+use Rattle.bor_register.specs.declared.agents.AgentLine.{AgentLine}
 use Rattle.bor_register.specs.declared.filing.FilingLine.{FilingLine}
 use Rattle.bor_register.specs.declared.filing.Outward.{Outward}
 use Rattle.bor_register.specs.declared.filing.State.{State}
@@ -20,7 +21,8 @@ use Rattle.bor_http.specs.declared.incoming.fault.Refusal.{Refusal}
 use Rattle.bor_http.specs.Incoming.Words as wire
 use Rattle.bor_wire.specs.Rendering.Values.{list_data, filing_data, line_data, outward_data}
 use Rattle.bor_wire.specs.Rendering.Values.{snapshot_data, chains_data, evidence_data}
-use Rattle.bor_wire.specs.Rendering.Values.{entities_data, moved_data, enrolled_data, refusal_data}
+use Rattle.bor_wire.specs.Rendering.Values.{entities_data, moved_data, agent_data, register_data}
+use Rattle.bor_wire.specs.Rendering.Values.{refusal_data}
 
 -- ---- texts
 
@@ -48,8 +50,11 @@ entities_text identifier date records = compact_text (entities_data identifier d
 unfoldable pub moved_text : ℤ → List ℕ
 moved_text day = compact_text (moved_data day)
 
-unfoldable pub enrolled_text : List ℕ → List ℕ
-enrolled_text name = compact_text (enrolled_data name)
+unfoldable pub agent_text : List ℕ → List ℕ
+agent_text name = compact_text (agent_data name)
+
+unfoldable pub register_text : List AgentLine → ℤ → List ℕ
+register_text agents day = compact_text (register_data agents day)
 
 unfoldable pub refusal_text : List ℕ → Option ℕ → Option (List ℕ) → List ℕ
 refusal_text name place field = compact_text (refusal_data name place field)
@@ -72,7 +77,9 @@ desk_body (tell.Chains entity date persons) = chains_text entity date persons
 desk_body (tell.Evidence entity date evidence) = evidence_text entity date evidence
 desk_body (tell.Entities identifier date records) = entities_text identifier date records
 desk_body (tell.Day day) = moved_text day
-desk_body (tell.Enrolled name) = enrolled_text name
+desk_body (tell.Enrolled name) = agent_text name
+desk_body (tell.Renewed name) = agent_text name
+desk_body (tell.Register agents day) = register_text agents day
 desk_body (tell.Refused why) = desk_refusal_text why
 desk_body (tell.Failed fault) = refusal_text (codes "StoreFault") None None
 

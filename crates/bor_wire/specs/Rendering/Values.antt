@@ -19,6 +19,7 @@ use Rattle.bor_desk.specs.declared.evidence.lines.EntityEvidence.{EntityEvidence
 use Rattle.bor_desk.specs.declared.evidence.lines.LinkEvidence.{LinkEvidence}
 use Rattle.bor_desk.specs.declared.evidence.lines.PersonEvidence.{PersonEvidence}
 use Rattle.bor_desk.specs.declared.evidence.lines.RecordEvidence.{RecordEvidence}
+use Rattle.bor_register.specs.declared.agents.AgentLine.{AgentLine}
 use Rattle.bor_register.specs.declared.filing.FilingLine.{FilingLine}
 use Rattle.bor_register.specs.declared.filing.Outward.{Outward}
 use Rattle.bor_register.specs.declared.filing.State.{State}
@@ -237,9 +238,23 @@ entities_data identifier date records =
 abbrev pub moved_data : ℤ → Data
 moved_data day = object (member (codes "day") (day_data day) no_members)
 
--- the agent that is enrolled
-abbrev pub enrolled_data : List ℕ → Data
-enrolled_data name = object (member (codes "agent") (string name) no_members)
+-- the agent that is enrolled, or whose token is renewed
+abbrev pub agent_data : List ℕ → Data
+agent_data name = object (member (codes "agent") (string name) no_members)
+
+-- an agent, with how many filings it has published
+abbrev pub agent_line_data : AgentLine → Data
+agent_line_data line =
+    object
+    (member (codes "agent") (string line.agent)
+    (member (codes "published") (count_data line.published) no_members))
+
+-- the agents and the day
+abbrev pub register_data : List AgentLine → ℤ → Data
+register_data agents day =
+    object
+    (member (codes "agents") (list_data agent_line_data agents)
+    (member (codes "day") (day_data day) no_members))
 
 -- ---- refusals
 

@@ -110,6 +110,13 @@ date_or_none m = at_most_once day_of names.Date (query m)
 abbrev pub new_name : Message → Option (List ℕ)
 new_name m = once (fitting is_agent_name) names.Name (query m)
 
--- the token of a new agent: the whole body, as it stands
+-- the name: the segment of the path behind "/agents/"
+unfoldable pub name_in : List ℕ → Option (List ℕ)
+name_in path = text_in is_agent_name (drop 8 path)
+
+abbrev pub name : Message → Option (List ℕ)
+name m = name_in (path_text m)
+
+-- the token that an agent gets: the whole body, as it stands
 abbrev pub new_token : Message → Option (List ℕ)
 new_token m = text_in is_token m.body

@@ -54,6 +54,9 @@ lines_of_names (Some routes.Entities) m =
 lines_of_names (Some routes.Day) m = table (asks names.Date (part.date m) ∷ [])
 lines_of_names (Some routes.Enrol) m =
     table (asks names.Name (part.new_name m) ∷ asks names.Token (part.new_token m) ∷ [])
+lines_of_names (Some routes.Renew) m =
+    table (asks names.Name (part.name m) ∷ asks names.Token (part.new_token m) ∷ [])
+lines_of_names (Some routes.Register) m = []
 
 -- of a whole message, those that hold
 unfoldable pub lines_of_message : Message → List Refusal

@@ -55,6 +55,9 @@ request_of (Some routes.Entities) m =
 request_of (Some routes.Day) m = ask.Day (day_or_any (part.date m))
 request_of (Some routes.Enrol) m =
     ask.Enrol (text_or_any (part.new_name m)) (text_or_any (part.new_token m))
+request_of (Some routes.Renew) m =
+    ask.Renew (text_or_any (part.name m)) (text_or_any (part.new_token m))
+request_of (Some routes.Register) m = ask.Register
 
 -- the request of a message, and the token of whoever asks
 unfoldable pub asked : Message → Asked

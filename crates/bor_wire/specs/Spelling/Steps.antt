@@ -1,7 +1,8 @@
 -- The request that a message spells, one part looked at after the other: each refuses, or the next
 -- is looked at.
-use Rattle.std.specs.Prelude.{◌≡◌, List, Option, Some, None, Result, Ok, Err, ⊤}
-use Rattle.bor_terms.specs.Texts.{is_agent_name, is_ident}
+use Rattle.std.specs.Prelude.{◌≡◌, ℕ, List, Option, Some, None, Result, Ok, Err, ⊤}
+use Rattle.bor_terms.specs.Day.{day_of}
+use Rattle.bor_terms.specs.Texts.{is_agent_name, is_ident, is_token}
 use Rattle.bods_read.specs.declared.details.Identifier.{Identifier}
 use Rattle.bor_records.specs.declared.links.node.Node.{Node}
 use Rattle.bor_desk.specs.declared.request.Request.{Request}
@@ -57,11 +58,37 @@ identifier_by_steps pairs = do
   id ← named names.Id (part.once (part.fitting is_ident) names.Id pairs)
   Ok (record { scheme = scheme; id = id })
 
+-- the lodging that a path, a query and a body ask for
+unfoldable pub lodging_by_steps : List ℕ → List TextPair → List ℕ → Result Request Refusal
+lodging_by_steps path pairs body = do
+  key ← named names.Key (part.key_in path)
+  due ← named names.Due (part.once day_of names.Due pairs)
+  Ok (ask.Lodge key due body)
+
+-- the snapshot that a query asks for
+unfoldable pub snapshot_by_steps : List TextPair → Result Request Refusal
+snapshot_by_steps pairs = do
+  agent ← named names.Agent (part.once (part.fitting is_agent_name) names.Agent pairs)
+  declaration ← named names.Declaration (part.once (part.fitting is_ident) names.Declaration pairs)
+  date ← named names.Date (part.at_most_once day_of names.Date pairs)
+  Ok (ask.Snapshot agent declaration date)
+
+-- the enrolment that a query and a body ask for
+unfoldable pub enrolment_by_steps : List TextPair → List ℕ → Result Request Refusal
+enrolment_by_steps pairs body = do
+  name ← named names.Name (part.once (part.fitting is_agent_name) names.Name pairs)
+  token ← named names.Token (part.text_in is_token body)
+  Ok (ask.Enrol name token)
+
+-- the renewal that a path and a body ask for
+unfoldable pub renewal_by_steps : List ℕ → List ℕ → Result Request Refusal
+renewal_by_steps path body = do
+  name ← named names.Name (part.name_in path)
+  token ← named names.Token (part.text_in is_token body)
+  Ok (ask.Renew name token)
+
 unfoldable pub request_by_steps : Route → Message → Result Request Refusal
-request_by_steps routes.Lodge m = do
-  key ← named names.Key (part.key m)
-  due ← named names.Due (part.due m)
-  Ok (ask.Lodge key due m.body)
+request_by_steps routes.Lodge m = lodging_by_steps (part.path_text m) (part.query m) m.body
 request_by_steps routes.Withdraw m = do
   key ← named names.Key (part.key m)
   Ok (ask.Withdraw key)
@@ -70,11 +97,7 @@ request_by_steps routes.File m = do
   key ← named names.Key (part.key m)
   Ok (ask.File key)
 request_by_steps routes.Published m = Ok ask.Published
-request_by_steps routes.Snapshot m = do
-  agent ← named names.Agent (part.agent m)
-  declaration ← named names.Declaration (part.declaration m)
-  date ← named names.Date (part.date_or_none m)
-  Ok (ask.Snapshot agent declaration date)
+request_by_steps routes.Snapshot m = snapshot_by_steps (part.query m)
 request_by_steps routes.Chains m = do
   node ← node_by_steps (part.query m)
   date ← named names.Date (part.date_or_none m)
@@ -90,10 +113,9 @@ request_by_steps routes.Entities m = do
 request_by_steps routes.Day m = do
   date ← named names.Date (part.date m)
   Ok (ask.Day date)
-request_by_steps routes.Enrol m = do
-  name ← named names.Name (part.new_name m)
-  token ← named names.Token (part.new_token m)
-  Ok (ask.Enrol name token)
+request_by_steps routes.Enrol m = enrolment_by_steps (part.query m) m.body
+request_by_steps routes.Renew m = renewal_by_steps (part.path_text m) m.body
+request_by_steps routes.Register m = Ok ask.Register
 
 unfoldable pub spell_by_steps : Message → Spelled
 spell_by_steps m = do

@@ -2,8 +2,8 @@
 
 ghost use Rattle.std.specs.Prelude.{◌≡◌, IfOk, OnOk};
 ghost use Rattle.serde_json.specs.Written.{compact_text};
-ghost use Rattle.bor_wire.specs.Rendering.Values.{list_data, snapshot_data, chains_data, evidence_data, entities_data};
-ghost use Rattle.bor_wire.specs.Rendering.Bodies.{snapshot_text, chains_text, evidence_text, entities_text, desk_body};
+ghost use Rattle.bor_wire.specs.Rendering.Values.{list_data, snapshot_data, chains_data, evidence_data, entities_data, register_data};
+ghost use Rattle.bor_wire.specs.Rendering.Bodies.{snapshot_text, chains_text, evidence_text, entities_text, register_text, desk_body};
 ghost use Rattle.bor_wire.specs.Rendering.Parts.{Adds, data_tokens};
 
 use crate::rendering::head::HEAD_ROOM;
@@ -12,6 +12,7 @@ use crate::rendering::short::put_body;
 use crate::rendering::shown::{Shown, write_array, write_day, write_text};
 use bods_read::Identifier;
 use bor_chains::{Node, PersonLine};
+use bor_desk::operations::AgentLine;
 use bor_desk::{DeskReply, EntityEvidence, RecordEvidence};
 use bor_records::Entry;
 use bor_terms::Day;
@@ -151,6 +152,26 @@ fn entities_body(
     Ok(out.into_inner())
 }
 
+fn write_register(out: &mut Writer, agents: &[AgentLine], day: Day) -> Result<(), AllocError>
+    ensures { Adds result out.old out.new (data_tokens (register_data agents.now day)) }
+{
+    out.begin_object()?;
+    out.key("agents")?;
+    write_array(out, agents)?;
+    out.key("day")?;
+    write_day(out, day)?;
+    out.end_object()
+}
+
+// The agents of the register, and its day.
+fn register_body(alloc: Global, agents: &[AgentLine], day: Day) -> Result<Vec<u8>, AllocError>
+    ensures { IfOk result (λ body. body.items ≡ register_text agents.now day) }
+{
+    let mut out = Writer::new(Vec::new(alloc));
+    write_register(&mut out, agents, day)?;
+    Ok(out.into_inner())
+}
+
 // The file as it was lodged, with room for the head of the reply.
 fn file_body(alloc: Global, file: &[u8]) -> Result<Vec<u8>, AllocError>
     ensures { IfOk result (λ body. body.items ≡ file.now) }
@@ -185,6 +206,7 @@ pub(crate) fn body_of(alloc: Global, reply: &DeskReply) -> Result<Vec<u8>, Alloc
             date,
             records,
         } => entities_body(alloc, identifier, *date, records.as_slice()),
+        DeskReply::Register { agents, day } => register_body(alloc, agents.as_slice(), *day),
         short => {
             let mut body = Vec::with_capacity(alloc, RESERVED)?;
             put_body(&mut body, short);

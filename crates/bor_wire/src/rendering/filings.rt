@@ -1,10 +1,10 @@
-//! Filings, as their agent and as all see them.
+//! Filings, as their agent, as all and as the registrar see them.
 
-ghost use Rattle.bor_wire.specs.Rendering.Values.{line_data, statement_data, outward_data};
+ghost use Rattle.bor_wire.specs.Rendering.Values.{agent_line_data, line_data, statement_data, outward_data};
 
 use crate::rendering::shown::{Shown, write_array, write_day, write_text};
 use bods_read::Statement;
-use bor_desk::operations::{FilingLine, Outward};
+use bor_desk::operations::{AgentLine, FilingLine, Outward};
 use bor_desk::settled_word;
 use json::Writer;
 use std::alloc::AllocError;
@@ -50,6 +50,18 @@ impl Shown for Outward {
         write_day(out, self.due)?;
         out.key("statements")?;
         write_array(out, self.statements.as_slice())?;
+        out.end_object()
+    }
+}
+
+impl Shown for AgentLine {
+    ghost as_data = { agent_line_data };
+
+    fn write(&self, out: &mut Writer) -> Result<(), AllocError> {
+        out.begin_object()?;
+        write_text(out, "agent", self.agent.as_str())?;
+        out.key("published")?;
+        out.u64(self.published as u64)?;
         out.end_object()
     }
 }

@@ -34,6 +34,7 @@ pub fn is_long(reply: &DeskReply) -> bool
             | DeskReply::Chains { .. }
             | DeskReply::Evidence { .. }
             | DeskReply::Entities { .. }
+            | DeskReply::Register { .. }
     )
 }
 

@@ -8,7 +8,7 @@ ghost use Rattle.bor_desk.specs.Laws.{is_long};
 ghost use Rattle.bor_desk.specs.Refusals as desk;
 ghost use Rattle.bor_http.specs.Incoming.Words as wire;
 ghost use Rattle.bor_wire.specs.Rendering.Limits.{short_room};
-ghost use Rattle.bor_wire.specs.Rendering.Bodies.{filing_text, moved_text, enrolled_text, refusal_text, desk_body, desk_refusal_text, wire_refusal_text};
+ghost use Rattle.bor_wire.specs.Rendering.Bodies.{filing_text, moved_text, agent_text, refusal_text, desk_body, desk_refusal_text, wire_refusal_text};
 ghost use Rattle.bor_wire.specs.Rendering.Parts.{field_member, place_member};
 
 use crate::rendering::room::{put, put_day, put_number, put_quoted};
@@ -44,10 +44,10 @@ fn put_moved(out: &mut Vec<u8>, day: Day)
     put(out, b"}");
 }
 
-#[tactic(auto, unfolding(crate::specs::Rendering::Bodies::enrolled_text, json::specs::Print::escape_byte), using(crate::proofs::OnRendering::ShortTexts::name_short))]
-fn put_enrolled(out: &mut Vec<u8>, name: &AgentName)
+#[tactic(auto, unfolding(crate::specs::Rendering::Bodies::agent_text, json::specs::Print::escape_byte), using(crate::proofs::OnRendering::ShortTexts::name_short))]
+fn put_agent(out: &mut Vec<u8>, name: &AgentName)
     requires { vec_len out.old + short_room ≤ vec_capacity out.old }
-    ensures items { out.new.items ≡ out.old.items ++ enrolled_text name.now }
+    ensures items { out.new.items ≡ out.old.items ++ agent_text name.now }
     ensures len { vec_len out.new ≤ vec_len out.old + short_room }
     ensures capacity { vec_capacity out.old ≤ vec_capacity out.new }
 {
@@ -163,7 +163,7 @@ pub(crate) fn put_body(out: &mut Vec<u8>, reply: &DeskReply)
         DeskReply::Lodged(lodged) => put_filing(out, lodged.due, lodged.number, lodged.state),
         DeskReply::Withdrawn(line) => put_filing(out, line.due, line.number, line.state),
         DeskReply::Day(day) => put_moved(out, *day),
-        DeskReply::Enrolled(name) => put_enrolled(out, name),
+        DeskReply::Enrolled(name) | DeskReply::Renewed(name) => put_agent(out, name),
         DeskReply::Refused(refusal) => put_desk_refusal(out, *refusal),
         DeskReply::Failed(_) => put_refusal(out, "StoreFault", None, None),
         _ => {}

@@ -29,7 +29,9 @@ fn desk_refusal_status(refusal: bor_desk::Refusal) -> StatusCode
     match refusal {
         bor_desk::Refusal::NoAgent => StatusCode::UNAUTHORIZED,
         bor_desk::Refusal::NotRegistrar | bor_desk::Refusal::NotAgent => StatusCode::FORBIDDEN,
-        bor_desk::Refusal::NoSuchFiling | bor_desk::Refusal::NoEntity => StatusCode::NOT_FOUND,
+        bor_desk::Refusal::NoSuchFiling
+        | bor_desk::Refusal::NoEntity
+        | bor_desk::Refusal::NoSuchAgent => StatusCode::NOT_FOUND,
         bor_desk::Refusal::KeyReused
         | bor_desk::Refusal::FilingsFull
         | bor_desk::Refusal::Published

@@ -1,11 +1,11 @@
 //! The request of a message, and the token of whoever asks.
 ghost use Rattle.bor_wire.specs.Spelling.Spell.{asked_view, spell};
 ghost use Rattle.bor_wire.specs.Spelling.Query.{pair_texts};
-ghost use Rattle.bor_wire.specs.Spelling.Steps.{Finds, identifier_by_steps, node_by_steps, request_by_steps};
+ghost use Rattle.bor_wire.specs.Spelling.Steps.{Finds, enrolment_by_steps, identifier_by_steps, lodging_by_steps, node_by_steps, renewal_by_steps, request_by_steps, snapshot_by_steps};
 
 use crate::spelling::name::{agent_named, day_if_named, day_named, ident_named, text_named};
 use crate::spelling::query::{QueryPair, query_pairs};
-use crate::spelling::target::{key_at, path_at, split_at_first};
+use crate::spelling::target::{key_at, name_at, path_at, split_at_first};
 use crate::spelling::token::{new_token, token_at};
 use bods_read::Identifier;
 use bor_chains::Node;
@@ -47,6 +47,55 @@ fn identifier_named(alloc: Global, pairs: &[QueryPair]) -> Result<Identifier, Wi
     })
 }
 
+#[tactic(auto, unfolding(crate::specs::Spelling::Steps::lodging_by_steps))]
+fn lodging_for(
+    alloc: Global,
+    path: &[u8],
+    pairs: &[QueryPair],
+    body: &[u8],
+) -> Result<Request, WireFault>
+    ensures { Finds (λ request. request) result
+        (lodging_by_steps path.now (pair_texts pairs.now) body.now) }
+{
+    Ok(Request::Lodge {
+        key: key_at(alloc, path)?,
+        due: day_named(pairs, Name::Due)?,
+        file: Listed::new(Vec::from_slice(alloc, body)?),
+    })
+}
+
+#[tactic(auto, unfolding(crate::specs::Spelling::Steps::snapshot_by_steps))]
+fn snapshot_for(alloc: Global, pairs: &[QueryPair]) -> Result<Request, WireFault>
+    ensures { Finds (λ request. request) result (snapshot_by_steps (pair_texts pairs.now)) }
+{
+    Ok(Request::Snapshot {
+        agent: agent_named(alloc, pairs, Name::Agent)?,
+        declaration: ident_named(alloc, pairs, Name::Declaration)?,
+        date: day_if_named(pairs, Name::Date)?,
+    })
+}
+
+#[tactic(auto, unfolding(crate::specs::Spelling::Steps::enrolment_by_steps))]
+fn enrolment_for(alloc: Global, pairs: &[QueryPair], body: &[u8]) -> Result<Request, WireFault>
+    ensures { Finds (λ request. request) result
+        (enrolment_by_steps (pair_texts pairs.now) body.now) }
+{
+    Ok(Request::Enrol {
+        name: agent_named(alloc, pairs, Name::Name)?,
+        token: new_token(alloc, body)?,
+    })
+}
+
+#[tactic(auto, unfolding(crate::specs::Spelling::Steps::renewal_by_steps))]
+fn renewal_for(alloc: Global, path: &[u8], body: &[u8]) -> Result<Request, WireFault>
+    ensures { Finds (λ request. request) result (renewal_by_steps path.now body.now) }
+{
+    Ok(Request::Renew {
+        name: name_at(alloc, path)?,
+        token: new_token(alloc, body)?,
+    })
+}
+
 // The request that a route asks for, from the path, the query and the body.
 #[tactic(auto, unfolding(crate::specs::Spelling::Steps::request_by_steps))]
 fn request_for(alloc: Global, route: Route, raw: &RawRequest) -> Result<Request, WireFault>
@@ -55,11 +104,7 @@ fn request_for(alloc: Global, route: Route, raw: &RawRequest) -> Result<Request,
     let (path, query) = split_at_first(raw.target(), b'?');
     let pairs = query_pairs(alloc, query)?;
     match route {
-        Route::Lodge => Ok(Request::Lodge {
-            key: key_at(alloc, path)?,
-            due: day_named(&pairs, Name::Due)?,
-            file: Listed::new(Vec::from_slice(alloc, raw.body())?),
-        }),
+        Route::Lodge => lodging_for(alloc, path, &pairs, raw.body()),
         Route::Withdraw => Ok(Request::Withdraw {
             key: key_at(alloc, path)?,
         }),
@@ -68,11 +113,7 @@ fn request_for(alloc: Global, route: Route, raw: &RawRequest) -> Result<Request,
             key: key_at(alloc, path)?,
         }),
         Route::Published => Ok(Request::Published),
-        Route::Snapshot => Ok(Request::Snapshot {
-            agent: agent_named(alloc, &pairs, Name::Agent)?,
-            declaration: ident_named(alloc, &pairs, Name::Declaration)?,
-            date: day_if_named(&pairs, Name::Date)?,
-        }),
+        Route::Snapshot => snapshot_for(alloc, &pairs),
         Route::Chains => Ok(Request::Chains {
             entity: node_named(alloc, &pairs)?,
             date: day_if_named(&pairs, Name::Date)?,
@@ -88,10 +129,9 @@ fn request_for(alloc: Global, route: Route, raw: &RawRequest) -> Result<Request,
         Route::Day => Ok(Request::Day {
             date: day_named(&pairs, Name::Date)?,
         }),
-        Route::Enrol => Ok(Request::Enrol {
-            name: agent_named(alloc, &pairs, Name::Name)?,
-            token: new_token(alloc, raw.body())?,
-        }),
+        Route::Enrol => enrolment_for(alloc, &pairs, raw.body()),
+        Route::Renew => renewal_for(alloc, path, raw.body()),
+        Route::Register => Ok(Request::Register),
     }
 }
 

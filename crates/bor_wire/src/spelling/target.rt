@@ -1,14 +1,14 @@
-//! The path and the query of a target, and the key in a path.
+//! The path and the query of a target, and the key or the name in a path.
 ghost use Rattle.std.specs.Prelude.{◌≡◌, drop};
 ghost use Rattle.form_urlencoded.specs.Form.{split_once};
 ghost use Rattle.bor_http.specs.declared.incoming.fault.Refusal.TheVariants.{NoPath};
-ghost use Rattle.bor_http.specs.declared.incoming.fault.Name.TheVariants.{Key};
-ghost use Rattle.bor_wire.specs.Spelling.Parts.{path_in, key_in};
+ghost use Rattle.bor_http.specs.declared.incoming.fault.Name.TheVariants as names;
+ghost use Rattle.bor_wire.specs.Spelling.Parts.{path_in, key_in, name_in};
 ghost use Rattle.bor_wire.specs.Spelling.Steps.{Finds, or_refuse, named};
 
 use bor_http::incoming::{Name, Path, Refusal, WireFault};
 use bor_http::routes::Paths;
-use bor_terms::LodgeKey;
+use bor_terms::{AgentName, LodgeKey};
 use std::alloc::Global;
 
 /// The bytes before the first one that is this, and those behind it.
@@ -35,23 +35,40 @@ pub(crate) fn path_at(paths: &Paths, text: &[u8]) -> Result<Path, WireFault>
     }
 }
 
-// The part behind `/filings/`.
-fn behind_filings(path: &[u8]) -> &[u8]
-    ensures { result.now ≡ drop 9 path.now }
+// The bytes behind so many.
+fn behind(bytes: &[u8], count: usize) -> &[u8]
+    ensures { result.now ≡ drop count bytes.now }
 {
-    if path.len() < 9 { &[] } else { &path[9..] }
+    if bytes.len() < count {
+        &[]
+    } else {
+        &bytes[count..]
+    }
 }
 
 /// The key in the path of a filing.
 pub(crate) fn key_at(alloc: Global, path: &[u8]) -> Result<LodgeKey, WireFault>
-    ensures { Finds (λ key. key) result (named Key (key_in path.now)) }
+    ensures { Finds (λ key. key) result (named names.Key (key_in path.now)) }
 {
-    let (segment, _) = split_at_first(behind_filings(path), b'/');
+    let (segment, _) = split_at_first(behind(path, 9), b'/');
     let Ok(text) = str::from_utf8(segment) else {
         return Err(WireFault::Refused(Refusal::BadQuery(Name::Key)));
     };
     match LodgeKey::read(alloc, text)? {
         Some(key) => Ok(key),
         None => Err(WireFault::Refused(Refusal::BadQuery(Name::Key))),
+    }
+}
+
+/// The name in the path of an agent.
+pub(crate) fn name_at(alloc: Global, path: &[u8]) -> Result<AgentName, WireFault>
+    ensures { Finds (λ name. name) result (named names.Name (name_in path.now)) }
+{
+    let Ok(text) = str::from_utf8(behind(path, 8)) else {
+        return Err(WireFault::Refused(Refusal::BadQuery(Name::Name)));
+    };
+    match AgentName::read(alloc, text)? {
+        Some(name) => Ok(name),
+        None => Err(WireFault::Refused(Refusal::BadQuery(Name::Name))),
     }
 }

@@ -1,4 +1,4 @@
-//! Tokens: of whoever asks, and of a new agent.
+//! Tokens: of whoever asks, and one that an agent gets.
 ghost use Rattle.std.specs.Prelude.{◌≡◌};
 ghost use Rattle.bor_terms.specs.Texts.{is_token};
 ghost use Rattle.bor_http.specs.declared.incoming.fault.Refusal.TheVariants.{NoToken};
@@ -57,7 +57,7 @@ pub(crate) fn token_at(alloc: Global, raw: &RawRequest) -> Result<Token, WireFau
     }
 }
 
-/// The token of a new agent: the whole body.
+/// The token that an agent gets: the whole body.
 pub(crate) fn new_token(alloc: Global, body: &[u8]) -> Result<Token, WireFault>
     ensures { Finds (λ token. token) result (named names.Token (part.text_in is_token body.now)) }
 {

@@ -35,3 +35,9 @@ returns-in-Evidence-clause-route c = routed asks.Evidence ∙ ap Some (sym c.in-
 
 pub returns-in-Entities-clause-route : goal.returns-in-Entities-clause-route
 returns-in-Entities-clause-route c = routed asks.Entities ∙ ap Some (sym c.in-Entities.is)
+
+pub returns-in-Renew-clause-route : goal.returns-in-Renew-clause-route
+returns-in-Renew-clause-route c = routed asks.Renew ∙ ap Some (sym c.in-Renew.is)
+
+pub returns-in-Register-clause-route : goal.returns-in-Register-clause-route
+returns-in-Register-clause-route c = routed asks.Register ∙ ap Some (sym c.in-Register.is)

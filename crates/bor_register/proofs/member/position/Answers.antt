@@ -9,4 +9,4 @@ returns-then-eq-clause-some c =
     let inv = c.loop-i.invariant in
     let name = c.args.name.now in
     place_here name c.args.members.now c.loop-i.i c.index-members-i.result c.loop-i-test.true
-    (ap (λ (m : Member). is_same m.name name) (sym c.index-members-i.is) ∙ sym c.eq.ensures ∙ c.if-eq.true) inv.enrolled inv.own inv.written
+    (ap (λ (m : Member). is_same m.name name) (sym c.index-members-i.is) ∙ sym c.eq.ensures ∙ c.if-eq.true) inv.enrolled inv.own inv.written inv.renewed

@@ -1,4 +1,5 @@
 use Rattle.bor_desk.proofs.OnOperations.Refusals.{refused_lodging, repeated_lodging, refused_withdrawal, repeated_withdrawal, refused_advance, refused_enrolment}
+use Rattle.bor_desk.proofs.OnOperations.Renewals.{refused_renewal}
 use Rattle.bor_desk.proofs.operations.laws.refusal_changes_nothing.Goals as goal
 
 pub returns : goal.returns
@@ -9,4 +10,5 @@ returns c = record {
   of_withdrawn = repeated_withdrawal;
   of_advance = refused_advance;
   of_enrolment = refused_enrolment;
+  of_renewal = refused_renewal;
 }

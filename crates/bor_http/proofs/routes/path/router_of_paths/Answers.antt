@@ -17,7 +17,11 @@ returns c =
     let j = with_path-inserted paths.Entities c.insert-7.new.self c.insert-8.new.self tt c.in_ok-insert-8.ensures in
     let k = with_path-inserted paths.Day c.insert-8.new.self c.insert-9.new.self tt c.in_ok-insert-9.ensures in
     let l = with_path-inserted paths.Agents c.insert-9.new.self c.insert-10.new.self tt c.in_ok-insert-10.ensures in
-    l ∙ ap (λ rows. with_path rows paths.Agents)
+    let m = with_path-inserted paths.Agent c.insert-10.new.self c.insert-11.new.self tt c.in_ok-insert-11.ensures in
+    let n = with_path-inserted paths.Register c.insert-11.new.self c.insert-12.new.self tt c.in_ok-insert-12.ensures in
+    n ∙ ap (λ rows. with_path rows paths.Register)
+    (m ∙ ap (λ rows. with_path rows paths.Agent)
+    (l ∙ ap (λ rows. with_path rows paths.Agents)
     (k ∙ ap (λ rows. with_path rows paths.Day)
     (j ∙ ap (λ rows. with_path rows paths.Entities)
     (i ∙ ap (λ rows. with_path rows paths.Evidence)
@@ -26,4 +30,4 @@ returns c =
     (e ∙ ap (λ rows. with_path rows paths.Published)
     (d ∙ ap (λ rows. with_path rows paths.File)
     (b ∙ ap (λ rows. with_path rows paths.Filings)
-    (a ∙ ap (λ rows. with_path rows paths.Filing) c.new-router.ensures)))))))))
+    (a ∙ ap (λ rows. with_path rows paths.Filing) c.new-router.ensures)))))))))))

@@ -15,17 +15,17 @@ key_in-at path behind segment key b s k =
 
 pub returns-in_default : goal.returns-in_default
 returns-in_default c =
-    key_in-at c.args.path.now c.behind_filings.result.now c.split_at_first.result.0.now _ c.behind_filings.ensures c.split_at_first.ensures.before
+    key_in-at c.args.path.now c.behind.result.now c.split_at_first.result.0.now _ c.behind.ensures c.split_at_first.ensures.before
     (text_in-other is_lodge_key c.split_at_first.result.0.now c.in_default.ensures.cases.0)
 
 pub returns-in-Some : goal.returns-in-Some
 returns-in-Some c =
     let text = c.in-Ok.ensures.cases in
-    key_in-at c.args.path.now c.behind_filings.result.now c.split_at_first.result.0.now _ c.behind_filings.ensures c.split_at_first.ensures.before
+    key_in-at c.args.path.now c.behind.result.now c.split_at_first.result.0.now _ c.behind.ensures c.split_at_first.ensures.before
     (text_in-text is_lodge_key c.split_at_first.result.0.now text.1 ∙ ap (fitting is_lodge_key) (sym text.0) ∙ sym c.in_ok-key.ensures.value ∙ c.in-Some.is)
 
 pub returns-in-None : goal.returns-in-None
 returns-in-None c =
     let text = c.in-Ok.ensures.cases in
-    key_in-at c.args.path.now c.behind_filings.result.now c.split_at_first.result.0.now _ c.behind_filings.ensures c.split_at_first.ensures.before
+    key_in-at c.args.path.now c.behind.result.now c.split_at_first.result.0.now _ c.behind.ensures c.split_at_first.ensures.before
     (text_in-text is_lodge_key c.split_at_first.result.0.now text.1 ∙ ap (fitting is_lodge_key) (sym text.0) ∙ sym c.in_ok-key.ensures.value ∙ c.in-None.is)

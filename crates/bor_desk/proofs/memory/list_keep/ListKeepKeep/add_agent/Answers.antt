@@ -15,13 +15,10 @@ invariant_of-self c =
     let before : List Member = c.self.inside.members.items in
     let fresh : is_enrolled agent before ≡ false =
     subst (λ (ms : List Member). is_enrolled agent ms ≡ false) c.deref.ensures.value (sym c.is_enrolled.ensures ∙ c.if-is_enrolled.false) in
-    let Fits : List Member → Type 0 = λ ms. IsOrdered ms × IfSome c.self.inside.index (λ x. IsIndex ms x) × Unit {0} in
-    rw c.forget.ensures (
+    let Fits : List Member → Type 0 = λ ms. IsOrdered ms × IfSome c.self.inside.index (λ x. IsIndex ms x) in
     either_way c.enrol_member-made.result (c.enrol_member-made.new.members.items ≡ with_member (new_member agent c.args.token.now) before) (c.enrol_member-made.new.members.items ≡ before) (Fits c.enrol_member-made.new.members.items) c.enrol_member-made.ensures.ok c.enrol_member-made.ensures.err
     (λ is. subst Fits (sym is) (
       ordered-with_member (new_member agent c.args.token.now) before fresh c.self.invariant.0,
       IfSome_then c.self.inside.index c.self.invariant.1 (λ x h. index_enrolled before agent c.args.token.now x fresh h),
-      tt,
     ))
-    (λ is. subst Fits (sym is) (c.self.invariant.0, c.self.invariant.1, tt))
-    )
+    (λ is. subst Fits (sym is) (c.self.invariant.0, c.self.invariant.1))

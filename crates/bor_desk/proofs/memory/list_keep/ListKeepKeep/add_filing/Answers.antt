@@ -35,6 +35,5 @@ invariant_of-self c =
     let long : length c.self-2.inside.members.items ≡ c.self-2.inside.members.len = omega arith in
     let now = written c.push_filing.new.members c.self-2.inside.members.items c.self-2.inside.members.len
     (ap (λ (ms : List Member). length ms) is ∙ long-with_filings agent own before ∙ ap (λ (ms : List Member). length ms) (sym then) ∙ long) ∙ is in
-    rw c.forget.ensures
-    (subst (λ (ms : List Member). IsOrdered ms × IfSome c.take_index-index.result (λ x. IsIndex ms x) × Unit {0}) (sym now)
-    (ordered-with_filings agent own before (subst IsOrdered then c.self-2.invariant.0), IfSome_then c.take_index-index.result c.take_index-index.ensures.grown (λ x h. h filing refl enrolled), tt))
+    subst (λ (ms : List Member). IsOrdered ms × IfSome c.take_index-index.result (λ x. IsIndex ms x)) (sym now)
+    (ordered-with_filings agent own before (subst IsOrdered then c.self-2.invariant.0), IfSome_then c.take_index-index.result c.take_index-index.ensures.grown (λ x h. h filing refl enrolled))

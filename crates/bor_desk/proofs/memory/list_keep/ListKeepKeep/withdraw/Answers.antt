@@ -20,6 +20,5 @@ invariant_of-self c =
     c.withdraw_of.ensures ∙ ap (λ (ms : List Member). with_filings agent (with_withdrawn c.args.number (filings_of agent ms)) ms) c.deref_mut.ensures.value in
     let long : length before ≡ c.self.inside.members.len = omega arith in
     let now = written c.withdraw_of.new.members before c.self.inside.members.len (ap (λ (ms : List Member). length ms) is ∙ long-with_filings agent own before ∙ long) ∙ is in
-    rw c.forget.ensures
-    (subst (λ (ms : List Member). IsOrdered ms × IfSome c.self.inside.index (λ x. IsIndex ms x) × Unit {0}) (sym now)
-    (ordered-with_filings agent own before c.self.invariant.0, IfSome_then c.self.inside.index c.self.invariant.1 (λ x h. index_withdrawn before agent c.args.number x h), tt))
+    subst (λ (ms : List Member). IsOrdered ms × IfSome c.self.inside.index (λ x. IsIndex ms x)) (sym now)
+    (ordered-with_filings agent own before c.self.invariant.0, IfSome_then c.self.inside.index c.self.invariant.1 (λ x h. index_withdrawn before agent c.args.number x h))

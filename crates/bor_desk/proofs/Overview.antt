@@ -1,0 +1,145 @@
+-- The registrar's answers hang on the day, the tokens, the names, and what is published.
+use Rattle.std.proofs.Common.{◌≡◌, ℕ, suc, ℤ, Bool, true, false, cond, List, [], ◌∷◌, ◌++◌, map, length, Contains, Option, Some, None, option_map, is_some, append-nil, refl, sym, ap, ap₂, ◌∙◌, subst, inl, inr}
+use Rattle.std.specs.Prelude.{if◌then◌else◌, ◌||◌, int_lt, filter}
+use Rattle.std.proofs.lemmas.List.Elements.{filter-append}
+use Rattle.bor_terms.specs.Texts.{is_below, is_same}
+use Rattle.bor_terms.proofs.Texts.{below_differs, same_refl, same_sym}
+use Rattle.bor_records.proofs.OnLinks.Found.{cases, here, none, there}
+use Rattle.bor_register.specs.declared.agents.AgentLine.{AgentLine}
+use Rattle.bor_register.specs.declared.caller.Caller.{Caller}
+use Rattle.bor_register.specs.declared.caller.Caller.TheVariants.{Registrar, Agent}
+use Rattle.bor_register.specs.declared.filing.AcceptedFiling.{AcceptedFiling}
+use Rattle.bor_register.specs.declared.filing.Outward.{Outward}
+use Rattle.bor_register.specs.declared.member.Member.{Member}
+use Rattle.bor_register.specs.Publication.{agent_line, is_published, outward, outwards_of, published, published_count}
+use Rattle.bor_register.specs.Register.{AllAbove, IsOrdered, Register, agent_with, caller_of, is_enrolled, is_taken}
+use Rattle.bor_register.proofs.Callers.{taken-caller}
+use Rattle.bor_desk.specs.declared.request.Request.TheVariants as ask
+use Rattle.bor_desk.specs.declared.reply.DeskReply.TheVariants as tell
+use Rattle.bor_desk.specs.Operations.Laws.{agents_of}
+use Rattle.bor_desk.specs.Step.{exactly, registrar_step}
+use Rattle.bor_desk.specs.Standing.{IsOutwardlySame, RegistrarSeesNoDraft}
+
+-- ---- an agent's lines among what is published
+
+by_agent : List ℕ → Outward → Bool
+by_agent name o = is_same o.agent name
+
+own_outwards : (name : List ℕ) (fs : List AcceptedFiling) → filter (by_agent name) (map (outward name) fs) ≡ map (outward name) fs
+unfolding by_agent
+own_outwards name [] = refl
+own_outwards name (f ∷ fs) =
+    ap (λ b. cond b (outward name f ∷ filter (by_agent name) (map (outward name) fs)) (filter (by_agent name) (map (outward name) fs))) (same_refl name)
+    ∙ ap (λ (os : List Outward). outward name f ∷ os) (own_outwards name fs)
+
+other_outwards : (name other : List ℕ) (fs : List AcceptedFiling) → is_same other name ≡ false → filter (by_agent name) (map (outward other) fs) ≡ []
+unfolding by_agent
+other_outwards name other [] e = refl
+other_outwards name other (f ∷ fs) e =
+    ap (λ b. cond b (outward other f ∷ filter (by_agent name) (map (outward other) fs)) (filter (by_agent name) (map (outward other) fs))) e
+    ∙ other_outwards name other fs e
+
+none_above : (name : List ℕ) (day : ℤ) (ms : List Member) → AllAbove name ms → filter (by_agent name) (published day ms) ≡ []
+none_above name day [] h = refl
+none_above name day (m ∷ ms) h =
+    filter-append (by_agent name) (outwards_of day m.name m.filings) (published day ms)
+    ∙ ap₂ (λ (xs ys : List Outward). xs ++ ys) (other_outwards name m.name (filter (is_published day) m.filings) (same_sym m.name name ∙ below_differs name m.name h.0)) (none_above name day ms h.1)
+
+above_in : (name : List ℕ) (ms : List Member) (m : Member) → AllAbove name ms → Contains ms m → is_below name m.name ≡ true
+above_in name [] m h on = absurd (none m on)
+above_in name (x ∷ xs) m h on = elim (cases x xs m on) [
+  | inl e ↦ subst (λ (y : Member). is_below name y.name ≡ true) e h.0
+  | inr k ↦ above_in name xs m h.1 k
+]
+
+-- each agent's are its own
+of_member : (day : ℤ) (ms : List Member) (m : Member) → IsOrdered ms → Contains ms m → filter (by_agent m.name) (published day ms) ≡ outwards_of day m.name m.filings
+of_member day [] m h on = absurd (none m on)
+of_member day (x ∷ xs) m h on =
+    filter-append (by_agent m.name) (outwards_of day x.name x.filings) (published day xs)
+    ∙ elim (cases x xs m on) [
+      | inl e ↦ subst (λ (y : Member). filter (by_agent y.name) (outwards_of day x.name x.filings) ++ filter (by_agent y.name) (published day xs) ≡ outwards_of day y.name y.filings) e
+          (ap₂ (λ (ps qs : List Outward). ps ++ qs) (own_outwards x.name (filter (is_published day) x.filings)) (none_above x.name day xs h.0) ∙ append-nil (outwards_of day x.name x.filings))
+      | inr k ↦ ap₂ (λ (ps qs : List Outward). ps ++ qs) (other_outwards m.name x.name (filter (is_published day) x.filings) (below_differs x.name m.name (above_in x.name xs m h.0 k))) (of_member day xs m h.1 k)
+    ]
+
+long-map : {X Y : Type 0} (f : X → Y) (xs : List X) → length (map f xs) ≡ length xs
+long-map f [] = refl
+long-map f (x ∷ xs) = ap suc (long-map f xs)
+
+line_from : List Outward → List ℕ × List ℕ → AgentLine
+line_from os agent = record { agent = agent.0; published = length (filter (by_agent agent.0) os) }
+
+lines_among : (day : ℤ) (os : List Outward) (ms : List Member) → ((m : Member) → Contains ms m → filter (by_agent m.name) os ≡ outwards_of day m.name m.filings) → map (agent_line day) ms ≡ map (line_from os) (agents_of ms)
+unfolding line_from
+lines_among day os [] all = refl
+lines_among day os (m ∷ ms) all =
+    let count : published_count day m.filings ≡ length (filter (by_agent m.name) os) = sym (ap (λ (xs : List Outward). length xs) (all m (here m ms)) ∙ long-map (outward m.name) (filter (is_published day) m.filings)) in
+    ap₂ (λ (n : ℕ) (ls : List AgentLine). let line : AgentLine = record { agent = m.name; published = n } in line ∷ ls) count (lines_among day os ms (λ x on. all x (there m ms x on)))
+
+lines_are : (r : Register) → IsOrdered r.members → map (agent_line r.day) r.members ≡ map (line_from (published r.day r.members)) (agents_of r.members)
+lines_are r ordered = lines_among r.day (published r.day r.members) r.members (λ m on. of_member r.day r.members m ordered on)
+
+-- ---- who has a token, and which names there are
+
+has_name : List ℕ → List (List ℕ × List ℕ) → Bool
+has_name name [] = false
+has_name name (a ∷ rest) = is_same a.0 name || has_name name rest
+
+name_with : List ℕ → List (List ℕ × List ℕ) → Option (List ℕ)
+name_with token [] = None
+name_with token (a ∷ rest) = if is_same a.1 token then Some a.0 else name_with token rest
+
+enrolled_by : (name : List ℕ) (ms : List Member) → is_enrolled name ms ≡ has_name name (agents_of ms)
+unfolding has_name
+enrolled_by name [] = refl
+enrolled_by name (m ∷ ms) = ap (λ (b : Bool). is_same m.name name || b) (enrolled_by name ms)
+
+with_by : (token : List ℕ) (ms : List Member) → agent_with token ms ≡ name_with token (agents_of ms)
+unfolding name_with
+with_by token [] = refl
+with_by token (m ∷ ms) = ap (λ (o : Option (List ℕ)). if is_same m.token token then Some m.name else o) (with_by token ms)
+
+module _ (r q : Register) (same : IsOutwardlySame r q) where
+  enrolled_same : (name : List ℕ) → is_enrolled name r.members ≡ is_enrolled name q.members
+  enrolled_same name = enrolled_by name r.members ∙ ap (has_name name) same.agents ∙ sym (enrolled_by name q.members)
+
+  caller_same : (token : List ℕ) → caller_of token r ≡ caller_of token q
+  caller_same token =
+      ap₂ (λ (registrar : List ℕ) (o : Option (List ℕ)). if is_same registrar token then Some Registrar else option_map Agent o) same.registrar
+      (with_by token r.members ∙ ap (name_with token) same.agents ∙ sym (with_by token q.members))
+
+  taken_same : (token : List ℕ) → is_taken token r ≡ is_taken token q
+  taken_same token = taken-caller token r ∙ ap (λ (o : Option Caller). is_some o) (caller_same token) ∙ sym (taken-caller token q)
+
+pub registrar_sees_no_draft : RegistrarSeesNoDraft
+registrar_sees_no_draft r q (ask.Day date) legal lawful same = at (int_lt date r.day) refl
+  where
+    at : (b : Bool) → int_lt date r.day ≡ b → (registrar_step r (ask.Day date)).answer ≡ (registrar_step q (ask.Day date)).answer
+    at true e = let e' : int_lt date q.day ≡ true = sym (ap (int_lt date) same.day) ∙ e in rw (e, e') refl
+    at false e = let e' : int_lt date q.day ≡ false = sym (ap (int_lt date) same.day) ∙ e in rw (e, e') refl
+registrar_sees_no_draft r q (ask.Enrol name token) legal lawful same = at (is_enrolled name r.members) (is_taken token r) refl refl
+  where
+    at : (b c : Bool) → is_enrolled name r.members ≡ b → is_taken token r ≡ c → (registrar_step r (ask.Enrol name token)).answer ≡ (registrar_step q (ask.Enrol name token)).answer
+    at b c e f = by b c e f (sym (enrolled_same r q same name) ∙ e) (sym (taken_same r q same token) ∙ f)
+      where
+        by : (b c : Bool) → is_enrolled name r.members ≡ b → is_taken token r ≡ c → is_enrolled name q.members ≡ b → is_taken token q ≡ c → (registrar_step r (ask.Enrol name token)).answer ≡ (registrar_step q (ask.Enrol name token)).answer
+        by true c e f g h = rw (e, g) refl
+        by false true e f g h = rw (e, f, g, h) refl
+        by false false e f g h = rw (e, f, g, h) refl
+registrar_sees_no_draft r q (ask.Renew name token) legal lawful same = at (is_enrolled name r.members) (caller_of token r) refl refl (sym (enrolled_same r q same name)) (sym (caller_same r q same token))
+  where
+    at : (b : Bool) (c : Option Caller) → is_enrolled name r.members ≡ b → caller_of token r ≡ c → is_enrolled name q.members ≡ is_enrolled name r.members → caller_of token q ≡ caller_of token r →
+        (registrar_step r (ask.Renew name token)).answer ≡ (registrar_step q (ask.Renew name token)).answer
+    at false c e f g h = let g' = g ∙ e in rw (e, g') refl
+    at true None e f g h = let g' = g ∙ e in let h' = h ∙ f in rw (e, f, g', h') refl
+    at true (Some Registrar) e f g h = let g' = g ∙ e in let h' = h ∙ f in rw (e, f, g', h') refl
+    at true (Some (Agent owner)) e f g h = let g' = g ∙ e in let h' = h ∙ f in owned (is_same owner name) refl g' h'
+      where
+        owned : (d : Bool) → is_same owner name ≡ d → is_enrolled name q.members ≡ true → caller_of token q ≡ Some (Agent owner) → (registrar_step r (ask.Renew name token)).answer ≡ (registrar_step q (ask.Renew name token)).answer
+        owned true k g' h' = rw (e, f, g', h', k) refl
+        owned false k g' h' = rw (e, f, g', h', k) refl
+registrar_sees_no_draft r q ask.Register legal lawful same =
+    ap₂ (λ (ls : List AgentLine) (day : ℤ). exactly (tell.Register ls day))
+    (lines_are r legal.names ∙ ap₂ (λ (os : List Outward) (names : List (List ℕ × List ℕ)). map (line_from os) names) same.published same.agents ∙ sym (lines_are q lawful.names)) same.day
+registrar_sees_no_draft r q request legal lawful same = refl
