@@ -1,8 +1,8 @@
 """Tools of root that docs/OPERATE.md calls, as far as its commands need them, over folders that stand for the machine's.
 
 `systemctl` starts and stops what the units in the folder say, as their ExecStart, ExecStartPost, UMask and Restart have it;
-`journalctl` prints what a unit wrote; `curl` asks over HTTP; `useradd` and `chown` do nothing, and `runuser` runs the command as
-it stands.
+`journalctl` prints what a unit wrote; `curl` asks over HTTP; `useradd` and `chown` do nothing, `getent` finds whoever is looked
+for, and `runuser` runs the command as it stands.
 """
 import contextlib
 import http.client
@@ -15,7 +15,7 @@ import time
 from pathlib import Path
 from urllib.parse import urlsplit
 
-TOOLS = ["systemctl", "journalctl", "curl", "useradd", "chown", "runuser"]
+TOOLS = ["systemctl", "journalctl", "curl", "useradd", "chown", "getent", "runuser"]
 SECONDS = 120
 
 
@@ -164,7 +164,7 @@ def given(text):
 
 def curl(words):
     method, body, fields, told, output, url = None, None, {}, None, None, None
-    fails, tries, delay = False, 1, 1.0
+    fails = False
     words = list(words)
     while words:
         word = words.pop(0)
@@ -180,29 +180,19 @@ def curl(words):
             output = words.pop(0)
         elif word == "-w":
             told = words.pop(0)
-        elif word == "--retry":
-            tries += int(words.pop(0))
-        elif word == "--retry-delay":
-            delay = float(words.pop(0))
-        elif word == "--retry-connrefused":
-            pass
         elif word.startswith("-") and set(word[1:]) <= set("fsS"):
             fails = fails or "f" in word
         else:
             url = urlsplit(word)
     target = url.path + (f"?{url.query}" if url.query else "")
     asked = method or ("POST" if body is not None else "GET"), target, body, fields
-    for left in range(tries - 1, -1, -1):
-        try:
-            client = http.client.HTTPConnection(url.hostname, url.port, timeout=SECONDS)
-            client.request(*asked)
-            reply = client.getresponse()
-            data = reply.read()
-            break
-        except ConnectionRefusedError:
-            if not left:
-                return 7
-            time.sleep(delay)
+    try:
+        client = http.client.HTTPConnection(url.hostname, url.port, timeout=SECONDS)
+        client.request(*asked)
+        reply = client.getresponse()
+        data = reply.read()
+    except ConnectionRefusedError:
+        return 7
     if fails and reply.status >= 400:
         print(f"curl: (22) The requested URL returned error: {reply.status}", file=sys.stderr)
         return 22
