@@ -23,7 +23,7 @@ def row_files():
     """The files that the rows lodge or check, each once, and a few of those that differ in numbers alone."""
     found, alike = {}, Counter()
     for row in all_rows():
-        files = [body_of(it.request) for it in row.exchanges() if it.request.startswith(b"PUT ")]
+        files = [body_of(it.request) for it in row.exchanges() if it.request.startswith(b"PUT /filings/")]
         for data in [*files, *(it.stdin for it in row.runs() if it.words[:1] in ([], ["check"]))]:
             form = re.sub(rb"\d+", b"0", data)
             alike[form] += data not in found

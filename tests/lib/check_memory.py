@@ -83,6 +83,9 @@ LISTS = {
         "registrar enrol alder cedar-token-000001",
         "registrar enrol cedar alder-token-000001",
         "registrar enrol cedar cedar-token-000001",
+        "registrar renew cedar alder-token-000001",
+        "registrar renew cedar cedar-token-000002",
+        "registrar register",
     ],
 }
 

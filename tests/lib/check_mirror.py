@@ -11,12 +11,14 @@ CHANGES = [
     "birch lodge x1 2024-03-01 E s1 b1 #GB-COH/00000001; P s2 bp; R s3 br b1<-bp V100 in c9",
     "alder withdraw f2",
     "registrar day 2024-03-01",
+    "registrar renew birch birch-2-token-000001",
 ]
 READS = [
     "alder filings", "alder file f1", "alder file f2", "alder published", "alder snapshot alder c1",
     "alder chains alder c1 e1", "alder chains alder c1 e2", "birch filings", "birch published", "birch chains birch c9 b1",
     "alder evidence alder c1 e1", "alder evidence alder c1 e2", "birch evidence birch c9 b1",
     "alder entities GB-COH 00000001", "birch entities GB-COH 00000001", "alder entities GB-COH 00000001 2024-01-09",
+    "registrar register", "birch-2 filings",
 ]
 
 

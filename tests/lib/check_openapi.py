@@ -30,6 +30,8 @@ SPOILED = [
     "alder entities X 1",
     "registrar day 2024-02-01",
     "registrar enrol cedar cedar-token-000001",
+    "registrar renew birch cedar-token-000001",
+    "registrar register",
 ]
 
 
@@ -76,7 +78,7 @@ def the_document_of_requests_holds(bor, folder):
     never = sorted(set(held.document.refusals()) - held.came, key=str)
     is_so(not never, f"{PLACE} lists what nobody is told: {never}")
     operations = dict(held.document.operations())
-    is_so(len(operations) == 11, f"{PLACE} has {len(operations)} requests")
+    is_so(len(operations) == 13, f"{PLACE} has {len(operations)} requests")
 
 
 LONG = 1_000_000  # A longer reply takes seconds to hold against a document, and tells no other error.
@@ -90,7 +92,10 @@ PLANTED = [
     ("minimum: 1\n          description: How far", "minimum: 2\n          description: How far"),
     ("enum: [agent, declaration, record, date]", "enum: [agent, declaration, record]"),
     ('pattern: "^[A-Za-z0-9._-]{1,64}$"', 'pattern: "^[a-z0-9]{1,64}$"'),
-    ('schema: {enum: [GET, POST, "DELETE, PUT"]}', 'schema: {enum: [GET, POST, "PUT, DELETE"]}'),
+    ('schema: {enum: [GET, POST, PUT, "DELETE, PUT"]}', 'schema: {enum: [GET, POST, PUT, "PUT, DELETE"]}'),
+    ('schema: {enum: [GET, POST, PUT, "DELETE, PUT"]}', 'schema: {enum: [GET, POST, "DELETE, PUT"]}'),
+    ("required: [agent, published]", "required: [agent, drafts, published]"),
+    ("refusal: {const: NoSuchAgent}", "refusal: {const: NoAgent}"),
     ("required: [agent, declaration, next, record, same]", "required: [agent, declaration, next, party, record, same]"),
     ("required: [agent, declaration, first, links, name, record]", "required: [agent, declaration, first, last, links, name, record]"),
     ("required: [date, entities, id, scheme]", "required: [date, entities, id, record, scheme]"),

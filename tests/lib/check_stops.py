@@ -44,6 +44,7 @@ CHANGES = [
     "birch lodge x3 2024-03-01 E s1 b1 #GB-COH/00000001; P s2 bp; R s3 br b1<-bp V100 in c9",
     "registrar day 2024-03-01",
     "registrar enrol cedar cedar-token-000001",
+    "registrar renew cedar cedar-token-000002",
     "alder lodge f3 2024-03-01 E s7 e1; E s8 e1 @2024-01-12 +closed",
 ]
 KILLED = -signal.SIGKILL

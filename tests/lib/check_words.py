@@ -1,5 +1,6 @@
 """What words are answered with: help, what a terminal is told, and a token that isn't told back."""
 import os
+import re
 import subprocess
 import threading
 import time
@@ -7,7 +8,7 @@ from pathlib import Path
 
 from lib.checking import DB, LODGED, begun, check, ended, is_so, report_words, write
 from lib.notation import request_of
-from lib.program import REGISTER, SECONDS, free_port
+from lib.program import REGISTER, SECONDS, TOP, free_port
 
 # The commands with their words, as they are asked for.
 COMMANDS = {
@@ -49,6 +50,19 @@ def help_on_a_command_is_its_page_alone(bor, folder):
         is_so(not missing, f"the help on {command} does not name {missing}")
         is_so(page in whole and page.split("\n")[0] in whole.split("The pages")[0], f"{command} is not in the whole help")
     is_so(whole.count("Usage: ") == len(COMMANDS) + 1, "the whole help has other pages")
+
+
+@check
+def the_version_is_that_of_the_changelog(bor, folder):
+    """the version that is printed is the first that CHANGELOG.md names, and none is asked for beside other words"""
+    number = re.search(r"^## \[(\S+)\]", (TOP / "CHANGELOG.md").read_text(), re.M)[1]
+    for word in ("--version", "-V"):
+        ran = bor.run([word], folder)
+        is_so((ran.status, ran.errors) == (0, b""), f"{word}: {ran.told()}")
+        is_so(ran.output.decode() == f"bor {number} (tables of version 2)\n", f"{word}: {ran.told()}")
+    for words in (["--version", "check"], ["check", "--version"], ["--version", "-V"]):
+        ran = bor.run(words, folder)
+        is_so((ran.status, ran.output) == (2, b""), f"{words}: {ran.told()}")
 
 
 @check

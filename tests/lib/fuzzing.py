@@ -68,6 +68,7 @@ PROBES = [
     "birch entities Y 1",
     "alder file d1",
     "birch file b1",
+    "registrar register",
 ]
 PROBED = [request_of(ask) for ask in PROBES]
 

@@ -29,7 +29,7 @@ WISHES = LODGING + READING + ["file", "withdraw", "withdraw", "enrol", "odd"]
 METHODS = ["GET", "PUT", "DELETE", "POST", "HEAD", "PATCH", "OPTIONS", "get", "G@T", ""]
 TARGETS = [
     "/", "*", "/filings", "/filings/", "/filings/f1", "/filings/f1/", "/filings/f1/file", "/filings//file",
-    "/published", "/snapshot", "/chains", "/evidence", "/evidence/", "/entities", "/entities/", "/day", "/agents", "/agents/alder", "/nothing", "http://localhost/filings", "/FILINGS",
+    "/published", "/snapshot", "/chains", "/evidence", "/evidence/", "/entities", "/entities/", "/day", "/agents", "/agents/", "/agents/alder", "/agents/alder/", "/register", "/register/", "/nothing", "http://localhost/filings", "/FILINGS",
     "/filings/%66%31", "/filings/../published", "//filings", "/filings?", "/filings#x", "/filings/f1/file/x", "filings",
 ]
 VALUES = [
@@ -217,9 +217,14 @@ class Maker:
         if rng.random() < 0.3:
             day = "9999-12-31" if rng.random() < 0.02 else pick(rng, DAYS)
             return head_of("POST", f"/day?{query(rng, date=day)}", token_of(caller), 0)
+        if rng.random() < 0.1:
+            return head_of("GET", "/register", token_of(caller), 0)
         name = pick(rng, ["cedar", "damson", "elm", "alder", "x" * 32, "Cedar"])
         token = token_of(name) if rng.random() < 0.8 else pick(rng, [*ODD_TOKENS, token_of("alder"), token_of("birch")])
         target, body = f"/agents?{query(rng, name=name)}", token.encode()
+        # (alder keeps its token, by which most is asked)
+        if name != "alder" and rng.random() < 0.3:
+            return head_of("PUT", f"/agents/{name}", token_of(caller), len(body)) + body
         return head_of("POST", target, token_of(caller), len(body)) + body
 
     def made(self):
@@ -260,15 +265,18 @@ def numbered(data, number):
 
 
 def worked_requests():
-    """The requests of the rows and of the example day; no fronts, long ones or counted ones, and few that move the day."""
+    """The requests of the rows and of the example day; no fronts, long ones or counted ones, and few that move the day.
+
+    No token of alder or birch is renewed, by which most is asked.
+    """
     first = first_request()
     asked_for = {it.request for row in all_rows() for it in row.exchanges()}
     asked_for |= {path.read_bytes() for path in (TOP / "examples" / "day").glob("*.http")}
     fronts = {first[:length] for length in range(len(first))}
     kept = [data for data in asked_for - fronts if len(data) <= LONGEST_WORKED]
     moving = sorted(data for data in kept if data.startswith(b"POST /day"))
-    counted = re.compile(rb"POST /day|PUT /filings/k\d{2}")
-    return sorted(data for data in kept if not counted.match(data)) + moving[:2] + [first]
+    left_out = re.compile(rb"POST /day|PUT /filings/k\d{2}|PUT /agents/(alder|birch)")
+    return sorted(data for data in kept if not left_out.match(data)) + moving[:2] + [first]
 
 
 # ---- changes of bytes

@@ -168,6 +168,10 @@ def spelled(wish, words):
         return "POST", f"/day?date={names[0]}", b""
     if wish == "enrol":
         return "POST", f"/agents?name={names[0]}", names[1].encode()
+    if wish == "renew":
+        return "PUT", f"/agents/{names[0]}", names[1].encode()
+    if wish == "register":
+        return "GET", "/register", b""
     raise Unread(f"nobody asks for {wish}")
 
 

@@ -150,7 +150,7 @@ def lodged():
     for row in all_rows():
         for it in row.exchanges():
             refusal = Reply(it.reply).refusal()[0]
-            if it.request.startswith(b"PUT ") and it.status in (200, 201, 422) and refusal != "DuePast":
+            if it.request.startswith(b"PUT /filings/") and it.status in (200, 201, 422) and refusal != "DuePast":
                 found[body_of(it.request), refusal] = None
         for it in row.runs():
             if it.words in ([], ["check"]) and it.status < 2:

@@ -229,10 +229,22 @@ class Maker:
             self.withdraw(agent)
         elif chance < 0.9:
             self.repeat(agent)
-        elif chance < 0.95:
+        elif chance < 0.94:
             self.ask("registrar", "day", self.rng.choice(DUE[1:4]))
+        elif chance < 0.96:
+            self.renew(agent)
         else:
             self.look(agent, self.rng.choice(self.agents))
+
+    def renew(self, agent):
+        """The agent has another token for a while, and then its own again."""
+        other = f"{agent}-2"
+        self.ask("registrar", "renew", self.rng.choice([agent, "dogwood"]), token_of(other))
+        self.ask(agent, "filings")
+        self.ask(other, "filings")
+        self.ask("registrar", "renew", agent, token_of(self.rng.choice([*self.agents, "registrar"])))
+        self.ask("registrar", "renew", agent, token_of(agent))
+        self.ask("registrar", "register")
 
     def look(self, viewer, agent):
         """What a viewer is told of the declarations of an agent."""
@@ -243,6 +255,7 @@ class Maker:
             self.ask(viewer, "snapshot", agent, declaration, self.rng.choice([*ASKED_ON, "2024-02-20"]))
 
     def end(self):
+        self.ask("registrar", "register")
         for viewer in self.agents:
             for agent in self.agents:
                 self.look(viewer, agent)
@@ -264,7 +277,6 @@ class Maker:
             for record in ["f1", "f2"]:
                 self.ask(viewer, "evidence", agent, LAYERED, record)
         self.ask(viewer, "evidence", viewer, "c1", "p1")
-
 
     def find(self, viewer):
         """Which entities a viewer finds by each identifier, on the register's day and on another one."""

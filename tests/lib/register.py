@@ -14,14 +14,15 @@ from lib.replies import reply
 STATUSES = {
     401: ["NoAgent"],
     403: ["NotRegistrar", "NotAgent"],
-    404: ["NoSuchFiling", "NoEntity"],
+    404: ["NoSuchFiling", "NoEntity", "NoSuchAgent"],
     409: ["KeyReused", "FilingsFull", "Published", "HasSuccessor", "DayBack", "NameTaken", "TokenTaken"],
 }
 STATUS_OF = {name: status for status, names in STATUSES.items() for name in names}
 LEGAL_KINDS = ["registeredEntity", "legalEntity"]
-READS = ["chains", "evidence", "entities", "snapshot", "filings", "file", "published"]
+READS = ["chains", "evidence", "entities", "snapshot", "filings", "file", "published", "register"]
+REGISTRARS = ["day", "enrol", "renew", "register"]
 # The methods that aren't named as what is wished.
-CALLS = {"day": "set_day", "filings": "list_filings"}
+CALLS = {"day": "set_day", "filings": "list_filings", "register": "overview"}
 
 
 @dataclass
@@ -76,7 +77,7 @@ class Register(Evidence):
         try:
             if name is None:
                 raise Refused("NoAgent")
-            if (name == "registrar") != (wish in ("day", "enrol")):
+            if (name == "registrar") != (wish in REGISTRARS):
                 raise Refused("NotAgent" if name == "registrar" else "NotRegistrar")
             if wish not in READS:
                 self.graphs = {}
@@ -98,6 +99,19 @@ class Register(Evidence):
             raise Refused("TokenTaken")
         self.tokens[token], self.filings[name] = name, []
         return reply(201, told({"agent": name}))
+
+    def renew(self, name, token):
+        if name not in self.filings:
+            raise Refused("NoSuchAgent")
+        if self.tokens.get(token, name) != name:
+            raise Refused("TokenTaken")
+        self.tokens = {kept: owner for kept, owner in self.tokens.items() if owner != name} | {token: name}
+        return reply(200, told({"agent": name}))
+
+    def overview(self):
+        published = {name: [self.state(it) for it in filings].count("published") for name, filings in self.filings.items()}
+        agents = [{"agent": name, "published": published[name]} for name in sorted(published)]
+        return reply(200, told({"agents": agents, "day": self.day}))
 
     # ---- filings
 

@@ -9,13 +9,13 @@ HEAD = re.compile(
     rb"(?:WWW-Authenticate: Bearer\r\n)?(?:Allow: ([A-Z, ]+)\r\n)?Connection: close\r\n\r\n"
 )
 # The methods of a path, as a 405 tells them.
-ALLOWED = {b"GET", b"POST", b"DELETE, PUT"}
+ALLOWED = {b"GET", b"POST", b"PUT", b"DELETE, PUT"}
 # Of each status its refusals, each with the names of its body: f for a field, p for a place.
 REFUSALS = {
     400: {"CutShort": "", "BadHead": "", "BadLength": "", "BadQuery": "f"},
     401: {"NoToken": "", "NoAgent": ""},
     403: {"NotRegistrar": "", "NotAgent": ""},
-    404: {"NoPath": "", "NoSuchFiling": "", "NoEntity": ""},
+    404: {"NoPath": "", "NoSuchFiling": "", "NoEntity": "", "NoSuchAgent": ""},
     405: {"WrongMethod": ""},
     409: dict.fromkeys(
         ["KeyReused", "FilingsFull", "Published", "HasSuccessor", "DayBack", "NameTaken", "TokenTaken"], ""
@@ -50,6 +50,10 @@ def text_or_null(value):
 
 def number(value):
     return type(value) is int and value > 0
+
+
+def count(value):
+    return type(value) is int and value >= 0
 
 
 def percent(value):
@@ -129,6 +133,8 @@ ROUTES = [
     (re.compile(rb"GET /entities\?.*"), {200: ENTITIES}),
     (re.compile(rb"POST /day\?.*"), {200: {"day": day}}),
     (re.compile(rb"POST /agents\?.*"), {201: {"agent": text}}),
+    (re.compile(rb"PUT /agents/[^/?]+(?:\?.*)?"), {200: {"agent": text}}),
+    (re.compile(rb"GET /register(?:\?.*)?"), {200: {"agents": [{"agent": text, "published": count}], "day": day}}),
 ]
 
 

@@ -30,6 +30,8 @@ ROUTES = [
     (re.compile(r"/entities"), {"GET": "entities"}),
     (re.compile(r"/day"), {"POST": "day"}),
     (re.compile(r"/agents"), {"POST": "enrol"}),
+    (re.compile(r"/agents/([^/]+)"), {"PUT": "renew"}),
+    (re.compile(r"/register"), {"GET": "register"}),
 ]
 # The names of each wish in their order; a date that is left out is the register's day, but of the day itself.
 NAMES = {
@@ -42,6 +44,7 @@ NAMES = {
     "entities": ["scheme", "id", "date"],
     "day": ["date"],
     "enrol": ["name", "token"],
+    "renew": ["name", "token"],
 }
 
 
@@ -120,7 +123,7 @@ def body_in(rest, fields):
 
 
 def routed(method, path):
-    """The wish of a path and a method, and the key in the path."""
+    """The wish of a path and a method, and the key or the name in the path."""
     found, wishes = next(
         ((route.fullmatch(path), wishes) for route, wishes in ROUTES if route.fullmatch(path)), (None, None)
     )
@@ -139,14 +142,14 @@ def token_in(fields):
     return found[1].decode()
 
 
-def words_in(wish, key, query, body):
+def words_in(wish, segment, query, body):
     """The values of the wish's names, in their order."""
     pairs = parse_qsl(query, keep_blank_values=True, errors="replace", max_num_fields=None)
     words = []
     for name in NAMES.get(wish, []):
         values = [value for other, value in pairs if other == name]
-        if name == "key":
-            values = [key]
+        if name == "key" or (wish, name) == ("renew", "name"):
+            values = [segment]
         if name == "token":
             values = [body.decode("latin-1")]
         if not values and name == "date" and wish != "day":
@@ -165,9 +168,9 @@ def spelled(data):
     method, target, fields = parsed_head(head)
     body = body_in(rest, fields)
     path, _, query = target.partition("?")
-    wish, key = routed(method, path)
+    wish, segment = routed(method, path)
     token = token_in(fields)
-    words = words_in(wish, key, query, body)
+    words = words_in(wish, segment, query, body)
     return token, wish, [*words, body] if wish == "lodge" else words
 
 
