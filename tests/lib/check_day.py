@@ -144,13 +144,12 @@ def the_present_day_is_that_of_utc(bor, folder):
 def a_server_that_comes_late_is_waited_for(bor, folder):
     """tools/day waits for a server that comes late, answers 503 or breaks off, also where it broke off behind the change"""
     late, short = Register(), "STEP = 0.05"
+    told, again = "1 day on, from 2024-02-01 to 2024-02-02\nthe day is 2024-02-02\n", "tried again, for 300 s at most\n"
     ran = begun(words_for(folder, late.port, "2024-02-02"), short)
-    time.sleep(0.4)
-    is_so(ran.poll() is None, "nobody was waited for")
-    told = "1 day on, from 2024-02-01 to 2024-02-02\nthe day is 2024-02-02\n"
+    said = ran.stderr.readline()
+    is_so(said == f"day: nothing listens on 127.0.0.1:{late.port}: {again}", f"nobody was waited for: {said!r}")
     with late:
-        ended(ran, 0, told, f"day: nothing listens on 127.0.0.1:{late.port}: tried again, for 300 s at most\n")
-    again = "tried again, for 300 s at most\n"
+        ended(ran, 0, told)
     with Register(before=[(503, '{"refusal":"StoreFault"}')] * 2) as register:
         moves(folder, register, ["2024-02-02"], 0, told, f"day: PORT answers 503: {again}", short)
     with Register(before=["breaks off", None, "breaks off"]) as register:
