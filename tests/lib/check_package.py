@@ -147,7 +147,7 @@ def a_package_is_made_of_program_and_commit_alone(bor, folder):
     made = []
     for name, mask, zone, locale in (("one", "077", "UTC+14", "C"), ("other", "000", "UTC-14", "C.UTF-8")):
         Path(folder, name).mkdir()
-        variables = {**os.environ, "TZ": zone, "LC_ALL": locale, "HOME": folder}
+        variables = {**os.environ, "TZ": zone, "LC_ALL": locale}
         script = f"umask {mask}; exec '{TOP}/tools/package' --program '{folder}/program' '{folder}/{name}'"
         ran = subprocess.run(["sh", "-c", script], env=variables, capture_output=True, text=True, timeout=SECONDS, check=False)
         is_so((ran.returncode, ran.stderr) == (0, ""), f"{ran}")
