@@ -1,15 +1,33 @@
 -- The answers of a mirrored keep, by its mirror or by its store.
-use Rattle.std.proofs.Common.{◌≡◌, Option, Some, None, Result, Ok, Err, IfOk, refl, sym, subst, ap, ◌∙◌, inl, inr}
-use Rattle.std.specs.Prelude.{option_map}
+use Rattle.std.proofs.Common.{◌≡◌, ◌⊎◌, Option, Some, None, Result, Ok, Err, IfOk, refl, sym, subst, ap, ◌∙◌, inl, inr, false, true}
+use Rattle.std.specs.Prelude.{is_ok, option_map}
 use Rattle.bor_records.specs.Promises.{ChangesWhere, Leaves, Meaning, Reads, StaysClean}
 use Rattle.bor_register.specs.Register.{Register}
 use Rattle.bor_register.specs.declared.fault.StoreFault.{StoreFault}
+use Rattle.bor_register.specs.declared.fault.StoreFault.TheVariants as fault
 use Rattle.bor_desk.specs.Memory.Holding.{Holding}
 use Rattle.bor_register.specs.Bare.{bare_register}
 use Rattle.bor_desk.specs.Mirror.Following.{IsFollowed, Mirrors, mirrored}
+use Rattle.bor_desk.specs.Mirror.Reading.{HasAnswered, IsRead, of_mirror, of_store}
+
+-- what a register in memory shows
+abbrev pub in_memory : Meaning Holding Register (Unit {0}) StoreFault
+in_memory = record {
+  shows = λ k r. k.register ≡ r;
+  is_clean = λ k. Unit {0};
+  is_sound = λ k. Unit {0};
+  may_leave = λ k left. ⊥;
+  left_shows = λ left r. ⊥;
+  fault_count = λ k. k.faults;
+  may_tell = λ f. f ≡ fault.Memory;
+}
 
 abbrev pub register_in : Option Holding → Option Register
 register_in m = option_map (λ (h : Holding). h.register) m
+
+pub answer_of : {T : Type 0} (result : Result T StoreFault) → is_ok result ≡ true → (x : T) × (result ≡ Ok x)
+answer_of (Ok x) h = (x, refl)
+answer_of (Err e) h = let wrong : false ≡ true = h in absurd cc
 
 module _ {S W : Type 0} (meaning : Meaning S Register W StoreFault) where
   -- what the mirror answers, whose register stays
@@ -53,6 +71,28 @@ module _ {S W : Type 0} (meaning : Meaning S Register W StoreFault) where
       lasting : {X : Type 0} (answer : Result X StoreFault) → IfOk answer (λ x. StaysClean meaning old new) → IfOk answer (λ x. StaysClean (mirrored meaning) (old, before) (new, before))
       lasting (Ok x) h = record { sound = h.sound; clean = h.clean }
       lasting (Err e) h = tt
+
+  -- A read of either is one of the keep: a register without its files has what the mirror answers,
+  -- and so has the register.
+  pub is_read : {T : Type 0} {P : Register → T → Type 0} {asks : Holding → Result T StoreFault → Holding → Type 0} {asks_store : S → Result T StoreFault → S → Type 0} {old new : S × Option Register} {result : Result T StoreFault}
+      → IsRead asks asks_store old new result
+      → ((was is : Holding) (answer : Result T StoreFault) → asks was answer is → Reads in_memory was is answer P)
+      → ((was is : S) (answer : Result T StoreFault) → asks_store was answer is → Reads meaning was is answer P)
+      → ((r : Register) (x : T) → P (bare_register r) x → P r x)
+      → Reads (mirrored meaning) old new result P
+  is_read {T} {P} {old = old} {new} {result} (of_mirror x told same said) mirrors stores law =
+      let reads = mirrors said.was said.is (Ok x) said.asked in
+      let stays : said.was.register ≡ said.is.register = sym ((reads.kept.same tt said.was.register).0 refl) in
+      subst (λ (y : Result T StoreFault). Reads (mirrored meaning) old new y P) (sym told)
+      (subst (λ (k : S × Option Register). Reads (mirrored meaning) old k (Ok x) P) (λ i. (sym same i, sym said.holds i))
+      (by_mirror old old.0 said.was.register said.is.register (λ i. (old.0, sym said.held i)) stays
+      (λ r bare. law r x (subst (λ (q : Register). P q x) bare (reads.answer said.was.register refl tt)))))
+  is_read {T} {P} {asks = asks} {old = old} {new} {result} (of_store said mirror) mirrors stores law =
+      by_store old old.0 new.0 old.1 new.1 refl (stays mirror) (stores old.0 new.0 result said)
+    where
+      stays : (new.1 ≡ old.1) ⊎ ((e : StoreFault) × HasAnswered asks old.1 new.1 (Err e)) → old.1 ≡ new.1
+      stays (inl same) = sym same
+      stays (inr (e, said)) = said.held ∙ ap (λ (q : Register). Some q) (sym (((mirrors said.was said.is (Err e) said.asked).kept.same tt said.was.register).0 refl)) ∙ sym said.holds
 
   -- a fault in place of an answer
   abbrev pub fault_told : (T : Type 0) → StoreFault → Result T StoreFault

@@ -1,12 +1,14 @@
 //! A keep and its mirror.
 
-ghost use Rattle.std.specs.Prelude.{◌≡◌, ◌≤◌, ◌-◌, ⊤, [], IfSome, IsSome, None, is_some, length, min, option_map};
-ghost use Rattle.bor_records.specs.Promises.{Kept};
+ghost use Rattle.std.specs.Prelude.{◌≡◌, ◌≤◌, ◌-◌, ⊤, [], IfSome, IsSome, None, Ok, is_some, length, min, option_map};
+ghost use Rattle.std.specs.Fn.{FnOnceReturnsAtMut};
+ghost use Rattle.bor_records.specs.Promises.{Kept, StaysClean};
 ghost use Rattle.bor_register.specs.Additions.{MayEnrol, MayFile, with_agent, with_filing, with_renewal, with_withdrawal};
 ghost use Rattle.bor_register.specs.Held.{statement_count};
 ghost use Rattle.bor_register.specs.Register.{Register};
 ghost use Rattle.bor_desk.specs.Memory.Holding.{Holding};
 ghost use Rattle.bor_desk.specs.Mirror.Following.{IsFollowed};
+ghost use Rattle.bor_desk.specs.Mirror.Reading.{IsRead};
 
 use crate::memory::ListKeep;
 use crate::mirror::mirror_store::MirrorStore;
@@ -112,6 +114,29 @@ impl<K: MirrorStore + Drop> MirroredKeep<K> {
                 self.is_up = false;
             }
         }
+    }
+
+    // The answer of the mirror, where it is there and has the memory for it; else the store's.
+    fn read<T, M, S>(&mut self, by_mirror: M, by_store: S) -> Result<T, StoreFault>
+    where
+        M: FnOnce(&mut ListKeep) -> Result<T, StoreFault>,
+        S: FnOnce(&mut K) -> Result<T, StoreFault>,
+        requires mirror { M.IsAlwaysCallable by_mirror }
+        requires store { S.IsAlwaysCallable by_store }
+        requires lasts { (old new : K) (x : T)
+            → FnOnceReturnsAtMut S.FnOnce by_store old (Ok x) new → StaysClean K.meaning old new }
+        ensures { IsRead (λ old x new. FnOnceReturnsAtMut M.FnOnce by_mirror old x new)
+            (λ old x new. FnOnceReturnsAtMut S.FnOnce by_store old x new)
+            self.old self.new result }
+    {
+        if let Some(mirror) = &mut self.mirror {
+            if let Ok(answer) = by_mirror(mirror) {
+                return Ok(answer);
+            }
+        }
+        let told = by_store(&mut self.store);
+        self.is_up = self.is_up && told.is_ok();
+        told
     }
 }
 
@@ -220,25 +245,14 @@ impl<K: MirrorStore + Drop> Keep for MirroredKeep<K> {
     }
 
     fn has_agent(&mut self, agent: &AgentName) -> Result<bool, StoreFault> {
-        if let Some(mirror) = &mut self.mirror {
-            if let Ok(has) = mirror.has_agent(agent) {
-                return Ok(has);
-            }
-        }
-        let told = self.store.has_agent(agent);
-        self.is_up = self.is_up && told.is_ok();
-        told
+        self.read(
+            |mirror| mirror.has_agent(agent),
+            |store| store.has_agent(agent),
+        )
     }
 
     fn day(&mut self) -> Result<Day, StoreFault> {
-        if let Some(mirror) = &mut self.mirror {
-            if let Ok(day) = mirror.day() {
-                return Ok(day);
-            }
-        }
-        let told = self.store.day();
-        self.is_up = self.is_up && told.is_ok();
-        told
+        self.read(|mirror| mirror.day(), |store| store.day())
     }
 
     fn filing(&mut self, agent: &AgentName, key: &LodgeKey) -> Result<Option<Filing>, StoreFault> {
@@ -252,14 +266,10 @@ impl<K: MirrorStore + Drop> Keep for MirroredKeep<K> {
         agent: &AgentName,
         key: &LodgeKey,
     ) -> Result<Option<FilingLine>, StoreFault> {
-        if let Some(mirror) = &mut self.mirror {
-            if let Ok(line) = mirror.line(agent, key) {
-                return Ok(line);
-            }
-        }
-        let told = self.store.line(agent, key);
-        self.is_up = self.is_up && told.is_ok();
-        told
+        self.read(
+            |mirror| mirror.line(agent, key),
+            |store| store.line(agent, key),
+        )
     }
 
     fn has_file(
@@ -274,25 +284,14 @@ impl<K: MirrorStore + Drop> Keep for MirroredKeep<K> {
     }
 
     fn filing_count(&mut self, agent: &AgentName) -> Result<usize, StoreFault> {
-        if let Some(mirror) = &mut self.mirror {
-            if let Ok(count) = mirror.filing_count(agent) {
-                return Ok(count);
-            }
-        }
-        let told = self.store.filing_count(agent);
-        self.is_up = self.is_up && told.is_ok();
-        told
+        self.read(
+            |mirror| mirror.filing_count(agent),
+            |store| store.filing_count(agent),
+        )
     }
 
     fn filings(&mut self, agent: &AgentName) -> Result<Vec<FilingLine>, StoreFault> {
-        if let Some(mirror) = &mut self.mirror {
-            if let Ok(lines) = mirror.filings(agent) {
-                return Ok(lines);
-            }
-        }
-        let told = self.store.filings(agent);
-        self.is_up = self.is_up && told.is_ok();
-        told
+        self.read(|mirror| mirror.filings(agent), |store| store.filings(agent))
     }
 
     fn last(
@@ -301,36 +300,24 @@ impl<K: MirrorStore + Drop> Keep for MirroredKeep<K> {
         declaration: &Ident,
         rec: &Ident,
     ) -> Result<Option<Last>, StoreFault> {
-        if let Some(mirror) = &mut self.mirror {
-            if let Ok(last) = mirror.last(agent, declaration, rec) {
-                return Ok(last);
-            }
-        }
-        let told = self.store.last(agent, declaration, rec);
-        self.is_up = self.is_up && told.is_ok();
-        told
+        self.read(
+            |mirror| mirror.last(agent, declaration, rec),
+            |store| store.last(agent, declaration, rec),
+        )
     }
 
     fn has_statement(&mut self, agent: &AgentName, id: &Ident) -> Result<bool, StoreFault> {
-        if let Some(mirror) = &mut self.mirror {
-            if let Ok(has) = mirror.has_statement(agent, id) {
-                return Ok(has);
-            }
-        }
-        let told = self.store.has_statement(agent, id);
-        self.is_up = self.is_up && told.is_ok();
-        told
+        self.read(
+            |mirror| mirror.has_statement(agent, id),
+            |store| store.has_statement(agent, id),
+        )
     }
 
     fn has_successor(&mut self, agent: &AgentName, number: u32) -> Result<bool, StoreFault> {
-        if let Some(mirror) = &mut self.mirror {
-            if let Ok(has) = mirror.has_successor(agent, number) {
-                return Ok(has);
-            }
-        }
-        let told = self.store.has_successor(agent, number);
-        self.is_up = self.is_up && told.is_ok();
-        told
+        self.read(
+            |mirror| mirror.has_successor(agent, number),
+            |store| store.has_successor(agent, number),
+        )
     }
 
     fn rows_of(
@@ -339,25 +326,17 @@ impl<K: MirrorStore + Drop> Keep for MirroredKeep<K> {
         agent: &AgentName,
         declaration: &Ident,
     ) -> Result<Vec<Row>, StoreFault> {
-        if let Some(mirror) = &mut self.mirror {
-            if let Ok(rows) = mirror.rows_of(viewer, agent, declaration) {
-                return Ok(rows);
-            }
-        }
-        let told = self.store.rows_of(viewer, agent, declaration);
-        self.is_up = self.is_up && told.is_ok();
-        told
+        self.read(
+            |mirror| mirror.rows_of(viewer, agent, declaration),
+            |store| store.rows_of(viewer, agent, declaration),
+        )
     }
 
     fn visible_rows(&mut self, viewer: &AgentName) -> Result<Vec<Row>, StoreFault> {
-        if let Some(mirror) = &mut self.mirror {
-            if let Ok(rows) = mirror.visible_rows(viewer) {
-                return Ok(rows);
-            }
-        }
-        let told = self.store.visible_rows(viewer);
-        self.is_up = self.is_up && told.is_ok();
-        told
+        self.read(
+            |mirror| mirror.visible_rows(viewer),
+            |store| store.visible_rows(viewer),
+        )
     }
 
     fn open_row(
@@ -366,14 +345,10 @@ impl<K: MirrorStore + Drop> Keep for MirroredKeep<K> {
         day: Day,
         node: &Node,
     ) -> Result<Option<Row>, StoreFault> {
-        if let Some(mirror) = &mut self.mirror {
-            if let Ok(row) = mirror.open_row(viewer, day, node) {
-                return Ok(row);
-            }
-        }
-        let told = self.store.open_row(viewer, day, node);
-        self.is_up = self.is_up && told.is_ok();
-        told
+        self.read(
+            |mirror| mirror.open_row(viewer, day, node),
+            |store| store.open_row(viewer, day, node),
+        )
     }
 
     fn node(
@@ -382,14 +357,10 @@ impl<K: MirrorStore + Drop> Keep for MirroredKeep<K> {
         day: Day,
         node: &Node,
     ) -> Result<Option<NodeInfo>, StoreFault> {
-        if let Some(mirror) = &mut self.mirror {
-            if let Ok(info) = mirror.node(viewer, day, node) {
-                return Ok(info);
-            }
-        }
-        let told = self.store.node(viewer, day, node);
-        self.is_up = self.is_up && told.is_ok();
-        told
+        self.read(
+            |mirror| mirror.node(viewer, day, node),
+            |store| store.node(viewer, day, node),
+        )
     }
 
     fn aliases(
@@ -398,25 +369,17 @@ impl<K: MirrorStore + Drop> Keep for MirroredKeep<K> {
         day: Day,
         node: &Node,
     ) -> Result<Vec<Node>, StoreFault> {
-        if let Some(mirror) = &mut self.mirror {
-            if let Ok(nodes) = mirror.aliases(viewer, day, node) {
-                return Ok(nodes);
-            }
-        }
-        let told = self.store.aliases(viewer, day, node);
-        self.is_up = self.is_up && told.is_ok();
-        told
+        self.read(
+            |mirror| mirror.aliases(viewer, day, node),
+            |store| store.aliases(viewer, day, node),
+        )
     }
 
     fn same(&mut self, viewer: &AgentName, day: Day, node: &Node) -> Result<Vec<Node>, StoreFault> {
-        if let Some(mirror) = &mut self.mirror {
-            if let Ok(nodes) = mirror.same(viewer, day, node) {
-                return Ok(nodes);
-            }
-        }
-        let told = self.store.same(viewer, day, node);
-        self.is_up = self.is_up && told.is_ok();
-        told
+        self.read(
+            |mirror| mirror.same(viewer, day, node),
+            |store| store.same(viewer, day, node),
+        )
     }
 
     fn identified(
@@ -425,14 +388,10 @@ impl<K: MirrorStore + Drop> Keep for MirroredKeep<K> {
         day: Day,
         identifier: &Identifier,
     ) -> Result<Vec<Node>, StoreFault> {
-        if let Some(mirror) = &mut self.mirror {
-            if let Ok(nodes) = mirror.identified(viewer, day, identifier) {
-                return Ok(nodes);
-            }
-        }
-        let told = self.store.identified(viewer, day, identifier);
-        self.is_up = self.is_up && told.is_ok();
-        told
+        self.read(
+            |mirror| mirror.identified(viewer, day, identifier),
+            |store| store.identified(viewer, day, identifier),
+        )
     }
 
     fn links_into(
@@ -441,36 +400,18 @@ impl<K: MirrorStore + Drop> Keep for MirroredKeep<K> {
         day: Day,
         node: &Node,
     ) -> Result<Vec<Link>, StoreFault> {
-        if let Some(mirror) = &mut self.mirror {
-            if let Ok(links) = mirror.links_into(viewer, day, node) {
-                return Ok(links);
-            }
-        }
-        let told = self.store.links_into(viewer, day, node);
-        self.is_up = self.is_up && told.is_ok();
-        told
+        self.read(
+            |mirror| mirror.links_into(viewer, day, node),
+            |store| store.links_into(viewer, day, node),
+        )
     }
 
     fn published(&mut self) -> Result<Vec<Outward>, StoreFault> {
-        if let Some(mirror) = &mut self.mirror {
-            if let Ok(outwards) = mirror.published() {
-                return Ok(outwards);
-            }
-        }
-        let told = self.store.published();
-        self.is_up = self.is_up && told.is_ok();
-        told
+        self.read(|mirror| mirror.published(), |store| store.published())
     }
 
     fn agents(&mut self) -> Result<Vec<AgentLine>, StoreFault> {
-        if let Some(mirror) = &mut self.mirror {
-            if let Ok(lines) = mirror.agents() {
-                return Ok(lines);
-            }
-        }
-        let told = self.store.agents();
-        self.is_up = self.is_up && told.is_ok();
-        told
+        self.read(|mirror| mirror.agents(), |store| store.agents())
     }
 
     fn add_filing(
