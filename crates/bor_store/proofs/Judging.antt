@@ -8,7 +8,8 @@ use Rattle.sqlite.specs.State.{State}
 use Rattle.bor_store.specs.declared.open_fault.OpenFault.{OpenFault}
 use Rattle.bor_store.specs.declared.open_fault.OpenFault.TheVariants as faults
 use Rattle.sqlite.specs.declared.error.Error.{Error}
-use Rattle.bor_store.specs.Opening.{IsFailure, IsJudged, IsRegister, Judges, RefusesFirst, open_fault_of, has_all, version_in, wants_memory}
+use Rattle.bor_store_reads.specs.Answering.{wants_memory}
+use Rattle.bor_store.specs.Opening.{IsFailure, IsJudged, IsRegister, Judges, RefusesFirst, open_fault_of, has_all, version_in}
 use Rattle.bor_store.proofs.Adopting.{versions_same}
 
 told_memory : (is : Bool) → IsFailure (if is then faults.Memory else faults.Store)

@@ -6,8 +6,7 @@ use Rattle.bor_register.specs.declared.fault.StoreFault.{StoreFault}
 use Rattle.bor_register.specs.declared.fault.StoreFault.TheVariants as store_faults
 use Rattle.bor_store_reads.specs.declared.fault.ReadError.{ReadError}
 use Rattle.bor_store_reads.specs.declared.fault.ReadError.TheVariants as errors
-use Rattle.bor_store_reads.specs.Answering.{IsNoDamage, told_as}
-use Rattle.bor_store.specs.Opening.{wants_memory}
+use Rattle.bor_store_reads.specs.Answering.{IsNoDamage, told_as, wants_memory}
 use Rattle.bor_store.specs.Telling.{tells, tells_made, TellsNoDamage}
 
 no_damage : (error : ReadError) → IsNoDamage error → TellsNoDamage (told_as error)

@@ -17,8 +17,7 @@ use Rattle.sqlite_wal.specs.Files.{outcomes}
 use Rattle.sqlite_wal.specs.Reads.{AreClean}
 use Rattle.sqlite_trees.specs.View.{IsClean as IsUnharmed}
 use Rattle.sqlite.specs.declared.error.Error.{Error}
-use Rattle.sqlite.specs.declared.error.Error.TheVariants.{SqliteFailure}
-use Rattle.sqlite.specs.declared.error.ErrorCode.TheVariants.{OutOfMemory}
+use Rattle.bor_store_reads.specs.Answering.{wants_memory}
 use Rattle.sqlite.specs.Store.{Ghosts}
 use Rattle.sqlite.specs.Table.{Table}
 use Rattle.sqlite.specs.declared.types.Value.{Value}
@@ -36,11 +35,6 @@ use Rattle.bor_store.specs.declared.open_fault.OpenFault.TheVariants as faults
 -- memory is wanting or the store failed
 abbrev pub IsFailure : OpenFault → Type 0
 IsFailure fault = (fault ≡ faults.Memory) ⊎ (fault ≡ faults.Store)
-
--- an error of the store is want of memory
-abbrev pub wants_memory : Error → Bool
-wants_memory (SqliteFailure OutOfMemory) = true
-wants_memory _ = false
 
 -- the fault of an error of the store: want of memory, and of each other one a store that failed
 abbrev pub open_fault_of : Error → OpenFault

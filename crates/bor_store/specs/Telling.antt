@@ -7,8 +7,7 @@ use Rattle.bor_register.specs.declared.fault.StoreFault.{StoreFault}
 use Rattle.bor_register.specs.declared.fault.StoreFault.TheVariants as store_faults
 use Rattle.bor_store_sql.specs.Shown.{ShowsIn}
 use Rattle.bor_store_reads.specs.declared.fault.ReadError.{ReadError}
-use Rattle.bor_store_reads.specs.Answering.{told_as}
-use Rattle.bor_store.specs.Opening.{wants_memory}
+use Rattle.bor_store_reads.specs.Answering.{told_as, wants_memory}
 
 -- an answer as it is, and an error as its fault
 abbrev pub tells : {X : Type 0} → Result X ReadError → Result X StoreFault

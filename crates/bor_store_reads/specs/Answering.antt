@@ -1,5 +1,8 @@
 -- The answers of reads.
-use Rattle.std.specs.Prelude.{◌≢◌, Result, IfOk, MatchResult}
+use Rattle.std.specs.Prelude.{◌≢◌, Bool, true, false, if◌then◌else◌, Result, IfOk, MatchResult}
+use Rattle.sqlite.specs.declared.error.Error.{Error}
+use Rattle.sqlite.specs.declared.error.Error.TheVariants.{SqliteFailure}
+use Rattle.sqlite.specs.declared.error.ErrorCode.TheVariants.{OutOfMemory}
 use Rattle.sqlite.specs.Held.{Held, state}
 use Rattle.sqlite.specs.State.{State}
 use Rattle.sqlite.specs.Store.{Ghosts}
@@ -12,6 +15,15 @@ use Rattle.bor_store_sql.specs.Found.{ReadsOnly}
 use Rattle.bor_store_sql.specs.Shown.{IsClean, ShowsIn, StaysUp}
 use Rattle.bor_store_reads.specs.declared.fault.ReadError.{ReadError}
 use Rattle.bor_store_reads.specs.declared.fault.ReadError.TheVariants as errors
+
+-- an error of the store is want of memory
+abbrev pub wants_memory : Error → Bool
+wants_memory (SqliteFailure OutOfMemory) = true
+wants_memory _ = false
+
+-- the error for one of the store: want of memory, and of each other one a store that failed
+abbrev pub of_store : Error → ReadError
+of_store error = if wants_memory error then errors.Memory else errors.Store
 
 -- memory is wanting or the store failed: the tables are those of a register
 abbrev pub IsNoDamage : ReadError → Type 0

@@ -40,9 +40,9 @@ impl<T: Drop> From<AllocFailed<T>> for ReadError {
 }
 
 impl From<Error> for ReadError {
-    ghost use Rattle.bor_store_reads.specs.Answering.{IsNoDamage};
+    ghost use Rattle.bor_store_reads.specs.Answering.{IsNoDamage, of_store};
 
-    ghost from_gives = { λ _ error. IsNoDamage error };
+    ghost from_gives = { λ error of. (of ≡ of_store error) × IsNoDamage of };
 
     fn from(error: Error) -> Self {
         match error {
