@@ -166,7 +166,7 @@ impl<'r, S: Start + Copy> Ports for Host<'r, S> {
 
     ghost listens = { λ _ _ _. ⊤ };
 
-    ghost waits = { λ _ _ _. ⊤ };
+    ghost waits = { λ _ log waiting. waiting.log ≡ log };
 
     // A server is asked often, so it has its register in memory too, where there is room.
     fn open_to_serve<'a>(

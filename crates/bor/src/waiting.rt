@@ -1,6 +1,6 @@
 //! Waiting for sockets, and the log of what was answered meanwhile.
 
-ghost use Rattle.std.specs.Prelude.{⊤};
+ghost use Rattle.std.specs.Prelude.{◌≡◌, ⊤};
 
 use bor_program::connections::{PLACES, Places, Watch, accepted};
 use bor_program::log::{Entry, Moment, Note, write_entry};
@@ -29,7 +29,9 @@ pub struct Waiting<'r> {
 
 impl<'r> Waiting<'r> {
     /// Waits for nothing yet.
-    pub(crate) fn new(rt: &'r HostRuntime, log: bool) -> Waiting<'r> {
+    pub(crate) fn new(rt: &'r HostRuntime, log: bool) -> Waiting<'r>
+        ensures { result.log ≡ log }
+    {
         Waiting {
             rt,
             log,
