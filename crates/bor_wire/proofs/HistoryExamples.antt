@@ -47,20 +47,20 @@ start = two_agents today
 abbrev by : List ℕ → Request → Spelled
 by token request = Ok (record { token = token; request = request })
 
-abbrev alder : Request → Spelled
+abbrev pub alder : Request → Spelled
 alder request = by (codes "alder-token-000001") request
 
-abbrev birch : Request → Spelled
+abbrev pub birch : Request → Spelled
 birch request = by (codes "birch-token-000001") request
 
 abbrev cedar : Request → Spelled
 cedar request = by (codes "cedar-token-000001") request
 
-abbrev registrar : Request → Spelled
+abbrev pub registrar : Request → Spelled
 registrar request = by (codes "registrar-token-0001") request
 
 -- the entity e1
-abbrev file : List ℕ
+abbrev pub file : List ℕ
 file = codes "[{\"statementId\":\"s1\",\"statementDate\":\"2024-01-10\",\"declarationSubject\":\"c1\",\"recordId\":\"e1\",\"recordType\":\"entity\",\"recordDetails\":{\"entityType\":{\"type\":\"registeredEntity\"}}}]"
 
 -- one that spells no request; one of cedar, whose token nobody has yet; birch publishes a file; cedar is enrolled
@@ -84,13 +84,13 @@ bytes_told (evidence entity day seen) = []
 bytes_told (entities identifier day seen) = []
 
 -- what a run sends where each request is replied to like this, by the requests before it and the register
-abbrev sent_by : (List Asked → Register → Asked → List ℕ) → List Asked → Register → List Spelled → List (List ℕ)
+abbrev pub sent_by : (List Asked → Register → Asked → List ℕ) → List Asked → Register → List Spelled → List (List ℕ)
 sent_by reply earlier r [] = []
 sent_by reply earlier r (Err why ∷ rest) = bytes_of (refused why) ∷ sent_by reply earlier r rest
 sent_by reply earlier r (Ok asked ∷ rest) = reply earlier r asked ∷ sent_by reply (asked ∷ earlier) (exchange r asked).register rest
 
 -- as this register does
-abbrev own : List Asked → Register → Asked → List ℕ
+abbrev pub own : List Asked → Register → Asked → List ℕ
 own earlier r asked = bytes_told (exchange r asked).answer
 
 abbrev sent : List (List ℕ)
@@ -101,7 +101,7 @@ abbrev to : List ℕ → List (List ℕ)
 to name = received name start inputs sent
 
 -- what is opened to compute a reply
-unfoldable replier : ⊤
+unfoldable pub replier : ⊤
 unfolding head_bytes status_line field_line own_line phrase digits filing_text lines_text published_text moved_text agent_text register_text refusal_text escape_byte refusal_name refusal_word file_fault_word fault_word field_word type_word status_word state_word day_text year_at month_at calendar reader
 replier = tt
 
@@ -278,7 +278,7 @@ by_answer (report entity day shown) h = absurd cc
 by_answer (evidence entity day seen) h = absurd cc
 by_answer (entities identifier day seen) h = absurd cc
 
-own_replies : (earlier : List Asked) (r : Register) (ss : List Spelled) → has_no_report r ss ≡ true → AreReplies r ss (sent_by own earlier r ss)
+pub own_replies : (earlier : List Asked) (r : Register) (ss : List Spelled) → has_no_report r ss ≡ true → AreReplies r ss (sent_by own earlier r ss)
 own_replies earlier r [] h = tt
 own_replies earlier r (Err why ∷ rest) h = ((refused why, refl, refl), own_replies earlier r rest h)
 own_replies earlier r (Ok asked ∷ rest) h =
