@@ -1,8 +1,9 @@
 -- A run of two agents, the registrar and what is nobody's, byte for byte; and ways of replying that tell an agent of another, of which the law of histories is false.
-use Rattle.std.proofs.Common.{◌≡◌, ℕ, ◌+◌, List, [], ◌∷◌, ◌++◌, length, map, take, Bool, true, false, ◌||◌, Some, None, Ok, Err, codes, refl, sym, ap, ◌∙◌, arith}
+use Rattle.std.proofs.Common.{◌≡◌, ℕ, ◌+◌, List, [], ◌∷◌, ◌++◌, length, map, take, Bool, true, false, ◌&&◌, ◌||◌, Some, None, Ok, Err, codes, refl, sym, ap, ◌∙◌, arith}
 use Rattle.std.specs.Prelude.{if◌then◌else◌, is_some, ⊤}
 use Rattle.std.specs.List.{flat_map}
 use Rattle.std.specs.Fmt.{decimal, digits}
+use Rattle.std.proofs.lemmas.Bool.{and_parts}
 use Rattle.json.specs.Print.{escape_byte}
 use Rattle.bor_terms.specs.Day.{day_text, year_at, month_at}
 use Rattle.bor_terms.specs.Texts.{is_same}
@@ -60,7 +61,7 @@ abbrev pub registrar : Request → Spelled
 registrar request = by (codes "registrar-token-0001") request
 
 -- the entity e1
-abbrev pub file : List ℕ
+abbrev file : List ℕ
 file = codes "[{\"statementId\":\"s1\",\"statementDate\":\"2024-01-10\",\"declarationSubject\":\"c1\",\"recordId\":\"e1\",\"recordType\":\"entity\",\"recordDetails\":{\"entityType\":{\"type\":\"registeredEntity\"}}}]"
 
 -- one that spells no request; one of cedar, whose token nobody has yet; birch publishes a file; cedar is enrolled
@@ -260,14 +261,10 @@ is_exact (evidence entity day seen) = false
 is_exact (entities identifier day seen) = false
 
 -- whether no answer of the run is a report
-abbrev has_no_report : Register → List Spelled → Bool
+abbrev pub has_no_report : Register → List Spelled → Bool
 has_no_report r [] = true
 has_no_report r (Err why ∷ rest) = has_no_report r rest
-has_no_report r (Ok asked ∷ rest) = if is_exact (exchange r asked).answer then has_no_report (exchange r asked).register rest else false
-
-both : (a b : Bool) → (if a then b else false) ≡ true → (a ≡ true) × (b ≡ true)
-both true b h = (refl, h)
-both false b h = absurd cc
+has_no_report r (Ok asked ∷ rest) = is_exact (exchange r asked).answer && has_no_report (exchange r asked).register rest
 
 abbrev IsReplyBy : Answer → Type 0
 IsReplyBy answer = (said : Said) × ((reply : DeskReply) × IsTold answer reply × (said ≡ answered reply)) × (bytes_told answer ≡ bytes_of said)
@@ -282,7 +279,7 @@ pub own_replies : (earlier : List Asked) (r : Register) (ss : List Spelled) → 
 own_replies earlier r [] h = tt
 own_replies earlier r (Err why ∷ rest) h = ((refused why, refl, refl), own_replies earlier r rest h)
 own_replies earlier r (Ok asked ∷ rest) h =
-    let split = both (is_exact (exchange r asked).answer) (has_no_report (exchange r asked).register rest) h in
+    let split = and_parts (is_exact (exchange r asked).answer) (has_no_report (exchange r asked).register rest) h in
     (by_answer (exchange r asked).answer split.0, own_replies (asked ∷ earlier) (exchange r asked).register rest split.1)
 
 sent_in_the_run : AreReplies start inputs sent
