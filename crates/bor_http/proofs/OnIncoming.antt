@@ -10,5 +10,6 @@ pub mod ProgressLemmas
 pub mod ReadingLemmas
 pub mod MessageLemmas
 pub mod OnePass
+pub mod Written
 pub mod SendLemmas
 pub mod Examples

@@ -1,14 +1,12 @@
 -- The bytes of evidence determine its persons and its links, and those of entities their records, since JSON is read back as it was written.
-use Rattle.std.proofs.Common.{◌≡◌, ℕ, suc, arith, ℤ, ◌<◌, ◌^◌, List, [], ◌∷◌, Option, Some, None, map, refl, sym, ap, ap₂, ◌∙◌}
-use Rattle.std.specs.Prelude.{All}
-use Rattle.std.specs.List.{AllZip}
+use Rattle.std.proofs.Common.{◌≡◌, ℕ, ℤ, ◌<◌, ◌^◌, List, [], Option, Some, None, refl, ap, ◌∙◌}
+use Rattle.std.specs.Prelude.{All, ⊤}
 use Rattle.std.proofs.lemmas.Fmt.{decimal_injective}
 use Rattle.json.specs.Json as json
 use Rattle.json.specs.Json.{Json}
 use Rattle.json.specs.Tree.{HasNumbers, ItemsHaveNumbers}
 use Rattle.json.proofs.Printed.Decimals.{IsNumber-decimal}
-use Rattle.serde_json.specs.View.{items_of}
-use Rattle.serde_json.specs.Written.{outline, items_outline}
+use Rattle.serde_json.specs.Written.{outline}
 use Rattle.bor_terms.specs.Span.{Range}
 use Rattle.bods_read.specs.declared.details.Details.{Details}
 use Rattle.bods_read.specs.declared.details.Details.TheVariants.{Entity, Person, Relationship}
@@ -23,11 +21,11 @@ use Rattle.bor_desk.specs.declared.reply.DeskReply.TheVariants as tell
 use Rattle.bor_wire.specs.Rendering.Values.{maybe_data, key_data, person_evidence_data, link_evidence_data, record_evidence_data, evidence_data, entities_data, identifier_data, interest_data, share_data, details_data}
 use Rattle.bor_wire.specs.Rendering.Bodies.{evidence_text, entities_text}
 use Rattle.bor_wire.specs.Rendering.Replies.{answered}
-use Rattle.bor_wire.specs.Rendering.Laws.{behind_head}
 use Rattle.bor_wire.specs.ReportBytes.{IsShareCounted, AreSharesCounted, AreRecordsCounted, IsCounted, IsSameEvidence, BytesGiveEvidence, IsSameRecord, AreSameEntities, BytesGiveEntities}
-use Rattle.bor_wire.proofs.OnRendering.LengthTold.{length_is_told}
+use Rattle.bor_wire.proofs.OnRendering.LengthTold.{same_body}
 use Rattle.bor_wire.proofs.OnRendering.ReadBack.{same_text}
-use Rattle.bor_wire.proofs.ReportBytes.{name_once, name_numbers}
+use Rattle.bor_wire.proofs.OnRendering.ItemsBack.{each_once, items_in, items_numbers, items_once, of_each}
+use Rattle.bor_wire.proofs.ReportBytes.{name_once, name_numbers, node_once}
 
 -- ---- parts of a value
 
@@ -52,14 +50,6 @@ abbrev items : Json → json.Items
 items (json.array js) = js
 items j = json.no_items
 
-abbrev first_item : json.Items → Json
-first_item (json.item j js) = j
-first_item json.no_items = json.null
-
-abbrev other_items : json.Items → json.Items
-other_items (json.item j js) = js
-other_items json.no_items = json.no_items
-
 -- the value of the second member of an object, and so on
 abbrev second : Json → Json
 second j = value (others j)
@@ -78,10 +68,6 @@ sixth j = value (others (others (others (others (others j)))))
 
 -- ---- keys
 
-node_once : (a b : Node) → a.agent ≡ b.agent → a.declaration ≡ b.declaration → a.rec ≡ b.rec → a ≡ b
-node_once a b agent declaration rec' =
-    ap (λ x. record a { agent = x }) agent ∙ ap (λ x. record a { agent = b.agent; declaration = x }) declaration ∙ ap (λ x. record b { rec = x }) rec'
-
 key_once : (a b : Node) → outline (key_data a) ≡ outline (key_data b) → a ≡ b
 key_once a b h = node_once a b (ap (λ j. text (value j)) h) (ap (λ j. text (second j)) h) (ap (λ j. text (third j)) h)
 
@@ -91,22 +77,12 @@ next_once None (Some y) h = absurd cc
 next_once (Some x) None h = absurd cc
 next_once (Some x) (Some y) h = ap (λ (n : Node). Some n) (key_once x y h)
 
-keys_once : (xs ys : List Node) → items_outline (items_of (map key_data xs)) ≡ items_outline (items_of (map key_data ys)) → xs ≡ ys
-keys_once [] [] h = refl
-keys_once [] (y ∷ ys) h = absurd cc
-keys_once (x ∷ xs) [] h = absurd cc
-keys_once (x ∷ xs) (y ∷ ys) h = ap₂ (λ (n : Node) (ns : List Node). n ∷ ns) (key_once x y (ap first_item h)) (keys_once xs ys (ap other_items h))
-
 key_numbers : (n : Node) → HasNumbers (outline (key_data n))
 key_numbers n = (tt, (tt, (tt, tt)))
 
 next_numbers : (n : Option Node) → HasNumbers (outline (maybe_data key_data n))
 next_numbers None = tt
 next_numbers (Some n) = key_numbers n
-
-keys_numbers : (ns : List Node) → ItemsHaveNumbers (items_outline (items_of (map key_data ns)))
-keys_numbers [] = tt
-keys_numbers (n ∷ ns) = (key_numbers n, keys_numbers ns)
 
 -- ---- persons
 
@@ -120,85 +96,59 @@ person_once p q few small h =
 person_numbers : (p : PersonEvidence) → p.links < 2 ^ 64 → HasNumbers (outline (person_evidence_data p))
 person_numbers p few = (tt, (tt, (key_numbers p.first, (IsNumber-decimal p.links few, (name_numbers p.name, (tt, tt))))))
 
-persons_once : (ps qs : List PersonEvidence) → All (λ p. p.links < 2 ^ 64) ps → All (λ p. p.links < 2 ^ 64) qs
-    → items_outline (items_of (map person_evidence_data ps)) ≡ items_outline (items_of (map person_evidence_data qs)) → ps ≡ qs
-persons_once [] [] few small h = refl
-persons_once [] (q ∷ qs) few small h = absurd cc
-persons_once (p ∷ ps) [] few small h = absurd cc
-persons_once (p ∷ ps) (q ∷ qs) few small h =
-    ap₂ (λ (n : PersonEvidence) (ns : List PersonEvidence). n ∷ ns) (person_once p q (few 0 p (omega arith)) (small 0 q (omega arith)) (ap first_item h))
-    (persons_once ps qs (λ k d h. few (suc k) d (omega arith)) (λ k d h. small (suc k) d (omega arith)) (ap other_items h))
-
-persons_numbers : (ps : List PersonEvidence) → All (λ p. p.links < 2 ^ 64) ps → ItemsHaveNumbers (items_outline (items_of (map person_evidence_data ps)))
-persons_numbers [] few = tt
-persons_numbers (p ∷ ps) few = (person_numbers p (few 0 p (omega arith)), persons_numbers ps (λ k d h. few (suc k) d (omega arith)))
-
 -- ---- links
 
 link_once : (l k : LinkEvidence) → outline (link_evidence_data l) ≡ outline (link_evidence_data k) → l ≡ k
 link_once l k h =
     ap (λ n. record l { node = n }) (node_once l.node k.node (ap (λ j. text (value j)) h) (ap (λ j. text (second j)) h) (ap (λ j. text (fourth j)) h))
     ∙ ap (λ n. record l { node = k.node; next = n }) (next_once l.next k.next (ap third h))
-    ∙ ap (λ ns. record k { same = ns }) (keys_once l.same k.same (ap (λ j. items (fifth j)) h))
+    ∙ ap (λ ns. record k { same = ns }) (items_once key_data (λ n. ⊤) (λ x y p q. key_once x y) l.same k.same (of_each l.same) (of_each k.same) (ap (λ j. items (fifth j)) h))
 
 link_numbers : (l : LinkEvidence) → HasNumbers (outline (link_evidence_data l))
-link_numbers l = (tt, (tt, (next_numbers l.next, (tt, (keys_numbers l.same, tt)))))
-
-links_once : (ls ks : List LinkEvidence) → items_outline (items_of (map link_evidence_data ls)) ≡ items_outline (items_of (map link_evidence_data ks)) → ls ≡ ks
-links_once [] [] h = refl
-links_once [] (k ∷ ks) h = absurd cc
-links_once (l ∷ ls) [] h = absurd cc
-links_once (l ∷ ls) (k ∷ ks) h = ap₂ (λ (n : LinkEvidence) (ns : List LinkEvidence). n ∷ ns) (link_once l k (ap first_item h)) (links_once ls ks (ap other_items h))
-
-links_numbers : (ls : List LinkEvidence) → ItemsHaveNumbers (items_outline (items_of (map link_evidence_data ls)))
-links_numbers [] = tt
-links_numbers (l ∷ ls) = (link_numbers l, links_numbers ls)
+link_numbers l = (tt, (tt, (next_numbers l.next, (tt, (items_numbers key_data (λ n. ⊤) (λ n p. key_numbers n) l.same (of_each l.same), tt)))))
 
 -- ---- the numbers of records
 
-identifiers_numbers : (xs : List Identifier) → ItemsHaveNumbers (items_outline (items_of (map identifier_data xs)))
-identifiers_numbers [] = tt
-identifiers_numbers (x ∷ xs) = ((tt, (tt, tt)), identifiers_numbers xs)
+identifiers_numbers : (xs : List Identifier) → ItemsHaveNumbers (items_in identifier_data xs)
+identifiers_numbers xs = items_numbers identifier_data (λ x. ⊤) (λ x p. (tt, (tt, tt))) xs (of_each xs)
 
 share_numbers : (share : Option Range) → IsShareCounted share → HasNumbers (outline (maybe_data share_data share))
 share_numbers None few = tt
 share_numbers (Some share) few = (IsNumber-decimal share.high few.0, (tt, (IsNumber-decimal share.low few.1, (tt, tt))))
 
-interests_numbers : (xs : List Interest) → All (λ (i : Interest). IsShareCounted i.share) xs → ItemsHaveNumbers (items_outline (items_of (map interest_data xs)))
-interests_numbers [] few = tt
-interests_numbers (x ∷ xs) few = ((tt, (share_numbers x.share (few 0 x (omega arith)), (tt, tt))), interests_numbers xs (λ k d h. few (suc k) d (omega arith)))
+interests_numbers : (xs : List Interest) → All (λ (i : Interest). IsShareCounted i.share) xs → ItemsHaveNumbers (items_in interest_data xs)
+interests_numbers xs few = items_numbers interest_data (λ (i : Interest). IsShareCounted i.share) (λ x few. (tt, (share_numbers x.share few, (tt, tt)))) xs few
 
 details_numbers : (d : Details) → AreSharesCounted d → HasNumbers (outline (details_data d))
 details_numbers (Entity kind name identifiers) few = (identifiers_numbers identifiers, (tt, (name_numbers name, tt)))
 details_numbers (Person kind name) few = (tt, (name_numbers name, tt))
 details_numbers (Relationship subject party interests) few = (name_numbers party, (interests_numbers interests few, (name_numbers subject, tt)))
 
-records_numbers : (xs : List RecordEvidence) → AreRecordsCounted xs → ItemsHaveNumbers (items_outline (items_of (map record_evidence_data xs)))
-records_numbers [] few = tt
-records_numbers (x ∷ xs) few =
-    ((tt, (tt, (tt, (details_numbers x.entry.statement.details (few 0 x (omega arith)), (tt, (tt, (tt, (tt, tt)))))))), records_numbers xs (λ k d h. few (suc k) d (omega arith)))
+record_numbers : (x : RecordEvidence) → AreSharesCounted x.entry.statement.details → HasNumbers (outline (record_evidence_data x))
+record_numbers x few = (tt, (tt, (tt, (details_numbers x.entry.statement.details few, (tt, (tt, (tt, (tt, tt))))))))
+
+records_numbers : (xs : List RecordEvidence) → AreRecordsCounted xs → ItemsHaveNumbers (items_in record_evidence_data xs)
+records_numbers xs few = items_numbers record_evidence_data (λ x. AreSharesCounted x.entry.statement.details) record_numbers xs few
 
 -- ---- the evidence
 
 evidence_numbers : (entity : Node) (day : ℤ) (told : EntityEvidence) → IsCounted told → HasNumbers (outline (evidence_data entity day told))
 evidence_numbers entity day told few =
-    (tt, (tt, (tt, (links_numbers told.links, (persons_numbers told.persons few.persons, (tt, (records_numbers told.records few.shares, tt)))))))
+    (tt, (tt, (tt, (items_numbers link_evidence_data (λ l. ⊤) (λ l p. link_numbers l) told.links (of_each told.links), (items_numbers person_evidence_data (λ p. p.links < 2 ^ 64) person_numbers told.persons few.persons, (tt, (records_numbers told.records few.shares, tt)))))))
 
 evidence_once : (entity other : Node) (day date : ℤ) (told said : EntityEvidence) → IsCounted told → IsCounted said → outline (evidence_data entity day told) ≡ outline (evidence_data other date said) → IsSameEvidence entity other day date told said
 evidence_once entity other day date told said few small h = record {
   entity_is = node_once entity other (ap (λ j. text (value j)) h) (ap (λ j. text (third j)) h) (ap (λ j. text (sixth j)) h);
   day_is = ap (λ j. text (second j)) h;
-  persons_are = persons_once told.persons said.persons few.persons small.persons (ap (λ j. items (fifth j)) h);
-  links_are = links_once told.links said.links (ap (λ j. items (fourth j)) h);
+  persons_are = items_once person_evidence_data (λ p. p.links < 2 ^ 64) person_once told.persons said.persons few.persons small.persons (ap (λ j. items (fifth j)) h);
+  links_are = items_once link_evidence_data (λ l. ⊤) (λ x y p q. link_once x y) told.links said.links (of_each told.links) (of_each said.links) (ap (λ j. items (fourth j)) h);
 }
 
 pub evidence_given : BytesGiveEvidence
 unfolding evidence_text
 evidence_given entity other day date told said few small same =
-    let body : evidence_text entity day told ≡ evidence_text other date said =
-    sym (length_is_told.body (answered (tell.Evidence entity day told))) ∙ ap behind_head same ∙ length_is_told.body (answered (tell.Evidence other date said)) in
     evidence_once entity other day date told said few small
-    (same_text (evidence_data entity day told) (evidence_data other date said) (evidence_numbers entity day told few) (evidence_numbers other date said small) body)
+    (same_text (evidence_data entity day told) (evidence_data other date said) (evidence_numbers entity day told few) (evidence_numbers other date said small) (same_body (answered (tell.Evidence entity day told)) (answered (tell.Evidence other date said)) same))
 
 -- ---- the entities of an identifier
 
@@ -213,12 +163,6 @@ record_once x y h = record {
   id_is = ap (λ j. text (fifth j)) h;
 }
 
-records_once : (xs ys : List RecordEvidence) → items_outline (items_of (map record_evidence_data xs)) ≡ items_outline (items_of (map record_evidence_data ys)) → AllZip IsSameRecord xs ys
-records_once [] [] h = tt
-records_once [] (y ∷ ys) h = absurd cc
-records_once (x ∷ xs) [] h = absurd cc
-records_once (x ∷ xs) (y ∷ ys) h = (record_once x y (ap first_item h), records_once xs ys (ap other_items h))
-
 entities_numbers : (identifier : Identifier) (day : ℤ) (records : List RecordEvidence) → AreRecordsCounted records → HasNumbers (outline (entities_data identifier day records))
 entities_numbers identifier day records few = (tt, (records_numbers records few, (tt, (tt, tt))))
 
@@ -226,13 +170,11 @@ entities_once : (identifier other : Identifier) (day date : ℤ) (records found 
 entities_once identifier other day date records found h = record {
   identifier_is = identifier_once identifier other (ap (λ j. text (fourth j)) h) (ap (λ j. text (third j)) h);
   day_is = ap (λ j. text (value j)) h;
-  records_are = records_once records found (ap (λ j. items (second j)) h);
+  records_are = each_once record_evidence_data (λ x. ⊤) IsSameRecord (λ x y p q. record_once x y) records found (of_each records) (of_each found) (ap (λ j. items (second j)) h);
 }
 
 pub entities_given : BytesGiveEntities
 unfolding entities_text
 entities_given identifier other day date records found few small same =
-    let body : entities_text identifier day records ≡ entities_text other date found =
-    sym (length_is_told.body (answered (tell.Entities identifier day records))) ∙ ap behind_head same ∙ length_is_told.body (answered (tell.Entities other date found)) in
     entities_once identifier other day date records found
-    (same_text (entities_data identifier day records) (entities_data other date found) (entities_numbers identifier day records few) (entities_numbers other date found small) body)
+    (same_text (entities_data identifier day records) (entities_data other date found) (entities_numbers identifier day records few) (entities_numbers other date found small) (same_body (answered (tell.Entities identifier day records)) (answered (tell.Entities other date found)) same))

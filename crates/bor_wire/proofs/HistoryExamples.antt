@@ -1,8 +1,9 @@
 -- A run of two agents, the registrar and what is nobody's, byte for byte; and ways of replying that tell an agent of another, of which the law of histories is false.
-use Rattle.std.proofs.Common.{◌≡◌, ℕ, ◌+◌, List, [], ◌∷◌, ◌++◌, length, map, take, Bool, true, false, ◌||◌, Some, None, Ok, Err, codes, refl, sym, ap, ◌∙◌, arith}
+use Rattle.std.proofs.Common.{◌≡◌, ℕ, ◌+◌, List, [], ◌∷◌, ◌++◌, length, map, take, Bool, true, false, ◌&&◌, ◌||◌, Some, None, Ok, Err, codes, refl, sym, ap, ◌∙◌, arith}
 use Rattle.std.specs.Prelude.{if◌then◌else◌, is_some, ⊤}
 use Rattle.std.specs.List.{flat_map}
 use Rattle.std.specs.Fmt.{decimal, digits}
+use Rattle.std.proofs.lemmas.Bool.{and_parts}
 use Rattle.json.specs.Print.{escape_byte}
 use Rattle.bor_terms.specs.Day.{day_text, year_at, month_at}
 use Rattle.bor_terms.specs.Texts.{is_same}
@@ -47,16 +48,16 @@ start = two_agents today
 abbrev by : List ℕ → Request → Spelled
 by token request = Ok (record { token = token; request = request })
 
-abbrev alder : Request → Spelled
+abbrev pub alder : Request → Spelled
 alder request = by (codes "alder-token-000001") request
 
-abbrev birch : Request → Spelled
+abbrev pub birch : Request → Spelled
 birch request = by (codes "birch-token-000001") request
 
 abbrev cedar : Request → Spelled
 cedar request = by (codes "cedar-token-000001") request
 
-abbrev registrar : Request → Spelled
+abbrev pub registrar : Request → Spelled
 registrar request = by (codes "registrar-token-0001") request
 
 -- the entity e1
@@ -84,13 +85,13 @@ bytes_told (evidence entity day seen) = []
 bytes_told (entities identifier day seen) = []
 
 -- what a run sends where each request is replied to like this, by the requests before it and the register
-abbrev sent_by : (List Asked → Register → Asked → List ℕ) → List Asked → Register → List Spelled → List (List ℕ)
+abbrev pub sent_by : (List Asked → Register → Asked → List ℕ) → List Asked → Register → List Spelled → List (List ℕ)
 sent_by reply earlier r [] = []
 sent_by reply earlier r (Err why ∷ rest) = bytes_of (refused why) ∷ sent_by reply earlier r rest
 sent_by reply earlier r (Ok asked ∷ rest) = reply earlier r asked ∷ sent_by reply (asked ∷ earlier) (exchange r asked).register rest
 
 -- as this register does
-abbrev own : List Asked → Register → Asked → List ℕ
+abbrev pub own : List Asked → Register → Asked → List ℕ
 own earlier r asked = bytes_told (exchange r asked).answer
 
 abbrev sent : List (List ℕ)
@@ -101,7 +102,7 @@ abbrev to : List ℕ → List (List ℕ)
 to name = received name start inputs sent
 
 -- what is opened to compute a reply
-unfoldable replier : ⊤
+unfoldable pub replier : ⊤
 unfolding head_bytes status_line field_line own_line phrase digits filing_text lines_text published_text moved_text agent_text register_text refusal_text escape_byte refusal_name refusal_word file_fault_word fault_word field_word type_word status_word state_word day_text year_at month_at calendar reader
 replier = tt
 
@@ -260,14 +261,10 @@ is_exact (evidence entity day seen) = false
 is_exact (entities identifier day seen) = false
 
 -- whether no answer of the run is a report
-abbrev has_no_report : Register → List Spelled → Bool
+abbrev pub has_no_report : Register → List Spelled → Bool
 has_no_report r [] = true
 has_no_report r (Err why ∷ rest) = has_no_report r rest
-has_no_report r (Ok asked ∷ rest) = if is_exact (exchange r asked).answer then has_no_report (exchange r asked).register rest else false
-
-both : (a b : Bool) → (if a then b else false) ≡ true → (a ≡ true) × (b ≡ true)
-both true b h = (refl, h)
-both false b h = absurd cc
+has_no_report r (Ok asked ∷ rest) = is_exact (exchange r asked).answer && has_no_report (exchange r asked).register rest
 
 abbrev IsReplyBy : Answer → Type 0
 IsReplyBy answer = (said : Said) × ((reply : DeskReply) × IsTold answer reply × (said ≡ answered reply)) × (bytes_told answer ≡ bytes_of said)
@@ -278,11 +275,11 @@ by_answer (report entity day shown) h = absurd cc
 by_answer (evidence entity day seen) h = absurd cc
 by_answer (entities identifier day seen) h = absurd cc
 
-own_replies : (earlier : List Asked) (r : Register) (ss : List Spelled) → has_no_report r ss ≡ true → AreReplies r ss (sent_by own earlier r ss)
+pub own_replies : (earlier : List Asked) (r : Register) (ss : List Spelled) → has_no_report r ss ≡ true → AreReplies r ss (sent_by own earlier r ss)
 own_replies earlier r [] h = tt
 own_replies earlier r (Err why ∷ rest) h = ((refused why, refl, refl), own_replies earlier r rest h)
 own_replies earlier r (Ok asked ∷ rest) h =
-    let split = both (is_exact (exchange r asked).answer) (has_no_report (exchange r asked).register rest) h in
+    let split = and_parts (is_exact (exchange r asked).answer) (has_no_report (exchange r asked).register rest) h in
     (by_answer (exchange r asked).answer split.0, own_replies (asked ∷ earlier) (exchange r asked).register rest split.1)
 
 sent_in_the_run : AreReplies start inputs sent

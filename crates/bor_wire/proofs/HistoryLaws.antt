@@ -13,20 +13,10 @@ use Rattle.bor_wire.specs.Spelling.Spell.{Spelled}
 use Rattle.bor_wire.specs.Rendering.Replies.{answered, bytes_of}
 use Rattle.bor_wire.specs.Runs.{AreReplies}
 use Rattle.bor_wire.specs.Histories.{AreBytesOf, EachIsReceived, IsAlone, SameHistorySameBytes, asked_in, replies_to_requests, received}
+use Rattle.bor_wire.proofs.RunLaws.{zip_once}
 
 one_bytes : (answer : Answer) (x y : List ℕ) → AreBytesOf answer x → AreBytesOf answer y → x ≡ y
 one_bytes answer x y p q = p.2 ∙ ap (λ reply. bytes_of (answered reply)) (one_reply answer p.0 q.0 p.1 q.1) ∙ sym q.2
-
-bytes_once : (told : List Answer) (x y : List (List ℕ)) → AllZip AreBytesOf told x → AllZip AreBytesOf told y → x ≡ y
-bytes_once [] [] [] p q = refl
-bytes_once [] [] (b ∷ bs) p q = elim q [ ]
-bytes_once [] (a ∷ rest) b p q = elim p [ ]
-bytes_once (i ∷ told) [] b p q = elim p [ ]
-bytes_once (i ∷ told) (a ∷ rest) [] p q = elim q [ ]
-bytes_once (i ∷ told) (a ∷ rest) (b ∷ bs) p q =
-    let first : a ≡ b = one_bytes i a b p.0 q.0 in
-    let others : rest ≡ bs = bytes_once told rest bs p.1 q.1 in
-    cc
 
 -- the replies to requests are the bytes of the answers to them
 answers_told : (r : Register) (ss : List Spelled) (bs : List (List ℕ)) → AreReplies r ss bs → AllZip AreBytesOf (answers r (asked_in ss)) (replies_to_requests ss bs)
@@ -60,7 +50,7 @@ alone name r ss bs legal h =
 pub same_bytes : SameHistorySameBytes
 same_bytes name r q inputs others replies told legal lawful one two own past =
     let alike = ap (λ fs. solo name fs (history name r (asked_in inputs))) own ∙ ap (solo name (filings_of name q.members)) past in
-    bytes_once (solo name (filings_of name q.members) (history name q (asked_in others))) (received name r inputs replies) (received name q others told)
+    zip_once AreBytesOf one_bytes (solo name (filings_of name q.members) (history name q (asked_in others))) (received name r inputs replies) (received name q others told)
     (subst (λ answers. AllZip AreBytesOf answers (received name r inputs replies)) alike (alone name r inputs replies legal one))
     (alone name q others told lawful two)
 

@@ -18,4 +18,5 @@ pub mod HistoryExamples
 pub mod Examples
 pub mod OnRendering
 pub mod HeadlineLaws
+pub mod HeadlineExamples
 pub mod RestartLaws

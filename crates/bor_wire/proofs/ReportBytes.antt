@@ -1,21 +1,20 @@
 -- The bytes of a report determine its persons, since JSON is read back as it was written.
-use Rattle.std.proofs.Common.{◌≡◌, ℕ, suc, arith, ℤ, ◌<◌, ◌^◌, List, [], ◌∷◌, Option, Some, None, map, refl, sym, ap, ◌∙◌, decimal}
+use Rattle.std.proofs.Common.{◌≡◌, ℕ, ℤ, ◌<◌, ◌^◌, List, Option, Some, None, refl, ap, ◌∙◌}
 use Rattle.std.proofs.lemmas.Fmt.{decimal_injective}
-use Rattle.json.specs.Tree.{HasNumbers, ItemsHaveNumbers}
+use Rattle.json.specs.Tree.{HasNumbers}
 use Rattle.json.proofs.Printed.Decimals.{IsNumber-decimal}
 use Rattle.serde_json.specs.Data.{string}
-use Rattle.serde_json.specs.View.{items_of}
-use Rattle.serde_json.specs.Written.{outline, items_outline}
+use Rattle.serde_json.specs.Written.{outline}
 use Rattle.bor_records.specs.declared.links.node.Node.{Node}
 use Rattle.bor_chains.specs.declared.line.PersonLine.{PersonLine}
 use Rattle.bor_desk.specs.declared.reply.DeskReply.TheVariants as tell
 use Rattle.bor_wire.specs.Rendering.Values.{maybe_data, person_data, chains_data}
 use Rattle.bor_wire.specs.Rendering.Bodies.{chains_text}
 use Rattle.bor_wire.specs.Rendering.Replies.{answered}
-use Rattle.bor_wire.specs.Rendering.Laws.{behind_head}
 use Rattle.bor_wire.specs.ReportBytes.{AreCounted, IsSameReport, BytesGivePersons}
-use Rattle.bor_wire.proofs.OnRendering.LengthTold.{length_is_told}
+use Rattle.bor_wire.proofs.OnRendering.LengthTold.{same_body}
 use Rattle.bor_wire.proofs.OnRendering.ReadBack.{same_text}
+use Rattle.bor_wire.proofs.OnRendering.ItemsBack.{items_numbers, items_once}
 
 -- ---- a person
 
@@ -25,18 +24,15 @@ name_once None (Some y) h = absurd cc
 name_once (Some x) None h = absurd cc
 name_once (Some x) (Some y) h = cc
 
+pub node_once : (a b : Node) → a.agent ≡ b.agent → a.declaration ≡ b.declaration → a.rec ≡ b.rec → a ≡ b
+node_once a b agent declaration rec' =
+    ap (λ x. record a { agent = x }) agent ∙ ap (λ x. record a { agent = b.agent; declaration = x }) declaration ∙ ap (λ x. record b { rec = x }) rec'
+
 person_once : (p q : PersonLine) → p.links < 2 ^ 64 → q.links < 2 ^ 64 → outline (person_data p) ≡ outline (person_data q) → p ≡ q
 person_once p q few small h =
-    let agent : p.node.agent ≡ q.node.agent = cc in
-    let declaration : p.node.declaration ≡ q.node.declaration = cc in
-    let rec' : p.node.rec ≡ q.node.rec = cc in
-    let names : outline (maybe_data string p.name) ≡ outline (maybe_data string q.name) = cc in
-    let digits : decimal p.links ≡ decimal q.links = cc in
-    ap (λ a. record p { node = record { agent = a; declaration = p.node.declaration; rec = p.node.rec } }) agent
-    ∙ ap (λ d. record p { node = record { agent = q.node.agent; declaration = d; rec = p.node.rec } }) declaration
-    ∙ ap (λ r. record p { node = record { agent = q.node.agent; declaration = q.node.declaration; rec = r } }) rec'
-    ∙ ap (λ n. record q { name = n; links = p.links }) (name_once p.name q.name names)
-    ∙ ap (λ l. record q { links = l }) (decimal_injective p.links q.links few small digits)
+    ap (λ n. record p { node = n }) (node_once p.node q.node (cc) (cc) (cc))
+    ∙ ap (λ n. record q { name = n; links = p.links }) (name_once p.name q.name (cc))
+    ∙ ap (λ l. record q { links = l }) (decimal_injective p.links q.links few small (cc))
 
 pub name_numbers : (name : Option (List ℕ)) → HasNumbers (outline (maybe_data string name))
 name_numbers None = tt
@@ -45,44 +41,17 @@ name_numbers (Some x) = tt
 person_numbers : (p : PersonLine) → p.links < 2 ^ 64 → HasNumbers (outline (person_data p))
 person_numbers p few = (tt, (tt, (IsNumber-decimal p.links few, (name_numbers p.name, (tt, tt)))))
 
--- ---- the persons
-
-persons_once : (ps qs : List PersonLine) → AreCounted ps → AreCounted qs → items_outline (items_of (map person_data ps)) ≡ items_outline (items_of (map person_data qs)) → ps ≡ qs
-persons_once [] [] few small h = refl
-persons_once [] (q ∷ qs) few small h = absurd cc
-persons_once (p ∷ ps) [] few small h = absurd cc
-persons_once (p ∷ ps) (q ∷ qs) few small h =
-    let first : outline (person_data p) ≡ outline (person_data q) = cc in
-    let others : items_outline (items_of (map person_data ps)) ≡ items_outline (items_of (map person_data qs)) = cc in
-    let one : p ≡ q = person_once p q (few 0 p (omega arith)) (small 0 q (omega arith)) first in
-    let rest : ps ≡ qs = persons_once ps qs (λ k d h. few (suc k) d (omega arith)) (λ k d h. small (suc k) d (omega arith)) others in
-    cc
-
-persons_numbers : (ps : List PersonLine) → AreCounted ps → ItemsHaveNumbers (items_outline (items_of (map person_data ps)))
-persons_numbers [] few = tt
-persons_numbers (p ∷ ps) few = (person_numbers p (few 0 p (omega arith)), persons_numbers ps (λ k d h. few (suc k) d (omega arith)))
-
 -- ---- the report
 
 report_numbers : (entity : Node) (day : ℤ) (ps : List PersonLine) → AreCounted ps → HasNumbers (outline (chains_data entity day ps))
-report_numbers entity day ps few = (tt, (tt, (tt, (persons_numbers ps few, (tt, tt)))))
+report_numbers entity day ps few = (tt, (tt, (tt, (items_numbers person_data (λ p. p.links < 2 ^ 64) person_numbers ps few, (tt, tt)))))
 
 report_once : (entity other : Node) (day date : ℤ) (ps qs : List PersonLine) → AreCounted ps → AreCounted qs → outline (chains_data entity day ps) ≡ outline (chains_data other date qs) → IsSameReport entity other day date ps qs
 report_once entity other day date ps qs few small h =
-    let agent : entity.agent ≡ other.agent = cc in
-    let declaration : entity.declaration ≡ other.declaration = cc in
-    let rec' : entity.rec ≡ other.rec = cc in
-    let persons : items_outline (items_of (map person_data ps)) ≡ items_outline (items_of (map person_data qs)) = cc in
-    record {
-      entity_is = ap (λ a. record entity { agent = a }) agent ∙ ap (λ d. record entity { agent = other.agent; declaration = d }) declaration ∙ ap (λ r. record other { rec = r }) rec';
-      day_is = cc;
-      persons_are = persons_once ps qs few small persons;
-    }
+    record { entity_is = node_once entity other (cc) (cc) (cc); day_is = cc; persons_are = items_once person_data (λ p. p.links < 2 ^ 64) person_once ps qs few small (cc) }
 
 pub persons_given : BytesGivePersons
 unfolding chains_text
 persons_given entity other day date ps qs few small same =
-    let body : chains_text entity day ps ≡ chains_text other date qs =
-    sym (length_is_told.body (answered (tell.Chains entity day ps))) ∙ ap behind_head same ∙ length_is_told.body (answered (tell.Chains other date qs)) in
     report_once entity other day date ps qs few small
-    (same_text (chains_data entity day ps) (chains_data other date qs) (report_numbers entity day ps few) (report_numbers other date qs small) body)
+    (same_text (chains_data entity day ps) (chains_data other date qs) (report_numbers entity day ps few) (report_numbers other date qs small) (same_body (answered (tell.Chains entity day ps)) (answered (tell.Chains other date qs)) same))

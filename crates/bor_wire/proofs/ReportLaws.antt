@@ -6,20 +6,16 @@ use Rattle.bor_records.specs.declared.row.Row.{Row}
 use Rattle.bor_records.specs.declared.links.node.Node.{Node}
 use Rattle.bor_records.specs.Links.Rows.{shown_of, is_entity_info}
 use Rattle.bor_records.specs.Links.Shown.{Shown, info_of}
-use Rattle.bor_chains.specs.declared.line.PersonLine.{PersonLine}
-use Rattle.bor_chains.specs.Chains.{AreJoined}
 use Rattle.bor_register.specs.declared.caller.Caller.{Caller}
 use Rattle.bor_register.specs.declared.caller.Caller.TheVariants.{Registrar, Agent}
 use Rattle.bor_register.specs.Register.{Register, caller_of}
-use Rattle.bor_desk.specs.Operations.Sight.{seen_by}
-use Rattle.bor_desk.specs.declared.refusal.Refusal.TheVariants.{NoEntity}
-use Rattle.bor_desk.specs.declared.evidence.lines.EntityEvidence.{EntityEvidence}
+use Rattle.bor_desk.specs.Operations.Sight.{Outcome, seen_by}
+use Rattle.bor_desk.specs.declared.refusal.Refusal.TheVariants.{NoEntity, NotAgent}
 use Rattle.bor_desk.specs.declared.request.Request.{Request}
 use Rattle.bor_desk.specs.declared.request.Request.TheVariants as ask
 use Rattle.bor_desk.specs.declared.reply.DeskReply.{DeskReply}
 use Rattle.bor_desk.specs.declared.reply.DeskReply.TheVariants as tell
-use Rattle.bor_desk.specs.Evidence.{IsEntityEvidence}
-use Rattle.bor_desk.specs.Step.{report, evidence, refused, step}
+use Rattle.bor_desk.specs.Step.{Answer, report, evidence, refused, refuses, step, agent_step, registrar_step}
 use Rattle.bor_desk.proofs.OnEvidence.OneWay.{names_the_joined}
 use Rattle.bor_desk.specs.Outcomes.{IsTold}
 use Rattle.bor_wire.specs.Spelling.Spell.{Spelled}
@@ -29,59 +25,42 @@ use Rattle.bor_wire.specs.Inputs.{IsSaid, after}
 use Rattle.bor_wire.specs.Runs.{AreReplies}
 use Rattle.bor_wire.specs.Reports.{NamesTheJoined, TellsTheEvidence, FindsTheIdentified, IsExact, AreReports}
 
--- the reply is a report on the joined
-Names : Shown → Node → ℤ → DeskReply → Type 0
-Names shown entity day reply = (persons : List PersonLine) × AreJoined shown entity persons × (reply ≡ tell.Chains entity day persons)
+-- ---- by a reply with status 200
 
-report_names : (is_entity : Bool) (shown : Shown) (entity : Node) (day : ℤ) (reply : DeskReply)
-    → IsTold (if is_entity then report entity day shown else refused NoEntity) reply → desk_status reply ≡ 200 → Names shown entity day reply
-unfolding Names
-report_names true shown entity day reply told status = told
-report_names false shown entity day reply told status = absurd (omega (arith, ap desk_status told, status))
+-- the entity was seen
+of_seen : (is_entity : Bool) (answer : Answer) (reply : DeskReply) → IsTold (if is_entity then answer else refused NoEntity) reply → desk_status reply ≡ 200 → IsTold answer reply
+of_seen true answer reply told status = told
+of_seen false answer reply told status = absurd (omega (arith, ap desk_status told, status))
 
--- by whoever asks
-caller_names : (r : Register) (token : List ℕ) (caller : Option Caller) (entity : Node) (date : Option ℤ) (reply : DeskReply) → caller_of token r ≡ caller
-    → IsTold (step r caller (ask.Chains entity date)).answer reply → desk_status reply ≡ 200 → NamesTheJoined r token entity date (answered reply)
-unfolding Names
-caller_names r token None entity date reply is told status = absurd (omega (arith, ap desk_status told, status))
-caller_names r token (Some Registrar) entity date reply is told status = absurd (omega (arith, ap desk_status told, status))
-caller_names r token (Some (Agent name)) entity date reply is told status =
+-- an agent asked, where only agents may
+by_an_agent : (r : Register) (caller : Option Caller) (request : Request) (reply : DeskReply) → registrar_step r request ≡ refuses r NotAgent → IsTold (step r caller request).answer reply → desk_status reply ≡ 200
+    → (name : List ℕ) × (caller ≡ Some (Agent name)) × IsTold (agent_step r name request).answer reply
+by_an_agent r None request reply only told status = absurd (omega (arith, ap desk_status told, status))
+by_an_agent r (Some Registrar) request reply only told status =
+    let refused_so : reply ≡ tell.Refused NotAgent = subst (λ (o : Outcome Answer). IsTold o.answer reply) only told in
+    absurd (omega (arith, ap desk_status refused_so, status))
+by_an_agent r (Some (Agent name)) request reply only told status = (name, refl, told)
+
+caller_names : (r : Register) (token : List ℕ) (entity : Node) (date : Option ℤ) (reply : DeskReply) → IsTold (step r (caller_of token r) (ask.Chains entity date)).answer reply → desk_status reply ≡ 200 → NamesTheJoined r token entity date (answered reply)
+caller_names r token entity date reply told status =
+    let asks = by_an_agent r (caller_of token r) (ask.Chains entity date) reply refl told status in
     let day : ℤ = unwrap_or date r.day in
-    let shown : Shown = shown_of day (seen_by name r) in
-    let names : Names shown entity day reply = report_names (is_entity_info (info_of shown entity)) shown entity day reply told status in
-    record { name = name; caller = is; persons = names.0; joined = names.1; told = ap answered names.2 }
+    let shown : Shown = shown_of day (seen_by asks.0 r) in
+    let names = of_seen (is_entity_info (info_of shown entity)) (report entity day shown) reply asks.2 status in
+    record { name = asks.0; caller = asks.1; persons = names.0; joined = names.1; told = ap answered names.2 }
 
--- ---- evidence
-
--- the reply tells the evidence
-Tells : List Row → Node → ℤ → DeskReply → Type 0
-Tells seen entity day reply = (told : EntityEvidence) × IsEntityEvidence seen entity day told × (reply ≡ tell.Evidence entity day told)
-
-evidence_tells : (is_entity : Bool) (seen : List Row) (entity : Node) (day : ℤ) (reply : DeskReply)
-    → IsTold (if is_entity then evidence entity day seen else refused NoEntity) reply → desk_status reply ≡ 200 → Tells seen entity day reply
-unfolding Tells
-evidence_tells true seen entity day reply told status = told
-evidence_tells false seen entity day reply told status = absurd (omega (arith, ap desk_status told, status))
-
-caller_tells : (r : Register) (token : List ℕ) (caller : Option Caller) (entity : Node) (date : Option ℤ) (reply : DeskReply) → caller_of token r ≡ caller
-    → IsTold (step r caller (ask.Evidence entity date)).answer reply → desk_status reply ≡ 200 → TellsTheEvidence r token entity date (answered reply)
-unfolding Tells
-caller_tells r token None entity date reply is told status = absurd (omega (arith, ap desk_status told, status))
-caller_tells r token (Some Registrar) entity date reply is told status = absurd (omega (arith, ap desk_status told, status))
-caller_tells r token (Some (Agent name)) entity date reply is told status =
+caller_tells : (r : Register) (token : List ℕ) (entity : Node) (date : Option ℤ) (reply : DeskReply) → IsTold (step r (caller_of token r) (ask.Evidence entity date)).answer reply → desk_status reply ≡ 200 → TellsTheEvidence r token entity date (answered reply)
+caller_tells r token entity date reply told status =
+    let asks = by_an_agent r (caller_of token r) (ask.Evidence entity date) reply refl told status in
     let day : ℤ = unwrap_or date r.day in
-    let seen : List Row = seen_by name r in
-    let tells : Tells seen entity day reply = evidence_tells (is_entity_info (info_of (shown_of day seen) entity)) seen entity day reply told status in
-    record { name = name; caller = is; evidence = tells.0; is_evidence = tells.1; joined = names_the_joined.joined seen entity day tells.0 tells.1; told = ap answered tells.2 }
+    let seen : List Row = seen_by asks.0 r in
+    let tells = of_seen (is_entity_info (info_of (shown_of day seen) entity)) (evidence entity day seen) reply asks.2 status in
+    record { name = asks.0; caller = asks.1; evidence = tells.0; is_evidence = tells.1; joined = names_the_joined.joined seen entity day tells.0 tells.1; told = ap answered tells.2 }
 
--- ---- entities
-
-caller_finds : (r : Register) (token : List ℕ) (caller : Option Caller) (identifier : Identifier) (date : Option ℤ) (reply : DeskReply) → caller_of token r ≡ caller
-    → IsTold (step r caller (ask.Entities identifier date)).answer reply → desk_status reply ≡ 200 → FindsTheIdentified r token identifier date (answered reply)
-caller_finds r token None identifier date reply is told status = absurd (omega (arith, ap desk_status told, status))
-caller_finds r token (Some Registrar) identifier date reply is told status = absurd (omega (arith, ap desk_status told, status))
-caller_finds r token (Some (Agent name)) identifier date reply is told status =
-    record { name = name; caller = is; records = told.0; are_records = told.1; told = ap answered told.2 }
+caller_finds : (r : Register) (token : List ℕ) (identifier : Identifier) (date : Option ℤ) (reply : DeskReply) → IsTold (step r (caller_of token r) (ask.Entities identifier date)).answer reply → desk_status reply ≡ 200 → FindsTheIdentified r token identifier date (answered reply)
+caller_finds r token identifier date reply told status =
+    let asks = by_an_agent r (caller_of token r) (ask.Entities identifier date) reply refl told status in
+    record { name = asks.0; caller = asks.1; records = asks.2.0; are_records = asks.2.1; told = ap answered asks.2.2 }
 
 -- ---- what is said
 
@@ -90,13 +69,13 @@ exact r (Err why) said h = tt
 exact r (Ok asked) said h = record {
   report = λ entity date is status.
       subst (NamesTheJoined r asked.token entity date) (sym h.2)
-      (caller_names r asked.token (caller_of asked.token r) entity date h.0 refl (told (ask.Chains entity date) is) (sym (ap status_of h.2) ∙ status));
+      (caller_names r asked.token entity date h.0 (told (ask.Chains entity date) is) (sym (ap status_of h.2) ∙ status));
   evidence = λ entity date is status.
       subst (TellsTheEvidence r asked.token entity date) (sym h.2)
-      (caller_tells r asked.token (caller_of asked.token r) entity date h.0 refl (told (ask.Evidence entity date) is) (sym (ap status_of h.2) ∙ status));
+      (caller_tells r asked.token entity date h.0 (told (ask.Evidence entity date) is) (sym (ap status_of h.2) ∙ status));
   found = λ identifier date is status.
       subst (FindsTheIdentified r asked.token identifier date) (sym h.2)
-      (caller_finds r asked.token (caller_of asked.token r) identifier date h.0 refl (told (ask.Entities identifier date) is) (sym (ap status_of h.2) ∙ status));
+      (caller_finds r asked.token identifier date h.0 (told (ask.Entities identifier date) is) (sym (ap status_of h.2) ∙ status));
 }
   where
     told : (request : Request) → asked.request ≡ request → IsTold (step r (caller_of asked.token r) request).answer h.0

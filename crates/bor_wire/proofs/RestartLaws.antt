@@ -29,7 +29,7 @@ use Rattle.bor_wire.proofs.SequenceLaws.{run_over}
 
 -- ---- two runs
 
-replies-append : (r : Register) (ss more : List Spelled) (bs told : List (List ℕ)) → AreReplies r ss bs → AreReplies (register_left r ss) more told → AreReplies r (ss ++ more) (bs ++ told)
+pub replies-append : (r : Register) (ss more : List Spelled) (bs told : List (List ℕ)) → AreReplies r ss bs → AreReplies (register_left r ss) more told → AreReplies r (ss ++ more) (bs ++ told)
 replies-append r [] more [] told h rest = rest
 replies-append r [] more (b ∷ bs) told h rest = elim h [ ]
 replies-append r (s ∷ ss) more [] told h rest = elim h [ ]

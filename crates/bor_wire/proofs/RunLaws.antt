@@ -1,25 +1,30 @@
 -- Laws of runs that go on.
 use Rattle.std.proofs.Common.{◌≡◌, ℕ, List, [], ◌∷◌, Ok, Err, refl}
+use Rattle.std.specs.List.{AllZip}
 use Rattle.bor_register.specs.Register.{Register, caller_of}
 use Rattle.bor_desk.specs.Operations.Legality.{IsLegal}
 use Rattle.bor_desk.proofs.Steps.{step-stays_legal}
 use Rattle.bor_wire.proofs.OnSpelling.Messages.{one_spelling}
-use Rattle.bor_wire.specs.Spelling.Spell.{Spelled}
+use Rattle.bor_wire.specs.Spelling.Spell.{Spelled, Spells}
 use Rattle.bor_wire.specs.Inputs.{after}
 use Rattle.bor_wire.specs.Runs.{AreSpelled, register_left}
 
 -- ---- one spelling
 
-pub spelled_once : (inputs : List (List ℕ)) (a b : List Spelled) → AreSpelled inputs a → AreSpelled inputs b → a ≡ b
-spelled_once [] [] [] x y = refl
-spelled_once [] [] (b ∷ bs) x y = elim y [ ]
-spelled_once [] (a ∷ rest) b x y = elim x [ ]
-spelled_once (i ∷ inputs) [] b x y = elim x [ ]
-spelled_once (i ∷ inputs) (a ∷ rest) [] x y = elim y [ ]
-spelled_once (i ∷ inputs) (a ∷ rest) (b ∷ bs) x y =
-    let first : a ≡ b = one_spelling i a b x.0 y.0 in
-    let others : rest ≡ bs = spelled_once inputs rest bs x.1 y.1 in
+-- where each item determines what it goes with, a list determines the list
+pub zip_once : {A B : Type 0} (R : A → B → Type 0) → ((i : A) (x y : B) → R i x → R i y → x ≡ y) → (is : List A) (xs ys : List B) → AllZip R is xs → AllZip R is ys → xs ≡ ys
+zip_once R one [] [] [] p q = refl
+zip_once R one [] [] (y ∷ ys) p q = elim q [ ]
+zip_once R one [] (x ∷ xs) ys p q = elim p [ ]
+zip_once R one (i ∷ is) [] ys p q = elim p [ ]
+zip_once R one (i ∷ is) (x ∷ xs) [] p q = elim q [ ]
+zip_once R one (i ∷ is) (x ∷ xs) (y ∷ ys) p q =
+    let first : x ≡ y = one i x y p.0 q.0 in
+    let others : xs ≡ ys = zip_once R one is xs ys p.1 q.1 in
     cc
+
+pub spelled_once : (inputs : List (List ℕ)) (a b : List Spelled) → AreSpelled inputs a → AreSpelled inputs b → a ≡ b
+spelled_once inputs a b x y = zip_once Spells one_spelling inputs a b x y
 
 -- ---- what is legal
 

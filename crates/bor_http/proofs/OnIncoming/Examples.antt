@@ -1,19 +1,13 @@
 -- The definitions on worked inputs.
-use Rattle.std.proofs.Common.{◌≡◌, ◌<◌, ℕ, zero, suc, List, [], ◌∷◌, Some, None, Ok, Err, true, codes, refl, arith, lit<, lit≤}
-use Rattle.std.specs.Prelude.{All, nat_lt}
-use Rattle.std.specs.List.{list_all}
-use Rattle.std.specs.Str.{IsAscii}
-use Rattle.std.proofs.lemmas.Bool.Decides.{nat_tests}
-use Rattle.std.proofs.lemmas.List.Sums.{AllPass-from_list_all}
-use Rattle.std.proofs.lemmas.Str.{IsUtf8-from_ascii}
-use Rattle.std.proofs.lemmas.Str.Ascii.{IsAscii-from_all}
-use Rattle.httparse.specs.Grammar.{crlf, Field, IsField, RequestHead, is_token_byte, is_uri_byte, is_value_byte, print_request, trim_ows}
+use Rattle.std.proofs.Common.{◌≡◌, ℕ, List, [], ◌∷◌, Some, None, Ok, Err, codes, refl}
+use Rattle.httparse.specs.Grammar.{crlf, Field, RequestHead}
 use Rattle.bor_http.specs.declared.incoming.fault.Refusal.TheVariants.{HeadTooLarge, CutShort, BadLength, BodyTooLarge}
 use Rattle.bor_http.specs.Incoming.Counted.{after_fault, takes_nothing}
 use Rattle.bor_http.specs.Incoming.Head.{head_len}
 use Rattle.bor_http.specs.Incoming.Steps.{head_within, head_at, HasParts, body_len, length_of, with_body}
 use Rattle.bor_http.specs.Incoming.Refusals.{message_read, IsMessage}
 use Rattle.bor_http.specs.Incoming.Message.{Parts, FieldText, BeginsWith, only_value}
+use Rattle.bor_http.proofs.OnIncoming.Written.{begins_with, head_fits, writer}
 
 -- ---- where a head ends
 
@@ -61,55 +55,18 @@ host = record { name = codes "Host"; raw = codes "  localhost "; end = crlf }
 abbrev tree : RequestHead
 tree = record { blank = []; method = codes "GET"; target = codes "/filings"; minor = 1; line_end = crlf; fields = host ∷ []; last = crlf }
 
-is_host : IsField host
-unfolding is_token_byte
-is_host = record {
-  name = (lit< tt, AllPass-from_list_all is_token_byte (codes "Host") refl);
-  raw = AllPass-from_list_all is_value_byte (codes "  localhost ") refl;
-}
-
-one_field : All IsField (host ∷ [])
-one_field zero d lt = is_host
-one_field (suc k) d lt = absurd (omega arith)
-
-below : (b : ℕ) → nat_lt b 128 ≡ true → b < 128
-below b h = grind (arith, nat_tests)
-
-ascii : (bytes : List ℕ) → list_all (λ b. nat_lt b 128) bytes ≡ true → IsAscii bytes
-ascii bytes h = IsAscii-from_all bytes (λ k d lt. below _ (AllPass-from_list_all (λ b. nat_lt b 128) bytes h k d lt))
-
 -- the blanks around a value are no part of it
 abbrev pub of_literal : Parts
 of_literal = record { method = codes "GET"; target = codes "/filings"; fields = (codes "Host", codes "localhost") ∷ [] }
 
 taken_apart : HasParts literal (Ok of_literal)
-unfolding print_request trim_ows is_token_byte
-taken_apart = (
-  tree,
-  (
-    record {
-      method = (lit< tt, AllPass-from_list_all is_token_byte (codes "GET") refl);
-      target = (lit< tt, AllPass-from_list_all is_uri_byte (codes "/filings") refl);
-      target_text = IsUtf8-from_ascii (codes "/filings") (ascii (codes "/filings") refl);
-      minor = lit≤ tt;
-      fields = one_field;
-    },
-    refl,
-  ),
-  refl,
-)
+unfolding writer
+taken_apart = (tree, (head_fits tree refl, refl), refl)
 
 -- the input begins with it, whatever follows: it ends at the empty line, and has three lines of at most 66
 pub begins : BeginsWith (codes "GET /filings HTTP/1.1\r\nHost:  localhost \r\n\r\nGET /") of_literal
-unfolding head_len
-begins = record {
-  end = 44;
-  ends = refl;
-  few_lines = lit≤ tt;
-  head = taken_apart.0;
-  reads = taken_apart.1;
-  parts_are = taken_apart.2;
-}
+unfolding writer
+begins = begins_with (codes "GET /filings HTTP/1.1\r\nHost:  localhost \r\n\r\nGET /") of_literal tree refl refl refl refl refl
 
 -- and it is a request
 is_message : IsMessage (codes "GET /filings HTTP/1.1\r\nHost:  localhost \r\n\r\nGET /") (Ok (record { parts = of_literal; body = [] }))

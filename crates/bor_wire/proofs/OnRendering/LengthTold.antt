@@ -11,7 +11,7 @@ use Rattle.bor_http.specs.declared.incoming.fault.Path.TheVariants as paths
 use Rattle.bor_http.specs.Routes.Routes.{allow}
 use Rattle.bor_wire.specs.Rendering.Heads.{phrase, status_line, field_line, own_line, head_bytes}
 use Rattle.bor_wire.specs.Rendering.Replies.{Said, status_of, path_of, reply_body, bytes_of}
-use Rattle.bor_wire.specs.Rendering.Laws.{behind, before, LengthIsTold}
+use Rattle.bor_wire.specs.Rendering.Laws.{behind, behind_head, before, LengthIsTold}
 use Rattle.bor_wire.proofs.OnRendering.Phrases.{one_line, phrase_plain}
 
 -- ---- bytes that are no carriage return
@@ -161,3 +161,7 @@ told_is said =
 
 pub length_is_told : LengthIsTold
 length_is_told = record { body = body_is; told = λ said. told_is said ∙ ap (λ bytes. decimal (length bytes)) (sym (body_is said)) }
+
+-- what is said in the same bytes has the same body
+pub same_body : (one other : Said) → bytes_of one ≡ bytes_of other → reply_body one ≡ reply_body other
+same_body one other same = sym (body_is one) ∙ ap behind_head same ∙ body_is other
