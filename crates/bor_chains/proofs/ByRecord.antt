@@ -1,5 +1,5 @@
 -- Nodes, links and aliases of some rows, read record by record.
-use Rattle.std.proofs.Common.{◌≡◌, ◌+◌, ◌<◌, ◌≤◌, ◌&&◌, ℕ, ℤ, Bool, true, false, cond, Option, Some, None, option_and_then, List, [], take, length, get_or, Contains, sym, refl, ap, ◌∙◌, subst, inl, inr}
+use Rattle.std.proofs.Common.{◌≡◌, ◌+◌, ◌<◌, ◌≤◌, ◌&&◌, ℕ, ℤ, Bool, true, false, cond, Option, Some, None, option_and_then, List, [], map, take, length, get_or, Contains, sym, refl, ap, ◌∙◌, subst, inl, inr}
 use Rattle.std.specs.List.{filter_map, IsDistinct}
 use Rattle.std.proofs.lemmas.Bool.{and_from}
 use Rattle.std.proofs.lemmas.Option.{same_Some}
@@ -13,7 +13,7 @@ use Rattle.bor_records.specs.OpenRows.{open_rows}
 use Rattle.bor_records.specs.declared.links.node.Node.{Node}
 use Rattle.bor_records.specs.declared.links.node.OpenNode.{OpenNode}
 use Rattle.bor_records.specs.declared.links.node.Link.{Link}
-use Rattle.bor_records.specs.Links.Nodes.{same_node}
+use Rattle.bor_records.specs.Links.Nodes.{same_node, link_record}
 use Rattle.bor_records.specs.Links.Orders.{node_equiv}
 use Rattle.bor_records.specs.Links.Series.{series_of, open_at}
 use Rattle.bor_records.specs.Links.Shown.{Shown, info_in}
@@ -22,7 +22,8 @@ use Rattle.bor_records.specs.Links.Answers.{AreSame, AreLinksInto, only_into}
 use Rattle.bor_records.specs.Links.Stakes.{is_stake, is_holding}
 use Rattle.bor_records.specs.Links.ByKey.{node_at, IsMade, CoverLinks}
 use Rattle.bor_records.specs.Links.Growth.{Grown}
-use Rattle.bor_records.proofs.OnLinks.ByKey.{links_by_candidates}
+use Rattle.bor_records.proofs.OnLinks.ByKey.{links_by_candidates, open_at_in}
+use Rattle.bor_records.proofs.OnLinks.OfRows.{link_of_row, links_once}
 use Rattle.bor_records.proofs.OnLinks.Found.{none, Contains-filter_map, Contains-from_filter_map}
 use Rattle.bor_records.proofs.OnLinks.Growth.{grown_none, grown_like, grown_more, Contains-take_more, Contains-take_front, Contains-take_last}
 use Rattle.bor_records.proofs.OnLinks.Reached.{AreReached, reached_end}
@@ -76,9 +77,17 @@ only_made : (n : Node) (l : Link) → l.subject ≡ n → only_into n (Some l) �
 only_made n l e = ap (λ (b : Bool). cond b (Some l) None) (ap (λ (m : Node). same_node m n) e ∙ node_equiv.refl n)
 
 pub links_told : (day : ℤ) (rows : List Row) (n : Node) (candidates : List Node) (links : List Link) → links ≡ filter_map (link_at day rows n) candidates
-    → ((r : Row) → Contains rows r → is_into n r.agent r.statement ≡ true → Contains candidates (series_of r)) → AreLinksInto (shown_of day rows) n links
-links_told day rows n candidates links e cover = links_by_candidates day rows candidates n links covers (λ l. ((λ h. made l (subst (λ (ls : List Link). Contains ls l) e h)), (λ h. subst (λ (ls : List Link). Contains ls l) (sym e) (there l h.0 h.1))))
+    → ((r : Row) → Contains rows r → is_into n r.agent r.statement ≡ true → Contains candidates (series_of r)) → IsDistinct same_node candidates → AreLinksInto (shown_of day rows) n links
+links_told day rows n candidates links e cover once = links_by_candidates day rows candidates n links covers (λ l. ((λ h. made l (subst (λ (ls : List Link). Contains ls l) e h)), (λ h. subst (λ (ls : List Link). Contains ls l) (sym e) (there l h.0 h.1))))
+    (subst (λ (ls : List Link). IsDistinct same_node (map link_record ls)) (sym e) (links_once same_node (λ k. k) (link_at day rows n) (λ k j. refl) of_record candidates once))
   where
+    of_record : (k : Node) (l : Link) → link_at day rows n k ≡ Some l → k ≡ link_record l
+    of_record k l h = at (open_at day k rows) refl h
+      where
+        at : (o : Option Row) → open_at day k rows ≡ o → option_and_then (link_into day rows n) o ≡ Some l → k ≡ link_record l
+        at None is j = let no : None ≡ Some l = j in absurd cc
+        at (Some r) is j = sym (open_at_in day k rows r is).1 ∙ link_of_row day (nodes_of day rows) r l (only n (link_in day (nodes_of day rows) r) l j).0
+
     covers : CoverLinks rows candidates n
     covers day r nodes l h is s = cover r h (subst (λ (m : Node). is_into m r.agent r.statement ≡ true) s (from_row day nodes r l is).into)
 
@@ -95,13 +104,17 @@ links_told day rows n candidates links e cover = links_by_candidates day rows ca
 
 -- there is none into a node that isn't an open entity
 pub no_links : (day : ℤ) (rows : List Row) (n : Node) (links : List Link) → links ≡ [] → is_entity_info (info_in (nodes_of day rows) n) ≡ false → AreLinksInto (shown_of day rows) n links
-no_links day rows n links e gone l = (
-  (λ h. absurd (none l (subst (λ (ls : List Link). Contains ls l) e h))),
-  (λ h.
-      let m = Contains-from_filter_map (link_in day (nodes_of day rows)) (open_rows day rows) l h.0 in
-      let is = subst (λ (k : Node). is_entity_info (info_in (nodes_of day rows) k) ≡ true) h.1 (from_row day (nodes_of day rows) m.0 l m.2).entity in
-      absurd (let no : true ≡ false = sym is ∙ gone in cc)),
-)
+unfolding IsDistinct
+no_links day rows n links e gone = record {
+  each = λ l. (
+    (λ h. absurd (none l (subst (λ (ls : List Link). Contains ls l) e h))),
+    (λ h.
+        let m = Contains-from_filter_map (link_in day (nodes_of day rows)) (open_rows day rows) l h.0 in
+        let is = subst (λ (k : Node). is_entity_info (info_in (nodes_of day rows) k) ≡ true) h.1 (from_row day (nodes_of day rows) m.0 l m.2).entity in
+        absurd (let no : true ≡ false = sym is ∙ gone in cc)),
+  );
+  once = subst (λ (ls : List Link). IsDistinct same_node (map link_record ls)) (sym e) tt;
+}
 
 pub link_is : (day : ℤ) (nodes : List OpenNode) (rec : List ℕ) (n party subject : Node) (interests : List Interest) (stake holding : Bool) → same_node subject n ≡ true → is_entity_info (info_in nodes n) ≡ true → is_some_info (info_in nodes party) ≡ true
     → stake ≡ is_stake day interests → holding ≡ is_holding day interests → Some (record { rec = rec; party = party; subject = subject; stake = stake; holding = holding }) ≡ only_into n (link_between day nodes rec party subject interests)

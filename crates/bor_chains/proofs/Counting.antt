@@ -92,8 +92,8 @@ none_crossed s m below a is = grown_none (IsCrossingInto s m below) a (λ c h. a
 
 pub links_crossed : (s : Shown) (m : Marked) (below : ℕ) (links : List Link) (a b : List Crossing) → AreLinksInto s m.node links → Grown (IsCountedOf links m.mark below) a b → Grown (IsCrossingInto s m below) a b
 links_crossed s m below links a b into g = grown_like (IsCountedOf links m.mark below) (IsCrossingInto s m below) a b g
-    (λ c h. let l = (into c.link).0 h.listed in record { is_counted = record { listed = l.0; into = l.1; counted = h.counted }; place = h.place })
-    (λ c h. record { listed = (into c.link).1 ((h.is_counted).listed, (h.is_counted).into); place = h.place; counted = (h.is_counted).counted })
+    (λ c h. let l = (into.each c.link).0 h.listed in record { is_counted = record { listed = l.0; into = l.1; counted = h.counted }; place = h.place })
+    (λ c h. record { listed = (into.each c.link).1 ((h.is_counted).listed, (h.is_counted).into); place = h.place; counted = (h.is_counted).counted })
 
 -- ---- one mark after another
 

@@ -1,12 +1,12 @@
 //! Maps beside the lists of nodes and of links, so that a look-up takes no scan.
 
-ghost use Rattle.std.specs.Prelude.{◌≡◌, ◌<◌, ℕ, Some, IfOk, OnOk, Contains, length, option_map};
+ghost use Rattle.std.specs.Prelude.{◌≡◌, ◌<◌, ℕ, [], Option, Some, IfOk, OnOk, Contains, length, option_map};
 ghost use Rattle.std.specs.List.{slice_get};
 ghost use Rattle.std.specs.BTreeMap.{get};
 ghost use Rattle.bor_records.specs.declared.links.node.Link.{Link};
 ghost use Rattle.bor_records.specs.Links.Nodes.{node_cmp};
 ghost use Rattle.bor_records.specs.Links.Answers.{only_into};
-ghost use Rattle.bor_chains.specs.Tables.{ArePlaces, AreInto, IsBelow, StayAt, items_at, items_of, links_at};
+ghost use Rattle.bor_chains.specs.Tables.{ArePlaces, AreInto, GrowAt, IsBelow, items_at, items_of, links_at};
 
 use bor_records::links::{Link, Node, OpenNode};
 use std::alloc::{AllocError, Global};
@@ -31,7 +31,9 @@ pub(crate) fn places_of(
 
 // So many lists with nothing in them.
 fn empty_lists(alloc: Global, count: usize) -> Result<Vec<Vec<usize>>, AllocError>
-    ensures { IfOk result (λ lists. length lists.items ≡ count) }
+    ensures len { IfOk result (λ lists. length lists.items ≡ count) }
+    ensures empty { IfOk result (λ lists.
+        (place : Option ℕ) → items_at (λ v. v.items) lists.items place ≡ []) }
 {
     let mut lists = Vec::with_capacity(alloc, count)?;
     for _ in 0..count {
@@ -43,7 +45,7 @@ fn empty_lists(alloc: Global, count: usize) -> Result<Vec<Vec<usize>>, AllocErro
 // Puts the place of a link into the list at a place, where there is one.
 fn put(lists: &mut Vec<Vec<usize>>, place: Option<&usize>, link: usize) -> Result<(), AllocError>
     ensures len { length lists.new.items ≡ length lists.old.items }
-    ensures stays { OnOk result (StayAt (λ v. v.items) lists.old.items lists.new.items) }
+    ensures grown { OnOk result (GrowAt (λ v. v.items) lists.old.items lists.new.items link) }
     ensures there { OnOk result ((i : ℕ) → option_map (λ x. x.now) place.entry ≡ Some i
         → i < length lists.old.items →
         Contains (items_at (λ v. v.items) lists.new.items (Some i)) link) }
@@ -57,7 +59,7 @@ fn put(lists: &mut Vec<Vec<usize>>, place: Option<&usize>, link: usize) -> Resul
     }
 }
 
-/// By the place of each node the places of the links into it, in their order.
+/// By the place of each node the places of the links into it, each once and in their order.
 pub(crate) fn by_subject(
     alloc: Global,
     places: &BTreeMap<Node, usize>,

@@ -1,6 +1,7 @@
 pub mod Wholes
 pub mod SameNode
 pub mod Found
+pub mod Once
 pub mod Series
 pub mod EveryStake
 pub mod ByKey

@@ -1,7 +1,8 @@
 //! The records of statements that are found by what they name.
 
 ghost use Rattle.std.specs.Prelude.{◌≡◌, IfOk, map};
-ghost use Rattle.std.specs.List.{filter_map};
+ghost use Rattle.std.specs.List.{filter_map, IsDistinct};
+ghost use Rattle.bor_records.specs.Links.Nodes.{same_node};
 ghost use Rattle.bor_store_sql.specs.Rows.Placed.{placed};
 ghost use Rattle.bor_store_sql.specs.Selected.{in_record, placed_of, with_subject};
 ghost use Rattle.bor_store_reads.specs.Answering.{Reads};
@@ -40,10 +41,11 @@ pub(crate) fn records_into<S: Alter + Drop>(
     alloc: Global,
     node: &Node,
 ) -> Result<Vec<Node>, ReadError>
-    ensures { Reads S.Store lookup.old lookup.new result (λ r records.
+    ensures covers { Reads S.Store lookup.old lookup.new result (λ r records.
         CoverRecords
         (with_subject node.now.declaration node.now.rec
         (placed_of node.now.agent r)) records.items) }
+    ensures once { IfOk result (λ records. IsDistinct same_node records.items) }
 {
     let rows = lookup.naming(alloc, node)?;
     let records = records_at(alloc, rows)?;

@@ -191,12 +191,15 @@ pub link_made : (day : ℤ) (n : Node) (rows : List Row) (r : Row) (l : Link) �
 link_made day n rows r l at made = Contains-filter_map (link_in day (nodes_of day rows)) (open_rows day rows) r l (open_at_in day n rows r at).0 made
 
 pub links_by_candidates : LinksAreReadByCandidates
-links_by_candidates day rows candidates n links cover told l = (
-  (λ h. let m = (told l).0 h in (link_made day (m.0).key rows (m.0).row l (m.0).latest (m.0).made, m.1)),
-  (λ h.
-      let f = link_found day rows l h.0 in
-      (told l).1 (record { key = series_of f.0; row = f.0; candidate = cover day f.0 (nodes_of day rows) l f.1 f.3 h.1; latest = f.2; made = f.3 }, h.1)),
-)
+links_by_candidates day rows candidates n links cover told once = record {
+  each = λ l. (
+    (λ h. let m = (told l).0 h in (link_made day (m.0).key rows (m.0).row l (m.0).latest (m.0).made, m.1)),
+    (λ h.
+        let f = link_found day rows l h.0 in
+        (told l).1 (record { key = series_of f.0; row = f.0; candidate = cover day f.0 (nodes_of day rows) l f.1 f.3 h.1; latest = f.2; made = f.3 }, h.1)),
+  );
+  once = once;
+}
 
 -- ---- aliases by key
 

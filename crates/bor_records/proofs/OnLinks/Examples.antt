@@ -1,6 +1,7 @@
 -- The definitions, tried: interests that are a stake or a holding and interests that aren't, rows on
 -- days, and nodes that are aliases.
-use Rattle.std.proofs.Common.{◌≡◌, ℕ, ℤ, pos, Bool, true, false, Option, Some, None, List, [], ◌∷◌, codes, refl, map}
+use Rattle.std.proofs.Common.{◌≡◌, ℕ, ℤ, pos, Bool, true, false, Option, Some, None, List, [], ◌∷◌, codes, refl, map, sym, ap, subst, inl, inr}
+use Rattle.std.specs.List.{IsDistinct}
 use Rattle.bor_terms.specs.Points.{points}
 use Rattle.bor_terms.specs.Span.{Range, range}
 use Rattle.bods_read.specs.declared.interest.Interest.{Interest}
@@ -23,7 +24,9 @@ use Rattle.bor_records.specs.Links.Stakes.{is_stake, is_holding}
 use Rattle.bor_records.specs.OpenRows.{open_rows}
 use Rattle.bor_records.specs.Links.Shown.{Shown, are_alike}
 use Rattle.bor_records.specs.Links.Aliases.{Alias, Same}
+use Rattle.bor_records.specs.Links.Answers.{AreLinksInto}
 use Rattle.bor_records.specs.Links.Rows.{is_legal_kind, shown_of}
+use Rattle.bor_records.proofs.OnLinks.Found.{none, cases}
 
 -- ---- stakes and holdings
 
@@ -185,6 +188,18 @@ shown_rows : shown_of (pos 10) (opened_row ∷ person_row ∷ link_row ∷ []) �
 }
 unfolding points
 shown_rows = refl
+
+-- the links into e1 are this one, once; with a copy of it beside they aren't
+into_e1 : AreLinksInto (shown_of (pos 10) (opened_row ∷ person_row ∷ link_row ∷ [])) (of_c1 (codes "e1")) (p1_in_e1 true true ∷ [])
+unfolding IsDistinct
+into_e1 = subst (λ (s : Shown). AreLinksInto s (of_c1 (codes "e1")) (p1_in_e1 true true ∷ [])) (sym shown_rows) (record {
+  each = λ l. ((λ h. elim (cases (p1_in_e1 true true) [] l h) [ inl e ↦ (h, ap (λ (k : Link). k.subject) (sym e)) | inr gone ↦ absurd (none l gone) ]), (λ h. h.0));
+  once = (tt, tt);
+})
+
+not_twice : (s : Shown) (n : Node) → AreLinksInto s n (p1_in_e1 true true ∷ p1_in_e1 true true ∷ []) → ⊥
+unfolding IsDistinct
+not_twice s n h = let both = h.once in absurd (let no : true ≡ false = (both.0).0 in cc)
 
 -- where an end is closed or a person is held, there is no link
 unlinked : map (λ rows. (shown_of (pos 12) rows).links) (

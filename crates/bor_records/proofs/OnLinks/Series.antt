@@ -1,7 +1,8 @@
 -- The open rows are, of each series, its latest statement where it is open; each series once.
 use Rattle.std.proofs.Common.{◌≡◌, ◌&&◌, ◌||◌, not, ℤ, Bool, true, false, cond, Option, Some, None, option_and_then, List, [], ◌∷◌, map, sym, refl, ap, ◌∙◌}
-use Rattle.std.specs.List.{filter, find, filter_map, cons_option, list_any, last_or, IsDistinct, AllByRecursion}
+use Rattle.std.specs.List.{filter, find, list_any, last_or, IsDistinct, AllByRecursion}
 use Rattle.std.proofs.lemmas.Bool.{or_parts}
+use Rattle.std.proofs.lemmas.Option.{same_Some}
 use Rattle.bods_read.specs.declared.details.Details.{Details}
 use Rattle.bods_read.specs.declared.details.Details.TheVariants as details
 use Rattle.bor_records.specs.declared.row.Row.{Row}
@@ -15,6 +16,7 @@ use Rattle.bor_records.specs.OpenRows.{is_open_before, open_rows}
 use Rattle.bor_records.specs.Links.Series.{series_of, is_of, open_at}
 use Rattle.bor_records.specs.Links.Rows.{node_in, node_with, nodes_of}
 use Rattle.bor_records.proofs.Lists.{none_pass}
+use Rattle.bor_records.proofs.OnLinks.Once.{made_distinct}
 use Rattle.bor_records.proofs.OnLinks.SameNode.{same_node_is}
 
 -- whether a row that is dated is of a series
@@ -141,42 +143,46 @@ third true true false k = refl
 third true false c k = absurd cc
 third false b c k = absurd cc
 
-abbrev AreApart : Node → List OpenNode → Type 0
-AreApart m nodes = AllByRecursion (λ n. same_node m n ≡ false) (map (λ x. x.node) nodes)
+-- rows of one series
+abbrev pub same_series : Row → Row → Bool
+same_series r x = same_node (series_of r) (series_of x)
 
--- where no later dated row is of a row's series, none of the later nodes is its node
-apart : (day : ℤ) (m : Node) (rows : List Row) → list_any (λ x. is_of m x && is_dated day x) rows ≡ false → AreApart m (nodes_of day rows)
+abbrev AreApart : Node → List Row → Type 0
+AreApart m rows = AllByRecursion (λ x. same_node m (series_of x) ≡ false) rows
+
+-- where no later dated row is of a series, no open one is
+apart : (day : ℤ) (m : Node) (rows : List Row) → list_any (λ x. is_of m x && is_dated day x) rows ≡ false → AreApart m (open_rows day rows)
 apart day m [] h = tt
 apart day m (r ∷ rows) h = let both = or_parts (is_of m r && is_dated day r) (list_any (λ x. is_of m x && is_dated day x) rows) h in at both.0 (apart day m rows both.1) (is_open_before day r rows) refl
   where
     other : (is_of m r && is_dated day r) ≡ false → is_dated day r ≡ true → same_node m (series_of r) ≡ false
     other f e = node_equiv.symm m (series_of r) ∙ not_of (is_of m r) (ap (λ (b : Bool). is_of m r && b) (sym e) ∙ f)
 
-    with_node : (d : Details) → AreApart m (nodes_of day rows) → same_node m (series_of r) ≡ false → AreApart m (cons_option (node_with (series_of r) d) (nodes_of day rows))
-    with_node (details.Entity kind name identifiers) later e = (e, later)
-    with_node (details.Person kind name) later e = (e, later)
-    with_node (details.Relationship subject party interests) later e = later
-
-    at : (is_of m r && is_dated day r) ≡ false → AreApart m (nodes_of day rows) → (t : Bool) → is_open_before day r rows ≡ t → AreApart m (filter_map node_in (cond t (r ∷ open_rows day rows) (open_rows day rows)))
-    at f later true e = with_node r.statement.details later (other f (first (is_dated day r) (not (is_closed r.status)) (list_any (λ x. is_of (series_of r) x && is_dated day x) rows) e))
+    at : (is_of m r && is_dated day r) ≡ false → AreApart m (open_rows day rows) → (t : Bool) → is_open_before day r rows ≡ t → AreApart m (cond t (r ∷ open_rows day rows) (open_rows day rows))
+    at f later true e = (other f (first (is_dated day r) (not (is_closed r.status)) (list_any (λ x. is_of (series_of r) x && is_dated day x) rows) e), later)
     at f later false e = later
 
-abbrev AreDistinct : List OpenNode → Type 0
-AreDistinct nodes = IsDistinct same_node (map (λ x. x.node) nodes)
-
-pub nodes_distinct : (day : ℤ) (rows : List Row) → AreDistinct (nodes_of day rows)
+pub rows_distinct : (day : ℤ) (rows : List Row) → IsDistinct same_series (open_rows day rows)
 unfolding IsDistinct
-nodes_distinct day [] = tt
-nodes_distinct day (r ∷ rows) = at (nodes_distinct day rows) (is_open_before day r rows) refl
+rows_distinct day [] = tt
+rows_distinct day (r ∷ rows) = at (rows_distinct day rows) (is_open_before day r rows) refl
   where
     last : is_open_before day r rows ≡ true → list_any (λ x. is_of (series_of r) x && is_dated day x) rows ≡ false
     last e = third (is_dated day r) (not (is_closed r.status)) (list_any (λ x. is_of (series_of r) x && is_dated day x) rows) e
 
-    with_node : (d : Details) → AreDistinct (nodes_of day rows) → is_open_before day r rows ≡ true → AreDistinct (cons_option (node_with (series_of r) d) (nodes_of day rows))
-    with_node (details.Entity kind name identifiers) later e = (apart day (series_of r) rows (last e), later)
-    with_node (details.Person kind name) later e = (apart day (series_of r) rows (last e), later)
-    with_node (details.Relationship subject party interests) later e = later
-
-    at : AreDistinct (nodes_of day rows) → (t : Bool) → is_open_before day r rows ≡ t → AreDistinct (filter_map node_in (cond t (r ∷ open_rows day rows) (open_rows day rows)))
-    at later true e = with_node r.statement.details later e
+    at : IsDistinct same_series (open_rows day rows) → (t : Bool) → is_open_before day r rows ≡ t → IsDistinct same_series (cond t (r ∷ open_rows day rows) (open_rows day rows))
+    at later true e = (apart day (series_of r) rows (last e), later)
     at later false e = later
+
+-- the node that a row makes is of its series
+node_of : (r : Row) (x : OpenNode) → node_in r ≡ Some x → x.node ≡ series_of r
+node_of r x h = by r.statement.details h
+  where
+    by : (d : Details) → node_with (series_of r) d ≡ Some x → x.node ≡ series_of r
+    by (details.Entity kind name identifiers) e = ap (λ (y : OpenNode). y.node) (sym (same_Some _ x e))
+    by (details.Person kind name) e = ap (λ (y : OpenNode). y.node) (sym (same_Some _ x e))
+    by (details.Relationship subject party interests) e = let no : None ≡ Some x = e in absurd cc
+
+pub nodes_distinct : (day : ℤ) (rows : List Row) → IsDistinct same_node (map (λ x. x.node) (nodes_of day rows))
+nodes_distinct day rows = made_distinct same_series (λ x. x.node) node_in
+    (λ r q x y is was differ. ap (λ (n : Node). same_node n y.node) (node_of r x is) ∙ ap (λ (n : Node). same_node (series_of r) n) (node_of q y was) ∙ differ) (open_rows day rows) (rows_distinct day rows)

@@ -1,11 +1,12 @@
 -- The answers on a node.
-use Rattle.std.specs.Prelude.{◌≡◌, ◌↔◌, List, Contains, IsTrue, Option, None, Some, if◌then◌else◌}
+use Rattle.std.specs.Prelude.{◌≡◌, ◌↔◌, List, Contains, IsTrue, Option, None, Some, map}
+use Rattle.std.specs.Prelude.{if◌then◌else◌}
 use Rattle.std.specs.List.{IsDistinct}
 use Rattle.bods_read.specs.declared.details.Identifier.{Identifier}
 use Rattle.bor_records.specs.declared.links.node.Node.{Node}
 use Rattle.bor_records.specs.declared.links.node.OpenNode.{OpenNode}
 use Rattle.bor_records.specs.declared.links.node.Link.{Link}
-use Rattle.bor_records.specs.Links.Nodes.{same_node}
+use Rattle.bor_records.specs.Links.Nodes.{same_node, link_record}
 use Rattle.bor_records.specs.Links.Shown.{Shown, has_identifier}
 use Rattle.bor_records.specs.Links.Aliases.{Alias, Same}
 
@@ -29,9 +30,10 @@ pub record AreIdentified (s : Shown) (i : Identifier) (nodes : List Node) : Type
   pub each : (n : Node) → Contains nodes n ↔ Identified s i n
   pub once : IsDistinct same_node nodes
 
--- exactly the links with this subject
-abbrev pub AreLinksInto : Shown → Node → List Link → Type 0
-AreLinksInto s n links = (l : Link) → Contains links l ↔ (Contains s.links l × (l.subject ≡ n))
+-- exactly the links with this subject, and no two of one record, so each once
+pub record AreLinksInto (s : Shown) (n : Node) (links : List Link) : Type 0 where
+  pub each : (l : Link) → Contains links l ↔ (Contains s.links l × (l.subject ≡ n))
+  pub once : IsDistinct same_node (map link_record links)
 
 -- ---- for clauses of private functions alone
 

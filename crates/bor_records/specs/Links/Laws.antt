@@ -64,7 +64,7 @@ LinksAreReadByCandidates =
     (day : ℤ) (rows : List Row) (candidates : List Node) (n : Node) (links : List Link)
     → CoverLinks rows candidates n
     → ((l : Link) → Contains links l ↔ (IsMade day rows candidates l × (l.subject ≡ n)))
-    → AreLinksInto (shown_of day rows) n links
+    → IsDistinct same_node (map link_record links) → AreLinksInto (shown_of day rows) n links
 
 -- A link is made of an open row, of the record that the link names, whose agent and declaration are
 -- those of both ends.
@@ -85,6 +85,11 @@ abbrev pub LinksAreKnownByRecord : Type 0
 LinksAreKnownByRecord =
     (day : ℤ) (rows : List Row) (l k : Link) → Contains (links_of day rows) l
     → Contains (links_of day rows) k → link_record l ≡ link_record k → l ≡ k
+
+-- no record makes two links
+abbrev pub LinksAreDistinct : Type 0
+LinksAreDistinct =
+    (day : ℤ) (rows : List Row) → IsDistinct same_node (map link_record (links_of day rows))
 
 -- no node is listed twice
 abbrev pub NodesAreDistinct : Type 0

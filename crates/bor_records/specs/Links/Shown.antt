@@ -11,8 +11,8 @@ use Rattle.bor_records.specs.declared.links.node.OpenNode.{OpenNode}
 use Rattle.bor_records.specs.declared.links.node.Link.{Link}
 use Rattle.bor_records.specs.Links.Nodes.{same_node}
 
--- two finite lists, of open nodes and of links; `NodesAreDistinct` says that those of rows have
--- each node once
+-- two finite lists, of open nodes and of links; those of rows have each node once
+-- (`NodesAreDistinct`), and no two links of one record (`LinksAreDistinct`)
 pub record Shown : Type 0 where
   pub nodes : List OpenNode
   pub links : List Link

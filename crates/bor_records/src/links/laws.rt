@@ -1,7 +1,7 @@
 //! Laws of nodes and links. Each function does nothing: its contract is the law, and it is proved
 //! for all lists.
 
-ghost use Rattle.bor_records.specs.Links.Laws.{EveryStakeIsAHolding, OpenRowsAreTheLatest, OpenRowsAreReadByKey, SnapshotsShowTheOpenRows, NodesAreReadByKey, AliasesAreReadByKey, AliasesAreReadByCandidates, LinksAreReadByCandidates, LinksAreOfRows, LinksAreKnownByRecord, NodesAreDistinct};
+ghost use Rattle.bor_records.specs.Links.Laws.{EveryStakeIsAHolding, OpenRowsAreTheLatest, OpenRowsAreReadByKey, SnapshotsShowTheOpenRows, NodesAreReadByKey, AliasesAreReadByKey, AliasesAreReadByCandidates, LinksAreReadByCandidates, LinksAreOfRows, LinksAreKnownByRecord, LinksAreDistinct, NodesAreDistinct};
 
 /// The interests of a majority stake are a holding, where each share has points: a chain of stakes
 /// alone is a chain.
@@ -42,8 +42,8 @@ pub fn aliases_are_read_by_candidates()
     ensures { AliasesAreReadByCandidates }
 {}
 
-/// The links into a node are those that candidates make, where the candidates have the series of
-/// each row that, were it the latest, would make one.
+/// The links into a node are those that candidates make, no two of one record, where the candidates
+/// have the series of each row that, were it the latest, would make one.
 pub fn links_are_read_by_candidates()
     ensures { LinksAreReadByCandidates }
 {}
@@ -56,6 +56,11 @@ pub fn links_are_of_rows()
 /// Two links of rows that name one record are equal.
 pub fn links_are_known_by_record()
     ensures { LinksAreKnownByRecord }
+{}
+
+/// No record makes two links of rows.
+pub fn links_are_distinct()
+    ensures { LinksAreDistinct }
 {}
 
 /// The nodes of rows are distinct.

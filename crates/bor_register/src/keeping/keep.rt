@@ -196,7 +196,8 @@ pub trait Keep {
         ensures { Reads meaning self.old self.new result (λ r nodes.
             AreIdentified (seen_at viewer.now day r) identifier.now nodes.items) };
 
-    /// The links with this subject on a day by what the viewer sees, in any order, maybe twice.
+    /// The links with this subject on a day by what the viewer sees, each once and in any order: no
+    /// two are of one record.
     fn links_into(
         &mut self,
         viewer: &AgentName,

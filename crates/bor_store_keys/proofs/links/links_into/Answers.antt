@@ -16,7 +16,7 @@ returns g c =
     let view = c.args.view.now in
     let n = c.args.node.now in
     let candidates = c.in_ok-records.records.items in
-    read_as (read_next c.in_ok-is_entity.ensures (read_next c.in_ok-records.ensures c.links_of.ensures))
+    read_as (read_next c.in_ok-is_entity.ensures (read_next c.in_ok-records.ensures.covers c.links_of.ensures))
     (λ r links stored is.
     links_told view.day (rows_seen view r) n candidates links.items (is.1.1 (sym is.0 ∙ c.if-not-branch.false) ∙ ap (filter_map (link_at view.day (rows_seen view r) n)) c.deref.ensures.value)
-    (into_covered view.viewer view.today r stored n candidates is.1.0))
+    (into_covered view.viewer view.today r stored n candidates is.1.0) c.in_ok-records.ensures.once)

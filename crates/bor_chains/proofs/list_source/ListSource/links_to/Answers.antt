@@ -23,7 +23,7 @@ returns-in-Some c =
     (λ out e. subst (λ (x : Listing). AreLinksInto x.shown n out.items) c.self.view_is
     (subst (λ (ls : List Link). AreLinksInto s n ls)
     (sym (e ∙ ap (λ (ls : List Link). links_at ls n c.deref-in-Some-2.result.now) c.deref-in-Some.ensures.value ∙ ap (λ (is : List ℕ). links_at s.links n is) (c.deref-in-Some-2.ensures.value ∙ found)))
-    (into_told s n into c.self.invariant.2)))
+    (into_told s n into c.self.invariant.4 c.self.invariant.2)))
     c.links_at.ensures
 
 pub returns-in-None : goal.returns-in-None
@@ -35,4 +35,4 @@ returns-in-None c =
     ap (λ (o : Option (Bor (Vec ℕ Global))). items_of (λ v. v.now.items) o) (sym c.in-None.is) ∙ c.list_at.ensures
     ∙ ap (λ (ls : List (Vec ℕ Global)). items_at (λ v. v.items) ls (get node_cmp c.self.inside.places n)) c.deref.ensures.value in
     subst (λ (x : Listing). AreLinksInto x.shown n c.new.result.items) c.self.view_is
-    (subst (λ (ls : List Link). AreLinksInto s n ls) (sym (c.new.ensures.items ∙ ap (λ (is : List ℕ). links_at s.links n is) found)) (into_told s n into c.self.invariant.2))
+    (subst (λ (ls : List Link). AreLinksInto s n ls) (sym (c.new.ensures.items ∙ ap (λ (is : List ℕ). links_at s.links n is) found)) (into_told s n into c.self.invariant.4 c.self.invariant.2))

@@ -24,5 +24,6 @@ returns c =
     told_then c.links_of.result _ _
     (λ links h. links_told sight.day (rows_in_sight sight) n c.in_ok-records.records.items links.items (h entity ∙ ap (filter_map (link_at sight.day (rows_in_sight sight) n)) c.deref.ensures.value)
     (links_covered sight.viewer.now sight.today sight.members.now c.requires.ordered (under node_cmp sight.index.now.naming) c.requires.index.naming n c.in_ok-records.records.items
-    (λ k. subst (λ (ns : List Node). Contains c.in_ok-records.records.items k ↔ Contains ns k) found (c.in_ok-records.ensures.same k))))
+    (λ k. subst (λ (ns : List Node). Contains c.in_ok-records.records.items k ↔ Contains ns k) found (c.in_ok-records.ensures.same k)))
+    c.in_ok-records.ensures.distinct)
     c.links_of.ensures
